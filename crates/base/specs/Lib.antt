@@ -1,0 +1,5 @@
+pub mod Out
+pub mod Count
+pub mod Search
+pub mod Parts
+pub mod Decides

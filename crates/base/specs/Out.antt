@@ -1,0 +1,27 @@
+-- The outcome of a step: done with what it leaves, or refused with a reason's number. A refusal carries no state, so nothing is kept of it.
+use mathlib.Core.Bool.{Bool, true, false}
+use Prim.Native.Nat.{ℕ}
+
+pub data Out (A : Type 0) : Type 0 where
+  done : A → Out A
+  refused : ℕ → Out A
+
+-- one step after another: the first that is refused answers
+abbrev pub bind : {A B : Type 0} → Out A → (A → Out B) → Out B
+bind (done a) f = f a
+bind (refused n) f = refused n
+
+-- the same, as a chain of steps is written
+infixl 20 _>>=_
+abbrev pub _>>=_ : {A B : Type 0} → Out A → (A → Out B) → Out B
+m >>= f = bind m f
+
+-- a test before the rest: the rest runs where it passed
+abbrev pub guard : {A : Type 0} → Bool → ℕ → Out A → Out A
+guard true n m = m
+guard false n m = refused n
+
+-- what is known of an outcome: Q of what is done, R of the number refused
+pub data Ok {A : Type 0} (Q : A → Type 0) (R : ℕ → Type 0) : Out A → Type 0 where
+  went : {a : A} → Q a → Ok Q R (done a)
+  said : {n : ℕ} → R n → Ok Q R (refused n)

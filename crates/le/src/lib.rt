@@ -1,0 +1,1 @@
+// Little-endian numbers at any place of a slice.
