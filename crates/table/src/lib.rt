@@ -214,7 +214,7 @@ pub fn with_dirty(t: Table, i: usize, dirty: bool) -> Table
 pub fn free_row_at(t: Table, i: usize) -> Table
     ensures { λ u. ⌜ u ≡ freeRowAt t i ⌝ }
 {
-    with_row(t, i, zero_row())
+    take_row(t, i, 0, zero_record(), false)
 }
 
 // The row with the lowest id above that one: `best` is it among the rows passed, or 34.
@@ -241,12 +241,12 @@ pub fn next_row(t: Table, after: u32) -> Found
 pub fn hold_of(t: Table, stamp: u64) -> Found
     ensures { λ r. ⌜ r ≡ holdOf t stamp ⌝ }
 {
-    let mut i: usize = 0;
-    while i < 32 {
-        if t.holds[i].stamp == stamp {
-            return Found::At(i);
+    let mut n: usize = 0;
+    while n < 32 {
+        if t.holds[n].stamp == stamp {
+            return Found::At(n);
         }
-        i += 1;
+        n += 1;
     }
     Found::Nothing
 }
@@ -262,10 +262,12 @@ pub fn live(t: Table, h: Handle) -> Found
     ensures { λ r. ⌜ r ≡ liveRow t h ⌝ }
 {
     let n = base::index(h.hold);
+    let stamp = h.stamp;
     if n < 32 {
         let held = t.holds[n];
         let row = held.row;
-        if (h.stamp != 0) & (held.stamp == h.stamp) {
+        let last = held.stamp;
+        if (stamp != 0) & (last == stamp) {
             return base::found_below(base::index(row), 34);
         }
         return Found::Nothing;

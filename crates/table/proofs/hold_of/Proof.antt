@@ -11,10 +11,10 @@ use Rattle.table.proofs.hold_of.Statement.{statement}
 use Rattle.table.proofs.hold_of.Tie as tie
 
 abbrev Inv-loop : tie.InvT-loop
-Inv-loop stamp t i₀ i = (i ≤ 32) × ((j : ℕ) → j < i → isHold t stamp j ≡ false)
+Inv-loop stamp t n₀ n = (n ≤ 32) × ((j : ℕ) → j < n → isHold t stamp j ≡ false)
 
 abbrev μ-loop : tie.MeasureT-loop
-μ-loop stamp t i₀ i = 32 - i
+μ-loop stamp t n₀ n = 32 - n
 
 loop-holds : tie.Need-loop-holds Inv-loop μ-loop
 loop-holds c = (omega arith, below-none _)
@@ -29,8 +29,8 @@ returns : tie.Need-returns Inv-loop μ-loop
 unfolding holdOf
 returns c = search-hit _ 32 _ (c .before .loop-test .taken) (c .before .before .loop .inv .1) (eq-eqb _ _ (c .if1 .taken))
 
-add-i : tie.Need-add-i Inv-loop μ-loop
-add-i c = omega arith
+add-n : tie.Need-add-n Inv-loop μ-loop
+add-n c = omega arith
 
 loop-less : tie.Need-loop-less Inv-loop μ-loop
 loop-less c = omega arith
@@ -52,7 +52,7 @@ hold-of-spec =
     mul-if1
     element-copy-out-if1
     returns
-    add-i
+    add-n
     loop-less
     loop-again
     returns-2)

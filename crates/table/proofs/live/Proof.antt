@@ -23,10 +23,10 @@ found-below-requires c κs = search needs
 returns : tie.Need-returns
 returns c =
     c .found-below .ensures
-    ∙ live-found _ _ _ _ (c .before .before .before .before .before .before .before .before .index .ensures) (c .before .before .before .before .before .before .before .if1 .taken) (c .before .before .if2 .taken) (c .before .index2 .ensures)
+    ∙ live-found _ _ _ _ (c .before .before .before .before .before .index .ensures) (c .before .before .before .before .if1 .taken) (c .before .before .if2 .taken) (c .before .index2 .ensures)
 
 returns-2 : tie.Need-returns-2
-returns-2 c = live-not _ _ _ (c .before .before .before .before .before .before .index .ensures) (c .before .before .before .before .before .if1 .taken) (c .if2 .left)
+returns-2 c = live-not _ _ _ (c .before .before .before .index .ensures) (c .before .before .if1 .taken) (c .if2 .left)
 
 returns-3 : tie.Need-returns-3
 returns-3 c = live-past _ _ _ (c .before .index .ensures) (c .if1 .left)
