@@ -21,6 +21,11 @@ abbrev pub guard : {A : Type 0} → Bool → ℕ → Out A → Out A
 guard true n m = m
 guard false n m = refused n
 
+-- the same test as a step of a chain
+abbrev pub ensure : Bool → ℕ → Out Unit
+ensure true n = done tt
+ensure false n = refused n
+
 -- the answer as a number: 0, or the reason
 abbrev pub answer : {A : Type 0} → Out A → ℕ
 answer (done a) = 0
