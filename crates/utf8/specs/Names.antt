@@ -1,7 +1,8 @@
 -- Names: document 01's verdict on a caller's name, the name that a slot holds, and when the two are one.
+use mathlib.Core.Path.{_≡_}
 use mathlib.Core.Bool.{Bool, true, false, _||_, not}
 use mathlib.Core.List.{List, [], _∷_, _++_}
-use Prim.Native.Nat.{ℕ, _-_}
+use Prim.Native.Nat.{ℕ, _-_, _<_}
 use lib.Dec.{eqb, ltb}
 use lib.ListN.{length, getD, take, replicate}
 use Rattle.base.specs.Search.{lowest, pick}
@@ -10,6 +11,7 @@ use Rattle.utf8.specs.declared.NameVerdict.{NameVerdict}
 use Rattle.utf8.specs.declared.NameVerdict.the-variants.{Good, Bad}
 use Rattle.utf8.specs.declared.StoredName.{StoredName}
 use Rattle.utf8.specs.declared.StoredName.the-variants.{Ended, Broken}
+use Rattle.utf8.specs.Grammar.{Octets}
 use Rattle.utf8.specs.Utf8.{utf8}
 
 -- the place of the first zero byte, or the length where there is none
@@ -19,11 +21,20 @@ zeroAt l = lowest (λ i. eqb (getD l i 0) 0) (length l)
 unfoldable pub hasZero : List ℕ → Bool
 hasZero l = ltb (zeroAt l) (length l)
 
+-- the bytes before it: "ended by a zero"
+abbrev pub nameOf : List ℕ → List ℕ
+nameOf s = take (zeroAt s) s
+
 -- ---- a caller's name
 
 -- "BadName: zero byte inside, or not UTF-8"; a good one is long or not: "NameTooLong: over 255 bytes"
 unfoldable pub nameVerdict : List ℕ → NameVerdict
 nameVerdict l = pick (hasZero l || not (utf8 l)) Bad (Good (ltb 255 (length l)))
+
+-- the same as a statement: what a name must be for reason 5 not to be given
+pub record GoodName (l : List ℕ) : Type 0 where
+  pub no-zero : (j : ℕ) → j < length l → getD l j 0 ≡ 0 → ⊥
+  pub octets : Octets l
 
 -- document 01's reason where names are looked at first, or 0: 5
 abbrev pub earlyReason : NameVerdict → ℕ
@@ -56,11 +67,17 @@ isSpecial l = eqb (length l) 0 || (isDot l || isDots l)
 
 -- its length; or it has no zero or is not UTF-8
 unfoldable pub storedName : List ℕ → StoredName
-storedName s = pick (hasZero s) (pick (utf8 (take (zeroAt s) s)) (Ended (zeroAt s)) Broken) Broken
+storedName s = pick (hasZero s) (pick (utf8 (nameOf s)) (Ended (zeroAt s)) Broken) Broken
+
+-- the same as a statement: k is the place of the zero that ends the name in s
+pub record EndedAt (s : List ℕ) (k : ℕ) : Type 0 where
+  pub inside : k < length s
+  pub zero : getD s k 0 ≡ 0
+  pub good : GoodName (take k s)
 
 -- the bytes before the first zero are the name that is asked for
 unfoldable pub isNamed : List ℕ → List ℕ → Bool
-isNamed s name = same (take (zeroAt s) s) (asked name)
+isNamed s name = same (nameOf s) (asked name)
 
 -- the 256 bytes of a name: the name, and then zeros
 unfoldable pub nameBytes : List ℕ → List ℕ

@@ -200,13 +200,7 @@ pub fn long_reason(v: NameVerdict) -> u8
     ensures { λ r. ⌜ r ≡ longReason v ⌝ }
 {
     match v {
-        NameVerdict::Good { long } => {
-            if long {
-                10
-            } else {
-                0
-            }
-        }
+        NameVerdict::Good { long } => { if long { 10 } else { 0 } }
         NameVerdict::Bad => 0,
     }
 }
