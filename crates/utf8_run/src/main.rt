@@ -189,20 +189,24 @@ fn four(label: &[u8], a: Span, b: Span, c: Span, d: Span) {
 }
 
 // Every byte, every two bytes, and every lead with every edge after it.
-fn everything() {
+fn every_lead() {
     one(b"every-byte", range(0x00, 0xFF));
     two(b"every-two", range(0x00, 0xFF), range(0x00, 0xFF));
     three(b"edges-three", range(0x00, 0xFF), edges(), edges());
     four(b"edges-four", range(0x00, 0xFF), edges(), edges(), edges());
 }
 
-// Every character of more than one byte.
+// Every character of two and of three bytes.
 fn characters() {
     two(b"two-C2-DF", range(0xC2, 0xDF), tails());
     three(b"three-E0", range(0xE0, 0xE0), range(0xA0, 0xBF), tails());
     three(b"three-E1-EC", range(0xE1, 0xEC), tails(), tails());
     three(b"three-ED", range(0xED, 0xED), range(0x80, 0x9F), tails());
     three(b"three-EE-EF", range(0xEE, 0xEF), tails(), tails());
+}
+
+// Every character of four bytes.
+fn long_characters() {
     four(
         b"four-F0",
         range(0xF0, 0xF0),
@@ -220,8 +224,8 @@ fn characters() {
     );
 }
 
-// What the narrower ranges leave out.
-fn left_out() {
+// More bytes than a character needs.
+fn overlong() {
     two(b"overlong-two", range(0xC0, 0xC1), tails());
     three(
         b"overlong-three",
@@ -236,6 +240,10 @@ fn left_out() {
         tails(),
         tails(),
     );
+}
+
+// Numbers that are no characters: surrogates, and those past U+10FFFF.
+fn beyond() {
     three(b"surrogates", range(0xED, 0xED), range(0xA0, 0xBF), tails());
     four(
         b"beyond-F4",
@@ -261,8 +269,10 @@ fn cut() {
 }
 
 fn main() {
-    everything();
+    every_lead();
     characters();
-    left_out();
+    long_characters();
+    overlong();
+    beyond();
     cut();
 }
