@@ -21,6 +21,21 @@ abbrev pub guard : {A : Type 0} → Bool → ℕ → Out A → Out A
 guard true n m = m
 guard false n m = refused n
 
+-- the same test as a step of a chain
+abbrev pub ensure : Bool → ℕ → Out Unit
+ensure true n = done tt
+ensure false n = refused n
+
+-- the answer as a number: 0, or the reason
+abbrev pub answer : {A : Type 0} → Out A → ℕ
+answer (done a) = 0
+answer (refused n) = n
+
+-- what there is afterwards: a refusal keeps what was
+abbrev pub kept : {A : Type 0} → A → Out A → A
+kept x (done y) = y
+kept x (refused n) = x
+
 -- what is known of an outcome: Q of what is done, R of the number refused
 pub data Ok {A : Type 0} (Q : A → Type 0) (R : ℕ → Type 0) : Out A → Type 0 where
   went : {a : A} → Q a → Ok Q R (done a)

@@ -1,7 +1,12 @@
 -- Little-endian numbers of any width, and their bytes.
 use mathlib.Core.List.{List, [], _∷_}
-use Prim.Native.Nat.{ℕ, zero, suc, _+_, _*_, _/_, _%_}
+use Prim.Native.Nat.{ℕ, zero, suc, _+_, _*_, _/_, _%_, _<_}
+use lib.ListN.{getD}
 use Rattle.base.specs.Parts.{part, paste}
+
+-- each element is a byte
+abbrev pub Bytes : List ℕ → Type 0
+Bytes l = (i : ℕ) → getD l i 0 < 256
 
 -- the number whose bytes are l, the lowest first
 unfoldable pub leOf : List ℕ → ℕ

@@ -1,0 +1,6 @@
+pub mod General
+pub mod Blocks
+pub mod Fields
+pub mod Fresh
+pub mod Seals
+pub mod Places
