@@ -8,7 +8,7 @@ use Rattle.base.specs.declared.Found.the-variants.{At, Nothing}
 use Rattle.table.specs.declared.Table.{Table}
 use Rattle.table.specs.declared.Handle.{Handle}
 use Rattle.table.specs.Zero.{zeroRecord, bytesZero, timeZero, numbersZero, recordZero}
-use Rattle.table.specs.Table.{emptyTable, takeRow, freeRowAt, rowOf, holdOf, liveRow, liveHolds, canHold, addHold, rowUsed, closeHold}
+use Rattle.table.specs.Table.{emptyTable, takeRow, rowOf, holdOf, liveRow, liveHolds, canHold, addHold, rowUsed, closeHold}
 use Rattle.table.specs.Formed.{holdOk, rowOk, holdsOk, rowsOk, shaped, wellFormed}
 
 -- node 2 in row 0, with no hold yet; then with one hold, and with two
