@@ -49,3 +49,19 @@ closed-dead = refl
 new-stamp : addHold (closeHold two 0 .table) 0 .handle ≡ handle 0 3
 unfolding opening one two addHold canHold liveHolds countTo sumTo rowOf holdOf rowUsed lowest foundBelow closeHold handle
 new-stamp = refl
+
+-- "next stamp 2^64-1" is well formed and full; 2^64-2 is still given out
+at-stamp : ℕ → Table
+at-stamp next = record { rows = emptyTable .rows; holds = emptyTable .holds; next = next }
+
+last-well : wellFormed (at-stamp 18446744073709551615) ≡ true
+unfolding wellFormed holdsOk rowsOk holdOk rowOk rowOf holdOf rowUsed shaped allTo lowest foundBelow recordZero bytesZero timeZero numbersZero at-stamp
+last-well = refl
+
+last-full : canHold (at-stamp 18446744073709551615) ≡ false
+unfolding canHold liveHolds countTo sumTo at-stamp
+last-full = refl
+
+last-given : addHold (at-stamp 18446744073709551614) 0 .handle ≡ handle 0 18446744073709551614
+unfolding addHold canHold liveHolds countTo sumTo holdOf lowest foundBelow at-stamp handle
+last-given = refl
