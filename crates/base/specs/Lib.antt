@@ -1,3 +1,4 @@
+pub mod Reasons
 pub mod Out
 pub mod Count
 pub mod Search

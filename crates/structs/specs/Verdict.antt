@@ -1,0 +1,15 @@
+-- "a four by four table says, by moved and replaced type: folder onto other NotDir, other onto folder IsDir, other onto other allowed,
+-- folder onto folder 13 if the replaced one has over 2 slots"
+use mathlib.Core.Bool.{Bool}
+use Prim.Native.Nat.{ℕ}
+use lib.Dec.{eqb}
+use Rattle.base.specs.Search.{pick}
+use Rattle.structs.specs.Constants.{typeDir}
+use Rattle.structs.specs.declared.Verdict.{Verdict}
+use Rattle.structs.specs.declared.Verdict.the-variants.{Allowed, NotDir, IsDir, IfEmpty}
+
+abbrev pub isFolder : ℕ → Bool
+isFolder kind = eqb kind typeDir
+
+unfoldable pub verdictOf : ℕ → ℕ → Verdict
+verdictOf moved replaced = pick (isFolder moved) (pick (isFolder replaced) IfEmpty NotDir) (pick (isFolder replaced) IsDir Allowed)

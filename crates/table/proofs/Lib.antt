@@ -1,0 +1,4 @@
+pub mod General
+pub mod Signs
+pub mod Next
+pub mod Holds

@@ -1,0 +1,1 @@
+// Theorems about the table of open nodes; no code.

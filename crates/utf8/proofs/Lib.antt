@@ -1,0 +1,5 @@
+pub mod General
+pub mod Leads
+pub mod Grammar
+pub mod Names
+pub mod Examples

@@ -1,0 +1,27 @@
+-- `utf8::name_verdict`: a return for each case of the verdict.
+use mathlib.Core.Path.{sym, _∙_}
+use borrow.Author.Needs.{needs}
+use native.Mathlib.Omega.{arith}
+use Rattle.utf8.proofs.Names.{verdict-zero, verdict-wrong, verdict-good}
+use Rattle.utf8.proofs.name_verdict.Statement.{statement}
+use Rattle.utf8.proofs.name_verdict.Tie as tie
+
+first-zero-requires : tie.Need-first-zero-requires
+first-zero-requires c κs = search needs
+
+returns : tie.Need-returns
+returns c = sym (verdict-zero _ (omega (arith, c .before .first-zero .ensures)))
+
+valid-requires : tie.Need-valid-requires
+valid-requires c κs = search needs
+
+returns-2 : tie.Need-returns-2
+returns-2 c =
+    let t = c .before .before in
+    sym (verdict-good _ (omega (arith, t .before .first-zero .ensures)) (sym (c .before .valid .ensures) ∙ c .if2 .taken))
+
+returns-3 : tie.Need-returns-3
+returns-3 c = sym (verdict-wrong _ (sym (c .before .valid .ensures) ∙ c .if2 .left))
+
+pub name-verdict-spec : {M : Type 1} → statement M
+name-verdict-spec = tie.close (tie.spec first-zero-requires returns valid-requires returns-2 returns-3)
