@@ -1,5 +1,5 @@
 -- Facts that no table is needed for.
-use Prim.Native.Nat.{ℕ, _+_, _<_, _≤_}
+use Prim.Native.Nat.{ℕ, _+_, _<_}
 use mathlib.Core.Path.{_≡_, sym, ap, _∙_}
 use mathlib.Core.Bool.{Bool, true, false}
 use mathlib.Core.List.{List, map}
@@ -9,7 +9,6 @@ use lib.ListN.{length, length-map}
 use borrow.Author.Tests.{lt-ltb, le-ltb}
 use Rattle.base.specs.Count.{countTo, bit}
 use Rattle.base.specs.Search.{lowest, foundBelow}
-use Rattle.base.specs.declared.Found.{Found}
 use Rattle.base.specs.declared.Found.the-variants.{At, Nothing}
 use Rattle.base.proofs.Counts.{countTo-more}
 use Rattle.base.proofs.Searches.{lowest-here, lowest-none, found-at, found-nothing}

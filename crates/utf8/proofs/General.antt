@@ -1,14 +1,12 @@
 -- Laws on what base defines, and on parts of lists, that are not of names alone.
-use mathlib.Core.Path.{_≡_, refl, sym, ap, _∙_}
+use mathlib.Core.Path.{_≡_, refl, ap}
 use mathlib.Core.Bool.{Bool, true, false}
-use mathlib.Core.List.{List, [], _∷_, _++_}
-use Prim.Native.Nat.{ℕ, _+_, _≤_, _<_}
-use native.Mathlib.Omega.{arith}
-use lib.Dec.{T}
-use lib.ListN.{length, getD, take, drop}
+use mathlib.Core.List.{List}
+use Prim.Native.Nat.{ℕ, _<_}
+use lib.ListN.{length, getD}
 use lib.Seq.{ext-getD}
 use Rattle.base.specs.Decides.{Decides, same}
-use Rattle.base.proofs.Bools.{T-true, true-T}
+use Rattle.base.proofs.Bools.{T-true}
 use Rattle.base.proofs.Tests.{decides-same}
 
 -- a test that decides a statement is true where it holds, and false where it does not

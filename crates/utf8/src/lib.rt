@@ -4,7 +4,7 @@ ghost use Prim.Native.Nat.{_≤_};
 ghost use lib.ListN.{length};
 ghost use Rattle.base.specs.Decides.{same};
 ghost use Rattle.utf8.specs.Names.{zeroAt, nameVerdict, earlyReason, longReason, isDot, isDots, isSpecial, storedName, isNamed, nameBytes};
-ghost use Rattle.utf8.specs.Utf8.{lead, step, tail, after, isWhole, utf8};
+ghost use Rattle.utf8.specs.Utf8.{lead, step, tail, isWhole, utf8};
 
 // Where a reader of UTF-8 stands.
 pub enum State {
