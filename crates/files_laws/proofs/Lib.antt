@@ -1,0 +1,4 @@
+pub mod General
+pub mod Views
+pub mod Parts
+pub mod Shapes
