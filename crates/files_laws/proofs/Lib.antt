@@ -2,3 +2,5 @@ pub mod General
 pub mod Views
 pub mod Parts
 pub mod Shapes
+pub mod Steps
+pub mod Writes
