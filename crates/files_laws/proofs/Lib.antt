@@ -4,3 +4,4 @@ pub mod Parts
 pub mod Shapes
 pub mod Steps
 pub mod Writes
+pub mod Make

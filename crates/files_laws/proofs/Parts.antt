@@ -2,19 +2,20 @@
 use mathlib.Core.Path.{_≡_, refl, sym, ap, ap₂, _∙_, subst}
 use mathlib.Core.Bool.{Bool, true, false}
 use mathlib.Core.List.{List}
-use mathlib.Core.Logic.{⊎-elim, _≢_}
+use mathlib.Core.Logic.{⊎-elim, _⊎_, inl, inr, _≢_}
 use Prim.Native.Nat.{ℕ, _+_, _*_, _/_, _%_, _≤_, _<_}
 use native.Mathlib.Omega.{arith}
 use lib.ListN.{length, getD}
 use Rattle.base.proofs.Bools.{bool-cases, true-false}
 use Rattle.arena.specs.Blocks.{blk, blocks}
-use Rattle.arena.specs.Fields.{File, tagOf, numberOf, fileOf, isHead, isData}
+use Rattle.arena.specs.Fields.{File, sameFile, tagOf, numberOf, fileOf, isHead, isData}
 use Rattle.arena.specs.Places.{headOf, dataOf}
-use Rattle.arena.proofs.Fields.{head-is, head-own, data-is, data-own}
+use Rattle.arena.proofs.Fields.{sameFile-true, sameFile-own, head-is, head-own, data-is, data-own}
 use Rattle.arena.proofs.Places.{head-first}
 use Rattle.sound.specs.Sound.{sound}
 use Rattle.sound.proofs.Sounds.{BlockSound, Within, Under, SoundAt, sound-at, sound-of}
 use Rattle.files.specs.Read.{there, lengthOf, present, byteAt}
+use Rattle.files_laws.specs.Laws.{Kept}
 use Rattle.files_laws.proofs.Views.{byteIn, byte-in, there-at, there-hit, there-of, length-here, present-at, present-hit, present-of, byte-here, byte-none}
 
 -- no two blocks pass the test
@@ -121,3 +122,19 @@ sound-whole a T I = sound-of a (λ k l. whole k l)
 -- in a sound arena a file that is not there has no blocks
 pub no-blocks : (a : List ℕ) (g : File) → Inside a g → there a g ≡ false → (q : ℕ) → present a g q ≡ false
 no-blocks a g I n q = ⊎-elim (λ e. absurd (true-false (I .under q e .0) n)) (λ e. e) (bool-cases (present a g q))
+
+-- ---- after a store
+
+pub file-cases : (f g : File) → (f ≡ g) ⊎ (f ≢ g)
+file-cases f g = ⊎-elim (λ e. inl (sameFile-true f g e)) (λ e. inr (λ h. true-false (sameFile-own f g h) e)) (bool-cases (sameFile f g))
+
+pub inside-kept : (a c : List ℕ) (g : File) → Kept a c g → Inside a g → Inside c g
+inside-kept a c g K I = record {
+  under = λ q e. let u = I .under q (sym (K .block q) ∙ e) in (K .exists ∙ u .0, subst (λ (n : ℕ). 480 * q < n) (sym (K .long)) (u .1));
+  past = λ p l. K .byte p ∙ I .past p (subst (λ (n : ℕ). n ≤ p) (K .long) l);
+}
+
+-- tidy blocks, one file that ends at its length, and the others as they were
+pub sound-after : (a c : List ℕ) (f : File) → sound a ≡ true → Tidy c → Inside c f → ((g : File) → f ≢ g → Kept a c g) → sound c ≡ true
+sound-after a c f ok T I others =
+    sound-whole c T (λ g. ⊎-elim (λ (e : f ≡ g). subst (Inside c) e I) (λ n. inside-kept a c g (others g n) (sound-inside a ok g)) (file-cases f g))
