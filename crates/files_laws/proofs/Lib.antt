@@ -4,4 +4,6 @@ pub mod Parts
 pub mod Shapes
 pub mod Steps
 pub mod Writes
+pub mod Clears
 pub mod Make
+pub mod Drop
