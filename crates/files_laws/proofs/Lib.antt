@@ -7,3 +7,4 @@ pub mod Writes
 pub mod Clears
 pub mod Make
 pub mod Drop
+pub mod Cut
