@@ -8,3 +8,4 @@ pub mod Clears
 pub mod Make
 pub mod Drop
 pub mod Cut
+pub mod Put
