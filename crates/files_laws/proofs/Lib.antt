@@ -9,3 +9,5 @@ pub mod Make
 pub mod Drop
 pub mod Cut
 pub mod Put
+pub mod Reading
+pub mod Tallies
