@@ -10,27 +10,26 @@ use lib.ListN.{length, getD, replicate, length-replicate, getD-replicate, List·
 use lib.Dec.{ltb, leb}
 use borrow.Author.Tests.{lt-ltb, le-ltb, ltb-true, le-leb, lt-leb, leb-true, leb-false}
 use Rattle.base.specs.Count.{bit}
-use Rattle.base.specs.Out.{Out, done, refused, Ok, went, said}
+use Rattle.base.specs.Out.{done, refused, Ok, went}
 use Rattle.base.specs.Parts.{paste}
-use Rattle.base.specs.Search.{pick}
 use Rattle.base.proofs.Bools.{bool-cases, true-false, and-both, and-parts, and-false}
 use Rattle.base.proofs.Numbers.{lt-or-le}
 use Rattle.base.proofs.Outs.{ok-done}
 use Rattle.le.specs.Le.{Bytes}
 use Rattle.arena.specs.Blocks.{blk, putBlk, blocks}
-use Rattle.arena.specs.Fields.{File, tagOf, numberOf, fileOf, isFree, isHead, isData, seal}
+use Rattle.arena.specs.Fields.{File, tagOf, numberOf, isFree, isHead, isData, seal}
 use Rattle.arena.specs.Places.{dataOf, freeCount}
 use Rattle.arena.proofs.Fields.{data-is, head-not, free-not}
-use Rattle.sound.specs.Sound.{sound}
 use Rattle.sound.proofs.General.{and-true}
 use Rattle.files.specs.Read.{there, lengthOf, present, byteAt}
 use Rattle.files.specs.Store.{longest, setLength, clearAll, isPast, zeroTail, cutFile}
-use Rattle.files_laws.specs.Laws.{Kept, pastCount, Cut, CutRefused, missing, far}
+use Rattle.files_laws.specs.Laws.{Inside, Kept, pastCount, Cut, CutRefused, missing, far}
 use Rattle.files_laws.proofs.General.{ok-does, ok-test, not-true}
-use Rattle.files_laws.proofs.Views.{byteIn, AlikeHead, AlikeData, byte-in, byte-none, present-none, there-same, length-same, present-same, byte-same, kept-refl, kept-next}
-use Rattle.files_laws.proofs.Parts.{Tidy, Inside, sound-tidy, sound-after}
+use Rattle.files_laws.proofs.Views.{alike-own, byteIn, AlikeHead, AlikeData, byte-in, byte-none, present-none, there-same, length-same, present-same, byte-same, kept-refl, kept-next}
+use Rattle.files_laws.proofs.Parts.{Tidy, sound-tidy, sound-after}
 use Rattle.files_laws.proofs.Steps.{other-stranger, zeros-stranger}
-use Rattle.files_laws.proofs.Writes.{Lengthened, lengthened, Wrote, wrote-there}
+use Rattle.files_laws.proofs.Lengths.{Lengthened, lengthened}
+use Rattle.files_laws.proofs.Writes.{Wrote, wrote-there}
 use Rattle.files_laws.proofs.Clears.{clear-size, clear-bytes, clear-each, clear-kept, clear-tidy, clear-free, clear-no}
 
 -- ---- the blocks wholly past the end
@@ -83,13 +82,13 @@ module _ (c : List ℕ) (f : File) (len : ℕ) where
   head-each =
       clear-each (isPast f len) c (AlikeHead f)
       (λ x e. record { head = zeros-stranger f .head ∙ sym (past-head f len x e); number = λ h. absurd (true-false h (past-head f len x e)) })
-      (λ x e. record { head = refl; number = λ _. refl })
+      (λ x e. alike-own f x .head)
 
   data-each : (q : ℕ) → 480 * q < len → (k : ℕ) → k < blocks c → AlikeData f q (blk (clearAll (isPast f len) c) k) (blk c k)
   data-each q l =
       clear-each (isPast f len) c (AlikeData f q)
       (λ x e. record { block = zeros-stranger f .block q ∙ sym (past-below f len x q l e); payload = λ h. absurd (true-false h (past-below f len x q l e)) })
-      (λ x e. record { block = refl; payload = λ h i m. refl })
+      (λ x e. alike-own f x .block q)
 
   cleared : Cleared c (clearAll (isPast f len) c) f len
   unfolding pastCount

@@ -1,17 +1,16 @@
--- What drop does.
-use mathlib.Core.Path.{_≡_, refl, sym, ap, _∙_, subst}
-use mathlib.Core.Bool.{Bool, true, false, _||_}
+-- What drop does: every block of the file becomes free, and nothing else changes.
+use mathlib.Core.Path.{_≡_, sym, _∙_, subst}
+use mathlib.Core.Bool.{true, false}
 use mathlib.Core.List.{List}
 use mathlib.Core.Logic.{⊎-elim, _≢_}
-use Prim.Native.Nat.{ℕ, _+_, _*_, _/_, _%_, _≤_, _<_}
+use Prim.Native.Nat.{ℕ, _/_, _%_}
 use native.Mathlib.Omega.{arith}
-use Rattle.base.specs.Out.{Out, done, refused, Ok, went, said}
+use Rattle.base.specs.Out.{done, refused, Ok, went}
 use Rattle.base.proofs.Bools.{or-cases, or-first, or-second, true-false}
 use Rattle.base.proofs.Outs.{ok-done}
-use Rattle.arena.specs.Blocks.{blk, blocks}
-use Rattle.arena.specs.Fields.{File, tagOf, numberOf, fileOf, isFree, isHead, isData}
+use Rattle.arena.specs.Fields.{File, numberOf, fileOf, isFree, isHead, isData}
 use Rattle.arena.proofs.Fields.{head-is, data-is, free-not}
-use Rattle.files.specs.Read.{there, lengthOf, present, byteAt}
+use Rattle.files.specs.Read.{there, present, byteAt}
 use Rattle.files.specs.Store.{clearAll, isOf, dropFile}
 use Rattle.files_laws.specs.Laws.{Kept, ownCount, Drop, DropRefused, missing}
 use Rattle.files_laws.proofs.General.{ok-does, ok-test}

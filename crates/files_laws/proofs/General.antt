@@ -1,11 +1,10 @@
 -- Laws that are not about arenas.
-use mathlib.Core.Path.{_≡_, refl, sym, ap, _∙_}
+use mathlib.Core.Path.{_≡_, refl, ap}
 use mathlib.Core.Bool.{Bool, true, false, _||_}
 use Prim.Native.Nat.{ℕ, suc, _+_, _-_, _≤_, _<_}
 use native.Mathlib.Omega.{arith}
 use Rattle.base.specs.Count.{sumTo, countTo, bit}
-use Rattle.base.specs.Out.{Out, done, refused, guard, Ok, went, said}
-use Rattle.base.proofs.Bools.{true-false}
+use Rattle.base.specs.Out.{Out, done, guard, Ok, went, said}
 use Rattle.base.proofs.Counts.{sumTo-suc, sumTo-part, sumTo-join}
 
 -- an outcome that is not refused is done

@@ -5,7 +5,7 @@ use mathlib.Core.List.{List}
 use mathlib.Core.Logic.{⊎-elim, _⊎_, inl, inr, _≢_}
 use Prim.Native.Nat.{ℕ, _+_, _*_, _/_, _%_, _≤_, _<_}
 use native.Mathlib.Omega.{arith}
-use lib.ListN.{length, getD}
+use lib.ListN.{getD}
 use Rattle.base.proofs.Bools.{bool-cases, true-false}
 use Rattle.arena.specs.Blocks.{blk, blocks}
 use Rattle.arena.specs.Fields.{File, sameFile, tagOf, numberOf, fileOf, isHead, isData}
@@ -14,8 +14,8 @@ use Rattle.arena.proofs.Fields.{sameFile-true, sameFile-own, head-is, head-own,
 use Rattle.arena.proofs.Places.{head-first}
 use Rattle.sound.specs.Sound.{sound}
 use Rattle.sound.proofs.Sounds.{BlockSound, Within, Under, SoundAt, sound-at, sound-of}
-use Rattle.files.specs.Read.{there, lengthOf, present, byteAt}
-use Rattle.files_laws.specs.Laws.{Kept}
+use Rattle.files.specs.Read.{there, lengthOf, present}
+use Rattle.files_laws.specs.Laws.{Kept, Inside}
 use Rattle.files_laws.proofs.Views.{byteIn, byte-in, there-at, there-hit, there-of, length-here, present-at, present-hit, present-of, byte-here, byte-none}
 
 -- no two blocks pass the test
@@ -27,11 +27,6 @@ pub record Tidy (a : List ℕ) : Type 0 where
   pub each : (k : ℕ) → k < blocks a → BlockSound (blk a k)
   pub head : (g : File) → Once (isHead g) a
   pub block : (g : File) (q : ℕ) → Once (isData g q) a
-
--- a file has blocks below its length alone, and zeros past it
-pub record Inside (a : List ℕ) (g : File) : Type 0 where
-  pub under : (q : ℕ) → present a g q ≡ true → (there a g ≡ true) × (480 * q < lengthOf a g)
-  pub past : (p : ℕ) → lengthOf a g ≤ p → byteAt a g p ≡ 0
 
 module _ (a : List ℕ) (ok : sound a ≡ true) where
   at : (k : ℕ) → k < blocks a → SoundAt a k
@@ -80,9 +75,6 @@ sound-whole a T I = sound-of a (λ k l. whole k l)
   where
     whole : (k : ℕ) → k < blocks a → SoundAt a k
     whole k l =
-        let b : List ℕ = blk a k in
-        let g : File = fileOf b in
-        let q : ℕ = numberOf b in
         record {
           block = T .each k l;
           one-head = λ t.

@@ -3,35 +3,35 @@ use mathlib.Core.Path.{_≡_, refl, sym, ap, _∙_, subst}
 use mathlib.Core.Bool.{Bool, true, false, not, _||_}
 use mathlib.Core.List.{List}
 use mathlib.Core.Logic.{⊎-elim, _≢_}
-use Prim.Native.Nat.{ℕ, zero, suc, _+_, _*_, _-_, _/_, _%_, _≤_, _<_, min, max}
+use Prim.Native.Nat.{ℕ, zero, suc, _+_, _*_, _-_, _/_, _%_, _≤_, _<_, max}
 use native.Mathlib.Nat.{le-refl}
 use native.Mathlib.Decide.{ℕ-discrete}
 use native.Mathlib.Omega.{arith}
 use lib.ListN.{length, getD}
 use lib.Dec.{ltb, leb}
-use borrow.Author.Tests.{lt-ltb, le-ltb, ltb-true, ltb-false, le-leb, lt-leb, leb-true, leb-false}
+use borrow.Author.Tests.{lt-ltb, le-ltb, ltb-true, ltb-false, lt-leb, leb-true, leb-false}
 use Rattle.base.specs.Count.{sumTo, countTo, bit}
-use Rattle.base.specs.Out.{Out, done, refused, bind, Ok, went, said}
-use Rattle.base.specs.Parts.{part, paste}
-use Rattle.base.specs.Search.{pick}
-use Rattle.base.proofs.Bools.{bool-cases, true-false, or-cases, or-first, or-second}
+use Rattle.base.specs.Out.{Out, done, refused, Ok, went, said}
+use Rattle.base.specs.Parts.{part}
+use Rattle.base.proofs.Bools.{bool-cases, true-false, or-cases, or-second}
 use Rattle.base.proofs.Lists.{length-part, getD-part}
 use Rattle.base.proofs.Numbers.{lt-or-le}
 use Rattle.base.proofs.Outs.{ok-bind, ok-weaken, ok-done}
 use Rattle.le.specs.Le.{Bytes}
 use Rattle.le.proofs.General.{part-all}
-use Rattle.arena.specs.Blocks.{blk, putBlk, blocks}
-use Rattle.arena.specs.Fields.{File, seal, fresh}
-use Rattle.arena.specs.Places.{freeOf, dataOf, freeCount}
+use Rattle.arena.specs.Blocks.{blocks}
+use Rattle.arena.specs.Fields.{File}
+use Rattle.arena.specs.Places.{freeOf, freeCount}
 use Rattle.sound.specs.Sound.{sound}
 use Rattle.files.specs.Read.{there, lengthOf, present, byteAt}
-use Rattle.files.specs.Store.{longest, claim, writeBlk, setLength, raise, lo, hi, putBlock, putTo, touched, putFile}
+use Rattle.files.specs.Store.{longest, claim, writeBlk, raise, lo, hi, putBlock, putTo, touched, putFile}
 use Rattle.files_laws.specs.Laws.{Kept, touches, lacking, Put, PutRefused, missing, far, full}
 use Rattle.files_laws.proofs.General.{ok-does, ok-test, countTo-suc, countTo-first, or-no}
 use Rattle.files_laws.proofs.Views.{byteIn, byte-in, kept-refl, kept-next}
-use Rattle.files_laws.proofs.Parts.{Tidy, Inside, sound-tidy, sound-inside, sound-after}
-use Rattle.files_laws.proofs.Writes.{Lengthened, lengthened, Wrote, wrote-there, wrote-new}
-use Rattle.files_laws.proofs.Make.{none-free}
+use Rattle.files_laws.proofs.Parts.{Tidy, sound-tidy, sound-inside, sound-after}
+use Rattle.files_laws.proofs.Lengths.{Lengthened, lengthened}
+use Rattle.files_laws.proofs.Writes.{Wrote, wrote-there}
+use Rattle.files_laws.proofs.Claims.{none-free, wrote-new}
 
 -- ---- one block
 
@@ -73,6 +73,10 @@ span : (pos n i : ℕ) → i < touched pos n → Span pos n (pos / 480 + i) (lo 
 unfolding touched
 span pos zero i l = absurd (omega arith)
 span pos (suc n) i l = span-of pos (suc n) (pos / 480 + i) (omega arith) (omega arith) (omega arith)
+
+-- the touched blocks, counted from the first
+pub touched-is : (pos n i : ℕ) → i < touched pos n → touches pos n (pos / 480 + i) ≡ true
+touched-is pos n i l = lt-ltb (lo pos (pos / 480 + i)) (hi pos n (pos / 480 + i)) (span pos n i l .some)
 
 -- a block that is touched is one of those
 touched-of : (pos n q : ℕ) → lo pos q < hi pos n q → (pos / 480 ≤ q) × (q < pos / 480 + touched pos n)
@@ -217,7 +221,6 @@ module _ (a : List ℕ) (f : File) (pos : ℕ) (src : List ℕ) (was : there a f
   unfolding putTo putBlock R
   to-law zero l = went start
   to-law (suc i) l =
-      let q : ℕ = pos / 480 + i in
       let S : Span pos (length src) (pos / 480 + i) (lo pos (pos / 480 + i)) (hi pos (length src) (pos / 480 + i)) = span pos (length src) i (omega arith) in
       ok-bind (to-law i (omega arith)) (λ d U.
       ok-weaken

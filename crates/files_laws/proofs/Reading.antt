@@ -1,14 +1,14 @@
 -- What a read gives, and what a read after a store gives.
-use mathlib.Core.Path.{_≡_, refl, sym, ap, ap₂, _∙_, subst}
-use mathlib.Core.Bool.{Bool, true, false}
+use mathlib.Core.Path.{_≡_, sym, ap, _∙_}
+use mathlib.Core.Bool.{true, false}
 use mathlib.Core.List.{List}
 use mathlib.Core.Logic.{⊎-elim}
-use Prim.Native.Nat.{ℕ, _+_, _*_, _-_, _≤_, _<_, max}
+use Prim.Native.Nat.{ℕ, _+_, _-_, _≤_, _<_}
 use native.Mathlib.Omega.{arith}
 use lib.ListN.{length, getD, replicate}
 use lib.Dec.{leb}
 use borrow.Author.Tests.{le-leb, lt-leb, leb-true, leb-false}
-use Rattle.base.specs.Out.{Out, done, refused, guard, Ok, went, said}
+use Rattle.base.specs.Out.{done, refused, guard, Ok, went}
 use Rattle.base.specs.Parts.{tab}
 use Rattle.base.proofs.Numbers.{lt-or-le}
 use Rattle.base.proofs.Lists.{length-tab, getD-tab, tab-cong, tab-getD, tab-zeros}

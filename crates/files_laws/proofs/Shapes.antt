@@ -1,19 +1,18 @@
 -- The blocks that are stored: what each holds, and that with its check it is sound.
-use mathlib.Core.Path.{_≡_, refl, sym, ap, ap₂, _∙_, subst}
-use mathlib.Core.Bool.{Bool, true, false}
+use mathlib.Core.Path.{_≡_, sym, ap, ap₂, _∙_, subst}
 use mathlib.Core.List.{List}
 use mathlib.Core.Logic.{_≢_}
-use Prim.Native.Nat.{ℕ, _+_, _*_, _-_, _≤_, _<_}
+use Prim.Native.Nat.{ℕ, _+_, _-_, _≤_, _<_}
 use native.Mathlib.Omega.{arith}
 use lib.ListN.{length, getD}
-use Rattle.base.specs.Parts.{part, paste}
+use Rattle.base.specs.Parts.{paste}
 use Rattle.base.proofs.Lists.{getD-part, length-paste, getD-paste-in, getD-paste-out, part-paste-other}
-use Rattle.le.specs.Le.{Bytes, leAt, lePut, leBytes}
+use Rattle.le.specs.Le.{Bytes, lePut, leBytes}
 use Rattle.le.proofs.General.{paste-all}
 use Rattle.le.proofs.Laws.{length-leBytes, length-lePut, getD-lePut-out, leAt-lePut-fits, lePut-bytes}
-use Rattle.arena.specs.Fields.{File, file, tagOf, whichOf, nameOf, numberOf, fileOf, seal, fresh}
+use Rattle.arena.specs.Fields.{File, file, tagOf, whichOf, numberOf, fileOf, seal, fresh}
 use Rattle.arena.proofs.Fields.{Same24}
-use Rattle.arena.proofs.Fresh.{length-fresh, fresh-tag, fresh-which, fresh-name, fresh-rest}
+use Rattle.arena.proofs.Fresh.{fresh-tag, fresh-which, fresh-name, fresh-rest}
 use Rattle.arena.proofs.Seals.{length-seal, getD-seal, seal-right, seal-bytes, seal-number, seal-file}
 use Rattle.sound.proofs.Sounds.{BlockSound}
 use Rattle.files_laws.specs.Laws.{Named}

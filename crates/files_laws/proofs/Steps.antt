@@ -1,14 +1,13 @@
 -- One block replaced: what that changes of any file.
-use mathlib.Core.Path.{_≡_, refl, sym, ap, ap₂, _∙_, subst}
+use mathlib.Core.Path.{_≡_, sym, ap, _∙_, subst}
 use mathlib.Core.Bool.{Bool, true, false}
 use mathlib.Core.List.{List}
-use mathlib.Core.Logic.{⊎-elim, _⊎_, inl, inr, _≢_}
-use Prim.Native.Nat.{ℕ, _+_, _*_, _-_, _/_, _≤_, _<_}
+use mathlib.Core.Logic.{⊎-elim, _⊎_, _≢_}
+use Prim.Native.Nat.{ℕ, _+_, _<_}
 use native.Mathlib.Decide.{ℕ-discrete}
 use native.Mathlib.Omega.{arith}
-use lib.ListN.{length, getD, take, drop, length-take, List·getD-eq-default}
+use lib.ListN.{length, getD, List·getD-eq-default}
 use Rattle.base.specs.Count.{countTo}
-use Rattle.base.specs.Parts.{part}
 use Rattle.base.proofs.Bools.{true-false}
 use Rattle.base.proofs.Counts.{countTo-cong}
 use Rattle.base.proofs.Lists.{length-part, getD-part}
@@ -90,13 +89,13 @@ module _ (a : List ℕ) (k : ℕ) (b : List ℕ) (in-a : k < blocks a) (size : l
       let n : blocks (putBlk a k b) ≡ blocks a = blocks-putBlk a k b in-a size in
       elim (ℕ-discrete i k) [
         | yes e ↦ elim (ℕ-discrete j k) [
-            | yes h ↦ e ∙ sym h
-            | no h ↦ e ∙ sym (alone (here i e pi) j (omega arith) (old j h pj))
-          ]
+          | yes h ↦ e ∙ sym h
+          | no h ↦ e ∙ sym (alone (here i e pi) j (omega arith) (old j h pj))
+        ]
         | no e ↦ elim (ℕ-discrete j k) [
-            | yes h ↦ alone (here j h pj) i (omega arith) (old i e pi) ∙ sym h
-            | no h ↦ O i j (omega arith) (omega arith) (old i e pi) (old j h pj)
-          ]
+          | yes h ↦ alone (here j h pj) i (omega arith) (old i e pi) ∙ sym h
+          | no h ↦ O i j (omega arith) (omega arith) (old i e pi) (old j h pj)
+        ]
       ]
     where
       here : (x : ℕ) → x ≡ k → P (blk (putBlk a k b) x) ≡ true → P b ≡ true

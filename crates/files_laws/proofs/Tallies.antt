@@ -1,32 +1,32 @@
 -- The counts of a file's blocks, by their numbers in the file: in a sound arena each number has at most one block.
-use mathlib.Core.Path.{_≡_, refl, sym, ap, ap₂, _∙_, subst}
-use mathlib.Core.Bool.{Bool, true, false, _&&_, _||_}
+use mathlib.Core.Path.{_≡_, refl, sym, ap, _∙_}
+use mathlib.Core.Bool.{Bool, true, false, not, _&&_}
 use mathlib.Core.List.{List}
-use mathlib.Core.Logic.{⊎-elim, _≢_}
-use Prim.Native.Nat.{ℕ, _+_, _*_, _≤_, _<_}
+use mathlib.Core.Logic.{⊎-elim}
+use Prim.Native.Nat.{ℕ, _+_, _*_, _/_, _≤_, _<_}
 use native.Mathlib.Decide.{ℕ-discrete}
 use native.Mathlib.Omega.{arith}
 use lib.Dec.{ltb, leb}
 use borrow.Author.Tests.{lt-ltb, ltb-true, leb-true, le-leb}
 use Rattle.base.specs.Count.{sumTo, countTo, bit, ind}
 use Rattle.base.specs.Search.{lowest}
-use Rattle.base.proofs.Bools.{bool-cases, true-false, and-both, and-parts, and-false, same-bool}
-use Rattle.base.proofs.Counts.{sumTo-cong, sumTo-add, sumTo-swap, sumTo-ind, ind-same, ind-other, countTo-none, countTo-cong}
-use Rattle.base.proofs.Numbers.{lt-or-le}
-use Rattle.base.proofs.Searches.{lowest-first, lowest-hit, lowest-at-most}
+use Rattle.base.proofs.Bools.{bool-cases, true-false, and-both, and-parts, same-bool}
+use Rattle.base.proofs.Counts.{sumTo-cong, sumTo-add, sumTo-swap, sumTo-ind, ind-same, ind-other, countTo-none, countTo-cong, countTo-le}
+use Rattle.base.proofs.Searches.{lowest-hit, lowest-at-most}
 use Rattle.arena.specs.Blocks.{blk, blocks}
-use Rattle.arena.specs.Fields.{File, tagOf, numberOf, isHead, isData}
+use Rattle.arena.specs.Fields.{File, numberOf, isHead, isData}
 use Rattle.arena.specs.Places.{headOf, dataOf}
 use Rattle.arena.proofs.Fields.{data-is, data-not, head-is}
 use Rattle.sound.specs.Sound.{sound}
 use Rattle.sound.proofs.General.{and-true}
 use Rattle.files.specs.Read.{there, lengthOf, present}
-use Rattle.files.specs.Store.{isPast, isOf}
-use Rattle.files_laws.specs.Laws.{pastCount, ownCount}
+use Rattle.files.specs.Store.{touched, isPast, isOf}
+use Rattle.files_laws.specs.Laws.{touches, lacking, pastCount, ownCount}
 use Rattle.files_laws.proofs.General.{not-true}
 use Rattle.files_laws.proofs.Views.{there-at, there-hit, present-at, present-hit, present-of}
 use Rattle.files_laws.proofs.Parts.{Tidy, sound-tidy, sound-inside}
 use Rattle.files_laws.proofs.Cut.{past-own, past-data, past-number}
+use Rattle.files_laws.proofs.Put.{touched-is}
 
 -- ---- counting one to one
 
@@ -144,3 +144,22 @@ module _ (a : List ℕ) (f : File) (ok : sound a ≡ true) where
       one =
           countTo-once (λ k. isHead f (blk a k)) (blocks a) (T .head f)
           ∙ ap bit (some-of (λ k. isHead f (blk a k)) (blocks a) (headOf a f) (there-at a f was) (there-hit a f was))
+
+-- ---- the blocks that a write lacks
+
+module _ (f : File) (pos n : ℕ) where
+  -- no more than it touches
+  pub lacking-most : (a : List ℕ) → lacking a f pos n ≤ touched pos n
+  unfolding lacking
+  lacking-most a = countTo-le (λ i. not (present a f (pos / 480 + i))) (touched pos n)
+
+  -- none, where all of them are there
+  pub lacking-none : (a : List ℕ) → ((q : ℕ) → touches pos n q ≡ true → present a f q ≡ true) → lacking a f pos n ≡ 0
+  unfolding lacking
+  lacking-none a h = countTo-none (λ i. not (present a f (pos / 480 + i))) (touched pos n) (λ i l. ap not (h (pos / 480 + i) (touched-is pos n i l)))
+
+  -- as many in two arenas that have the same of them
+  pub lacking-same : (a a′ : List ℕ) → ((q : ℕ) → touches pos n q ≡ true → present a′ f q ≡ present a f q) → lacking a′ f pos n ≡ lacking a f pos n
+  unfolding lacking
+  lacking-same a a′ h =
+      countTo-cong (λ i. not (present a′ f (pos / 480 + i))) (λ i. not (present a f (pos / 480 + i))) (touched pos n) (λ i l. ap not (h (pos / 480 + i) (touched-is pos n i l)))

@@ -1,16 +1,16 @@
 -- What a file is, from the blocks of the arena: two arenas whose blocks say the same of a file have the same file.
-use mathlib.Core.Path.{_≡_, refl, sym, ap, ap₂, _∙_, subst}
-use mathlib.Core.Bool.{Bool, true, false}
+use mathlib.Core.Path.{_≡_, refl, sym, ap, ap₂, _∙_}
+use mathlib.Core.Bool.{true, false}
 use mathlib.Core.List.{List}
-use mathlib.Core.Logic.{⊎-elim, _≢_}
-use Prim.Native.Nat.{ℕ, _+_, _*_, _/_, _%_, _≤_, _<_}
+use mathlib.Core.Logic.{⊎-elim}
+use Prim.Native.Nat.{ℕ, _+_, _/_, _%_, _≤_, _<_}
 use native.Mathlib.Omega.{arith}
-use lib.ListN.{length, getD}
+use lib.ListN.{getD}
 use lib.Dec.{ltb}
 use borrow.Author.Tests.{lt-ltb, le-ltb, ltb-true, ltb-false}
 use Rattle.base.specs.Search.{lowest, pick}
 use Rattle.base.proofs.Bools.{bool-cases}
-use Rattle.base.proofs.Searches.{First, lowest-cong, lowest-here, lowest-none, lowest-at-most}
+use Rattle.base.proofs.Searches.{lowest-cong, lowest-here, lowest-none, lowest-at-most}
 use Rattle.arena.specs.Blocks.{blk, blocks}
 use Rattle.arena.specs.Fields.{File, numberOf, isHead, isData}
 use Rattle.arena.specs.Places.{headOf, dataOf}

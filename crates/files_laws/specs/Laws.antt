@@ -30,6 +30,11 @@ pub record Kept (a a′ : List ℕ) (g : File) : Type 0 where
   pub block : (q : ℕ) → present a′ g q ≡ present a g q
   pub byte : (p : ℕ) → byteAt a′ g p ≡ byteAt a g p
 
+-- what soundness says of a file: it is there if it has blocks, they lie below its length, and past its length there are zeros
+pub record Inside (a : List ℕ) (g : File) : Type 0 where
+  pub under : (q : ℕ) → present a g q ≡ true → (there a g ≡ true) × (480 * q < lengthOf a g)
+  pub past : (p : ℕ) → lengthOf a g ≤ p → byteAt a g p ≡ 0
+
 -- ---- counts of blocks
 
 -- n bytes from pos on have a byte in block q
