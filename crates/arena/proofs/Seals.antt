@@ -115,8 +115,11 @@ stored-zeros : storedCheck zeros ≡ 0
 unfolding leAt leOf zeros
 stored-zeros = refl
 
+pub zeros-right : storedCheck zeros ≡ checkOf zeros
+zeros-right = stored-zeros ∙ sym check-zeros
+
 pub seal-zeros : seal zeros ≡ zeros
-seal-zeros = seal-own zeros length-zeros zeros-bytes (stored-zeros ∙ sym check-zeros)
+seal-zeros = seal-own zeros length-zeros zeros-bytes zeros-right
 
 -- course example: "Arena block with only byte 0 = 2: check 2"
 pub check-two : checkOf (set zeros 0 2) ≡ 2

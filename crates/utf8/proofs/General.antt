@@ -1,4 +1,4 @@
--- Laws on what base defines, and on parts of lists, that are not of names alone.
+-- Laws on tests that decide a statement and on two lists that are the same: not of names alone.
 use mathlib.Core.Path.{_≡_, refl, ap}
 use mathlib.Core.Bool.{Bool, true, false}
 use mathlib.Core.List.{List}
