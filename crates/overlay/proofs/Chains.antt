@@ -1,9 +1,10 @@
 -- The laws of steps in a row.
-use mathlib.Core.Path.{_≡_, refl, ap, _∙_, sym, subst}
+use mathlib.Core.Path.{_≡_, refl, ap, _∙_, sym}
 use mathlib.Core.List.{List}
-use Prim.Native.Nat.{ℕ, zero, suc, _+_, _≤_, _<_}
+use Prim.Native.Nat.{ℕ, _+_, _≤_}
 use native.Mathlib.Omega.{arith}
 use Rattle.base.specs.Out.{Out, done, refused, bind}
+use Rattle.base.proofs.Outs.{above-zero}
 use Rattle.overlay.specs.View.{view, left, Fine}
 use Rattle.overlay.specs.Steps.{Changed, Did, went, stuck}
 
@@ -33,10 +34,6 @@ pub did-ill : {o : Out (List ℕ)} {a w u : List ℕ} {n r : ℕ} → Did o a w 
 did-ill (went e c) z = absurd (z refl)
 did-ill (stuck l e) z = e
 
-pos : (x : ℕ) → (x ≡ 0 → ⊥) → 0 < x
-pos zero h = absurd (h refl)
-pos (suc x) h = omega arith
-
 -- a chain goes on after a step that was done, and stops at one that was not
 did-room : {o : Out (List ℕ)} {a w u t : List ℕ} {n r : ℕ} (m k : ℕ) → left w ≤ left u + m → m + n ≤ k → Did o a u t n r → Did o a w t k r
 did-room m k l h (went e c) = went e (record { is = c .is; fine = c .fine; room = omega (arith, c .room) })
@@ -46,4 +43,4 @@ pub did-next : {o : Out (List ℕ)} {a w u t : List ℕ} {m n r : ℕ} (f : List
 did-next {m = m} f k w l d = rw (w .is) (did-room m k (w .room) l d)
 
 pub did-stop : {o : Out (List ℕ)} {a w u : List ℕ} {m r : ℕ} (f : List ℕ → Out (List ℕ)) (t : List ℕ) (k : ℕ) → (r ≡ 0 → ⊥) → Did o a w u m r → Did (bind o f) a w t k r
-did-stop f t k z d = stuck (pos _ z) (rw (did-ill d z))
+did-stop f t k z d = stuck (above-zero _ z) (rw (did-ill d z))

@@ -4,6 +4,7 @@ use mathlib.Core.Bool.{Bool, true, false}
 use mathlib.Core.Logic.{_≢_, ⊎-elim}
 use mathlib.Core.List.{List, [], _∷_}
 use Prim.Native.Nat.{ℕ, zero, suc, _+_, _*_, _≤_, _<_, _-_, _/_}
+use native.Mathlib.Numerals.{add-one}
 use native.Mathlib.Omega.{arith}
 use native.Mathlib.Decide.{ℕ-discrete}
 use lib.ListN.{length, getD, take, drop, set, length-set}
@@ -15,7 +16,7 @@ use Rattle.arena.specs.Blocks.{blk, putBlk, blocks}
 use Rattle.arena.specs.Fields.{seal, zeros}
 use Rattle.arena.proofs.Blocks.{length-blk, length-putBlk, blk-putBlk-same, blk-putBlk-other, getD-putBlk, ext-blk}
 use Rattle.arena.proofs.Seals.{length-seal, seal-seal, seal-zeros}
-use Rattle.overlay.specs.View.{markOf, usedOf, blkOf, viewTo, view, left, stored, freed, begun, Fine}
+use Rattle.overlay.specs.View.{markOf, usedOf, blkOf, viewTo, view, committed, left, stored, freed, begun, Fine}
 use Rattle.overlay.specs.Steps.{Changed}
 
 -- a change of a byte below block j leaves block j
@@ -85,6 +86,15 @@ module _ (a w : List ℕ) (F : Fine a w) where
   pub blk-view : (k : ℕ) → k < blocks a → blk (view a w) k ≡ blkOf a w k
   unfolding view
   blk-view k l = blk-viewTo (blocks a) k (omega arith) l
+
+-- one block more committed: the block writer leaves what is sealed already
+pub commit-turn : (a w : List ℕ) → Fine a w → (d : List ℕ) (n : ℕ) → n < blocks a → d ≡ viewTo a w n → committed d w n ≡ viewTo a w (n + 1)
+unfolding committed viewTo
+commit-turn a w F d n l e =
+    rw (add-one, e) (elim (ℕ-discrete (markOf w n) 0) [
+      | yes q ↦ rw (eq-eqb (markOf w n) 0 q)
+      | no ne ↦ rw (ne-eqb (markOf w n) 0 ne) (ap (putBlk (viewTo a w n) n) (F .sealed (markOf w n) (F .apart n (omega (arith, F .small)) ne) (F .low n (omega (arith, F .small)))))
+    ])
 
 -- a view whose blocks are those of another with block k replaced
 view-is : (a w u : List ℕ) (F : Fine a w) (G : Fine a u) (k : ℕ) (b : List ℕ) → k < blocks a → length b ≡ 512
