@@ -1,5 +1,5 @@
 -- What make does: a free block becomes a head, and nothing else changes.
-use mathlib.Core.Path.{_≡_, sym, _∙_, subst, refl, ap}
+use mathlib.Core.Path.{_≡_, sym, _∙_, subst, ap}
 use mathlib.Core.List.{List}
 use mathlib.Core.Logic.{⊎-elim, inl, inr, _≢_}
 use mathlib.Core.Bool.{true, false}

@@ -1,38 +1,26 @@
 -- What a read gives, and what a read after a store gives.
 use mathlib.Core.Path.{_≡_, sym, ap, _∙_}
-use mathlib.Core.Bool.{true, false}
+use mathlib.Core.Bool.{true}
 use mathlib.Core.List.{List}
 use mathlib.Core.Logic.{⊎-elim}
 use Prim.Native.Nat.{ℕ, _+_, _-_, _≤_, _<_}
 use native.Mathlib.Omega.{arith}
 use lib.ListN.{length, getD, replicate}
 use lib.Dec.{leb}
-use borrow.Author.Tests.{le-leb, lt-leb, leb-true, leb-false}
+use borrow.Author.Tests.{leb-true, leb-false}
 use Rattle.base.specs.Out.{done, refused, guard, Ok, went}
-use Rattle.base.specs.Parts.{tab}
 use Rattle.base.proofs.Numbers.{lt-or-le}
 use Rattle.base.proofs.Lists.{length-tab, getD-tab, tab-cong, tab-getD, tab-zeros}
 use Rattle.arena.specs.Fields.{File}
 use Rattle.sound.specs.Sound.{sound}
 use Rattle.files.specs.Read.{there, lengthOf, byteAt, readFile}
+use Rattle.files.proofs.Runs.{read-missing, read-short, read-done}
 use Rattle.files_laws.specs.Laws.{Kept, Put, Cut, Drop, Read, ReadRefused, missing, short}
 use Rattle.files_laws.proofs.General.{ok-test}
 use Rattle.files_laws.proofs.Parts.{sound-inside}
 
 module _ (a : List ℕ) (f : File) (pos n : ℕ) where
-  -- a read can be done exactly where the file is there and long enough
-  pub read-done : there a f ≡ true → pos + n ≤ lengthOf a f → readFile a f pos n ≡ done (tab (byteAt a f) pos n)
-  unfolding readFile
-  read-done e l = rw (e, le-leb (pos + n) (lengthOf a f) l)
-
-  pub read-missing : there a f ≡ false → readFile a f pos n ≡ refused 19
-  unfolding readFile
-  read-missing e = rw e
-
-  pub read-short : there a f ≡ true → lengthOf a f < pos + n → readFile a f pos n ≡ refused 19
-  unfolding readFile
-  read-short e l = rw (e, lt-leb (pos + n) (lengthOf a f) l)
-
+  -- a read gives the bytes, or the file is missing, or too short for it
   pub read-law : Ok (Read a f pos n) (ReadRefused a f pos n) (readFile a f pos n)
   unfolding readFile
   read-law =
