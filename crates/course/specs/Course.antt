@@ -1,30 +1,42 @@
--- Document 01's course examples that are marked (P), as one table: what was done, and the numbers that came out.
+-- Document 01's course examples that are marked (P), as one table: what was done, and the facts that came out.
 use mathlib.Core.Bool.{Bool, true, false}
 use mathlib.Core.List.{List, [], _∷_, _++_}
 use Prim.Native.Nat.{ℕ, _+_, _-_, _*_}
 use lib.IntN.{ℤ, pos, negsuc}
 use lib.ListN.{getD, set, replicate}
 use Rattle.base.specs.Out.{Out, done, refused, answer, _>>=_}
-use Rattle.base.specs.Count.{bit}
-use Rattle.le.specs.Le.{leAt}
-use Rattle.le.specs.Signed.{signed}
+use Rattle.base.specs.Count.{bit, countTo, sumTo, allTo}
+use Rattle.le.specs.Le.{leAt, leOf, leBytes, lePut}
+use Rattle.le.specs.Signed.{signed, bitsOf}
 use Rattle.structs.specs.Constants.{typeFile, typeDir}
-use Rattle.structs.specs.Layout.{superOf, superBytes, recordOf}
+use Rattle.structs.specs.Layout.{superOf, superBytes, recordOf, join, superFields, recordFields, recordBytes, timeOf, timeFields, timeBytes, entryOf, entryFields, entryBytes}
 use Rattle.structs.specs.declared.Timespec.{Timespec}
 use Rattle.structs.specs.declared.SuperBlock.{SuperBlock}
-use Rattle.table.specs.Table.{emptyTable, rowAt}
+use Rattle.table.specs.Table.{emptyTable, rowAt, rowOf, holdOf, liveRow, liveHolds, canHold, addHold, rowUsed}
 use Rattle.table.specs.declared.Table.{Table}
 use Rattle.table.specs.declared.Handle.{Handle}
-use Rattle.arena.specs.Fields.{File, file, zeros, checkOf, isFree}
-use Rattle.arena.specs.Blocks.{blk, blocks}
-use Rattle.arena.specs.Places.{freeCount}
-use Rattle.files.specs.Read.{byteAt, lengthOf, readFile}
-use Rattle.files.specs.Store.{putFile}
-use Rattle.sefs.specs.Meta.{metaFile, mapAt}
-use Rattle.sefs.specs.Ask.{start}
-use Rattle.sefs.specs.Open.{callRoot}
-use Rattle.sefs.specs.Create.{Given, createSteps, callFormat, callCreate}
-use Rattle.sefs.specs.Unlink.{callUnlink}
+use Rattle.arena.specs.Fields.{File, file, zeros, checkOf, isFree, seal, sameFile, isHead, isData, fresh as freshBlock}
+use Rattle.arena.specs.Blocks.{blk, blocks, putBlk, legal}
+use Rattle.arena.specs.Places.{freeCount, freeOf, headOf, dataOf}
+use Rattle.files.specs.Read.{byteAt, lengthOf, readFile, there, present}
+use Rattle.files.specs.Store.{putFile, claim, writeBlk, setLength, raise, putBlock, putTo, touched, makeFile, clearTo, clearAll, isPast, zeroTail, cutFile, isOf, dropFile}
+use Rattle.sefs.specs.Meta.{metaFile, mapAt, loadMaps, loadMeta, storeMaps, syncMeta, firstBit, isUsed, addGroup, takeBit, allocBlock, freeBlock}
+use Rattle.sefs.specs.Ask.{start, admitArena, admit, liveFolder}
+use Rattle.sefs.specs.Open.{callRoot, holdNode}
+use Rattle.sefs.specs.Create.{Given, createSteps, callFormat, callCreate, formatSteps, birth, nameFolder, named}
+use Rattle.sefs.specs.Unlink.{callUnlink, notFull, unlinkSteps}
+use Rattle.base.specs.Search.{lowest, foundBelow}
+use Rattle.base.specs.Parts.{paste, tab}
+use Rattle.base.specs.Decides.{same, every}
+use Rattle.maps.specs.Maps.{bitOf, putBit, bitAt, withBit}
+use Rattle.utf8.specs.Utf8.{within, lead, tail, step, after, utf8}
+use Rattle.utf8.specs.Names.{zeroAt, hasZero, nameVerdict, isDot, isDots, isSpecial, storedName, isNamed, nameBytes}
+use Rattle.table.specs.Formed.{holdOk, rowOk, holdsOk, rowsOk, shaped, wellFormed}
+use Rattle.table.specs.Zero.{bytesZero, numbersZero, timeZero, recordZero}
+use Rattle.sound.specs.Sound.{allZero, layout, blockSound, headOnce, dataOnce, within as withinLength, under, soundAt, sound}
+use Rattle.sefs.specs.Nodes.{loadNode, getNode, newNode, storeRow, syncRow, freeNode, dropNode, release}
+use Rattle.sefs.specs.Slots.{slotBytes, slotAt, lookTo, lookup, findSlot}
+use Rattle.sefs.specs.Folders.{putSlot, direntInit, direntAppend, direntRemove, nlinksInc, nlinksDec, unlinkFolder, direntNodeRemove}
 
 -- ---- what the examples start from
 
@@ -75,11 +87,6 @@ unfoldable pub laid : World → List ℕ → ℕ → Out World
 laid w name n = do
   g ← createSteps (start (w .arena) (w .table)) 0 name typeFile 420 epoch (uuid n)
   done (record { arena = g .arena; table = g .table; root = w .root })
-
--- the numbers of an outcome; a refusal's is its reason
-abbrev pub numbers : Out (List ℕ) → List ℕ
-numbers (done l) = l
-numbers (refused n) = n ∷ []
 
 -- unused, the first map byte, the blocks used
 unfoldable pub imageFacts : List ℕ → Out (List ℕ)
@@ -173,17 +180,23 @@ emptyFacts = do
 unfoldable pub minusOne : ℤ
 minusOne = signed (leAt (replicate 8 255) 0 8)
 
+-- the numbers of an outcome; a refusal's is its reason. (The line below opens the definitions, so that the examples are computed.)
+unfoldable pub facts : Out (List ℕ) → List ℕ
+unfolding countTo sumTo allTo lowest foundBelow paste tab same every leOf leBytes leAt lePut signed bitsOf join superOf superFields superBytes recordOf recordFields recordBytes timeOf timeFields timeBytes entryOf entryFields entryBytes bitOf putBit bitAt withBit within lead tail step after utf8 zeroAt hasZero nameVerdict isDot isDots isSpecial storedName isNamed nameBytes rowOf holdOf liveRow liveHolds canHold addHold rowUsed holdOk rowOk holdsOk rowsOk shaped wellFormed bytesZero numbersZero timeZero recordZero blk putBlk legal checkOf seal sameFile isFree isHead isData zeros freshBlock freeOf headOf dataOf freeCount allZero layout blockSound headOnce dataOnce withinLength under soundAt sound there lengthOf present byteAt readFile claim writeBlk setLength raise putBlock putTo touched putFile makeFile clearTo clearAll isPast zeroTail cutFile isOf dropFile loadMaps loadMeta storeMaps syncMeta firstBit isUsed addGroup takeBit allocBlock freeBlock loadNode getNode newNode storeRow syncRow freeNode dropNode release slotBytes slotAt lookTo lookup findSlot putSlot direntInit direntAppend direntRemove nlinksInc nlinksDec unlinkFolder direntNodeRemove admitArena admit liveFolder holdNode callRoot formatSteps callFormat birth nameFolder named createSteps callCreate notFull unlinkSteps callUnlink fresh opened made laid stored imageFacts linksOf
+facts (done l) = l
+facts (refused n) = n ∷ []
+
 -- the table, and what document 01 says of each row
 unfoldable pub table : List (List ℕ)
 table =
-    numbers freshFacts
-    ∷ numbers fileFacts
-    ∷ numbers folderFacts
-    ∷ numbers unlinkFacts
-    ∷ numbers groupFacts
-    ∷ numbers checkFacts
-    ∷ numbers longFacts
-    ∷ numbers emptyFacts
+    facts freshFacts
+    ∷ facts fileFacts
+    ∷ facts folderFacts
+    ∷ facts unlinkFacts
+    ∷ facts groupFacts
+    ∷ facts checkFacts
+    ∷ facts longFacts
+    ∷ facts emptyFacts
     ∷ []
 
 abbrev pub expected : List (List ℕ)
