@@ -1,18 +1,18 @@
 -- A block that has all but its check is sound once it is sealed; new blocks and changed payloads are such blocks.
-use mathlib.Core.Path.{_≡_, refl, sym, ap, _∙_, subst}
+use mathlib.Core.Path.{_≡_, sym, ap, _∙_}
 use mathlib.Core.List.{List}
 use mathlib.Core.Logic.{_≢_}
 use Prim.Native.Nat.{ℕ, _+_, _-_, _≤_, _<_}
 use native.Mathlib.Omega.{arith}
 use lib.ListN.{length, getD}
-use Rattle.base.specs.Parts.{part, paste}
+use Rattle.base.specs.Parts.{paste}
 use Rattle.base.proofs.Lists.{length-paste, getD-paste-out, getD-part}
 use Rattle.le.specs.Le.{Bytes, lePut}
 use Rattle.le.proofs.General.{paste-all}
 use Rattle.le.proofs.Laws.{length-lePut, getD-lePut-out, lePut-bytes}
-use Rattle.arena.specs.Fields.{File, FileOk, tagOf, whichOf, nameOf, numberOf, seal, fresh}
+use Rattle.arena.specs.Fields.{File, FileOk, tagOf, whichOf, numberOf, seal, fresh}
 use Rattle.arena.proofs.Fresh.{length-fresh, fresh-tag, fresh-which, fresh-name, fresh-rest, fresh-bytes}
-use Rattle.arena.proofs.Seals.{length-seal, getD-seal, seal-right, seal-number}
+use Rattle.arena.proofs.Seals.{getD-seal, seal-right, seal-number}
 use Rattle.sound.proofs.Sounds.{BlockSound, Within}
 
 -- a used block, all but its check
