@@ -16,11 +16,17 @@ use libc::STDIN_FILENO;
 use libc::STDOUT_FILENO;
 
 const ARENA: u8 = 1;
+
 const PUT: u8 = 2;
+
 const CUT: u8 = 3;
+
 const MAKE: u8 = 4;
+
 const DROP: u8 = 5;
+
 const READ: u8 = 6;
+
 const ASK: u8 = 7;
 
 // ---- what a record stands for
@@ -37,14 +43,14 @@ fn name_of(name: &mut [u8], from: u8)
     }
 }
 
-fn data_of(data: &mut [u8], seed: u8)
-{
-    let n = data.len();
-    let mut b: u8 = seed;
+// Bytes that go up by the same step each.
+fn fill(buf: &mut [u8], first: u8, by: u8) {
+    let n = buf.len();
+    let mut b: u8 = first;
     let mut i: usize = 0;
     while i < n {
-        data[i] = b;
-        b = std::num::wrapping_add_u8(b, 37);
+        buf[i] = b;
+        b = std::num::wrapping_add_u8(b, by);
         i = i + 1;
     }
 }
@@ -79,9 +85,9 @@ fn put(arena: &mut [u8], work: &mut [u8], which: u8, name: &[u8], seed: u8, pos:
     requires { ⌜ (length (now work) ≡ 9216) × (length (now name) ≡ 16) ⌝ }
 {
     let n = least(size, 480);
-    let mut data = [0u8; 480];
-    data_of(&mut data, seed);
-    let r = ops::put(arena, work, which, name, pos, &data[..n]);
+    let mut buf = [0u8; 480];
+    fill(&mut buf, seed, 37);
+    let r = ops::put(arena, work, which, name, pos, &buf[..n]);
     show(b"put ", r as u64);
 }
 
@@ -90,11 +96,12 @@ fn read(arena: &[u8], work: &mut [u8], which: u8, name: &[u8], pos: usize, size:
     requires { ⌜ (length (now work) ≡ 9216) × (length (now name) ≡ 16) ⌝ }
 {
     let n = least(size, 1024);
-    let mut data = [238u8; 1024];
+    let mut buf = [0u8; 1024];
+    fill(&mut buf, 238, 0);
     ops::start(work);
-    let r = files::read::read(arena, &work[..], which, name, pos, &mut data[..n]);
+    let r = files::read::read(arena, &work[..], which, name, pos, &mut buf[..n]);
     show(b"read ", r as u64);
-    show(b" o ", sum(&data));
+    show(b" o ", sum(&buf));
 }
 
 fn ask(arena: &[u8], work: &mut [u8], which: u8, name: &[u8])
@@ -102,11 +109,12 @@ fn ask(arena: &[u8], work: &mut [u8], which: u8, name: &[u8])
     requires { ⌜ (length (now work) ≡ 9216) × (length (now name) ≡ 16) ⌝ }
 {
     ops::start(work);
+    let n = files::read::file_length(arena, &work[..], which, name);
     if files::read::there(arena, &work[..], which, name) {
-        show(b"ask there ", files::read::file_length(arena, &work[..], which, name) as u64);
-    } else {
-        show(b"ask missing ", files::read::file_length(arena, &work[..], which, name) as u64);
+        show(b"ask there ", n as u64);
+        return;
     }
+    show(b"ask missing ", n as u64);
 }
 
 fn act(
@@ -128,7 +136,10 @@ fn act(
         return;
     }
     if what == CUT {
-        show(b"cut ", ops::cut(arena, work, which, name, pos + size) as u64);
+        show(
+            b"cut ",
+            ops::cut(arena, work, which, name, pos + size) as u64,
+        );
         return;
     }
     if what == MAKE {

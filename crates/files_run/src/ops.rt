@@ -21,14 +21,7 @@ pub fn start(work: &mut [u8])
     begin(work);
 }
 
-pub fn put(
-    arena: &mut [u8],
-    work: &mut [u8],
-    which: u8,
-    name: &[u8],
-    pos: usize,
-    src: &[u8],
-) -> u8
+pub fn put(arena: &mut [u8], work: &mut [u8], which: u8, name: &[u8], pos: usize, src: &[u8]) -> u8
     requires { ⌜ (length (now arena) ≡ 512 * blocks (now arena)) × (blocks (now arena) ≤ 128) ⌝ }
     requires { ⌜ (length (now work) ≡ 9216) × (length (now name) ≡ 16) ⌝ }
     requires { ⌜ length (now src) ≤ 480 ⌝ }

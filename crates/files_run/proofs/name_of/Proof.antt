@@ -1,49 +1,43 @@
+-- `files_run::name_of`: the length stays.
+use mathlib.Core.Path.{_≡_, refl}
+use Prim.Native.Nat.{_-_}
+use native.Mathlib.Omega.{arith}
+use lib.ListN.{length, length-set}
 use Rattle.files_run.proofs.name_of.Statement.{statement}
 use Rattle.files_run.proofs.name_of.Tie as tie
-use Rattle.files_run.proofs.name_of.Reads as reads
-use Rattle.files_run.proofs.name_of.Lts as lts
 
 abbrev Inv-loop : tie.InvT-loop
-Inv-loop name₀ from i₀ name i = ?
+Inv-loop name₀ from i₀ name i = length name ≡ length name₀
 
 abbrev μ-loop : tie.MeasureT-loop
-μ-loop name₀ from i₀ name i = ?
+μ-loop name₀ from i₀ name i = 8 - i
 
--- src/main.rt:33:5
 loop-holds : tie.Need-loop-holds Inv-loop μ-loop
-loop-holds c = ?
+loop-holds c = refl
 
--- src/main.rt:34:9
 slice-write-name : tie.Need-slice-write-name Inv-loop μ-loop
-slice-write-name c = ?
+slice-write-name c = omega arith
 
--- src/main.rt:35:14
 add-name : tie.Need-add-name Inv-loop μ-loop
-add-name c = ?
+add-name c = omega arith
 
--- src/main.rt:35:9
 slice-write-name-2 : tie.Need-slice-write-name-2 Inv-loop μ-loop
-slice-write-name-2 c = ?
+slice-write-name-2 c = simp length-set (omega arith)
 
--- src/main.rt:36:13
 add-i : tie.Need-add-i Inv-loop μ-loop
-add-i c = ?
+add-i c = omega arith
 
--- src/main.rt:33:5
 loop-less : tie.Need-loop-less Inv-loop μ-loop
-loop-less c = ?
+loop-less c = omega arith
 
--- src/main.rt:33:5
 loop-again : tie.Need-loop-again Inv-loop μ-loop
-loop-again c = ?
+loop-again c = simp length-set (c .before .loop .inv)
 
--- src/main.rt:29:1
 same-length : tie.Need-same-length Inv-loop μ-loop
-same-length c = ?
+same-length c = c .before .loop .inv
 
--- src/main.rt:29:1
 returns : tie.Need-returns Inv-loop μ-loop
-returns c = ?
+returns c = tt
 
 pub name-of-spec : {M : Type 1} → statement M
 name-of-spec =

@@ -1,47 +1,51 @@
+-- `files_run::ops::cut`: the step on the view of nothing changed, and its commit.
+use native.Mathlib.Omega.{arith}
 use borrow.Author.Needs.{needs}
+use Rattle.arena.specs.Fields.{file}
+use Rattle.overlay.proofs.Chains.{did-well, call-refused, call-done}
+use Rattle.files.specs.Store.{cutFile}
+use Rattle.files_run.proofs.Ready.{started}
 use Rattle.files_run.proofs.ops.cut.Statement.{statement}
 use Rattle.files_run.proofs.ops.cut.Tie as tie
-use Rattle.files_run.proofs.ops.cut.Reads as reads
-use Rattle.files_run.proofs.ops.cut.Lts as lts
-use Rattle.files.proofs.store.cut.Reads as cut-reads
-use Rattle.files_run.proofs.ops.start.Reads as start-reads
-use Rattle.overlay.proofs.commit.Reads as commit-reads
 
--- src/ops.rt:51:5
 start-requires : tie.Need-start-requires
 start-requires c κs = search needs
 
--- src/ops.rt:52:9
 cut-requires : tie.Need-cut-requires
-cut-requires c κs = ?
+cut-requires c κs =
+    let s = c .before .before .before .before .before .before .before .before .before in
+    let R = started (s .args .arena .now) _ (s .pre .0 .0) (s .pre .0 .1) (c .before .before .before .before .start .ensures) in
+    ((R .fine, omega (arith, R .room)), s .pre .1 .1)
 
--- src/ops.rt:54:9
 same-length : tie.Need-same-length
 same-length c = search needs
 
--- src/ops.rt:54:9
 same-length-2 : tie.Need-same-length-2
 same-length-2 c = search needs
 
--- src/ops.rt:54:9
 returns : tie.Need-returns
-returns c = ?
+returns c =
+    let s = c .before .before .before .before .before .before .before .before .before .before .before .before .before in
+    let R = started (s .args .arena .now) _ (s .pre .0 .0) (s .pre .0 .1) (c .before .before .before .before .before .before .before .before .start .ensures) in
+    call-refused (λ x. cutFile x (file (s .args .which) (s .args .name .now)) (s .args .len)) (R .is) (c .if1 .taken) (c .before .before .before .cut .ensures)
 
--- src/ops.rt:56:5
 commit-requires : tie.Need-commit-requires
-commit-requires c κs = ?
+commit-requires c κs =
+    let e = c .before .before in
+    did-well (e .before .before .before .cut .ensures) (e .if1 .left) .fine
 
--- src/ops.rt:46:1
 same-length-3 : tie.Need-same-length-3
 same-length-3 c = search needs
 
--- src/ops.rt:46:1
 same-length-4 : tie.Need-same-length-4
 same-length-4 c = search needs
 
--- src/ops.rt:46:1
 returns-2 : tie.Need-returns-2
-returns-2 c = ?
+returns-2 c =
+    let s = c .before .before .before .before .before .before .before .before .before .before .before .before .before .before .before .before .before .before in
+    let R = started (s .args .arena .now) _ (s .pre .0 .0) (s .pre .0 .1) (c .before .before .before .before .before .before .before .before .before .before .before .before .before .start .ensures) in
+    let e = c .before .before .before .before .before in
+    call-done (λ x. cutFile x (file (s .args .which) (s .args .name .now)) (s .args .len)) _ (R .is) (e .if1 .left) (e .before .before .before .cut .ensures) (c .before .before .commit .ensures)
 
 pub cut-spec : {M : Type 1} → statement M
 cut-spec =
