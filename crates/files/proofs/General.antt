@@ -7,7 +7,7 @@ use native.Mathlib.Nat.{zero-add}
 use native.Mathlib.Omega.{arith}
 use lib.ListN.{length, getD, replicate, length-replicate}
 use lib.Seq.{ext-getD}
-use Rattle.base.specs.Out.{Out, done, refused, bind, answer, kept}
+use Rattle.base.specs.Out.{Out, done, refused, bind}
 use Rattle.base.specs.Parts.{part, back, paste, tab}
 use Rattle.base.proofs.Lists.{length-part, length-paste, getD-paste-in, getD-paste-out, length-tab, getD-tab, tab-cong, Stored, stored-all}
 use Rattle.base.proofs.Numbers.{lt-or-le}
@@ -18,13 +18,6 @@ use Rattle.le.proofs.Laws.{length-leBytes}
 pub bind-done : {A : Type 0} (m : Out A) → bind m done ≡ m
 bind-done (done x) = refl
 bind-done (refused n) = refl
-
--- what code answers, and what it leaves, where an outcome was refused and where it was done
-pub refused-says : {A : Type 0} {o : Out A} {n : ℕ} (x : A) → o ≡ refused n → (n ≡ answer o) × (x ≡ kept x o)
-refused-says x e = (sym (ap answer e), sym (ap (kept x) e))
-
-pub done-says : {A : Type 0} {o : Out A} {y : A} (x : A) → o ≡ done y → (0 ≡ answer o) × (y ≡ kept x o)
-done-says x e = (sym (ap answer e), sym (ap (kept x) e))
 
 -- a part of m bytes that comes back as t
 pub back-paste : (d t : List ℕ) (i m : ℕ) → length t ≡ m → back d i (i + m) t ≡ paste d i t
