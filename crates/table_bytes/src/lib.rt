@@ -14,7 +14,7 @@ use table::Row;
 use table::Table;
 
 // A row, 117 bytes.
-fn row_in(s: &[u8], at: usize) -> Row
+pub fn row_in(s: &[u8], at: usize) -> Row
     requires { ⌜ at + 117 ≤ length (now s) ⌝ }
     ensures { λ r. ⌜ r ≡ rowFrom (part (now (s .entry)) at (at + 117)) ⌝ }
 {
@@ -42,7 +42,7 @@ fn put_mark(out: &mut [u8], at: usize, dirty: bool)
 }
 
 // That a row has 117 bytes is known of a parameter alone, by its type: so it is said here.
-fn put_row(out: &mut [u8], at: usize, r: Row)
+pub fn put_row(out: &mut [u8], at: usize, r: Row)
     requires { ⌜ at + 117 ≤ length (now out) ⌝ }
     ensures { λ _. ⌜ (now (out .exit) ≡ paste (now (out .entry)) at (rowBytes r)) × (length (rowBytes r) ≡ 117) ⌝ }
 {
@@ -53,7 +53,7 @@ fn put_row(out: &mut [u8], at: usize, r: Row)
 }
 
 // A hold, 12 bytes.
-fn hold_in(s: &[u8], at: usize) -> Hold
+pub fn hold_in(s: &[u8], at: usize) -> Hold
     requires { ⌜ at + 12 ≤ length (now s) ⌝ }
     ensures { λ r. ⌜ r ≡ holdFrom (part (now (s .entry)) at (at + 12)) ⌝ }
 {
@@ -63,7 +63,7 @@ fn hold_in(s: &[u8], at: usize) -> Hold
     }
 }
 
-fn put_hold(out: &mut [u8], at: usize, h: Hold)
+pub fn put_hold(out: &mut [u8], at: usize, h: Hold)
     requires { ⌜ at + 12 ≤ length (now out) ⌝ }
     ensures { λ _. ⌜ now (out .exit) ≡ paste (now (out .entry)) at (holdBytes h) ⌝ }
 {
