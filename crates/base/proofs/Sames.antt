@@ -1,7 +1,7 @@
--- Laws that are not about arenas.
+-- More laws of tests: tests of one statement, tests of two lists, tests of all, and the highest below a bound.
 use mathlib.Core.Path.{_≡_, refl, sym, ap, _∙_}
 use mathlib.Core.Bool.{Bool, true, false, _&&_, _||_}
-use mathlib.Core.List.{List}
+use mathlib.Core.List.{List, [], _∷_}
 use mathlib.Core.Logic.{⊎-elim}
 use Prim.Native.Nat.{ℕ, zero, suc, _+_, _-_, _≤_, _<_}
 use native.Mathlib.Nat.{eq-or-lt-of-le}
@@ -11,14 +11,15 @@ use native.Mathlib.Decide.{ℕ-discrete}
 use lib.Bits.{bitOr, or-add-and, and-le-l, and-le-r}
 use lib.Dec.{T, eqb}
 use lib.ListN.{length, getD}
+use lib.Seq.{ext-getD}
 use borrow.Author.Tests.{eq-eqb, ne-eqb}
 use Rattle.base.specs.Count.{allTo}
-use Rattle.base.specs.Decides.{Decides, every}
+use Rattle.base.specs.Decides.{Decides, every, same}
 use Rattle.base.specs.Search.{last}
 use Rattle.base.proofs.Bools.{same-bool, T-true, true-T, true-false}
 use Rattle.base.proofs.Numbers.{lt-or-le}
 use Rattle.base.proofs.Searches.{Last, last-is}
-use Rattle.base.proofs.Tests.{decides-true, decides-every, decides-all}
+use Rattle.base.proofs.Tests.{decides-true, decides-every, decides-all, decides-same}
 
 -- ---- tests
 
@@ -93,3 +94,45 @@ last-one p n r R = ⊎-elim less more (lt-or-le r (last p n))
 
     more : last p n ≤ r → r ≡ last p n
     more g = ⊎-elim (λ (e : last p n ≡ r). sym e) (λ l. absurd (true-false (pick-hit r R (omega arith)) (S .after (r - 1) (omega arith) (omega (arith, R .most))))) (eq-or-lt-of-le g)
+
+-- a test that can't pass fails
+pub test-fails : (b : Bool) → (b ≡ true → ⊥) → b ≡ false
+test-fails true n = absurd (n refl)
+test-fails false n = refl
+
+pub or-no : (b : Bool) → (b || false) ≡ b
+or-no true = refl
+or-no false = refl
+
+-- ---- tests that decide, and two lists
+
+-- a test that decides a statement is true where it holds, and false where it does not
+pub decided-yes : {b : Bool} {P : Type 0} → Decides b P → P → b ≡ true
+decided-yes {b} d p = T-true b (d .left p)
+
+pub decided-no : (b : Bool) {P : Type 0} → Decides b P → (P → ⊥) → b ≡ false
+decided-no true d n = absurd (n (d .right tt))
+decided-no false d n = refl
+
+-- two lists, of one length and with the same elements; of two lengths; with two elements at one place
+pub same-all : (l m : List ℕ) → length l ≡ length m → ((i : ℕ) → i < length l → getD l i 0 ≡ getD m i 0) → same l m ≡ true
+same-all l m e h = decided-yes (decides-same l m) (ext-getD 0 l m e h)
+
+pub same-length : (l m : List ℕ) → (length l ≡ length m → ⊥) → same l m ≡ false
+same-length l m n = decided-no (same l m) (decides-same l m) (λ e. n (ap length e))
+
+pub same-but : (l m : List ℕ) (i : ℕ) → (getD l i 0 ≡ getD m i 0 → ⊥) → same l m ≡ false
+same-but l m i n = decided-no (same l m) (decides-same l m) (λ e. n (ap (λ (x : List ℕ). getD x i 0) e))
+
+pub same-true : (l m : List ℕ) → same l m ≡ true → l ≡ m
+same-true l m e = decides-same l m .right (true-T (same l m) e)
+
+pub same-own : (l m : List ℕ) → l ≡ m → same l m ≡ true
+same-own l m e = T-true (same l m) (decides-same l m .left e)
+
+pub same-false : (l m : List ℕ) → (l ≡ m → ⊥) → same l m ≡ false
+same-false l m n = go (same l m) refl
+  where
+    go : (b : Bool) → same l m ≡ b → same l m ≡ false
+    go true e = absurd (n (same-true l m e))
+    go false e = e
