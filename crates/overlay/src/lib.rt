@@ -1,6 +1,6 @@
 // The arena as it would be after the stores so far: the arena is only read, and changed blocks stand in a lent workspace until commit.
 ghost use mathlib.Core.Path.{_≡_};
-ghost use Prim.Native.Nat.{ℕ, _+_, _*_, _-_, _<_, _≤_};
+ghost use Prim.Native.Nat.{_*_, _<_, _≤_};
 ghost use lib.ListN.{length};
 ghost use Rattle.arena.specs.Blocks.{blocks};
 ghost use Rattle.overlay.specs.View.{markOf, usedOf, blkOf, view, committed, left, stored, freed, begun, Fine};
