@@ -1,11 +1,11 @@
 -- Laws of parts that any list has.
-use mathlib.Core.Path.{_≡_, refl, sym, ap, ap₂, _∙_, subst}
+use mathlib.Core.Path.{_≡_, sym, ap, ap₂, _∙_, subst}
 use mathlib.Core.List.{List, [], _∷_, _++_}
 use mathlib.Core.Logic.{⊎-elim}
 use Prim.Native.Nat.{ℕ, zero, suc, _+_, _-_, _≤_, _<_}
 use native.Mathlib.Omega.{arith}
-use lib.ListN.{length, getD, take, drop, length-take, length-drop, List·getD-eq-default}
-use lib.Seq.{take-add, take-take, take-nil, drop-drop, drop-nil, drop-cons}
+use lib.ListN.{length, getD, take, drop, length-take, List·getD-eq-default}
+use lib.Seq.{take-add, take-take, take-nil, drop-drop, drop-cons}
 use Rattle.base.specs.Parts.{part, paste}
 use Rattle.base.proofs.Numbers.{lt-or-le}
 use Rattle.base.proofs.Lists.{getD-part, getD-paste-in, getD-paste-out}

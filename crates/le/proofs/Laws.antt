@@ -1,17 +1,13 @@
 -- The laws of little-endian numbers, each once for every width.
-use mathlib.Core.Path.{_≡_, refl, sym, ap, ap₂, _∙_, subst}
+use mathlib.Core.Path.{_≡_, refl, sym, ap, ap₂, _∙_}
 use mathlib.Core.List.{List, [], _∷_, _++_}
-use mathlib.Core.Logic.{⊎-elim}
-use Prim.Native.Nat.{ℕ, zero, suc, _+_, _*_, _/_, _%_, _^_, _-_, _≤_, _<_, zero-le}
-use native.Mathlib.Nat.{add-zero, zero-add, suc-add, add-assoc, mul-assoc, mul-add, mul-comm, pow-zero, pow-suc, pow-succ', div-one, mod-one, one-mul, mod-lt, mod-eq-of-lt, div-div-eq-div-mul, mod-add-div, add-mul-div-left, add-mul-mod-self-left, div-eq-of-lt, div-lt-iff-lt-mul, one-le-pow, pow-le-pow-right}
-use native.Mathlib.Numerals.{add-one}
+use Prim.Native.Nat.{ℕ, zero, suc, _+_, _*_, _/_, _%_, _^_, _-_, _≤_, _<_}
+use native.Mathlib.Nat.{zero-add, suc-add, mul-assoc, mul-comm, pow-suc, pow-succ', div-one, mod-one, one-mul, mod-eq-of-lt, div-div-eq-div-mul, one-le-pow, pow-le-pow-right}
 use native.Mathlib.Omega.{arith}
-use lib.Pow.{pow-add}
 use lib.Arith.{mod-mul}
-use lib.ListN.{length, getD, take, drop, set, length-append, length-take, length-drop}
-use lib.Seq.{take-add, drop-drop, take-take, ext-getD, getD-drop, getD-take}
+use lib.ListN.{length, getD, drop, set, length-take}
 use Rattle.base.specs.Parts.{part, paste}
-use Rattle.base.proofs.Lists.{length-part, getD-part, length-paste, part-paste, part-paste-other, paste-paste, paste-own, getD-paste-out, set-paste}
+use Rattle.base.proofs.Lists.{length-part, length-paste, part-paste, part-paste-other, paste-paste, paste-own, getD-paste-out, set-paste}
 use Rattle.le.specs.Le.{Bytes, leOf, leBytes, leAt, lePut}
 use Rattle.le.proofs.General.{part-join, part-part, part-one, part-all, paste-all}
 

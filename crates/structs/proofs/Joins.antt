@@ -11,7 +11,7 @@ use Rattle.base.proofs.Numbers.{lt-or-le}
 use Rattle.base.proofs.Lists.{length-part, paste-paste}
 use Rattle.le.specs.Le.{Bytes, leOf, leBytes, leAt}
 use Rattle.le.proofs.General.{part-join, part-all}
-use Rattle.le.proofs.Laws.{leBytes-leOf, length-leBytes, leBytes-bytes}
+use Rattle.le.proofs.Laws.{leBytes-leOf}
 use Rattle.structs.specs.Layout.{join}
 
 -- the sum of the widths of fields

@@ -1,7 +1,7 @@
 -- The laws of the three layouts: both round trips, lengths, that they are bytes, and that what was read fits.
-use mathlib.Core.Path.{_≡_, refl, sym, ap, ap₂, _∙_, subst}
+use mathlib.Core.Path.{_≡_, refl, sym, ap, ap₂, _∙_}
 use mathlib.Core.List.{List, [], _∷_, _++_, map}
-use Prim.Native.Nat.{ℕ, zero, suc, _+_, _-_, _^_, _≤_, _<_}
+use Prim.Native.Nat.{ℕ, _+_, _-_, _^_, _≤_, _<_}
 use native.Mathlib.Omega.{arith}
 use lib.ListN.{length, getD, take, drop, length-append}
 use lib.Seq.{take-all}
@@ -9,14 +9,15 @@ use Rattle.base.specs.Parts.{part, paste}
 use Rattle.base.proofs.Lists.{length-part, paste-paste}
 use Rattle.le.specs.Le.{Bytes, leOf, leBytes, leAt}
 use Rattle.le.specs.Signed.{signed, bitsOf}
-use Rattle.le.proofs.General.{part-join, part-part, part-all}
+use Rattle.le.proofs.General.{part-part, part-all}
 use Rattle.le.proofs.Laws.{length-leBytes, leBytes-bytes, leOf-fits, leAt-part, leAt-below}
 use Rattle.le.proofs.Signs.{signed-bitsOf, bitsOf-signed, bitsOf-fits, signed-fits}
 use Rattle.structs.specs.declared.SuperBlock.{SuperBlock}
 use Rattle.structs.specs.declared.Timespec.{Timespec}
 use Rattle.structs.specs.declared.DiskINode.{DiskINode}
 use Rattle.structs.specs.declared.DiskEntry.{DiskEntry}
-use Rattle.structs.specs.Layout.{join, superOf, superFields, superBytes, timeOf, timeFields, timeBytes, recordOf, recordFields, recordBytes, entryOf, entryFields, entryBytes, SuperFits, TimeFits, RecordFits, EntryFits}
+use Rattle.structs.specs.Layout.{join, superOf, superFields, superBytes, timeOf, timeFields, timeBytes, recordOf, recordFields, recordBytes, entryOf, entryFields, entryBytes}
+use Rattle.structs.specs.Fits.{SuperFits, TimeFits, RecordFits, EntryFits}
 use Rattle.structs.proofs.Joins.{total, field, field-of, cut, join-cut, join-split, bytes-at, length-join, bytes-append, bytes-nil}
 
 -- ---- what the code reads k bytes after a place is what stands at k of the part there

@@ -1,5 +1,5 @@
 -- The structures at a place of a longer list: what was written there is read there, what was read there and is written again changes nothing,
--- and only their own bytes change. One law each, for all three.
+-- and only their own bytes change. One law each, for all three structures.
 use mathlib.Core.Path.{_≡_, sym, ap, _∙_}
 use mathlib.Core.List.{List}
 use Prim.Native.Nat.{ℕ, _+_, _≤_, _<_}
@@ -12,7 +12,8 @@ use Rattle.le.proofs.General.{part-all}
 use Rattle.structs.specs.declared.SuperBlock.{SuperBlock}
 use Rattle.structs.specs.declared.DiskINode.{DiskINode}
 use Rattle.structs.specs.declared.DiskEntry.{DiskEntry}
-use Rattle.structs.specs.Layout.{superOf, superBytes, recordOf, recordBytes, entryOf, entryBytes, SuperFits, RecordFits, EntryFits}
+use Rattle.structs.specs.Layout.{superOf, superBytes, recordOf, recordBytes, entryOf, entryBytes}
+use Rattle.structs.specs.Fits.{SuperFits, RecordFits, EntryFits}
 use Rattle.structs.proofs.Layouts.{length-superBytes, superOf-superBytes, superBytes-superOf, length-recordBytes, recordOf-recordBytes, recordBytes-recordOf, length-entryBytes, entryOf-entryBytes, entryBytes-entryOf}
 
 -- n bytes laid over l from s on: what stands there, and what stands elsewhere
