@@ -38,16 +38,21 @@ struct Plan {
     fill: usize,
     /// Bits of the first group that are left set by pokes before the sequence; None without pokes.
     left: Option<usize>,
+    /// Now and then some stored bytes are changed from outside, and the calls go on from there for a while.
+    hurt: bool,
     /// No folder goes to another folder, and no open.
     premise: bool,
 }
 
-/// A sequence of `calls` calls or more from this seed: small and roomy images by turns, one in sixteen with the first group's map
-/// filled by pokes, and one in 64 filled by creating, if there are calls enough.
+/// The plan for this seed: small and roomy images by turns; one in sixteen with the first group's map filled by pokes, one in sixteen
+/// hurt, and one in 64 filled by creating, if there are calls enough.
 fn plan(seed: u64, calls: usize, dice: &mut Dice) -> Plan {
     let premise = seed % 2 == 0;
     if seed % 64 == 63 && calls >= 2500 {
-        return Plan { blocks: 2400 + dice.below(1600), names: 60, fill: 1000 + dice.below(40), left: None, premise };
+        return Plan { blocks: 2400 + dice.below(1600), names: 60, fill: 1000 + dice.below(40), left: None, hurt: false, premise };
+    }
+    if seed % 16 == 13 {
+        return Plan { blocks: 24 + dice.below(16), names: 8, fill: 0, left: None, hurt: true, premise };
     }
     let blocks = match seed / 2 % 4 {
         0 => 20 + dice.below(50),
@@ -56,7 +61,7 @@ fn plan(seed: u64, calls: usize, dice: &mut Dice) -> Plan {
         _ => 300,
     };
     let left = (seed % 16 == 11).then(|| dice.below(6));
-    Plan { blocks, names: 3 + dice.below(20), fill: 0, left, premise }
+    Plan { blocks, names: 3 + dice.below(20), fill: 0, left, hurt: false, premise }
 }
 
 pub struct Sequence {
@@ -76,7 +81,11 @@ pub fn sequence(seed: u64, calls: usize) -> Sequence {
     let plan = plan(seed, calls, &mut dice);
     let mut s = Sequence { world: World::new(), dice, plan, script: vec![], lines: vec![], holds: 8, made: 0, closed: vec![] };
     s.start();
-    while s.lines.len() < calls && s.step() {}
+    while s.lines.len() < calls && s.step() {
+        if s.plan.hurt && s.dice.once(60) {
+            s.hurt();
+        }
+    }
     s.call(Call::Sync);
     s.call(Call::Check);
     s
@@ -111,20 +120,99 @@ impl Sequence {
 
     /// Clears the first map but for its last bits, as if the group were in use, and opens the image so made.
     fn fill_map(&mut self, left: usize) {
-        let old = self.world.arena();
-        let data = |b: &&[u8]| b[0] == 2 && b[1] == 0 && b[20..24] == [0; 4];
-        let at = old.chunks(512).position(|b| data(&b)).unwrap() * 512;
+        let data = |b: &[u8]| b[0] == 2 && b[1] == 0 && b[20..24] == [0; 4];
+        let k = self.world.arena().chunks(512).position(data).unwrap();
+        self.change(k, |payload| {
+            payload[8..12].copy_from_slice(&(left as u32).to_le_bytes());
+            payload[128..256].fill(0);
+            (1024 - left..1024).for_each(|id| payload[128 + id / 8] |= 1 << (id % 8));
+        });
+        self.call(Call::Open);
+    }
+
+    /// Changes the payload of block k by pokes, its check with it.
+    fn change(&mut self, k: usize, edit: impl FnOnce(&mut [u8])) {
+        let old = self.world.arena()[512 * k..512 * (k + 1)].to_vec();
         let mut new = old.clone();
-        let payload = &mut new[at + 24..at + 504];
-        payload[8..12].copy_from_slice(&(left as u32).to_le_bytes());
-        payload[128..256].fill(0);
-        (1024 - left..1024).for_each(|id| payload[128 + id / 8] |= 1 << (id % 8));
-        let check: u32 = new[at..at + 508].iter().zip(1u32..).map(|(b, i)| i * *b as u32).sum();
-        new[at + 508..at + 512].copy_from_slice(&check.to_le_bytes());
-        for place in (0..old.len()).filter(|i| old[*i] != new[*i]) {
-            self.outside(Command::Poke(place, new[place]));
+        edit(&mut new[24..504]);
+        let check: u32 = new[..508].iter().zip(1u32..).map(|(b, i)| i * *b as u32).sum();
+        new[508..].copy_from_slice(&check.to_le_bytes());
+        for i in (0..512).filter(|i| old[*i] != new[*i]) {
+            self.outside(Command::Poke(512 * k + i, new[i]));
+        }
+    }
+
+    /// Some fields of what is stored get other values, and the image is opened and called for a while; then all is as before or fresh.
+    fn hurt(&mut self) {
+        for h in self.world.table.handles() {
+            if !self.dice.once(30) {
+                self.call(Call::Close(h));
+            }
+        }
+        self.call(Call::Sync);
+        let before = self.world.arena();
+        for _ in 0..1 + self.dice.below(3) {
+            let datas: Vec<usize> = (0..before.len() / 512).filter(|k| before[512 * k] == 2).collect();
+            let k = self.dice.of(&datas);
+            let (at, bytes) = if before[512 * k + 1] == 0 { self.meta_field() } else { self.slot_field() };
+            let number = |k: usize| u32::from_le_bytes(before[512 * k + 20..512 * k + 24].try_into().unwrap()) as usize;
+            let is_head = |h: &usize| before[512 * h] == 1 && before[512 * h + 1..512 * h + 20] == before[512 * k + 1..512 * k + 20];
+            let length = (0..before.len() / 512).find(is_head).map_or(0, number);
+            let own = 480 * number(k)..length.min(480 * number(k) + 480);
+            // A field of the file, as far as it lies in this block.
+            self.change(k, |payload| {
+                let here = (at..at + bytes.len()).zip(&bytes).filter(|(p, _)| own.contains(p));
+                here.for_each(|(p, b)| payload[p - own.start] = *b);
+            });
         }
         self.call(Call::Open);
+        self.call(Call::Root);
+        for _ in 0..30 {
+            self.step();
+        }
+        if self.dice.once(4) {
+            self.outside(Command::Arena(before));
+            self.call(Call::Open);
+        } else {
+            let (time, file) = (self.time(), self.file());
+            self.call(Call::Format(time, file));
+        }
+        self.call(Call::Root);
+    }
+
+    fn odd(&mut self) -> u32 {
+        let all = [0, 1, 2, 3, 4, 5, 6, 7, 255, 1023, 1024, 1025, 65535, u32::MAX];
+        self.dice.of(&all)
+    }
+
+    /// A field of the superblock, the first map or one of the first records.
+    fn meta_field(&mut self) -> (usize, Vec<u8>) {
+        let number = self.odd().to_le_bytes().to_vec();
+        let record = 128 * (2 + self.dice.below(9));
+        match self.dice.below(12) {
+            0 => (4 * self.dice.below(4), number),
+            1 => (128 + self.dice.below(2), vec![self.dice.next() as u8]),
+            2 | 3 => (record + 8, number),
+            4 | 5 => (record + 14, number[..2].to_vec()),
+            6 | 7 => (record + 16, number),
+            8 => (record + 80 + self.dice.below(16), vec![self.dice.next() as u8]),
+            9 => (record + 14, vec![0, 0]),
+            10 => (record + 14, vec![255, 255]),
+            _ => (record + self.dice.below(112), vec![self.dice.next() as u8]),
+        }
+    }
+
+    /// A field of one of the first slots.
+    fn slot_field(&mut self) -> (usize, Vec<u8>) {
+        let number = self.odd().to_le_bytes().to_vec();
+        let slot = 264 * self.dice.below(6);
+        match self.dice.below(6) {
+            0 | 1 => (slot, number),
+            2 => (slot + 260, number),
+            3 => (slot + 4 + self.dice.below(6), vec![self.dice.of(&[0, b'.', b'a', b'0', 255, 0xc3])]),
+            4 => (slot + 4, self.listed()),
+            _ => (slot + self.dice.below(264), vec![self.dice.next() as u8]),
+        }
     }
 
     /// One more node, mostly in the folder made last.
@@ -160,6 +248,12 @@ impl Sequence {
         }
         if live.len() > self.holds && !self.dice.once(3) {
             return Call::Close(self.dice.of(&live));
+        }
+        if !live.iter().any(|h| self.is_folder(*h)) && !self.dice.once(3) {
+            return Call::Root;
+        }
+        if self.world.free_blocks() < 4 && self.dice.once(2) {
+            return self.unlink();
         }
         match self.dice.below(1000) {
             0..=19 => Call::Root,
