@@ -1,5 +1,5 @@
 //! The Rust beside the port: `driver run` reads a call script and prints for each call what the Rust says of it; `driver gen SEED CALLS
-//! FILE` writes a script of its own to the file and prints the same of it.
+//! FILE` writes a script of its own to the file and prints the same of it; `driver raw` prints what the Rust itself does, no rule asked.
 //!
 //! A sum that is not known is a dash.
 //!
@@ -15,20 +15,16 @@ mod world;
 
 use script::{Command, Next, Script};
 use std::io::{Read, Write};
-use world::{Line, World};
+use world::{shown, Line, World};
 
-fn shown(line: &Line) -> String {
-    match line {
-        Line::Same(text) => format!("= {text}\n"),
-        Line::Left(rule, text) => format!("~{rule} {text}\n"),
-        Line::Unsaid(rule, text) => format!("?{rule} {text}\n"),
-        Line::Lost(text) => format!("! {text}\n"),
-    }
+fn input() -> std::io::Result<Vec<u8>> {
+    let mut bytes = vec![];
+    std::io::stdin().read_to_end(&mut bytes)?;
+    Ok(bytes)
 }
 
 fn run(out: &mut impl Write) -> std::io::Result<()> {
-    let mut bytes = vec![];
-    std::io::stdin().read_to_end(&mut bytes)?;
+    let bytes = input()?;
     let mut script = Script(&bytes);
     let mut world = World::new();
     loop {
@@ -37,7 +33,7 @@ fn run(out: &mut impl Write) -> std::io::Result<()> {
             Next::Bad => return writeln!(out, "= bad script"),
             Next::Do(Command::Call(call)) => {
                 let line = world.call(&call);
-                out.write_all(shown(&line).as_bytes())?;
+                writeln!(out, "{}", shown(&line))?;
                 if let Line::Lost(_) = line {
                     return Ok(());
                 }
@@ -47,10 +43,30 @@ fn run(out: &mut impl Write) -> std::io::Result<()> {
     }
 }
 
+/// Prints as it goes: a forked trial has words of its own to say.
+fn raw() -> std::io::Result<()> {
+    std::panic::set_hook(Box::new(|panic| {
+        let text = panic.payload();
+        let text = text.downcast_ref::<String>().map(|s| s.as_str()).or(text.downcast_ref::<&str>().copied());
+        print!(" (panic: {})", text.unwrap_or("?"));
+        let _ = std::io::stdout().flush();
+    }));
+    let bytes = input()?;
+    let mut script = Script(&bytes);
+    let mut world = World::new();
+    while let Next::Do(command) = script.next() {
+        match command {
+            Command::Call(call) => println!("{}", world.raw(&call)),
+            outside => world.outside(&outside),
+        }
+    }
+    Ok(())
+}
+
 fn gen(out: &mut impl Write, seed: u64, calls: usize, file: &str) -> std::io::Result<()> {
     let made = gen::sequence(seed, calls);
     std::fs::write(file, &made.script)?;
-    made.lines.iter().try_for_each(|line| out.write_all(shown(line).as_bytes()))
+    made.lines.iter().try_for_each(|line| writeln!(out, "{}", shown(line)))
 }
 
 fn number(word: &str) -> u64 {
@@ -67,9 +83,14 @@ fn main() -> std::io::Result<()> {
     let mut out = std::io::BufWriter::new(std::io::stdout().lock());
     match words[..] {
         ["run"] => run(&mut out)?,
+        ["raw"] => {
+            drop(out);
+            raw()?;
+            std::process::exit(0)
+        }
         ["gen", seed, calls, file] => gen(&mut out, number(seed), number(calls) as usize, file)?,
         _ => {
-            eprintln!("driver run < SCRIPT\ndriver gen SEED CALLS FILE");
+            eprintln!("driver run < SCRIPT\ndriver raw < SCRIPT\ndriver gen SEED CALLS FILE");
             std::process::exit(2)
         }
     }
