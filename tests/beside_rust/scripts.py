@@ -30,8 +30,7 @@ class Builder:
 
     def call(self, name, *args, words=""):
         """Adds a call; the model's answer is the handle, if it is one."""
-        packed = b"".join(pack(shape, arg) for shape, arg in zip(model.SHAPES[name], args))
-        self.raw(bytes([16 + model.NAMES.index(name)]) + packed, f"{name} {words}".strip())
+        self.raw(packed(name, args), f"{name} {words}".strip())
         self.line = self.at.run(name, args)
         answer = self.line.split(" ")
         if name in ("root", "find", "create") and answer[1] == "ok":
@@ -141,16 +140,76 @@ def quoted(name):
     return '"' + "".join(chr(b) if 32 <= b < 127 and b not in (34, 92) else f"\\{b:02x}" for b in raw(name)) + '"'
 
 
-def pieces(data):
-    """The commands of a script, each as its bytes; the broken rest, if any, as the last."""
-    script, out = model.Script(data), []
-    start = 0
+def packed(name, args):
+    """One command's bytes."""
+    if name == "arena":
+        data, = args
+        return (b"\1" if any(data) else b"\2") + struct.pack("<I", len(data)) + (data if any(data) else b"")
+    if name == "poke":
+        return b"\3" + struct.pack("<IB", *args)
+    if name == "table":
+        return b"\4" + args[0]
+    return bytes([16 + model.NAMES.index(name)]) + b"".join(pack(shape, arg) for shape, arg in zip(model.SHAPES[name], args))
+
+
+class Maker:
+    """Stands for the handle that a command makes, whatever its number will be."""
+
+    def __init__(self, name):
+        self.name = name
+
+
+def followed(at, name, args):
+    """Runs one command on a model; the handle it made, if it made one."""
+    if name not in model.NAMES:
+        {"arena": at.set_arena, "poke": at.poke, "table": at.set_table}[name](*args)
+        return None
+    answer = at.run(name, args).split(" ")
+    return (int(answer[2]), int(answer[3])) if name in ("root", "find", "create") and answer[1] == "ok" else None
+
+
+def symbolic(data):
+    """The commands of a script as (name, arguments, maker), each handle replaced by its maker where it has one."""
+    at, made, out = model.Model(), {}, []
     try:
-        for _ in script.commands():
-            out.append(data[start:script.at])
-            start = script.at
+        for name, args in model.Script(data).commands():
+            shapes = model.SHAPES.get(name, "-" * len(args))
+            maker = Maker(name)
+            out.append((name, tuple(made.get(a, a) if s == "h" else a for s, a in zip(shapes, args)), maker))
+            handle = followed(at, name, args)
+            if handle:
+                made[handle] = maker
     except model.BadScript:
         pass
-    if start < len(data):
-        out.append(data[start:])
     return out
+
+
+def concrete(commands):
+    """The script of such commands, numbers anew; a command whose handle has no maker any more is left out."""
+    at, made, out = model.Model(), {}, []
+    for name, args, maker in commands:
+        if any(isinstance(a, Maker) and a not in made for a in args):
+            continue
+        args = tuple(made[a] if isinstance(a, Maker) else a for a in args)
+        out.append((name, args))
+        handle = followed(at, name, args)
+        if handle:
+            made[maker] = handle
+    return out
+
+
+def told(name, args):
+    """A command in words."""
+    words = []
+    for shape, arg in zip(model.SHAPES.get(name, "-" * len(args)), args):
+        if shape == "h":
+            words.append(shown(arg))
+        elif shape == "n":
+            words.append(quoted(arg))
+        elif shape == "t":
+            words.append(f"{arg[0]}s{arg[1]}ns")
+        elif isinstance(arg, bytes):
+            words.append(arg.hex() if len(arg) <= 16 else f"{len(arg)} bytes" + ("" if any(arg) else " of zeros"))
+        else:
+            words.append(str(arg))
+    return " ".join([name, *words])

@@ -74,12 +74,40 @@ pub struct Sequence {
     holds: usize,
     made: u64,
     closed: Vec<Handle>,
+    /// Only calls that the Rust answered go into the script.
+    answered: bool,
+}
+
+fn begin(seed: u64, calls: usize, answered: bool) -> Sequence {
+    let mut dice = Dice(seed);
+    let plan = plan(seed, calls, &mut dice);
+    let (script, lines, closed) = (vec![], vec![], vec![]);
+    Sequence { world: World::new(), dice, plan, script, lines, holds: 8, made: 0, closed, answered }
+}
+
+/// Short runs on one image after the other, as many as go into `bytes` bytes, of calls that the Rust answered.
+pub fn sample(seed: u64, bytes: usize) -> Sequence {
+    let mut s = begin(seed, 0, true);
+    for part in seed.. {
+        s.plan = plan(part, 0, &mut s.dice);
+        s.plan.blocks = s.plan.blocks.min(128);
+        s.start();
+        let until = s.lines.len() + 100;
+        while s.lines.len() < until {
+            let (script, lines) = (s.script.len(), s.lines.len());
+            s.step();
+            if s.script.len() > bytes {
+                s.script.truncate(script);
+                s.lines.truncate(lines);
+                return s;
+            }
+        }
+    }
+    s
 }
 
 pub fn sequence(seed: u64, calls: usize) -> Sequence {
-    let mut dice = Dice(seed);
-    let plan = plan(seed, calls, &mut dice);
-    let mut s = Sequence { world: World::new(), dice, plan, script: vec![], lines: vec![], holds: 8, made: 0, closed: vec![] };
+    let mut s = begin(seed, calls, false);
     s.start();
     while s.lines.len() < calls && s.step() {
         if s.plan.hurt && s.dice.once(60) {
@@ -93,10 +121,12 @@ pub fn sequence(seed: u64, calls: usize) -> Sequence {
 
 impl Sequence {
     fn call(&mut self, call: Call) -> bool {
-        call.write(&mut self.script);
         let line = self.world.call(&call);
         let on = !matches!(line, Line::Lost(_));
-        self.lines.push(line);
+        if !self.answered || matches!(line, Line::Same(_)) {
+            call.write(&mut self.script);
+            self.lines.push(line);
+        }
         on
     }
 
@@ -313,10 +343,9 @@ impl Sequence {
 
     fn listed(&mut self) -> Vec<u8> {
         let starts = ["a", "B", "é", "glyph ", "山", "𝔘", "x/y", "\u{7f}"];
-        let n = self.dice.below(self.plan.names);
-        match n {
-            0 => vec![b'l'; 255],
-            _ => format!("{}{}", starts[n % 8], n / 8).into_bytes(),
+        match self.dice.below(self.plan.names) {
+            0 if self.dice.once(4) => vec![b'l'; 255],
+            n => format!("{}{}", starts[n % 8], n / 8).into_bytes(),
         }
     }
 

@@ -1,5 +1,6 @@
 //! The Rust beside the port: `driver run` reads a call script and prints for each call what the Rust says of it; `driver gen SEED CALLS
-//! FILE` writes a script of its own to the file and prints the same of it; `driver raw` prints what the Rust itself does, no rule asked.
+//! FILE` writes a script of its own to the file and prints the same of it; `driver sample SEED BYTES FILE` keeps only calls that the
+//! Rust answered; `driver raw` prints what the Rust itself does, no rule asked.
 //!
 //! A sum that is not known is a dash.
 //!
@@ -63,8 +64,7 @@ fn raw() -> std::io::Result<()> {
     Ok(())
 }
 
-fn gen(out: &mut impl Write, seed: u64, calls: usize, file: &str) -> std::io::Result<()> {
-    let made = gen::sequence(seed, calls);
+fn gen(out: &mut impl Write, made: gen::Sequence, file: &str) -> std::io::Result<()> {
     std::fs::write(file, &made.script)?;
     made.lines.iter().try_for_each(|line| writeln!(out, "{}", shown(line)))
 }
@@ -88,9 +88,10 @@ fn main() -> std::io::Result<()> {
             raw()?;
             std::process::exit(0)
         }
-        ["gen", seed, calls, file] => gen(&mut out, number(seed), number(calls) as usize, file)?,
+        ["gen", seed, calls, file] => gen(&mut out, gen::sequence(number(seed), number(calls) as usize), file)?,
+        ["sample", seed, bytes, file] => gen(&mut out, gen::sample(number(seed), number(bytes) as usize), file)?,
         _ => {
-            eprintln!("driver run < SCRIPT\ndriver raw < SCRIPT\ndriver gen SEED CALLS FILE");
+            eprintln!("driver run < SCRIPT\ndriver raw < SCRIPT\ndriver gen SEED CALLS FILE\ndriver sample SEED BYTES FILE");
             std::process::exit(2)
         }
     }
