@@ -9,7 +9,7 @@ HERE = pathlib.Path(__file__).resolve().parent
 TOP = HERE.parent.parent
 OUT = TOP / "target" / "beside_rust"
 HOST = TOP / "tests" / "replay-host"
-MODEL = TOP / "tests" / "model" / "calls_model.py"
+MODEL = TOP / "tests" / "model" / "replay_model.py"
 SHOWN = 10
 
 

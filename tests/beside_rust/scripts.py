@@ -5,7 +5,7 @@ import struct
 import sys
 
 sys.path.insert(0, str(pathlib.Path(__file__).resolve().parent.parent / "model"))
-import calls_model as model
+import replay_model as model
 from arena_model import BLOCK, META, PAYLOAD, sealed
 
 FILE, FOLDER = 1, 2

@@ -3,7 +3,7 @@
 
 Written from document 01 and the readings of it in docs/DECISIONS.md, on top of arena_model.py; it shares nothing with crates/. A call works on a copy of
 the arena and the table, and raises Refused at the first thing that can't be done; the copy is kept only if nothing was raised.
-    calls_model.py < SCRIPT
+    replay_model.py < SCRIPT
 """
 import functools
 import struct
