@@ -1,10 +1,9 @@
 -- The call close, in its parts.
-use mathlib.Core.Path.{_≡_, refl, sym, _∙_, ap}
+use mathlib.Core.Path.{_≡_, sym, _∙_}
 use mathlib.Core.Bool.{Bool, true, false}
 use mathlib.Core.List.{List}
 use Prim.Native.Nat.{ℕ}
-use Rattle.base.specs.Out.{Out, done, refused, bind, Went}
-use Rattle.base.specs.Search.{pick}
+use Rattle.base.specs.Out.{done, refused, bind, Went}
 use Rattle.base.proofs.Outs.{went-is, went-not, bind-assoc}
 use Rattle.table.specs.declared.Table.{Table}
 use Rattle.table.specs.declared.Handle.{Handle}
@@ -13,7 +12,7 @@ use Rattle.table.specs.Table.{closeHold}
 use Rattle.sefs.specs.State.{Fs}
 use Rattle.sefs.specs.Nodes.{dropNode}
 use Rattle.sefs.specs.Ask.{admit, byHandle, start}
-use Rattle.sefs.specs.Create.{After, after}
+use Rattle.sefs.specs.Create.{after}
 use Rattle.sefs.specs.Close.{closeSteps, callClose}
 use Rattle.calls.specs.Asked.{reached}
 use Rattle.calls_close.specs.Ends.{ending}
@@ -28,13 +27,15 @@ module _ (a : List ℕ) (t : Table) (h : Handle) {i n : ℕ} {P : Type 0} (g : W
   close-not z = close-is a t h ∙ rw (went-not g z)
 
   -- x: the table without the hold, and whether it was its row's last
-  module _ (x : Closed) (q : x ≡ closeHold t (h .hold)) (z : n ≡ 0) where
-    -- it was: the row's node is dropped
-    pub close-last : x .last ≡ true → callClose a t h ≡ ending (dropNode (start a (x .table)) i)
-    unfolding closeSteps
-    close-last e = let k : closeHold t (h .hold) .last ≡ true = rw q at e in rw q (close-is a t h ∙ rw (went-is g z, k))
+  pub close-at : (x : Closed) → x ≡ closeHold t (h .hold) → n ≡ 0 → callClose a t h ≡ ending (closeSteps (start a (x .table)) (x .last) i)
+  close-at x q z = rw q (close-is a t h ∙ rw (went-is g z))
 
-    -- another hold keeps the row
-    pub close-kept : x .last ≡ false → callClose a t h ≡ done (record { arena = a; table = x .table })
-    unfolding closeSteps
-    close-kept e = let k : closeHold t (h .hold) .last ≡ false = rw q at e in rw q (close-is a t h ∙ rw (went-is g z, k))
+-- the row's last hold: its node is dropped
+pub steps-last : (s : Fs) (last : Bool) (i : ℕ) → last ≡ true → ending (closeSteps s last i) ≡ ending (dropNode s i)
+unfolding closeSteps
+steps-last s last i e = rw e
+
+-- another hold keeps the row
+pub steps-kept : (s : Fs) (last : Bool) (i : ℕ) → last ≡ false → ending (closeSteps s last i) ≡ done (after s)
+unfolding closeSteps
+steps-kept s last i e = rw e

@@ -1,28 +1,28 @@
 -- How a call ends: from its steps' answer to what it returns.
-use mathlib.Core.Path.{_≡_, refl, sym, _∙_, ap}
-use mathlib.Core.Bool.{Bool, true, false}
+use mathlib.Core.Path.{_≡_, refl, sym, _∙_}
+use mathlib.Core.Bool.{true}
 use mathlib.Core.List.{List}
-use Prim.Native.Nat.{ℕ, zero, suc, _+_, _*_, _-_, _≤_, _<_}
+use Prim.Native.Nat.{ℕ, _-_}
 use native.Mathlib.Omega.{arith}
-use lib.ListN.{length, replicate}
-use Rattle.base.specs.Out.{Out, done, refused, bind, Went, well, ill}
-use Rattle.base.proofs.Outs.{went-is, went-has, went-not, above-zero}
-use Rattle.arena.specs.Blocks.{blocks, legal}
+use lib.ListN.{replicate}
+use Rattle.base.specs.Out.{Out, done, refused, Went}
+use Rattle.base.proofs.Outs.{went-is, went-not, above-zero}
+use Rattle.arena.specs.Blocks.{legal}
 use Rattle.arena.proofs.Blocks.{legal-is}
-use Rattle.overlay.specs.View.{view, left, Fine, begun}
+use Rattle.overlay.specs.View.{view, begun}
 use Rattle.overlay.proofs.Views.{ready}
 use Rattle.overlay.proofs.Views as views
 use Rattle.table.specs.declared.Table.{Table}
 use Rattle.sefs.specs.State.{Fs}
 use Rattle.sefs.specs.Meta.{loadMeta}
 use Rattle.sefs.specs.Ask.{start}
-use Rattle.sefs.specs.Create.{After, after}
-use Rattle.mem.specs.Mem.{tableIn, metaIn, Whole}
-use Rattle.mem.specs.State.{fsOf, Ready, Still, Stepped}
+use Rattle.sefs.specs.Create.{After}
+use Rattle.mem.specs.Mem.{tableIn, metaIn}
+use Rattle.mem.specs.State.{fsOf, Ready}
 use Rattle.calls.specs.declared.After as answered
 use Rattle.calls.specs.Answers.{doneWith, refusedWith, afterOf}
 use Rattle.calls.proofs.Answers.{after-done, after-refused}
-use Rattle.calls_close.specs.Ends.{arenaAfter, afterAs, ending, Ended, went, stuck, Returned}
+use Rattle.calls_close.specs.Ends.{ending, Ended, went, stuck, Returned}
 
 -- a workspace of 28 blocks of zeros, made ready: 18 are left for stores
 pub started : (a w : List ℕ) → legal a ≡ true → w ≡ begun (replicate 14336 0) → views.Ready a w 28

@@ -7,7 +7,7 @@ ghost use Rattle.arena.specs.Blocks.{legal};
 ghost use Rattle.overlay.proofs.Views.{Ready as Empty};
 ghost use Rattle.sefs.specs.Ask.{start};
 ghost use Rattle.sefs.specs.Nodes.{dropNode};
-ghost use Rattle.sefs.specs.Close.{callClose};
+ghost use Rattle.sefs.specs.Close.{closeSteps, callClose};
 ghost use Rattle.mem.specs.Mem.{tableIn};
 ghost use Rattle.calls_close.specs.Ends.{ending, Ended, Returned};
 use calls::After;
@@ -49,7 +49,17 @@ fn close_last(arena: &mut [u8], t: Table, u: Table, i: usize) -> After
     settle(t, &mem, r)
 }
 
-// The hold goes; a row that has another is left as it is.
+// A row that has another hold is left as it is.
+fn close_row(arena: &mut [u8], t: Table, u: Table, last: bool, i: usize) -> After
+    requires { ⌜ (legal (now arena) ≡ true) × (i < 34) ⌝ }
+    ensures { λ r. ⌜ Returned t (ending (closeSteps (start (now (arena .entry)) u) last i)) (now (arena .entry)) (now (arena .exit)) r ⌝ }
+{
+    if last {
+        return close_last(arena, t, u, i);
+    }
+    done(u)
+}
+
 pub fn close(arena: &mut [u8], t: Table, h: Handle) -> After
     ensures { λ r. ⌜ Returned t (callClose (now (arena .entry)) t h) (now (arena .entry)) (now (arena .exit)) r ⌝ }
 {
@@ -59,8 +69,5 @@ pub fn close(arena: &mut [u8], t: Table, h: Handle) -> After
     }
     let c = close_hold(t, h.hold);
     let u = c.table;
-    if c.last {
-        return close_last(arena, t, u, b.row);
-    }
-    done(u)
+    close_row(arena, t, u, c.last, b.row)
 }

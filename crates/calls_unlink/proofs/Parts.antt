@@ -1,27 +1,27 @@
 -- The questions and steps of unlink, one after another.
-use mathlib.Core.Path.{_≡_, refl, sym, _∙_, ap}
-use mathlib.Core.Bool.{Bool, true, false, not, _||_}
+use mathlib.Core.Path.{_≡_, refl, _∙_, ap}
+use mathlib.Core.Bool.{not, _||_}
 use mathlib.Core.List.{List}
-use Prim.Native.Nat.{ℕ, zero, suc, _+_, _≤_, _<_}
+use Prim.Native.Nat.{ℕ, _≤_, _<_}
 use native.Mathlib.Omega.{arith}
 use lib.ListN.{length}
-use lib.Dec.{eqb, ltb, leb}
+use lib.Dec.{eqb, leb}
 use borrow.Author.Tests.{eq-eqb, ne-eqb, le-leb, lt-leb}
-use Rattle.base.specs.Out.{Out, done, refused, bind, ensure, answer, Ok, went, said, Went, well, ill}
-use Rattle.base.proofs.Outs.{went-is, went-has, went-not, went-next, went-stop, went-weaken, above-zero}
-use Rattle.overlay.specs.View.{view, left, Fine}
+use Rattle.base.specs.Out.{bind, answer, Went, ill}
+use Rattle.base.proofs.Outs.{went-is, went-has, went-next, went-stop, went-weaken, above-zero}
+use Rattle.overlay.specs.View.{view}
 use Rattle.structs.specs.declared.DiskINode.{DiskINode}
 use Rattle.structs.specs.Layout.{entryOf}
 use Rattle.le.specs.Le.{leAt}
 use Rattle.table.specs.Table.{rowAt}
 use Rattle.sefs.specs.State.{Fs}
 use Rattle.sefs.specs.Nodes.{recAt, opened, getNode, syncRow}
-use Rattle.sefs.specs.Slots.{Slot, findSlot}
+use Rattle.sefs.specs.Slots.{findSlot}
 use Rattle.sefs.specs.Folders.{direntNodeRemove}
 use Rattle.sefs.specs.Ask.{goodName, notLong, notSpecial, liveFolder}
 use Rattle.sefs.specs.Unlink.{notFull}
-use Rattle.mem.specs.Mem.{tableIn, metaIn, Whole}
-use Rattle.mem.specs.State.{fsOf, Ready, Still, Stepped}
+use Rattle.mem.specs.Mem.{tableIn}
+use Rattle.mem.specs.State.{fsOf, Stepped}
 use Rattle.calls.proofs.Asks.{Asks, asks-ensure, asks-then, asks-live, asked-done, asked-not, answer-stop, answer-next}
 use Rattle.utf8.specs.Names.{nameVerdict, earlyReason, isSpecial}
 use Rattle.calls_unlink.specs.Steps.{nameAsks, unlinkAsks, removeNode, removeId, removeName, unlinkIn}

@@ -1,7 +1,7 @@
 -- Parts of the definition of unlink, as the code's functions have them.
 use mathlib.Core.List.{List}
 use Prim.Native.Nat.{ℕ}
-use Rattle.base.specs.Out.{Out, done, _>>=_}
+use Rattle.base.specs.Out.{Out, _>>=_}
 use Rattle.structs.specs.declared.DiskINode.{DiskINode}
 use Rattle.sefs.specs.State.{Fs}
 use Rattle.sefs.specs.Nodes.{recAt, getNode, syncRow}

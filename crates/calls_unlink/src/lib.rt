@@ -132,9 +132,9 @@ fn unlink_in(arena: &mut [u8], work: &mut [u8], mem: &mut [u8], i: usize, name: 
     ensures { λ r. ⌜ Ended (ending (unlinkIn (start (now (arena .entry)) (tableIn (now (mem .entry)))) i (now (name .entry)))) (now (arena .entry)) (now (arena .exit)) (tableIn (now (mem .exit))) r ⌝ }
 {
     load_meta(&arena[..], &work[..], mem);
-    let r = unlink_steps(&arena[..], work, mem, i, name);
-    if r != 0 {
-        return r;
+    let n = unlink_steps(&arena[..], work, mem, i, name);
+    if n != 0 {
+        return n;
     }
     overlay::commit(arena, &work[..]);
     0

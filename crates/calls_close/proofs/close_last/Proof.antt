@@ -1,6 +1,4 @@
 -- `calls_close::close_last`: memory has the table u, and the workspace is ready.
-use mathlib.Core.Path.{refl, _∙_}
-use lib.ListN.{length-replicate}
 use Rattle.sefs.specs.Ask.{start}
 use Rattle.sefs.specs.Nodes.{dropNode}
 use Rattle.calls_close.specs.Ends.{ending}
