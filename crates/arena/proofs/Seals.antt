@@ -1,9 +1,8 @@
 -- The check, and a block with its check.
-use mathlib.Core.Path.{_≡_, refl, sym, ap, ap₂, _∙_, subst}
-use mathlib.Core.Bool.{Bool, true, false}
+use mathlib.Core.Path.{_≡_, refl, sym, ap, _∙_}
 use mathlib.Core.List.{List}
-use mathlib.Core.Logic.{⊎-elim, _≢_}
-use Prim.Native.Nat.{ℕ, zero, suc, _+_, _*_, _-_, _≤_, _<_}
+use mathlib.Core.Logic.{⊎-elim}
+use Prim.Native.Nat.{ℕ, _+_, _*_, _-_, _≤_, _<_}
 use native.Mathlib.Nat.{mul-le-mul-left, mul-zero}
 use native.Mathlib.Omega.{arith}
 use lib.ListN.{length, getD, set}
@@ -14,7 +13,7 @@ use Rattle.base.proofs.Lists.{getD-paste-in}
 use Rattle.base.proofs.Numbers.{lt-or-le}
 use Rattle.le.specs.Le.{Bytes, leOf, leBytes, leAt, lePut}
 use Rattle.le.proofs.Laws.{length-leBytes, length-lePut, getD-lePut-out, leAt-lePut-fits, lePut-bytes, lePut-leAt}
-use Rattle.arena.specs.Fields.{File, fileOf, tagOf, numberOf, storedCheck, checkOf, seal, isFree, isHead, isData, zeros}
+use Rattle.arena.specs.Fields.{File, fileOf, numberOf, storedCheck, checkOf, seal, isFree, isHead, isData, zeros}
 use Rattle.arena.proofs.Fields.{Same24, number-cong, file-cong, free-cong, head-cong, data-cong}
 use Rattle.arena.proofs.Fresh.{length-zeros, getD-zeros, zeros-bytes}
 
@@ -81,10 +80,6 @@ module _ (b : List ℕ) (size : length b ≡ 512) where
   unfolding seal
   seal-own h e = ap (lePut b 508 4) (sym e) ∙ lePut-leAt b 508 4 (omega arith) h
 
--- sealed twice is sealed once
-pub seal-seal : (b : List ℕ) → length b ≡ 512 → Bytes b → seal (seal b) ≡ seal b
-seal-seal b s h = seal-own (seal b) (length-seal b s) (seal-bytes b s h) (seal-right b s h)
-
 -- blocks that agree before the check are sealed the same
 pub seal-cong : (b c : List ℕ) → length b ≡ 512 → length c ≡ 512 → ((j : ℕ) → j < 508 → getD b j 0 ≡ getD c j 0) → seal b ≡ seal c
 unfolding seal lePut
@@ -106,6 +101,10 @@ seal-cong b c lb lc h =
     ∙ ap (λ (x : ℕ). getD (seal c) x 0) q)
     (lt-or-le j 508))
 
+-- sealed twice is sealed once
+pub seal-seal : (b : List ℕ) → length b ≡ 512 → seal (seal b) ≡ seal b
+seal-seal b size = seal-cong (seal b) b (length-seal b size) size (getD-seal b size)
+
 -- a block of zeros is sealed
 check-zeros : checkOf zeros ≡ 0
 unfolding checkOf
@@ -115,8 +114,11 @@ stored-zeros : storedCheck zeros ≡ 0
 unfolding leAt leOf zeros
 stored-zeros = refl
 
+pub zeros-right : storedCheck zeros ≡ checkOf zeros
+zeros-right = stored-zeros ∙ sym check-zeros
+
 pub seal-zeros : seal zeros ≡ zeros
-seal-zeros = seal-own zeros length-zeros zeros-bytes (stored-zeros ∙ sym check-zeros)
+seal-zeros = seal-own zeros length-zeros zeros-bytes zeros-right
 
 -- course example: "Arena block with only byte 0 = 2: check 2"
 pub check-two : checkOf (set zeros 0 2) ≡ 2

@@ -1,0 +1,3 @@
+pub mod Sounds
+pub mod Chains
+pub mod Seals
