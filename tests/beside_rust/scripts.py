@@ -52,7 +52,8 @@ class Builder:
     def create(self, h, name, kind=FILE):
         self.files += 1
         what = {1: "file", 2: "folder", 3: "symlink", 4: "socket"}.get(kind, f"type {kind}")
-        return self.call("create", h, raw(name), kind, 420, TIME, bytes([self.files] * 16), words=f"{shown(h)} {quoted(name)} {what}")
+        file = self.files.to_bytes(2, "little") * 8
+        return self.call("create", h, raw(name), kind, 420, TIME, file, words=f"{shown(h)} {quoted(name)} {what}")
 
     def link(self, h, name, node):
         self.call("link", h, raw(name), node, words=f"{shown(h)} {quoted(name)} node {shown(node)}")

@@ -1,8 +1,9 @@
 #!/usr/bin/env python3
 """An independent model of document 01's calls, for tests: a call script in, the lines a right port prints out.
 
-Written from document 01 and the readings of it in docs/DECISIONS.md, on top of arena_model.py; it shares nothing with crates/. A call works on a copy of
-the arena and the table, and raises Refused at the first thing that can't be done; the copy is kept only if nothing was raised.
+Written from document 01 and the readings of it in docs/DECISIONS.md, on top of arena_model.py; it shares nothing with crates/. A call
+works on a copy of the arena and the table, and raises Refused at the first thing that can't be done; the copy is kept only if nothing
+was raised.
     replay_model.py < SCRIPT
 """
 import functools

@@ -283,7 +283,7 @@ impl Sequence {
             return Call::Root;
         }
         if self.world.free_blocks() < 4 && self.dice.once(2) {
-            return self.unlink();
+            return if self.dice.once(2) { self.unlink() } else { Call::Close(self.dice.of(&live)) };
         }
         match self.dice.below(1000) {
             0..=19 => Call::Root,
@@ -320,13 +320,34 @@ impl Sequence {
         }
     }
 
+    /// A folder's hold, mostly of one that is not removed.
     fn folder(&mut self) -> Handle {
         let live = self.world.table.handles();
-        let folders: Vec<Handle> = live.iter().copied().filter(|h| self.is_folder(*h)).collect();
+        let folders: Vec<Handle> = live.into_iter().filter(|h| self.is_folder(*h)).collect();
+        let linked = |h: &Handle| self.world.table.row(*h).is_some_and(|row| row.links() > 0);
+        let named: Vec<Handle> = folders.iter().copied().filter(linked).collect();
         if folders.is_empty() || self.dice.once(40) {
             return self.any();
         }
-        self.dice.of(&folders)
+        let removed = named.is_empty() || self.dice.once(15);
+        self.dice.of(if removed { &folders } else { &named })
+    }
+
+    /// The same, of a folder that has something in it, if there is one.
+    fn filled(&mut self) -> Handle {
+        let live = self.world.table.handles();
+        let filled: Vec<Handle> = live.into_iter().filter(|h| self.world.slots(*h).len() > 2).collect();
+        match filled.is_empty() || self.dice.once(10) {
+            true => self.folder(),
+            false => self.dice.of(&filled),
+        }
+    }
+
+    /// A hold of another folder than h's, if a few throws find one.
+    fn other(&mut self, h: Handle) -> Handle {
+        let id = |s: &Sequence, h: Handle| s.world.table.row(h).map(|row| row.id());
+        let throws: [Handle; 4] = std::array::from_fn(|_| self.folder());
+        throws.into_iter().find(|t| id(self, *t) != id(self, h)).unwrap_or(h)
     }
 
     /// A name of a folder's slots, once in `new` one from the list of names, and rarely one that is special.
@@ -425,13 +446,13 @@ impl Sequence {
     }
 
     fn unlink(&mut self) -> Call {
-        let h = self.folder();
+        let h = self.filled();
         Call::Unlink(h, self.name(h, 8))
     }
 
     fn moving(&mut self) -> Call {
-        let h = self.folder();
-        let target = if self.dice.once(3) { h } else { self.folder() };
+        let h = self.filled();
+        let target = if self.dice.once(3) { h } else { self.other(h) };
         let old = self.name(h, 12);
         let new = self.name(target, 2);
         let call = Call::Move(h, old.clone(), target, new.clone());

@@ -36,9 +36,8 @@ pub enum Call {
     Check,
 }
 
-pub const NAMES: [&str; 15] = [
-    "format", "open", "root", "find", "create", "link", "unlink", "move", "metadata", "set", "entry", "list", "sync", "close", "check",
-];
+pub const NAMES: [&str; 15] =
+    ["format", "open", "root", "find", "create", "link", "unlink", "move", "metadata", "set", "entry", "list", "sync", "close", "check"];
 
 impl Call {
     /// The command's byte is 16 more.

@@ -68,7 +68,11 @@ pub mod prelude {
         type Output = bool;
         fn index(&self, at: usize) -> &bool {
             assert!(at < self.length, "bit {} of {}", at, self.length);
-            if self.bytes[at / 8].bit(at % 8) { &true } else { &false }
+            if self.bytes[at / 8].bit(at % 8) {
+                &true
+            } else {
+                &false
+            }
         }
     }
 
