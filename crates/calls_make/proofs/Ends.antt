@@ -26,7 +26,7 @@ use Rattle.calls.specs.Answers.{doneWith, refusedWith, afterOf}
 use Rattle.calls.specs.Asked.{admitIf, firstOf}
 use Rattle.calls.proofs.Answers.{after-done, after-refused}
 use Rattle.calls.proofs.Asks.{Asks, asks-admitIf, admit-is, admitted-legal}
-use Rattle.calls_make.specs.Ends.{arenaAfter, afterAs, ending, Ended, went, stuck, Returned}
+use Rattle.calls_close.specs.Ends.{arenaAfter, afterAs, ending, Ended, went, stuck, Returned}
 
 -- ---- the start
 

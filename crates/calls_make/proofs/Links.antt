@@ -37,7 +37,7 @@ use Rattle.sefs.specs.Create.{After, linkSteps, callLink}
 use Rattle.mem.specs.State.{fsOf, Ready, Still, Stepped}
 use Rattle.folders.proofs.Lookups.{lookup-is}
 use Rattle.calls.proofs.Asks.{Asks, asks-ensure, asks-then, asks-live, asked-not, asked-done, asked-went, answer-stop, answer-next}
-use Rattle.calls_make.specs.Ends.{ending}
+use Rattle.calls_close.specs.Ends.{ending}
 use Rattle.calls_make.specs.Link.{linkAsk, noSlot, linkChild, syncTwo, linkMoves, linkWork}
 use Rattle.calls_make.proofs.Ends.{ending-bind, ending-both, bind-same}
 

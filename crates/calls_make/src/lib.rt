@@ -13,7 +13,7 @@ ghost use Rattle.sefs.specs.Folders.{entry, direntAppend};
 ghost use Rattle.sefs.specs.Create.{callLink};
 ghost use Rattle.mem.specs.Mem.{tableIn};
 ghost use Rattle.mem.specs.State.{fsOf, Ready, Stepped};
-ghost use Rattle.calls_make.specs.Ends.{ending, Ended, Returned};
+ghost use Rattle.calls_close.specs.Ends.{ending, Ended, Returned};
 ghost use Rattle.calls_make.specs.Link.{linkAsk, noSlot, linkChild, syncTwo, linkMoves, linkWork};
 use base::index;
 use calls::After;

@@ -2,7 +2,7 @@
 use mathlib.Core.Path.{refl, _∙_}
 use Rattle.base.proofs.Outs.{went-has}
 use Rattle.sefs.specs.Ask.{start}
-use Rattle.calls_make.specs.Ends.{ending}
+use Rattle.calls_close.specs.Ends.{ending}
 use Rattle.calls_make.specs.Link.{linkWork}
 use Rattle.calls_make.proofs.Ends.{two-admits, two-legal, two-next, two-stop, returned-is, returned-refused}
 use Rattle.calls_make.proofs.Links.{link-is}

@@ -1,7 +1,7 @@
 -- `calls_make::link_rows`: memory has the table, and the workspace is ready.
 use native.Mathlib.Omega.{arith}
 use Rattle.sefs.specs.Ask.{start}
-use Rattle.calls_make.specs.Ends.{ending}
+use Rattle.calls_close.specs.Ends.{ending}
 use Rattle.calls_make.specs.Link.{linkWork}
 use Rattle.calls_make.proofs.Ends.{started, returned-table}
 use borrow.Author.Needs.{needs}
