@@ -1,0 +1,204 @@
+// What a call has in memory (000's SEFS), as bytes that the call lends to its steps: the table of open nodes in the layout of a table's
+// bytes, and behind it the superblock and the free maps as they were at the call's start and as the steps since have changed them.
+//   0     34 rows of 117 bytes: id, dirty mark, record
+//   3978  32 holds of 12 bytes: row, stamp
+//   4362  the next stamp
+//   4370  1 where superblock and maps could be read, else 0
+//   4371  the superblock, 16 bytes
+//   4387  the maps of up to four groups, 128 bytes each, up to 4899
+ghost use mathlib.Core.Path.{_≡_};
+ghost use mathlib.Core.Bool.{true, false};
+ghost use mathlib.Core.List.{_++_};
+ghost use Prim.Native.Nat.{ℕ, _+_, _*_, _-_, _<_, _≤_, _/_};
+ghost use lib.ListN.{length, getD};
+ghost use lib.Dec.{eqb};
+ghost use Rattle.base.specs.Out.{done};
+ghost use Rattle.base.specs.Parts.{part};
+ghost use Rattle.base.specs.Search.{lowest, foundBelow};
+ghost use Rattle.maps.specs.Maps.{bitAt, withBit};
+ghost use Rattle.table.specs.Table.{rowAt, holdAt, rowOf, nextRow, rowUsed, takeRow, withRow, withDirty, freeRowAt};
+ghost use Rattle.sefs.specs.Meta.{newMap};
+ghost use Rattle.mem.specs.Mem.{tableIn, superIn, mapsIn, metaIn, metaOf, Whole, Tabled, Mapped};
+use base::Found;
+use base::clear;
+use base::index;
+use structs::DiskINode;
+use structs::SuperBlock;
+use structs::put_super_block;
+use structs::super_block_at;
+use table::Row;
+use table::Table;
+use table_bytes::hold_in;
+use table_bytes::row_in;
+
+// ---- rows
+
+pub fn row_at(mem: &[u8], i: usize) -> Row
+    requires { ⌜ Whole (now mem) × (i < 34) ⌝ }
+    ensures { λ r. ⌜ r ≡ rowAt (tableIn (now (mem .entry))) i ⌝ }
+{
+    row_in(mem, 117 * i)
+}
+
+pub fn id_at(mem: &[u8], i: usize) -> u32
+    requires { ⌜ Whole (now mem) × (i < 34) ⌝ }
+    ensures { λ r. ⌜ r ≡ rowAt (tableIn (now (mem .entry))) i .id ⌝ }
+{
+    row_at(mem, i).id
+}
+
+pub fn dirty_at(mem: &[u8], i: usize) -> bool
+    requires { ⌜ Whole (now mem) × (i < 34) ⌝ }
+    ensures { λ r. ⌜ r ≡ rowAt (tableIn (now (mem .entry))) i .dirty ⌝ }
+{
+    row_at(mem, i).dirty
+}
+
+pub fn rec_at(mem: &[u8], i: usize) -> DiskINode
+    requires { ⌜ Whole (now mem) × (i < 34) ⌝ }
+    ensures { λ r. ⌜ r ≡ rowAt (tableIn (now (mem .entry))) i .rec ⌝ }
+{
+    let row = row_at(mem, i);
+    row.rec
+}
+
+pub fn put_row(mem: &mut [u8], i: usize, row: Row)
+    requires { ⌜ Whole (now mem) × (i < 34) ⌝ }
+    ensures { λ _. ⌜ Tabled (now (mem .entry)) (now (mem .exit)) (withRow (tableIn (now (mem .entry))) i row) ⌝ }
+{
+    table_bytes::put_row(mem, 117 * i, row);
+}
+
+// Row i with another record: any change marks it dirty.
+pub fn set_rec(mem: &mut [u8], i: usize, rec: DiskINode)
+    requires { ⌜ Whole (now mem) × (i < 34) ⌝ }
+    ensures { λ _. ⌜ Tabled (now (mem .entry)) (now (mem .exit)) (takeRow (tableIn (now (mem .entry))) i (rowAt (tableIn (now (mem .entry))) i .id) rec true) ⌝ }
+{
+    let id = id_at(&mem[..], i);
+    put_row(
+        mem,
+        i,
+        Row {
+            id: id,
+            dirty: true,
+            rec: rec,
+        },
+    );
+}
+
+pub fn put_dirty(mem: &mut [u8], i: usize, dirty: bool)
+    requires { ⌜ Whole (now mem) × (i < 34) ⌝ }
+    ensures { λ _. ⌜ Tabled (now (mem .entry)) (now (mem .exit)) (withDirty (tableIn (now (mem .entry))) i dirty) ⌝ }
+{
+    let mut row = row_at(&mem[..], i);
+    row.dirty = dirty;
+    put_row(mem, i, row);
+}
+
+// A freed row becomes all zero.
+pub fn clear_row(mem: &mut [u8], i: usize)
+    requires { ⌜ Whole (now mem) × (i < 34) ⌝ }
+    ensures { λ _. ⌜ Tabled (now (mem .entry)) (now (mem .exit)) (freeRowAt (tableIn (now (mem .entry))) i) ⌝ }
+{
+    put_row(mem, i, table::zero_row());
+}
+
+// The lowest row with that id; id 0 asks for a free row.
+pub fn find_row(mem: &[u8], id: u32) -> Found
+    requires { ⌜ Whole (now mem) ⌝ }
+    ensures { λ r. ⌜ r ≡ rowOf (tableIn (now (mem .entry))) id ⌝ }
+{
+    let mut i: usize = 0;
+    while i < 34 {
+        if id_at(mem, i) == id {
+            return Found::At(i);
+        }
+        i = i + 1;
+    }
+    Found::Nothing
+}
+
+// ---- holds
+
+fn names_row(mem: &[u8], n: usize, i: usize) -> bool
+    requires { ⌜ Whole (now mem) × (n < 32) ⌝ }
+    ensures { λ r. ⌜ r ≡ namesRow (tableIn (now (mem .entry))) i n ⌝ }
+{
+    let h = hold_in(mem, 3978 + 12 * n);
+    (h.stamp != 0) & (index(h.row) == i)
+}
+
+// Whether a live hold names row i.
+pub fn row_held(mem: &[u8], i: usize) -> bool
+    requires { ⌜ Whole (now mem) ⌝ }
+    ensures { λ r. ⌜ r ≡ rowUsed (tableIn (now (mem .entry))) i ⌝ }
+{
+    let mut n: usize = 0;
+    while n < 32 {
+        if names_row(mem, n, i) {
+            return true;
+        }
+        n = n + 1;
+    }
+    false
+}
+
+// ---- superblock and maps
+
+pub fn has_meta(mem: &[u8]) -> bool
+    requires { ⌜ Whole (now mem) ⌝ }
+    ensures { λ r. ⌜ r ≡ eqb (getD (now (mem .entry)) 4370 0) 1 ⌝ }
+{
+    mem[4370] == 1
+}
+
+pub fn super_at(mem: &[u8]) -> SuperBlock
+    requires { ⌜ Whole (now mem) ⌝ }
+    ensures { λ r. ⌜ r ≡ superIn (now (mem .entry)) ⌝ }
+{
+    super_block_at(mem, 4371)
+}
+
+pub fn super_bytes(mem: &[u8]) -> &[u8]
+    requires { ⌜ Whole (now mem) ⌝ }
+    ensures { λ r. ⌜ now r ≡ part (now (mem .entry)) 4371 4387 ⌝ }
+{
+    &mem[4371..4387]
+}
+
+pub fn map_bytes(mem: &[u8], group: usize) -> &[u8]
+    requires { ⌜ Whole (now mem) × (group < 4) ⌝ }
+    ensures { λ r. ⌜ now r ≡ part (now (mem .entry)) (4387 + 128 * group) (4387 + 128 * group + 128) ⌝ }
+{
+    let o = 4387 + 128 * group;
+    &mem[o..o + 128]
+}
+
+// The lowest set bit of the groups' maps.
+pub fn first_bit(mem: &[u8]) -> Found
+    requires { ⌜ Whole (now mem) × (getD (now mem) 4370 0 ≡ 1) ⌝ }
+    ensures { λ r. ⌜ r ≡ foundBelow (lowest (bitAt (mapsIn (now (mem .entry)))) (1024 * superIn (now (mem .entry)) .groups)) (1024 * superIn (now (mem .entry)) .groups) ⌝ }
+{
+    let groups = super_at(mem).groups;
+    maps::lowest_set(&mem[4387..4899], index(groups))
+}
+
+pub fn bit_at(mem: &[u8], id: usize) -> bool
+    requires { ⌜ Whole (now mem) × (id < 1024 * superIn (now mem) .groups) ⌝ }
+    requires { ⌜ getD (now mem) 4370 0 ≡ 1 ⌝ }
+    ensures { λ r. ⌜ r ≡ bitAt (mapsIn (now (mem .entry))) id ⌝ }
+{
+    maps::bit_at(&mem[4387..4899], id)
+}
+
+// Bit `id` and the count of unused ids, together.
+pub fn put_bit(mem: &mut [u8], id: usize, b: bool, unused: u32)
+    requires { ⌜ Whole (now mem) × (id < 1024 * superIn (now mem) .groups) ⌝ }
+    requires { ⌜ getD (now mem) 4370 0 ≡ 1 ⌝ }
+    ensures { λ _. ⌜ Mapped (now (mem .entry)) (now (mem .exit)) (record { super = superWith (superIn (now (mem .entry))) (superIn (now (mem .entry)) .blocks) unused (superIn (now (mem .entry)) .groups); maps = withBit (mapsIn (now (mem .entry))) id b }) ⌝ }
+{
+    let mut sb = super_at(&mem[..]);
+    maps::put_bit(&mut mem[4387..4899], id, b);
+    sb.unused = unused;
+    put_super_block(mem, 4371, sb);
+}
