@@ -12,7 +12,7 @@ use lib.Seq.{ext-getD}
 use borrow.Author.Tests.{eqb-true, leb-true}
 use Rattle.base.specs.Parts.{part, back, paste}
 use Rattle.base.proofs.Bools.{and-parts}
-use Rattle.base.proofs.Lists.{length-part, getD-part, length-paste, part-paste, part-paste-other, paste-own}
+use Rattle.base.proofs.Lists.{getD-paste-out, length-part, getD-part, length-paste, part-paste, part-paste-other, paste-own}
 use Rattle.base.proofs.Numbers.{lt-or-le}
 use Rattle.le.specs.Le.{Bytes}
 use Rattle.le.proofs.General.{part-all, paste-all}
@@ -60,6 +60,10 @@ module _ (a : List ℕ) (k : ℕ) (b : List ℕ) (there : k < blocks a) (size : 
   blk-putBlk-other j ne =
       ap (λ (l : List ℕ). part l (512 * j) (512 * j + 512)) is
       ∙ part-paste-other a (512 * k) b fits (512 * j) (512 * j + 512) (λ l. omega arith)
+
+  -- a byte outside of block k
+  pub getD-putBlk : (i : ℕ) → (512 * k ≤ i → 512 * k + 512 ≤ i) → getD (putBlk a k b) i 0 ≡ getD a i 0
+  getD-putBlk i h = ap (λ (l : List ℕ). getD l i 0) is ∙ getD-paste-out a (512 * k) b fits i (λ g. omega (arith, h g))
 
   pub putBlk-bytes : Bytes a → Bytes b → Bytes (putBlk a k b)
   putBlk-bytes p q = subst Bytes (sym is) (paste-all (λ x. x < 256) a (512 * k) b fits p q)

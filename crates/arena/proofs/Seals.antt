@@ -81,10 +81,6 @@ module _ (b : List ℕ) (size : length b ≡ 512) where
   unfolding seal
   seal-own h e = ap (lePut b 508 4) (sym e) ∙ lePut-leAt b 508 4 (omega arith) h
 
--- sealed twice is sealed once
-pub seal-seal : (b : List ℕ) → length b ≡ 512 → Bytes b → seal (seal b) ≡ seal b
-seal-seal b s h = seal-own (seal b) (length-seal b s) (seal-bytes b s h) (seal-right b s h)
-
 -- blocks that agree before the check are sealed the same
 pub seal-cong : (b c : List ℕ) → length b ≡ 512 → length c ≡ 512 → ((j : ℕ) → j < 508 → getD b j 0 ≡ getD c j 0) → seal b ≡ seal c
 unfolding seal lePut
@@ -105,6 +101,10 @@ seal-cong b c lb lc h =
     ∙ sym (getD-paste-in c 508 (leBytes 4 (checkOf c)) (omega arith) i (omega arith))
     ∙ ap (λ (x : ℕ). getD (seal c) x 0) q)
     (lt-or-le j 508))
+
+-- sealed twice is sealed once
+pub seal-seal : (b : List ℕ) → length b ≡ 512 → seal (seal b) ≡ seal b
+seal-seal b size = seal-cong (seal b) b (length-seal b size) size (getD-seal b size)
 
 -- a block of zeros is sealed
 check-zeros : checkOf zeros ≡ 0
