@@ -29,17 +29,10 @@ pub fn file_length<'a>(arena: &'a [u8], work: &'a [u8], which: u8, name: &[u8]) 
     ensures { λ r. ⌜ r ≡ lengthOf (view (now (arena .entry)) (now (work .entry))) (file which (now (name .entry))) ⌝ }
 {
     let k = find_head(arena, work, which, name);
-<<<<<<< HEAD
     if k >= arena.len() / 512 {
         return 0;
     }
     u32_at(block(arena, work, k), 20)
-=======
-    if k < arena.len() / 512 {
-        return u32_at(block(arena, work, k), 20);
-    }
-    0
->>>>>>> overlay
 }
 
 // The bytes of one block of the file from p on, as many as out takes.
@@ -49,7 +42,6 @@ fn read_part<'a>(arena: &'a [u8], work: &'a [u8], which: u8, name: &[u8], p: usi
     ensures { λ _. ⌜ now (out .exit) ≡ tab (byteAt (view (now (arena .entry)) (now (work .entry))) (file which (now (name .entry)))) p (length (now (out .entry))) ⌝ }
 {
     let k = find_data(arena, work, which, name, (p / 480) as u32);
-<<<<<<< HEAD
     if k >= arena.len() / 512 {
         clear(out);
         return;
@@ -58,16 +50,6 @@ fn read_part<'a>(arena: &'a [u8], work: &'a [u8], which: u8, name: &[u8], p: usi
     let e = s + out.len();
     let b = block(arena, work, k);
     copy(out, &b[s..e]);
-=======
-    if k < arena.len() / 512 {
-        let s = 24 + p % 480;
-        let e = s + out.len();
-        let b = block(arena, work, k);
-        copy(out, &b[s..e]);
-    } else {
-        clear(out);
-    }
->>>>>>> overlay
 }
 
 // A run that is known to lie below the length, block by block.

@@ -1,4 +1,3 @@
-<<<<<<< HEAD
 // The four stores: put, cut, make, drop. Each works on the view and answers as its definition does there; the arena itself is only read.
 ghost use mathlib.Core.Path.{_≡_};
 ghost use Prim.Native.Nat.{ℕ, _+_, _*_, _-_, _<_, _≤_, _/_, _%_};
@@ -14,28 +13,12 @@ ghost use Rattle.arena.specs.Places.{headOf};
 ghost use Rattle.overlay.specs.View.{view, freed, left, Fine};
 ghost use Rattle.overlay.specs.Steps.{Changed, Did};
 ghost use Rattle.files.specs.Store.{claim as claimBlock, writeBlk, putBlock, putTo, touched, putFile, makeFile, clearAll, isPast, isOf, zeroTail, cutFile, dropFile};
-=======
-// The four stores: put, cut, make, drop.
-ghost use mathlib.Core.Path.{_≡_};
-ghost use Prim.Native.Nat.{ℕ, _+_, _*_, _-_, _<_, _≤_, _/_, _%_};
-ghost use lib.ListN.{length};
-ghost use Rattle.base.specs.Parts.{part, paste};
-ghost use Rattle.arena.specs.Blocks.{blocks, blk, putBlk};
-ghost use Rattle.arena.specs.Fields.{file, seal};
-ghost use Rattle.overlay.specs.View.{view, left, Fine};
-ghost use Rattle.overlay.specs.Steps.{Changed, Did};
-ghost use Rattle.files.specs.Store.{claim as claimBlock, writeBlk, setLength, raise as raised, putBlock, putTo, putFile, makeFile, clearTo, isPast, isOf, zeroTail, cutFile, dropFile};
->>>>>>> overlay
 use crate::find_data;
 use crate::find_free;
 use crate::find_head;
 use arena::is_data;
 use arena::is_head;
 use arena::make_block;
-<<<<<<< HEAD
-=======
-use base::clear;
->>>>>>> overlay
 use base::copy;
 use base::index;
 use base::least;
@@ -45,7 +28,6 @@ use le::u32_at;
 use overlay::block;
 use overlay::free;
 
-<<<<<<< HEAD
 // ---- one block
 
 // A part of a block becomes src.
@@ -61,32 +43,18 @@ fn lay(b: &mut [u8], off: usize, src: &[u8])
 fn edit(arena: &[u8], work: &mut [u8], k: usize, off: usize, src: &[u8])
     requires { ⌜ Fine (now arena) (now work) × (1 ≤ left (now work)) ⌝ }
     requires { ⌜ (k < blocks (now arena)) × (off + length (now src) ≤ 512) ⌝ }
-=======
-// Bytes of block k from `off` on.
-fn edit(arena: &[u8], work: &mut [u8], k: usize, off: usize, src: &[u8])
-    requires { ⌜ Fine (now arena) (now work) × ((k < blocks (now arena)) × ((1 ≤ left (now work)) × (off + length (now src) ≤ 512))) ⌝ }
->>>>>>> overlay
     ensures { λ _. ⌜ Changed (now (arena .entry)) (now (work .entry)) (now (work .exit)) (putBlk (view (now (arena .entry)) (now (work .entry))) k (seal (paste (blk (view (now (arena .entry)) (now (work .entry))) k) off (now (src .entry))))) 1 ⌝ }
 {
     let mut b = [0u8; 512];
     copy(&mut b, block(arena, &work[..], k));
-<<<<<<< HEAD
     lay(&mut b, off, src);
-=======
-    let e = off + src.len();
-    copy(&mut b[off..e], src);
->>>>>>> overlay
     overlay::store(work, k, &b);
 }
 
 // A new block: the lowest free one becomes b; 17 where there is none.
 fn claim(arena: &[u8], work: &mut [u8], b: &[u8]) -> u8
-<<<<<<< HEAD
     requires { ⌜ Fine (now arena) (now work) × (1 ≤ left (now work)) ⌝ }
     requires { ⌜ length (now b) ≡ 512 ⌝ }
-=======
-    requires { ⌜ Fine (now arena) (now work) × ((1 ≤ left (now work)) × (length (now b) ≡ 512)) ⌝ }
->>>>>>> overlay
     ensures { λ r. ⌜ Did (claimBlock (view (now (arena .entry)) (now (work .entry))) (now (b .entry))) (now (arena .entry)) (now (work .entry)) (now (work .exit)) 1 r ⌝ }
 {
     let k = find_free(arena, &work[..]);
@@ -106,7 +74,6 @@ fn write_new(
     number: u32,
     off: usize,
     src: &[u8],
-<<<<<<< HEAD
 ) -> u8
     requires { ⌜ Fine (now arena) (now work) × (1 ≤ left (now work)) ⌝ }
     requires { ⌜ (length (now name) ≡ 16) × (off + length (now src) ≤ 480) ⌝ }
@@ -115,14 +82,6 @@ fn write_new(
     let mut b = [0u8; 512];
     make_block(&mut b, 2, which, name, number);
     lay(&mut b, 24 + off, src);
-=======
-) -> u8 {
-    let mut b = [0u8; 512];
-    make_block(&mut b, 2, which, name, number);
-    let s = 24 + off;
-    let e = s + src.len();
-    copy(&mut b[s..e], src);
->>>>>>> overlay
     claim(arena, work, &b)
 }
 
@@ -136,12 +95,8 @@ fn write_blk(
     off: usize,
     src: &[u8],
 ) -> u8
-<<<<<<< HEAD
     requires { ⌜ Fine (now arena) (now work) × (1 ≤ left (now work)) ⌝ }
     requires { ⌜ (length (now name) ≡ 16) × (off + length (now src) ≤ 480) ⌝ }
-=======
-    requires { ⌜ Fine (now arena) (now work) × ((length (now name) ≡ 16) × ((1 ≤ left (now work)) × (off + length (now src) ≤ 480))) ⌝ }
->>>>>>> overlay
     ensures { λ r. ⌜ Did (writeBlk (view (now (arena .entry)) (now (work .entry))) (file which (now (name .entry))) number off (now (src .entry))) (now (arena .entry)) (now (work .entry)) (now (work .exit)) 1 r ⌝ }
 {
     let k = find_data(arena, &work[..], which, name, number);
@@ -153,21 +108,16 @@ fn write_blk(
 }
 
 // The head at block k with another length.
-<<<<<<< HEAD
 fn set_length(arena: &[u8], work: &mut [u8], k: usize, len: u32)
     requires { ⌜ Fine (now arena) (now work) × (1 ≤ left (now work)) ⌝ }
     requires { ⌜ k < blocks (now arena) ⌝ }
     ensures { λ _. ⌜ Changed (now (arena .entry)) (now (work .entry)) (now (work .exit)) (putBlk (view (now (arena .entry)) (now (work .entry))) k (seal (lePut (blk (view (now (arena .entry)) (now (work .entry))) k) 20 4 len))) 1 ⌝ }
 {
-=======
-fn set_length(arena: &[u8], work: &mut [u8], k: usize, len: u32) {
->>>>>>> overlay
     let mut b = [0u8; 4];
     put_u32(&mut b, 0, len);
     edit(arena, work, k, 20, &b);
 }
 
-<<<<<<< HEAD
 // ---- put
 
 // The length of the head at block k, raised to len where it is lower.
@@ -180,13 +130,6 @@ fn raise(arena: &[u8], work: &mut [u8], k: usize, len: u32)
         return;
     }
     set_length(arena, work, k, len);
-=======
-// The length, at block k, raised to len where it is lower.
-fn raise(arena: &[u8], work: &mut [u8], k: usize, len: u32) {
-    if u32_at(block(arena, &work[..], k), 20) < len {
-        set_length(arena, work, k, len);
-    }
->>>>>>> overlay
 }
 
 // The bytes of src that fall into block q.
@@ -198,15 +141,11 @@ fn put_block(
     pos: usize,
     src: &[u8],
     q: usize,
-<<<<<<< HEAD
 ) -> u8
     requires { ⌜ Fine (now arena) (now work) × (1 ≤ left (now work)) ⌝ }
     requires { ⌜ (length (now name) ≡ 16) × ((pos + length (now src) ≤ 4294967295) × ((pos ≤ 480 * q + 480) × (480 * q ≤ pos + length (now src)))) ⌝ }
     ensures { λ r. ⌜ Did (putBlock (view (now (arena .entry)) (now (work .entry))) (file which (now (name .entry))) pos (now (src .entry)) q) (now (arena .entry)) (now (work .entry)) (now (work .exit)) 1 r ⌝ }
 {
-=======
-) -> u8 {
->>>>>>> overlay
     let lo = most(pos, 480 * q);
     let hi = least(pos + src.len(), 480 * q + 480);
     let s = lo - pos;
@@ -214,7 +153,6 @@ fn put_block(
     write_blk(arena, work, which, name, q as u32, lo - 480 * q, &src[s..e])
 }
 
-<<<<<<< HEAD
 // The blocks that src touches, in rising order: a run of at most 480 bytes touches one or two.
 fn put_blocks(
     arena: &[u8],
@@ -228,17 +166,12 @@ fn put_blocks(
     requires { ⌜ (length (now name) ≡ 16) × ((pos + length (now src) ≤ 4294967295) × ((0 < length (now src)) × (length (now src) ≤ 480))) ⌝ }
     ensures { λ r. ⌜ Did (bind (putBlock (view (now (arena .entry)) (now (work .entry))) (file which (now (name .entry))) pos (now (src .entry)) (pos / 480)) (λ d. pick (ltb (pos / 480) ((pos + length (now (src .entry)) - 1) / 480)) (putBlock d (file which (now (name .entry))) pos (now (src .entry)) ((pos + length (now (src .entry)) - 1) / 480)) (done d))) (now (arena .entry)) (now (work .entry)) (now (work .exit)) 2 r ⌝ }
 {
-=======
-// The blocks that src touches, in rising order. A run of at most 480 bytes touches two at the most.
-fn put_blocks(arena: &[u8], work: &mut [u8], which: u8, name: &[u8], pos: usize, src: &[u8]) -> u8 {
->>>>>>> overlay
     let first = pos / 480;
     let last = (pos + src.len() - 1) / 480;
     let r = put_block(arena, work, which, name, pos, src, first);
     if r != 0 {
         return r;
     }
-<<<<<<< HEAD
     if first >= last {
         return 0;
     }
@@ -273,16 +206,6 @@ pub fn put(arena: &[u8], work: &mut [u8], which: u8, name: &[u8], pos: usize, sr
     requires { ⌜ (length (now name) ≡ 16) × (length (now src) ≤ 480) ⌝ }
     ensures { λ r. ⌜ Did (putFile (view (now (arena .entry)) (now (work .entry))) (file which (now (name .entry))) pos (now (src .entry))) (now (arena .entry)) (now (work .entry)) (now (work .exit)) 3 r ⌝ }
 {
-=======
-    if first < last {
-        return put_block(arena, work, which, name, pos, src, last);
-    }
-    0
-}
-
-// src at pos of the file: 19 where it is missing, 17 where the end passes the longest length or no block is free.
-pub fn put(arena: &[u8], work: &mut [u8], which: u8, name: &[u8], pos: usize, src: &[u8]) -> u8 {
->>>>>>> overlay
     let k = find_head(arena, &work[..], which, name);
     if k >= arena.len() / 512 {
         return 19;
@@ -290,7 +213,6 @@ pub fn put(arena: &[u8], work: &mut [u8], which: u8, name: &[u8], pos: usize, sr
     if pos > 4294967295 - src.len() {
         return 17;
     }
-<<<<<<< HEAD
     put_at(arena, work, k, which, name, pos, src)
 }
 
@@ -302,23 +224,11 @@ pub fn make(arena: &[u8], work: &mut [u8], which: u8, name: &[u8]) -> u8
     requires { ⌜ length (now name) ≡ 16 ⌝ }
     ensures { λ r. ⌜ Did (makeFile (view (now (arena .entry)) (now (work .entry))) (file which (now (name .entry)))) (now (arena .entry)) (now (work .entry)) (now (work .exit)) 1 r ⌝ }
 {
-=======
-    raise(arena, work, k, (pos + src.len()) as u32);
-    if src.len() == 0 {
-        return 0;
-    }
-    put_blocks(arena, work, which, name, pos, src)
-}
-
-// A head of length 0; 17 where no block is free.
-pub fn make(arena: &[u8], work: &mut [u8], which: u8, name: &[u8]) -> u8 {
->>>>>>> overlay
     let mut b = [0u8; 512];
     make_block(&mut b, 1, which, name, 0);
     claim(arena, work, &b)
 }
 
-<<<<<<< HEAD
 // ---- cut
 
 fn free_if(work: &mut [u8], k: usize, yes: bool)
@@ -335,9 +245,6 @@ fn is_past(b: &[u8], which: u8, name: &[u8], len: usize) -> bool
     requires { ⌜ (length (now b) ≡ 512) × (length (now name) ≡ 16) ⌝ }
     ensures { λ r. ⌜ r ≡ isPast (file which (now (name .entry))) len (now (b .entry)) ⌝ }
 {
-=======
-fn is_past(b: &[u8], which: u8, name: &[u8], len: usize) -> bool {
->>>>>>> overlay
     let q = u32_at(b, 20);
     if !is_data(b, which, name, q) {
         return false;
@@ -346,7 +253,6 @@ fn is_past(b: &[u8], which: u8, name: &[u8], len: usize) -> bool {
 }
 
 // The data blocks wholly past len become free.
-<<<<<<< HEAD
 fn free_past(arena: &[u8], work: &mut [u8], which: u8, name: &[u8], len: usize)
     requires { ⌜ Fine (now arena) (now work) × (length (now name) ≡ 16) ⌝ }
     ensures { λ _. ⌜ Changed (now (arena .entry)) (now (work .entry)) (now (work .exit)) (clearAll (isPast (file which (now (name .entry))) len) (view (now (arena .entry)) (now (work .entry)))) 0 ⌝ }
@@ -356,20 +262,10 @@ fn free_past(arena: &[u8], work: &mut [u8], which: u8, name: &[u8], len: usize)
     while k < n {
         let past = is_past(block(arena, &work[..], k), which, name, len);
         free_if(work, k, past);
-=======
-fn free_past(arena: &[u8], work: &mut [u8], which: u8, name: &[u8], len: usize) {
-    let n = arena.len() / 512;
-    let mut k: usize = 0;
-    while k < n {
-        if is_past(block(arena, &work[..], k), which, name, len) {
-            free(work, k);
-        }
->>>>>>> overlay
         k = k + 1;
     }
 }
 
-<<<<<<< HEAD
 // The bytes past len in the block that len falls into become zero.
 fn zero_tail(arena: &[u8], work: &mut [u8], which: u8, name: &[u8], len: usize)
     requires { ⌜ Fine (now arena) (now work) × (1 ≤ left (now work)) ⌝ }
@@ -392,20 +288,6 @@ pub fn cut(arena: &[u8], work: &mut [u8], which: u8, name: &[u8], len: usize) ->
     requires { ⌜ length (now name) ≡ 16 ⌝ }
     ensures { λ r. ⌜ Did (cutFile (view (now (arena .entry)) (now (work .entry))) (file which (now (name .entry))) len) (now (arena .entry)) (now (work .entry)) (now (work .exit)) 2 r ⌝ }
 {
-=======
-// The bytes past len in the block that len falls into.
-fn zero_tail(arena: &[u8], work: &mut [u8], which: u8, name: &[u8], len: usize) {
-    let k = find_data(arena, &work[..], which, name, (len / 480) as u32);
-    if k < arena.len() / 512 {
-        let z = [0u8; 480];
-        let m = 480 - len % 480;
-        edit(arena, work, k, 24 + len % 480, &z[..m]);
-    }
-}
-
-// The file's length becomes len.
-pub fn cut(arena: &[u8], work: &mut [u8], which: u8, name: &[u8], len: usize) -> u8 {
->>>>>>> overlay
     let k = find_head(arena, &work[..], which, name);
     if k >= arena.len() / 512 {
         return 19;
@@ -419,16 +301,12 @@ pub fn cut(arena: &[u8], work: &mut [u8], which: u8, name: &[u8], len: usize) ->
     0
 }
 
-<<<<<<< HEAD
 // ---- drop
 
 fn is_of(b: &[u8], which: u8, name: &[u8]) -> bool
     requires { ⌜ (length (now b) ≡ 512) × (length (now name) ≡ 16) ⌝ }
     ensures { λ r. ⌜ r ≡ isOf (file which (now (name .entry))) (now (b .entry)) ⌝ }
 {
-=======
-fn is_of(b: &[u8], which: u8, name: &[u8]) -> bool {
->>>>>>> overlay
     if is_head(b, which, name) {
         return true;
     }
@@ -436,7 +314,6 @@ fn is_of(b: &[u8], which: u8, name: &[u8]) -> bool {
 }
 
 // All blocks of the file become free.
-<<<<<<< HEAD
 fn free_all(arena: &[u8], work: &mut [u8], which: u8, name: &[u8])
     requires { ⌜ Fine (now arena) (now work) × (length (now name) ≡ 16) ⌝ }
     ensures { λ _. ⌜ Changed (now (arena .entry)) (now (work .entry)) (now (work .exit)) (clearAll (isOf (file which (now (name .entry)))) (view (now (arena .entry)) (now (work .entry)))) 0 ⌝ }
@@ -446,27 +323,14 @@ fn free_all(arena: &[u8], work: &mut [u8], which: u8, name: &[u8])
     while k < n {
         let of = is_of(block(arena, &work[..], k), which, name);
         free_if(work, k, of);
-=======
-fn free_all(arena: &[u8], work: &mut [u8], which: u8, name: &[u8]) {
-    let n = arena.len() / 512;
-    let mut k: usize = 0;
-    while k < n {
-        if is_of(block(arena, &work[..], k), which, name) {
-            free(work, k);
-        }
->>>>>>> overlay
         k = k + 1;
     }
 }
 
-<<<<<<< HEAD
 pub fn drop(arena: &[u8], work: &mut [u8], which: u8, name: &[u8]) -> u8
     requires { ⌜ Fine (now arena) (now work) × (length (now name) ≡ 16) ⌝ }
     ensures { λ r. ⌜ Did (dropFile (view (now (arena .entry)) (now (work .entry))) (file which (now (name .entry)))) (now (arena .entry)) (now (work .entry)) (now (work .exit)) 0 r ⌝ }
 {
-=======
-pub fn drop(arena: &[u8], work: &mut [u8], which: u8, name: &[u8]) -> u8 {
->>>>>>> overlay
     if find_head(arena, &work[..], which, name) >= arena.len() / 512 {
         return 19;
     }

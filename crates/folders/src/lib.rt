@@ -1,6 +1,16 @@
 // Folders: slots written and removed, and link counts (000's INodeImpl). A folder is a row of the open nodes.
 pub mod slots;
 
+ghost use mathlib.Core.Path.{_≡_};
+ghost use Prim.Native.Nat.{ℕ, _+_, _*_, _-_, _<_, _≤_};
+ghost use mathlib.Core.List.{List};
+ghost use lib.ListN.{length};
+ghost use Rattle.base.specs.Out.{Went};
+ghost use Rattle.structs.specs.Layout.{entryOf, entryBytes};
+ghost use Rattle.overlay.specs.View.{left};
+ghost use Rattle.sefs.specs.Folders.{entry, putSlot, direntInit, direntAppend, direntRemove, nlinksInc, nlinksDec, direntNodeRemove};
+ghost use Rattle.mem.specs.Mem.{Whole};
+ghost use Rattle.mem.specs.State.{fsOf, Ready, Still, Stepped};
 use base::index;
 use files::store::cut;
 use files::store::put;
@@ -14,21 +24,20 @@ use structs::DiskINode;
 use utf8::put_name;
 
 // A slot's bytes: a new one is zero after its name.
-pub fn put_entry(slot: &mut [u8], id: u32, name: &[u8], kind: u32) {
+pub fn put_entry(slot: &mut [u8], id: u32, name: &[u8], kind: u32)
+    requires { ⌜ (length (now slot) ≡ 264) × (length (now name) ≤ 255) ⌝ }
+    ensures { λ r. ⌜ (now (slot .exit)) ≡ entryBytes (entry id (now (name .entry)) kind) ⌝ }
+{
     put_u32(slot, 0, id);
     put_name(&mut slot[4..260], name);
     put_u32(slot, 260, kind);
 }
 
 // 264 bytes at slot k of folder i.
-pub fn put_slot(
-    arena: &[u8],
-    work: &mut [u8],
-    mem: &[u8],
-    i: usize,
-    k: usize,
-    slot: &[u8],
-) -> u8 {
+pub fn put_slot(arena: &[u8], work: &mut [u8], mem: &[u8], i: usize, k: usize, slot: &[u8]) -> u8
+    requires { ⌜ Ready (now arena) (now work) (now mem) × ((3 ≤ left (now work)) × ((i < 34) × (length (now slot) ≡ 264))) ⌝ }
+    ensures { λ r. ⌜ Stepped (putSlot (fsOf (now (arena .entry)) (now (work .entry)) (now (mem .entry))) i k (now (slot .entry))) (now (arena .entry)) (now (work .entry)) (now (work .exit)) (now (mem .entry)) 3 r ⌝ }
+{
     let file = rec_at(mem, i).file;
     put(arena, work, 1, &file, 264 * k, slot)
 }
@@ -69,13 +78,10 @@ fn put_dots(arena: &[u8], work: &mut [u8], mem: &[u8], i: usize, parent: u32) ->
     put_slot(arena, work, mem, i, 1, &slot)
 }
 
-pub fn dirent_init(
-    arena: &[u8],
-    work: &mut [u8],
-    mem: &mut [u8],
-    i: usize,
-    parent: u32,
-) -> u8 {
+pub fn dirent_init(arena: &[u8], work: &mut [u8], mem: &mut [u8], i: usize, parent: u32) -> u8
+    requires { ⌜ Ready (now arena) (now work) (now mem) × ((6 ≤ left (now work)) × (i < 34)) ⌝ }
+    ensures { λ r. ⌜ Stepped (direntInit (fsOf (now (arena .entry)) (now (work .entry)) (now (mem .entry))) i parent) (now (arena .entry)) (now (work .entry)) (now (work .exit)) (now (mem .exit)) 6 r ⌝ }
+{
     set_blocks(mem, i, 2);
     let r = put_dot(arena, work, &mem[..], i);
     if r != 0 {
@@ -86,13 +92,10 @@ pub fn dirent_init(
 
 // ---- 000's dirent_append: a slot at the end. (The count can't overflow: the store is too long first.)
 
-pub fn dirent_append(
-    arena: &[u8],
-    work: &mut [u8],
-    mem: &mut [u8],
-    i: usize,
-    slot: &[u8],
-) -> u8 {
+pub fn dirent_append(arena: &[u8], work: &mut [u8], mem: &mut [u8], i: usize, slot: &[u8]) -> u8
+    requires { ⌜ Ready (now arena) (now work) (now mem) × ((3 ≤ left (now work)) × ((i < 34) × (length (now slot) ≡ 264))) ⌝ }
+    ensures { λ r. ⌜ Stepped (direntAppend (fsOf (now (arena .entry)) (now (work .entry)) (now (mem .entry))) i (entryOf (now (slot .entry)))) (now (arena .entry)) (now (work .entry)) (now (work .exit)) (now (mem .exit)) 3 r ⌝ }
+{
     let total = rec_at(&mem[..], i).blocks;
     let r = put_slot(arena, work, &mem[..], i, index(total), slot);
     if r != 0 {
@@ -129,16 +132,15 @@ fn shorten(arena: &[u8], work: &mut [u8], mem: &mut [u8], i: usize, last: u32) -
     0
 }
 
-fn remove_last(
-    arena: &[u8],
-    work: &mut [u8],
-    mem: &mut [u8],
-    i: usize,
-    k: usize,
-    last: u32,
-) -> u8 {
+fn remove_last(arena: &[u8], work: &mut [u8], mem: &mut [u8], i: usize, k: usize, last: u32) -> u8 {
     let mut slot = [0u8; 264];
-    let r = slot_bytes(arena, &work[..], rec_at(&mem[..], i), index(last), &mut slot);
+    let r = slot_bytes(
+        arena,
+        &work[..],
+        rec_at(&mem[..], i),
+        index(last),
+        &mut slot,
+    );
     if r != 0 {
         return r;
     }
@@ -149,7 +151,10 @@ fn remove_last(
     shorten(arena, work, mem, i, last)
 }
 
-pub fn dirent_remove(arena: &[u8], work: &mut [u8], mem: &mut [u8], i: usize, k: usize) -> u8 {
+pub fn dirent_remove(arena: &[u8], work: &mut [u8], mem: &mut [u8], i: usize, k: usize) -> u8
+    requires { ⌜ Ready (now arena) (now work) (now mem) × ((5 ≤ left (now work)) × (i < 34)) ⌝ }
+    ensures { λ r. ⌜ Stepped (direntRemove (fsOf (now (arena .entry)) (now (work .entry)) (now (mem .entry))) i k) (now (arena .entry)) (now (work .entry)) (now (work .exit)) (now (mem .exit)) 5 r ⌝ }
+{
     let total = rec_at(&mem[..], i).blocks;
     if total == 0 {
         return 19;
@@ -159,7 +164,10 @@ pub fn dirent_remove(arena: &[u8], work: &mut [u8], mem: &mut [u8], i: usize, k:
 
 // ---- link counts
 
-pub fn nlinks_inc(mem: &mut [u8], i: usize) -> u8 {
+pub fn nlinks_inc(mem: &mut [u8], i: usize) -> u8
+    requires { ⌜ Whole (now mem) × (i < 34) ⌝ }
+    ensures { λ r. ⌜ ((a w : List ℕ) → Went (nlinksInc (fsOf a w (now (mem .entry))) i) (fsOf a w (now (mem .exit))) (Whole (now (mem .exit))) r) ⌝ }
+{
     let n = rec_at(&mem[..], i).nlinks;
     if n == 65535 {
         return 15;
@@ -168,7 +176,10 @@ pub fn nlinks_inc(mem: &mut [u8], i: usize) -> u8 {
     0
 }
 
-pub fn nlinks_dec(mem: &mut [u8], i: usize) -> u8 {
+pub fn nlinks_dec(mem: &mut [u8], i: usize) -> u8
+    requires { ⌜ Whole (now mem) × (i < 34) ⌝ }
+    ensures { λ r. ⌜ ((a w : List ℕ) → Went (nlinksDec (fsOf a w (now (mem .entry))) i) (fsOf a w (now (mem .exit))) (Whole (now (mem .exit))) r) ⌝ }
+{
     let n = rec_at(&mem[..], i).nlinks;
     if n == 0 {
         return 19;
@@ -209,7 +220,10 @@ pub fn dirent_node_remove(
     i: usize,
     c: usize,
     k: usize,
-) -> u8 {
+) -> u8
+    requires { ⌜ Ready (now arena) (now work) (now mem) × ((23 ≤ left (now work)) × ((i < 34) × (c < 34))) ⌝ }
+    ensures { λ r. ⌜ Stepped (direntNodeRemove (fsOf (now (arena .entry)) (now (work .entry)) (now (mem .entry))) i c k) (now (arena .entry)) (now (work .entry)) (now (work .exit)) (now (mem .exit)) 23 r ⌝ }
+{
     let r = dirent_remove(arena, work, mem, i, k);
     if r != 0 {
         return r;

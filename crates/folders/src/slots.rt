@@ -1,4 +1,13 @@
 // A folder's slots, read (000's read_direntry and the lookups). A slot's 264 bytes go to a buffer that the caller lends.
+ghost use mathlib.Core.Path.{_≡_};
+ghost use Prim.Native.Nat.{ℕ, _+_, _*_, _-_, _<_, _≤_};
+ghost use mathlib.Core.List.{List};
+ghost use lib.ListN.{length};
+ghost use Rattle.base.specs.Out.{Went, done};
+ghost use Rattle.base.specs.declared.Found.the-variants.{At};
+ghost use Rattle.structs.specs.Layout.{entryOf};
+ghost use Rattle.overlay.specs.View.{view, Fine};
+ghost use Rattle.sefs.specs.Slots.{slotBytes, slotAt, lookup as lookupName, findSlot as findSlotAs};
 use base::Found;
 use base::index;
 use files::read::read;
@@ -15,7 +24,10 @@ pub struct Looked {
 }
 
 // The 264 bytes of slot k. A type above 4 sticks, whoever reads it.
-pub fn slot_bytes(arena: &[u8], work: &[u8], rec: DiskINode, k: usize, slot: &mut [u8]) -> u8 {
+pub fn slot_bytes(arena: &[u8], work: &[u8], rec: DiskINode, k: usize, slot: &mut [u8]) -> u8
+    requires { ⌜ Fine (now arena) (now work) × ((length (rec .file) ≡ 16) × (length (now slot) ≡ 264)) ⌝ }
+    ensures { λ r. ⌜ Went (slotBytes (view (now (arena .entry)) (now (work .entry))) rec k) (now (slot .exit)) (length (now (slot .exit)) ≡ 264) r ⌝ }
+{
     let file = rec.file;
     let r = read(arena, work, 1, &file, 264 * k, slot);
     if r != 0 {
@@ -37,7 +49,10 @@ fn is_ended(name: &[u8]) -> bool {
 }
 
 // Slot k, where its name is looked at: one with no zero or not UTF-8 sticks.
-pub fn slot_at(arena: &[u8], work: &[u8], rec: DiskINode, k: usize, slot: &mut [u8]) -> u8 {
+pub fn slot_at(arena: &[u8], work: &[u8], rec: DiskINode, k: usize, slot: &mut [u8]) -> u8
+    requires { ⌜ Fine (now arena) (now work) × ((length (rec .file) ≡ 16) × (length (now slot) ≡ 264)) ⌝ }
+    ensures { λ r. ⌜ Went (slotAt (view (now (arena .entry)) (now (work .entry))) rec k) (entryOf (now (slot .exit))) (length (now (slot .exit)) ≡ 264) r ⌝ }
+{
     let r = slot_bytes(arena, work, rec, k, slot);
     if r != 0 {
         return r;
@@ -63,13 +78,10 @@ fn unseen(reason: u8) -> Looked {
 }
 
 // The first slot with that name; the empty name means `.`. Slots after it are not read.
-pub fn lookup(
-    arena: &[u8],
-    work: &[u8],
-    rec: DiskINode,
-    name: &[u8],
-    slot: &mut [u8],
-) -> Looked {
+pub fn lookup(arena: &[u8], work: &[u8], rec: DiskINode, name: &[u8], slot: &mut [u8]) -> Looked
+    requires { ⌜ Fine (now arena) (now work) × ((length (rec .file) ≡ 16) × (length (now slot) ≡ 264)) ⌝ }
+    ensures { λ r. ⌜ Went (lookupName (view (now (arena .entry)) (now (work .entry))) rec (now (name .entry))) (r .found) ((k : ℕ) → r .found ≡ At k → (k < rec .blocks) × (slotAt (view (now (arena .entry)) (now (work .entry))) rec k ≡ done (entryOf (now (slot .exit))))) (r .reason) ⌝ }
+{
     let n = index(rec.blocks);
     let mut k: usize = 0;
     while k < n {
@@ -111,7 +123,10 @@ pub fn find_slot(
     rec: DiskINode,
     name: &[u8],
     slot: &mut [u8],
-) -> Placed {
+) -> Placed
+    requires { ⌜ Fine (now arena) (now work) × ((length (rec .file) ≡ 16) × (length (now slot) ≡ 264)) ⌝ }
+    ensures { λ r. ⌜ Went (findSlotAs (view (now (arena .entry)) (now (work .entry))) rec (now (name .entry))) (record { place = r .place; entry = entryOf (now (slot .exit)) }) (r .place < rec .blocks) (r .reason) ⌝ }
+{
     let l = lookup(arena, work, rec, name, slot);
     if l.reason != 0 {
         return Placed {

@@ -3,6 +3,16 @@
 // that refuses it.
 pub mod meta;
 
+ghost use mathlib.Core.Path.{_≡_};
+ghost use Prim.Native.Nat.{ℕ, _+_, _*_, _-_, _<_, _≤_};
+ghost use mathlib.Core.List.{List};
+ghost use lib.ListN.{length};
+ghost use Rattle.base.specs.Out.{Went};
+ghost use Rattle.overlay.specs.View.{left};
+ghost use Rattle.sefs.specs.Nodes.{opened as openedAs, getNode, newNode, syncRow, dropNode};
+ghost use Rattle.sefs.specs.Nodes.{release as releaseNode};
+ghost use Rattle.mem.specs.Mem.{Whole};
+ghost use Rattle.mem.specs.State.{fsOf, Ready, Still, Stepped};
 use base::Found;
 use base::index;
 use files::read::read;
@@ -89,7 +99,10 @@ fn load_node(arena: &[u8], work: &[u8], mem: &mut [u8], id: u32) -> Opened {
     open_in(mem, id, rec, false)
 }
 
-pub fn get_node(arena: &[u8], work: &[u8], mem: &mut [u8], id: u32) -> Opened {
+pub fn get_node(arena: &[u8], work: &[u8], mem: &mut [u8], id: u32) -> Opened
+    requires { ⌜ Ready (now arena) (now work) (now mem) ⌝ }
+    ensures { λ r. ⌜ Went (getNode (fsOf (now (arena .entry)) (now (work .entry)) (now (mem .entry))) id) (openedAs (fsOf (now (arena .entry)) (now (work .entry)) (now (mem .exit))) (r .row)) (Whole (now (mem .exit)) × (r .row < 34)) (r .reason) ⌝ }
+{
     if !has_meta(&mem[..]) {
         return unopened(19);
     }
@@ -163,7 +176,10 @@ pub fn new_node(
     mode: u16,
     time: Timespec,
     file: [u8; 16],
-) -> Opened {
+) -> Opened
+    requires { ⌜ Ready (now arena) (now work) (now mem) × (3 ≤ left (now work)) ⌝ }
+    ensures { λ r. ⌜ Went (newNode (fsOf (now (arena .entry)) (now (work .entry)) (now (mem .entry))) kind mode time file) (openedAs (fsOf (now (arena .entry)) (now (work .exit)) (now (mem .exit))) (r .row)) (Still (now (arena .entry)) (now (work .entry)) (now (work .exit)) (now (mem .exit)) 3 × (r .row < 34)) (r .reason) ⌝ }
+{
     let n = alloc_block(arena, work, mem);
     if n.reason != 0 {
         return unopened(n.reason);
@@ -186,7 +202,10 @@ fn store_row(arena: &[u8], work: &mut [u8], mem: &mut [u8], i: usize) -> u8 {
     0
 }
 
-pub fn sync_row(arena: &[u8], work: &mut [u8], mem: &mut [u8], i: usize) -> u8 {
+pub fn sync_row(arena: &[u8], work: &mut [u8], mem: &mut [u8], i: usize) -> u8
+    requires { ⌜ Ready (now arena) (now work) (now mem) × ((3 ≤ left (now work)) × (i < 34)) ⌝ }
+    ensures { λ r. ⌜ Stepped (syncRow (fsOf (now (arena .entry)) (now (work .entry)) (now (mem .entry))) i) (now (arena .entry)) (now (work .entry)) (now (work .exit)) (now (mem .exit)) 3 r ⌝ }
+{
     if dirty_at(&mem[..], i) {
         return store_row(arena, work, mem, i);
     }
@@ -216,7 +235,10 @@ fn free_unlinked(arena: &[u8], work: &mut [u8], mem: &mut [u8], i: usize) -> u8 
     0
 }
 
-pub fn drop_node(arena: &[u8], work: &mut [u8], mem: &mut [u8], i: usize) -> u8 {
+pub fn drop_node(arena: &[u8], work: &mut [u8], mem: &mut [u8], i: usize) -> u8
+    requires { ⌜ Ready (now arena) (now work) (now mem) × ((18 ≤ left (now work)) × (i < 34)) ⌝ }
+    ensures { λ r. ⌜ Stepped (dropNode (fsOf (now (arena .entry)) (now (work .entry)) (now (mem .entry))) i) (now (arena .entry)) (now (work .entry)) (now (work .exit)) (now (mem .exit)) 18 r ⌝ }
+{
     let r = sync_row(arena, work, mem, i);
     if r != 0 {
         return r;
@@ -230,7 +252,10 @@ pub fn drop_node(arena: &[u8], work: &mut [u8], mem: &mut [u8], i: usize) -> u8 
 }
 
 // An operation's own opening ends: where nobody holds the node, it is dropped.
-pub fn release(arena: &[u8], work: &mut [u8], mem: &mut [u8], i: usize) -> u8 {
+pub fn release(arena: &[u8], work: &mut [u8], mem: &mut [u8], i: usize) -> u8
+    requires { ⌜ Ready (now arena) (now work) (now mem) × ((18 ≤ left (now work)) × (i < 34)) ⌝ }
+    ensures { λ r. ⌜ Stepped (releaseNode (fsOf (now (arena .entry)) (now (work .entry)) (now (mem .entry))) i) (now (arena .entry)) (now (work .entry)) (now (work .exit)) (now (mem .exit)) 18 r ⌝ }
+{
     if row_held(&mem[..], i) {
         return 0;
     }

@@ -1,4 +1,13 @@
 // Superblock and free maps: read at a call's start, changed in memory, stored by sync_meta (000's SEFS).
+ghost use mathlib.Core.Path.{_≡_};
+ghost use Prim.Native.Nat.{ℕ, _+_, _*_, _-_, _<_, _≤_};
+ghost use mathlib.Core.List.{List};
+ghost use lib.ListN.{length};
+ghost use Rattle.base.specs.Out.{Went};
+ghost use Rattle.overlay.specs.View.{view, left, Fine};
+ghost use Rattle.sefs.specs.Meta.{loadMeta, syncMeta, allocBlock, freeBlock, isUsed};
+ghost use Rattle.mem.specs.Mem.{tableIn, metaIn, Whole};
+ghost use Rattle.mem.specs.State.{fsOf, Ready, Still, Stepped};
 use base::Found;
 use base::index;
 use files::read::read;
@@ -72,7 +81,10 @@ fn read_all(arena: &[u8], work: &[u8], mem: &mut [u8]) -> u8 {
 }
 
 // At a call's start: whether they could be read is kept beside them, and a step that needs them sticks where they could not.
-pub fn load_meta(arena: &[u8], work: &[u8], mem: &mut [u8]) {
+pub fn load_meta(arena: &[u8], work: &[u8], mem: &mut [u8])
+    requires { ⌜ Fine (now arena) (now work) × (length (now mem) ≡ 4899) ⌝ }
+    ensures { λ r. ⌜ (metaIn (now (mem .exit)) ≡ loadMeta (view (now (arena .entry)) (now (work .entry)))) × ((tableIn (now (mem .exit)) ≡ tableIn (now (mem .entry))) × Whole (now (mem .exit))) ⌝ }
+{
     let r = read_all(arena, work, mem);
     put_has(mem, r == 0);
 }
@@ -96,7 +108,10 @@ fn store_maps(arena: &[u8], work: &mut [u8], mem: &[u8], n: usize) -> u8 {
     0
 }
 
-pub fn sync_meta(arena: &[u8], work: &mut [u8], mem: &[u8]) -> u8 {
+pub fn sync_meta(arena: &[u8], work: &mut [u8], mem: &[u8]) -> u8
+    requires { ⌜ Ready (now arena) (now work) (now mem) × (15 ≤ left (now work)) ⌝ }
+    ensures { λ r. ⌜ Stepped (syncMeta (fsOf (now (arena .entry)) (now (work .entry)) (now (mem .entry)))) (now (arena .entry)) (now (work .entry)) (now (work .exit)) (now (mem .entry)) 15 r ⌝ }
+{
     if !has_meta(mem) {
         return 19;
     }

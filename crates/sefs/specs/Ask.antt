@@ -6,7 +6,7 @@ use lib.ListN.{length}
 use lib.Dec.{eqb, ltb, leb}
 use Rattle.structs.specs.Verdict.{isFolder}
 use Rattle.base.specs.Out.{Out, done, refused, ensure, _>>=_}
-use Rattle.base.specs.Reasons.{badArena, damaged, badTable, badHandle, badName, notDir, dirRemoved, nameTooLong, stuck, entryNotFound, entryExist, isDir}
+use Rattle.base.specs.Reasons.{badArena, damaged, badTable, badHandle, badName, notDir, dirRemoved, nameTooLong, stuck, entryExist, isDir}
 use Rattle.base.specs.declared.Found.{Found}
 use Rattle.base.specs.declared.Found.the-variants.{At, Nothing}
 use Rattle.structs.specs.declared.DiskINode.{DiskINode}
@@ -70,11 +70,6 @@ liveFolder r = do
   _ ← known r
   _ ← folder r
   notRemoved r
-
--- the slot that a lookup found, or 11
-abbrev pub orNotFound : Found → Out ℕ
-orNotFound (At k) = done k
-orNotFound Nothing = refused entryNotFound
 
 -- none was found, or 12
 abbrev pub orExists : Found → Out Unit

@@ -19,22 +19,10 @@ use Rattle.table.specs.declared.Handle.{Handle}
 use Rattle.table.specs.Table.{rowAt}
 use Rattle.sefs.specs.State.{Fs}
 use Rattle.sefs.specs.Nodes.{recAt, idAt, getNode, syncRow, release, Opened}
-use Rattle.sefs.specs.Slots.{lookup, slotAt}
+use Rattle.sefs.specs.Slots.{lookup, slotAt, Slot, findSlot}
 use Rattle.sefs.specs.Folders.{entry, putSlot, direntAppend, direntRemove, direntNodeRemove, nlinksInc, nlinksDec}
-use Rattle.sefs.specs.Ask.{admit, byHandle, goodName, notLong, notSpecial, known, liveFolder, orNotFound, start}
+use Rattle.sefs.specs.Ask.{admit, byHandle, goodName, notLong, notSpecial, known, liveFolder, start}
 use Rattle.sefs.specs.Create.{After, after}
-
--- a slot of folder i and what it holds: the first with that name; 11 where there is none
-pub record Slot : Type 0 where
-  pub place : ℕ
-  pub entry : DiskEntry
-
-unfoldable pub findSlot : Fs → ℕ → List ℕ → Out Slot
-findSlot s i name = do
-  f ← lookup (s .arena) (recAt s i) name
-  k ← orNotFound f
-  e ← slotAt (s .arena) (recAt s i) k
-  done (record { place = k; entry = e })
 
 -- the first n slots can be read
 unfoldable pub readSlots : Fs → ℕ → ℕ → Out Fs
@@ -97,7 +85,7 @@ moveBetween s i j old name r = do
 
 unfoldable pub moveSteps : Fs → ℕ → ℕ → List ℕ → List ℕ → Replaced → Out After
 moveSteps s i j old name r = do
-  e ← findSlot s i old
+  e ← findSlot (s .arena) (recAt s i) old
   pick (eqb (idAt s i) (idAt s j)) (moveWithin s i e name r) (moveBetween s i j e name r)
 
 -- ---- "if the new name exists, 11 for the old name, same node is done with nothing changed, then type rules"
@@ -112,7 +100,7 @@ moveOnto s i j old name c d k = do
 unfoldable pub replace : Fs → ℕ → ℕ → List ℕ → List ℕ → ℕ → Out After
 replace s i j old name k = do
   new ← slotAt (s .arena) (recAt s j) k
-  was ← findSlot s i old
+  was ← findSlot (s .arena) (recAt s i) old
   d ← getNode s (new .id)
   c ← getNode (d .state) (was .entry .id)
   _ ← known (recAt (c .state) (c .row))

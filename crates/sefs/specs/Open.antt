@@ -6,9 +6,7 @@ use lib.ListN.{length}
 use lib.Dec.{eqb, ltb, leb}
 use Rattle.structs.specs.Constants.{sefsMagic}
 use Rattle.base.specs.Out.{Out, done, refused, ensure, _>>=_}
-use Rattle.base.specs.Reasons.{badArena, damaged, dirRemoved, entryNotFound, tableFull, wrongFs}
-use Rattle.base.specs.declared.Found.{Found}
-use Rattle.base.specs.declared.Found.the-variants.{At, Nothing}
+use Rattle.base.specs.Reasons.{badArena, damaged, dirRemoved, tableFull, wrongFs}
 use Rattle.structs.specs.Layout.{superOf, entryOf}
 use Rattle.utf8.specs.Names.{isDots}
 use Rattle.table.specs.declared.Table.{Table}
@@ -21,8 +19,8 @@ use Rattle.files.specs.Read.{readFile}
 use Rattle.sefs.specs.State.{Fs}
 use Rattle.sefs.specs.Meta.{metaFile, loadMaps}
 use Rattle.sefs.specs.Nodes.{getNode}
-use Rattle.sefs.specs.Slots.{lookup, slotAt}
-use Rattle.sefs.specs.Ask.{admitArena, admit, byHandle, goodName, notLong, known, folder, orNotFound, start}
+use Rattle.sefs.specs.Slots.{findSlot}
+use Rattle.sefs.specs.Ask.{admitArena, admit, byHandle, goodName, notLong, known, folder, start}
 
 -- ---- open: "18: magic, or groups not 1 to 4". The superblock is read before, the maps after
 
@@ -60,8 +58,6 @@ callFind a t h name = do
   _ ← folder (rowAt t i .rec)
   _ ← notLong name
   _ ← ensure (not (isDots name && eqb (rowAt t i .rec .nlinks) 0)) dirRemoved
-  f ← lookup a (rowAt t i .rec) name
-  k ← orNotFound f
+  s ← findSlot a (rowAt t i .rec) name
   _ ← ensure (canHold t) tableFull
-  e ← slotAt a (rowAt t i .rec) k
-  holdNode (start a t) (e .id)
+  holdNode (start a t) (s .entry .id)

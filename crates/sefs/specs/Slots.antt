@@ -4,9 +4,10 @@ use mathlib.Core.List.{List}
 use Prim.Native.Nat.{ℕ, zero, suc, _+_, _*_}
 use lib.Dec.{eqb, ltb, leb}
 use Rattle.base.specs.Out.{Out, done, refused, bind, guard, _>>=_}
-use Rattle.base.specs.Reasons.{stuck}
+use Rattle.base.specs.Reasons.{stuck, entryNotFound}
 use Rattle.base.specs.Search.{pick, foundBelow}
 use Rattle.base.specs.declared.Found.{Found}
+use Rattle.base.specs.declared.Found.the-variants.{At, Nothing}
 use Rattle.structs.specs.Layout.{entryOf}
 use Rattle.structs.specs.declared.DiskEntry.{DiskEntry}
 use Rattle.structs.specs.declared.DiskINode.{DiskINode}
@@ -46,3 +47,21 @@ unfoldable pub lookup : List ℕ → DiskINode → List ℕ → Out Found
 lookup a r name = do
   k ← lookTo a r name (r .blocks)
   done (foundBelow k (r .blocks))
+
+-- a slot that was found: its place, and what it holds
+pub record Slot : Type 0 where
+  pub place : ℕ
+  pub entry : DiskEntry
+
+-- the place that a lookup found, or 11
+abbrev pub orNotFound : Found → Out ℕ
+orNotFound (At k) = done k
+orNotFound Nothing = refused entryNotFound
+
+-- the first slot with that name; 11 where there is none
+unfoldable pub findSlot : List ℕ → DiskINode → List ℕ → Out Slot
+findSlot a r name = do
+  f ← lookup a r name
+  k ← orNotFound f
+  e ← slotAt a r k
+  done (record { place = k; entry = e })

@@ -13,9 +13,9 @@ use Rattle.table.specs.declared.Handle.{Handle}
 use Rattle.table.specs.Table.{rowAt}
 use Rattle.sefs.specs.State.{Fs}
 use Rattle.sefs.specs.Nodes.{recAt, getNode, syncRow}
-use Rattle.sefs.specs.Slots.{lookup, slotAt}
+use Rattle.sefs.specs.Slots.{findSlot}
 use Rattle.sefs.specs.Folders.{direntNodeRemove}
-use Rattle.sefs.specs.Ask.{admit, byHandle, goodName, notLong, notSpecial, liveFolder, orNotFound, start}
+use Rattle.sefs.specs.Ask.{admit, byHandle, goodName, notLong, notSpecial, liveFolder, start}
 use Rattle.sefs.specs.Create.{After, after}
 
 -- a folder has at least 2 slots (it sticks otherwise), and here no more: 13
@@ -39,9 +39,7 @@ callUnlink a t h name = do
   _ ← liveFolder (rowAt t i .rec)
   _ ← notSpecial name
   _ ← notLong name
-  f ← lookup a (rowAt t i .rec) name
-  k ← orNotFound f
-  e ← slotAt a (rowAt t i .rec) k
-  o ← getNode (start a t) (e .id)
+  s ← findSlot a (rowAt t i .rec) name
+  o ← getNode (start a t) (s .entry .id)
   _ ← notFull (recAt (o .state) (o .row))
-  unlinkSteps (o .state) i (o .row) k
+  unlinkSteps (o .state) i (o .row) (s .place)
