@@ -16,9 +16,9 @@ ghost use Rattle.base.specs.Out.{done};
 ghost use Rattle.base.specs.Parts.{part};
 ghost use Rattle.base.specs.Search.{lowest, foundBelow};
 ghost use Rattle.maps.specs.Maps.{bitAt, withBit};
-ghost use Rattle.table.specs.Table.{rowAt, holdAt, rowOf, nextRow, rowUsed, takeRow, withRow, withDirty, freeRowAt};
-ghost use Rattle.sefs.specs.Meta.{newMap};
-ghost use Rattle.mem.specs.Mem.{tableIn, superIn, mapsIn, metaIn, metaOf, Whole, Tabled, Mapped};
+ghost use Rattle.table.specs.Table.{rowAt, namesRow, rowOf, rowUsed, takeRow, withRow, withDirty, freeRowAt};
+ghost use Rattle.sefs.specs.Meta.{newMap, superWith, grown};
+ghost use Rattle.mem.specs.Mem.{tableIn, superIn, mapsIn, metaIn, Whole, Tabled, Mapped};
 use base::Found;
 use base::clear;
 use base::index;
@@ -100,7 +100,15 @@ pub fn clear_row(mem: &mut [u8], i: usize)
     requires { ⌜ Whole (now mem) × (i < 34) ⌝ }
     ensures { λ _. ⌜ Tabled (now (mem .entry)) (now (mem .exit)) (freeRowAt (tableIn (now (mem .entry))) i) ⌝ }
 {
-    put_row(mem, i, table::zero_row());
+    put_row(
+        mem,
+        i,
+        Row {
+            id: 0,
+            dirty: false,
+            rec: table::zero_record(),
+        },
+    );
 }
 
 // The lowest row with that id; id 0 asks for a free row.
@@ -201,4 +209,49 @@ pub fn put_bit(mem: &mut [u8], id: usize, b: bool, unused: u32)
     maps::put_bit(&mut mem[4387..4899], id, b);
     sb.unused = unused;
     put_super_block(mem, 4371, sb);
+}
+
+// A new group: every bit of its map set but that of its own block, and the superblock counts it.
+pub fn add_group(mem: &mut [u8])
+    requires { ⌜ Whole (now mem) × (getD (now mem) 4370 0 ≡ 1) ⌝ }
+    requires { ⌜ (superIn (now mem) .groups < 4) × ((superIn (now mem) .blocks + 1024 < 4294967296) × (superIn (now mem) .unused + 1023 < 4294967296)) ⌝ }
+    ensures { λ _. ⌜ Mapped (now (mem .entry)) (now (mem .exit)) (grown (superIn (now (mem .entry))) (mapsIn (now (mem .entry)))) ⌝ }
+{
+    let mut sb = super_at(&mem[..]);
+    let o = 4387 + 128 * index(sb.groups);
+    put_new_map(&mut mem[o..o + 128]);
+    sb.blocks = sb.blocks + 1024;
+    sb.unused = sb.unused + 1023;
+    sb.groups = sb.groups + 1;
+    put_super_block(mem, 4371, sb);
+}
+
+// Every bit set but the second.
+fn put_new_map(map: &mut [u8])
+    requires { ⌜ length (now map) ≡ 128 ⌝ }
+    ensures { λ _. ⌜ now (map .exit) ≡ newMap ⌝ }
+{
+    let mut i: usize = 0;
+    while i < 128 {
+        map[i] = 255;
+        i = i + 1;
+    }
+    map[0] = 253;
+}
+
+// ---- the start and the end of a call
+
+// The table's bytes; what is behind them stays.
+pub fn put_table(mem: &mut [u8], t: Table)
+    requires { ⌜ length (now mem) ≡ 4899 ⌝ }
+    ensures { λ _. ⌜ (tableIn (now (mem .exit)) ≡ t) × (part (now (mem .exit)) 4370 4899 ≡ part (now (mem .entry)) 4370 4899) ⌝ }
+{
+    table_bytes::write_table(mem, t);
+}
+
+pub fn table_at(mem: &[u8]) -> Table
+    requires { ⌜ length (now mem) ≡ 4899 ⌝ }
+    ensures { λ r. ⌜ r ≡ tableIn (now (mem .entry)) ⌝ }
+{
+    table_bytes::read_table(mem)
 }

@@ -77,16 +77,17 @@ superWith b blocks unused groups = record { magic = b .magic; blocks = blocks; u
 abbrev pub newMap : List ℕ
 newMap = 253 ∷ replicate 127 255
 
+-- superblock and maps with one group more: "blocks +1024, unused +1023, map bit clear"
+abbrev pub grown : SuperBlock → List ℕ → Meta
+grown b maps = record { super = superWith b (b .blocks + 1024) (b .unused + 1023) (b .groups + 1); maps = maps ++ newMap }
+
 -- "Only if none is set does a group come: blocks +1024, unused +1023, map bit clear". 17 at 4 groups; an overflow sticks
 unfoldable pub addGroup : Fs → Meta → Out Fs
 addGroup s m =
     guard (ltb (m .super .groups) 4) noDeviceSpace
     (guard (ltb (m .super .blocks + 1024) 4294967296 && ltb (m .super .unused + 1023) 4294967296) stuck (do
       a ← cutFile (s .arena) metaFile (131072 * (m .super .groups + 1))
-      done (withMeta (withArena s a) (record {
-        super = superWith (m .super) (m .super .blocks + 1024) (m .super .unused + 1023) (m .super .groups + 1);
-        maps = m .maps ++ newMap;
-      }))))
+      done (withMeta (withArena s a) (grown (m .super) (m .maps)))))
 
 -- 000's alloc_block: the state, and the id
 pub record Allocated : Type 0 where

@@ -1,9 +1,9 @@
 -- The laws of a table's bytes: lengths, and both round trips.
-use mathlib.Core.Path.{_≡_, refl, sym, ap, ap₂, _∙_}
+use mathlib.Core.Path.{_≡_, refl, sym, ap, _∙_}
 use mathlib.Core.Bool.{Bool, true, false, not}
 use mathlib.Core.List.{List, [], _∷_, _++_, map, append-nil}
 use mathlib.Core.Logic.{⊎-elim}
-use Prim.Native.Nat.{ℕ, _+_, _*_, _^_, _<_, _≤_}
+use Prim.Native.Nat.{ℕ, zero, suc, _+_, _*_, _<_, _≤_}
 use native.Mathlib.Nat.{zero-add}
 use native.Mathlib.Omega.{arith}
 use lib.ListN.{length, getD, take}
@@ -11,13 +11,13 @@ use lib.Dec.{eqb}
 use borrow.Author.Tests.{eq-eqb, ne-eqb}
 use Rattle.base.specs.Count.{bit}
 use Rattle.base.specs.Parts.{part}
-use Rattle.base.proofs.Bools.{bool-cases}
+use Rattle.base.proofs.Counts.{bit-le}
 use Rattle.base.proofs.Lists.{length-part, getD-part}
 use Rattle.base.proofs.Numbers.{lt-or-le}
 use Rattle.le.specs.Le.{Bytes, leAt, leBytes}
 use Rattle.le.proofs.General.{part-all, part-one, part-part}
 use Rattle.le.proofs.Laws.{length-leBytes, leAt-below, leBytes-bytes}
-use Rattle.structs.specs.Layout.{join, recordOf, recordBytes, RecordFits}
+use Rattle.structs.specs.Layout.{join, recordOf, recordBytes}
 use Rattle.structs.proofs.Joins.{total, length-join, field-of, bytes-at, bytes-append, bytes-nil}
 use Rattle.structs.proofs.Layouts.{length-recordBytes, recordOf-recordBytes, recordBytes-recordOf, recordBytes-bytes, recordOf-fits}
 use Rattle.table.specs.declared.Row.{Row}
@@ -81,6 +81,16 @@ rowFrom-fits l h e = record {
   rec = recordOf-fits (part l 5 117) (part-all (λ x. x < 256) l (omega arith) h 5 117) (length-part l 5 117 (omega arith) (omega arith));
 }
 
+bit-byte : (b : Bool) → Bytes (bit b ∷ [])
+bit-byte b zero = omega (arith, bit-le b)
+bit-byte b (suc i) = omega arith
+
+pub rowBytes-bytes : (r : Row) → RowFits r → Bytes (rowBytes r)
+unfolding rowBytes rowFields join
+rowBytes-bytes r F =
+    bytes-append (leBytes 4 (r .id)) _ (leBytes-bytes 4 _)
+    (bytes-append (bit (r .dirty) ∷ []) (recordBytes (r .rec) ++ []) (bit-byte (r .dirty)) (bytes-append (recordBytes (r .rec)) [] (recordBytes-bytes (r .rec) (F .rec .fileBytes) (F .rec .macBytes)) bytes-nil))
+
 -- ---- a hold
 
 hold-widths : (h : Hold) → map length (holdFields h) ≡ 4 ∷ 8 ∷ []
@@ -106,11 +116,20 @@ holdBytes-holdFrom l h e =
     let b = bytes-at l 4 8 h (omega arith) in
     ap join (λ x. a x ∷ b x ∷ []) ∙ whole l (4 ∷ 8 ∷ []) e
 
+pub holdBytes-bytes : (h : Hold) → Bytes (holdBytes h)
+unfolding holdBytes holdFields join
+holdBytes-bytes h = bytes-append (leBytes 4 (h .row)) _ (leBytes-bytes 4 _) (bytes-append (leBytes 8 (h .stamp)) [] (leBytes-bytes 8 _) bytes-nil)
+
 pub holdFrom-fits : (l : List ℕ) → Bytes l → HoldFits (holdFrom l)
 unfolding holdFrom
 holdFrom-fits l h = record { row = leAt-below l 0 4 h; stamp = leAt-below l 4 8 h }
 
 -- ---- the table
+
+run-bytes : (f : ℕ → List ℕ) (n : ℕ) → ((i : ℕ) → i < n → Bytes (f i)) → Bytes (runTo f n)
+unfolding runTo
+run-bytes f zero h = bytes-nil
+run-bytes f (suc n) h = bytes-append (runTo f n) (f n) (run-bytes f n (λ i l. h i (omega arith))) (h n (omega arith))
 
 module _ (t : Table) (wide : (i : ℕ) → i < 34 → length (rowBytes (rowAt t i)) ≡ 117) where
   pub table-widths : map length (tableFields t) ≡ 3978 ∷ 384 ∷ 8 ∷ []
@@ -153,6 +172,16 @@ module _ (t : Table) (F : TableFits t) where
       let p = piece 12 (λ i. holdBytes (holdAt t i)) 32 (tableBytes t) 3978 4362 i (at 1) (λ j k. length-holdBytes (holdAt t j)) l (omega arith) in
       let e : 3978 + 12 * i + 12 ≡ 3978 + (12 * i + 12) = omega arith in
       sym (ap (λ (m : ℕ). holdFrom (part (tableBytes t) (3978 + 12 * i) m)) e ∙ ap holdFrom p ∙ holdFrom-holdBytes (holdAt t i) (F .holds i l))
+
+  pub length-fits : length (tableBytes t) ≡ 4370
+  length-fits = length-tableBytes t wide
+
+  pub tableBytes-bytes : Bytes (tableBytes t)
+  unfolding tableBytes tableFields join
+  tableBytes-bytes =
+      bytes-append (runTo (λ i. rowBytes (rowAt t i)) 34) _ (run-bytes (λ i. rowBytes (rowAt t i)) 34 (λ i l. rowBytes-bytes (rowAt t i) (F .rows i l)))
+      (bytes-append (runTo (λ i. holdBytes (holdAt t i)) 32) _ (run-bytes (λ i. holdBytes (holdAt t i)) 32 (λ i l. holdBytes-bytes (holdAt t i)))
+      (bytes-append (leBytes 8 (t .next)) [] (leBytes-bytes 8 _) bytes-nil))
 
   -- a table that was written is read
   pub tableOf-tableBytes : tableOf (tableBytes t) ≡ t

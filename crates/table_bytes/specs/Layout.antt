@@ -9,8 +9,7 @@ use lib.Dec.{eqb}
 use Rattle.base.specs.Count.{bit}
 use Rattle.base.specs.Parts.{part}
 use Rattle.le.specs.Le.{leAt, leBytes}
-use Rattle.structs.specs.Layout.{join, recordOf, recordBytes}
-use Rattle.structs.specs.Fits.{RecordFits}
+use Rattle.structs.specs.Layout.{join, recordOf, recordBytes, RecordFits}
 use Rattle.table.specs.declared.Row.{Row}
 use Rattle.table.specs.declared.Hold.{Hold}
 use Rattle.table.specs.declared.Table.{Table}

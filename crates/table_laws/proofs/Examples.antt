@@ -8,7 +8,7 @@ use Rattle.base.specs.declared.Found.the-variants.{At, Nothing}
 use Rattle.table.specs.declared.Table.{Table}
 use Rattle.table.specs.declared.Handle.{Handle}
 use Rattle.table.specs.Zero.{zeroRecord, bytesZero, timeZero, numbersZero, recordZero}
-use Rattle.table.specs.Table.{emptyTable, takeRow, freeRowAt, rowOf, holdOf, liveRow, liveHolds, canHold, addHold, rowUsed, closeHold}
+use Rattle.table.specs.Table.{emptyTable, takeRow, rowOf, holdOf, liveRow, liveHolds, canHold, addHold, rowUsed, closeHold}
 use Rattle.table.specs.Formed.{holdOk, rowOk, holdsOk, rowsOk, shaped, wellFormed}
 
 -- node 2 in row 0, with no hold yet; then with one hold, and with two
@@ -49,3 +49,19 @@ closed-dead = refl
 new-stamp : addHold (closeHold two 0 .table) 0 .handle ≡ handle 0 3
 unfolding opening one two addHold canHold liveHolds countTo sumTo rowOf holdOf rowUsed lowest foundBelow closeHold handle
 new-stamp = refl
+
+-- "next stamp 2^64-1" is well formed and full; 2^64-2 is still given out
+at-stamp : ℕ → Table
+at-stamp next = record { rows = emptyTable .rows; holds = emptyTable .holds; next = next }
+
+last-well : wellFormed (at-stamp 18446744073709551615) ≡ true
+unfolding wellFormed holdsOk rowsOk holdOk rowOk rowOf holdOf rowUsed shaped allTo lowest foundBelow recordZero bytesZero timeZero numbersZero at-stamp
+last-well = refl
+
+last-full : canHold (at-stamp 18446744073709551615) ≡ false
+unfolding canHold liveHolds countTo sumTo at-stamp
+last-full = refl
+
+last-given : addHold (at-stamp 18446744073709551614) 0 .handle ≡ handle 0 18446744073709551614
+unfolding addHold canHold liveHolds countTo sumTo holdOf lowest foundBelow at-stamp handle
+last-given = refl
