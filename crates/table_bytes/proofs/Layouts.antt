@@ -26,7 +26,8 @@ use Rattle.table.specs.declared.Table.{Table}
 use Rattle.table.specs.Zero.{zeroHold}
 use Rattle.table.specs.Table.{offRow, rowAt, holdAt}
 use Rattle.table_bytes.specs.Runs.{runTo, listTo}
-use Rattle.table_bytes.specs.Layout.{rowFrom, rowFields, rowBytes, holdFrom, holdFields, holdBytes, rowAtPlace, holdAtPlace, tableOf, tableFields, tableBytes, RowFits, HoldFits, TableFits, Marked}
+use Rattle.table_bytes.specs.Layout.{rowFrom, rowFields, rowBytes, holdFrom, holdFields, holdBytes, rowAtPlace, holdAtPlace, tableOf, tableFields, tableBytes}
+use Rattle.table_bytes.specs.Fits.{RowFits, HoldFits, TableFits, Marked}
 use Rattle.table_bytes.proofs.General.{number-back, whole}
 use Rattle.table_bytes.proofs.Runs.{length-run, part-run, run-parts, run-cong, getD-list, length-list, list-is}
 

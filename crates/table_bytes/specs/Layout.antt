@@ -1,15 +1,14 @@
 -- A table's bytes: "34 rows, each id u32, dirty u8 (0 clean; any other value reads as dirty, and 1 is written), the record's 112 bytes as
 -- document 01 lays them out; then 32 holds, each row u32, stamp u64; then the next stamp, u64."
-use mathlib.Core.Path.{_≡_}
 use mathlib.Core.Bool.{not}
 use mathlib.Core.List.{List, [], _∷_}
-use Prim.Native.Nat.{ℕ, _+_, _*_, _^_, _<_, _≤_}
-use lib.ListN.{length, getD}
+use Prim.Native.Nat.{ℕ, _+_, _*_}
+use lib.ListN.{getD}
 use lib.Dec.{eqb}
 use Rattle.base.specs.Count.{bit}
 use Rattle.base.specs.Parts.{part}
 use Rattle.le.specs.Le.{leAt, leBytes}
-use Rattle.structs.specs.Layout.{join, recordOf, recordBytes, RecordFits}
+use Rattle.structs.specs.Layout.{join, recordOf, recordBytes}
 use Rattle.table.specs.declared.Row.{Row}
 use Rattle.table.specs.declared.Hold.{Hold}
 use Rattle.table.specs.declared.Table.{Table}
@@ -52,24 +51,3 @@ tableFields t = runTo (λ i. rowBytes (rowAt t i)) 34 ∷ runTo (λ i. holdBytes
 
 unfoldable pub tableBytes : Table → List ℕ
 tableBytes t = join (tableFields t)
-
--- ---- values that the fields' types hold
-
-pub record RowFits (r : Row) : Type 0 where
-  pub id : r .id < 2 ^ 32
-  pub rec : RecordFits (r .rec)
-
-pub record HoldFits (h : Hold) : Type 0 where
-  pub row : h .row < 2 ^ 32
-  pub stamp : h .stamp < 2 ^ 64
-
-pub record TableFits (t : Table) : Type 0 where
-  pub rows-34 : length (t .rows) ≡ 34
-  pub holds-32 : length (t .holds) ≡ 32
-  pub rows : (i : ℕ) → i < 34 → RowFits (rowAt t i)
-  pub holds : (i : ℕ) → i < 32 → HoldFits (holdAt t i)
-  pub next : t .next < 2 ^ 64
-
--- each mark is 0 or 1, as it is written
-abbrev pub Marked : List ℕ → Type 0
-Marked l = (i : ℕ) → i < 34 → getD l (117 * i + 4) 0 ≤ 1

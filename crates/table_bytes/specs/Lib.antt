@@ -1,2 +1,3 @@
 pub mod Runs
 pub mod Layout
+pub mod Fits
