@@ -3,15 +3,23 @@ pub mod slots;
 
 ghost use mathlib.Core.Path.{_≡_};
 ghost use Prim.Native.Nat.{ℕ, _+_, _*_, _-_, _<_, _≤_};
-ghost use mathlib.Core.List.{List};
+ghost use mathlib.Core.List.{List, [], _∷_};
 ghost use lib.ListN.{length};
-ghost use Rattle.base.specs.Out.{Went};
+ghost use lib.Dec.{eqb};
+ghost use Rattle.base.specs.Out.{Went, done, bind};
+ghost use Rattle.base.specs.Search.{pick};
+ghost use Rattle.structs.specs.Constants.{typeDir};
 ghost use Rattle.structs.specs.Layout.{entryOf, entryBytes};
 ghost use Rattle.overlay.specs.View.{left};
-ghost use Rattle.sefs.specs.Folders.{entry, putSlot, direntInit, direntAppend, direntRemove, nlinksInc, nlinksDec, direntNodeRemove};
-ghost use Rattle.mem.specs.Mem.{Whole};
+ghost use Rattle.table.specs.Table.{rowAt};
+ghost use Rattle.sefs.specs.Records.{withLinks, withBlocks};
+ghost use Rattle.sefs.specs.Nodes.{idAt};
+ghost use Rattle.sefs.specs.Folders.{entry, putSlot, direntInit, direntAppend, direntRemove, nlinksInc, nlinksDec, unlinkFolder, direntNodeRemove};
+ghost use Rattle.mem.specs.Mem.{tableIn, Whole};
 ghost use Rattle.mem.specs.State.{fsOf, Ready, Still, Stepped};
+ghost use Rattle.folders.specs.Steps.{Blocked, Linked, shortened, unlinkDots};
 use base::index;
+use base::least;
 use files::store::cut;
 use files::store::put;
 use le::put_u32;
@@ -33,46 +41,63 @@ pub fn put_entry(slot: &mut [u8], id: u32, name: &[u8], kind: u32)
     put_u32(slot, 260, kind);
 }
 
-// 264 bytes at slot k of folder i.
+// 264 bytes at slot k of folder i. (A place that no file reaches is as far as any other such place.)
 pub fn put_slot(arena: &[u8], work: &mut [u8], mem: &[u8], i: usize, k: usize, slot: &[u8]) -> u8
     requires { ⌜ Ready (now arena) (now work) (now mem) × ((3 ≤ left (now work)) × ((i < 34) × (length (now slot) ≡ 264))) ⌝ }
     ensures { λ r. ⌜ Stepped (putSlot (fsOf (now (arena .entry)) (now (work .entry)) (now (mem .entry))) i k (now (slot .entry))) (now (arena .entry)) (now (work .entry)) (now (work .exit)) (now (mem .entry)) 3 r ⌝ }
 {
-    let file = rec_at(mem, i).file;
-    put(arena, work, 1, &file, 264 * k, slot)
+    let rec = rec_at(mem, i);
+    let file = rec.file;
+    put(arena, work, 1, &file, 264 * least(k, 16777216), slot)
 }
 
-fn with_blocks(r: DiskINode, n: u32) -> DiskINode {
+fn with_blocks(r: DiskINode, n: u32) -> DiskINode
+    ensures { λ c. ⌜ c ≡ withBlocks r n ⌝ }
+{
     let mut c = r;
     c.blocks = n;
     c
 }
 
-fn with_links(r: DiskINode, n: u16) -> DiskINode {
+fn with_links(r: DiskINode, n: u16) -> DiskINode
+    ensures { λ c. ⌜ c ≡ withLinks r n ⌝ }
+{
     let mut c = r;
     c.nlinks = n;
     c
 }
 
-fn set_blocks(mem: &mut [u8], i: usize, n: u32) {
+fn set_blocks(mem: &mut [u8], i: usize, n: u32)
+    requires { ⌜ Whole (now mem) × (i < 34) ⌝ }
+    ensures { λ _. ⌜ Blocked (now (mem .entry)) (now (mem .exit)) i n ⌝ }
+{
     let r = rec_at(&mem[..], i);
     set_rec(mem, i, with_blocks(r, n));
 }
 
-fn set_links(mem: &mut [u8], i: usize, n: u16) {
+fn set_links(mem: &mut [u8], i: usize, n: u16)
+    requires { ⌜ Whole (now mem) × (i < 34) ⌝ }
+    ensures { λ _. ⌜ Linked (now (mem .entry)) (now (mem .exit)) i n ⌝ }
+{
     let r = rec_at(&mem[..], i);
     set_rec(mem, i, with_links(r, n));
 }
 
 // ---- 000's dirent_init: two slots, `.` with the folder's own id and `..` with its parent's
 
-fn put_dot(arena: &[u8], work: &mut [u8], mem: &[u8], i: usize) -> u8 {
+fn put_dot(arena: &[u8], work: &mut [u8], mem: &[u8], i: usize) -> u8
+    requires { ⌜ Ready (now arena) (now work) (now mem) × ((3 ≤ left (now work)) × (i < 34)) ⌝ }
+    ensures { λ r. ⌜ Stepped (putSlot (fsOf (now (arena .entry)) (now (work .entry)) (now (mem .entry))) i 0 (entryBytes (entry (idAt (fsOf (now (arena .entry)) (now (work .entry)) (now (mem .entry))) i) (46 ∷ []) typeDir))) (now (arena .entry)) (now (work .entry)) (now (work .exit)) (now (mem .entry)) 3 r ⌝ }
+{
     let mut slot = [0u8; 264];
     put_entry(&mut slot, id_at(mem, i), b".", 2);
     put_slot(arena, work, mem, i, 0, &slot)
 }
 
-fn put_dots(arena: &[u8], work: &mut [u8], mem: &[u8], i: usize, parent: u32) -> u8 {
+fn put_dots(arena: &[u8], work: &mut [u8], mem: &[u8], i: usize, parent: u32) -> u8
+    requires { ⌜ Ready (now arena) (now work) (now mem) × ((3 ≤ left (now work)) × (i < 34)) ⌝ }
+    ensures { λ r. ⌜ Stepped (putSlot (fsOf (now (arena .entry)) (now (work .entry)) (now (mem .entry))) i 1 (entryBytes (entry parent (46 ∷ 46 ∷ []) typeDir))) (now (arena .entry)) (now (work .entry)) (now (work .exit)) (now (mem .entry)) 3 r ⌝ }
+{
     let mut slot = [0u8; 264];
     put_entry(&mut slot, parent, b"..", 2);
     put_slot(arena, work, mem, i, 1, &slot)
@@ -115,15 +140,24 @@ fn fill_hole(
     k: usize,
     last: usize,
     slot: &[u8],
-) -> u8 {
+) -> u8
+    requires { ⌜ Ready (now arena) (now work) (now mem) × ((3 ≤ left (now work)) × ((i < 34) × (length (now slot) ≡ 264))) ⌝ }
+    ensures { λ r. ⌜ Stepped (pick (eqb k last) (done (fsOf (now (arena .entry)) (now (work .entry)) (now (mem .entry)))) (putSlot (fsOf (now (arena .entry)) (now (work .entry)) (now (mem .entry))) i k (now (slot .entry)))) (now (arena .entry)) (now (work .entry)) (now (work .exit)) (now (mem .entry)) 3 r ⌝ }
+{
     if k == last {
         return 0;
     }
     put_slot(arena, work, mem, i, k, slot)
 }
 
-fn shorten(arena: &[u8], work: &mut [u8], mem: &mut [u8], i: usize, last: u32) -> u8 {
-    let file = rec_at(&mem[..], i).file;
+// The file loses its last slot.
+fn shorten(arena: &[u8], work: &mut [u8], mem: &mut [u8], i: usize) -> u8
+    requires { ⌜ Ready (now arena) (now work) (now mem) × ((2 ≤ left (now work)) × ((i < 34) × (0 < rowAt (tableIn (now mem)) i .rec .blocks))) ⌝ }
+    ensures { λ r. ⌜ Stepped (shortened (fsOf (now (arena .entry)) (now (work .entry)) (now (mem .entry))) i) (now (arena .entry)) (now (work .entry)) (now (work .exit)) (now (mem .exit)) 2 r ⌝ }
+{
+    let rec = rec_at(&mem[..], i);
+    let file = rec.file;
+    let last = rec.blocks - 1;
     let r = cut(arena, work, 1, &file, 264 * index(last));
     if r != 0 {
         return r;
@@ -132,34 +166,41 @@ fn shorten(arena: &[u8], work: &mut [u8], mem: &mut [u8], i: usize, last: u32) -
     0
 }
 
-fn remove_last(arena: &[u8], work: &mut [u8], mem: &mut [u8], i: usize, k: usize, last: u32) -> u8 {
-    let mut slot = [0u8; 264];
-    let r = slot_bytes(
-        arena,
-        &work[..],
-        rec_at(&mem[..], i),
-        index(last),
-        &mut slot,
-    );
+// Where l is the last slot: the hole is filled and the file shortened.
+fn close_hole(
+    arena: &[u8],
+    work: &mut [u8],
+    mem: &mut [u8],
+    i: usize,
+    k: usize,
+    last: usize,
+    slot: &[u8],
+) -> u8
+    requires { ⌜ Ready (now arena) (now work) (now mem) × ((5 ≤ left (now work)) × ((i < 34) × ((0 < rowAt (tableIn (now mem)) i .rec .blocks) × (length (now slot) ≡ 264)))) ⌝ }
+    ensures { λ r. ⌜ Stepped (bind (pick (eqb k last) (done (fsOf (now (arena .entry)) (now (work .entry)) (now (mem .entry)))) (putSlot (fsOf (now (arena .entry)) (now (work .entry)) (now (mem .entry))) i k (now (slot .entry)))) (λ s. shortened s i)) (now (arena .entry)) (now (work .entry)) (now (work .exit)) (now (mem .exit)) 5 r ⌝ }
+{
+    let r = fill_hole(arena, work, &mem[..], i, k, last, slot);
     if r != 0 {
         return r;
     }
-    let r = fill_hole(arena, work, &mem[..], i, k, index(last), &slot);
-    if r != 0 {
-        return r;
-    }
-    shorten(arena, work, mem, i, last)
+    shorten(arena, work, mem, i)
 }
 
 pub fn dirent_remove(arena: &[u8], work: &mut [u8], mem: &mut [u8], i: usize, k: usize) -> u8
     requires { ⌜ Ready (now arena) (now work) (now mem) × ((5 ≤ left (now work)) × (i < 34)) ⌝ }
     ensures { λ r. ⌜ Stepped (direntRemove (fsOf (now (arena .entry)) (now (work .entry)) (now (mem .entry))) i k) (now (arena .entry)) (now (work .entry)) (now (work .exit)) (now (mem .exit)) 5 r ⌝ }
 {
-    let total = rec_at(&mem[..], i).blocks;
-    if total == 0 {
+    let rec = rec_at(&mem[..], i);
+    if rec.blocks == 0 {
         return 19;
     }
-    remove_last(arena, work, mem, i, k, total - 1)
+    let last = index(rec.blocks - 1);
+    let mut slot = [0u8; 264];
+    let r = slot_bytes(arena, &work[..], rec, last, &mut slot);
+    if r != 0 {
+        return r;
+    }
+    close_hole(arena, work, mem, i, k, last, &slot)
 }
 
 // ---- link counts
@@ -189,7 +230,10 @@ pub fn nlinks_dec(mem: &mut [u8], i: usize) -> u8
 }
 
 // A removed folder is named once less, by its own `.` too, and its parent by its `..`.
-fn unlink_folder(mem: &mut [u8], i: usize, c: usize) -> u8 {
+fn unlink_folder(mem: &mut [u8], i: usize, c: usize) -> u8
+    requires { ⌜ Whole (now mem) × ((i < 34) × (c < 34)) ⌝ }
+    ensures { λ r. ⌜ ((a w : List ℕ) → Went (unlinkFolder (fsOf a w (now (mem .entry))) i c) (fsOf a w (now (mem .exit))) (Whole (now (mem .exit))) r) ⌝ }
+{
     let r = nlinks_dec(mem, c);
     if r != 0 {
         return r;
@@ -197,14 +241,20 @@ fn unlink_folder(mem: &mut [u8], i: usize, c: usize) -> u8 {
     nlinks_dec(mem, i)
 }
 
-fn unlink_dots(mem: &mut [u8], i: usize, c: usize) -> u8 {
+fn unlink_dots(mem: &mut [u8], i: usize, c: usize) -> u8
+    requires { ⌜ Whole (now mem) × ((i < 34) × (c < 34)) ⌝ }
+    ensures { λ r. ⌜ ((a w : List ℕ) → Went (unlinkDots (fsOf a w (now (mem .entry))) i c) (fsOf a w (now (mem .exit))) (Whole (now (mem .exit))) r) ⌝ }
+{
     if rec_at(&mem[..], c).kind == 2 {
         return unlink_folder(mem, i, c);
     }
     0
 }
 
-fn unname(mem: &mut [u8], i: usize, c: usize) -> u8 {
+fn unname(mem: &mut [u8], i: usize, c: usize) -> u8
+    requires { ⌜ Whole (now mem) × ((i < 34) × (c < 34)) ⌝ }
+    ensures { λ r. ⌜ ((a w : List ℕ) → Went (bind (nlinksDec (fsOf a w (now (mem .entry))) c) (λ s. unlinkDots s i c)) (fsOf a w (now (mem .exit))) (Whole (now (mem .exit))) r) ⌝ }
+{
     let r = nlinks_dec(mem, c);
     if r != 0 {
         return r;

@@ -4,14 +4,22 @@
 pub mod meta;
 
 ghost use mathlib.Core.Path.{_≡_};
-ghost use Prim.Native.Nat.{ℕ, _+_, _*_, _-_, _<_, _≤_};
+ghost use mathlib.Core.Bool.{false, not, _&&_};
 ghost use mathlib.Core.List.{List};
+ghost use Prim.Native.Nat.{ℕ, _+_, _*_, _-_, _<_, _≤_};
 ghost use lib.ListN.{length};
-ghost use Rattle.base.specs.Out.{Went};
-ghost use Rattle.overlay.specs.View.{left};
-ghost use Rattle.sefs.specs.Nodes.{opened as openedAs, getNode, newNode, syncRow, dropNode};
+ghost use lib.Dec.{eqb, leb};
+ghost use Rattle.base.specs.Out.{Went, done, guard};
+ghost use Rattle.base.specs.Reasons.{stuck};
+ghost use Rattle.base.specs.Search.{pick};
+ghost use Rattle.table.specs.Table.{rowAt, rowOf, freeRow};
+ghost use Rattle.overlay.specs.View.{view, left};
+ghost use Rattle.files.specs.Read.{there as thereIn};
+ghost use Rattle.sefs.specs.Records.{newRecord};
+ghost use Rattle.sefs.specs.Nodes.{opened as openedAs, nodeFile, openIn, loadNode, getNode, noRow, newNode, storeRow, syncRow, freeNode, dropNode};
 ghost use Rattle.sefs.specs.Nodes.{release as releaseNode};
-ghost use Rattle.mem.specs.Mem.{Whole};
+ghost use Rattle.mem.specs.Mem.{tableIn, Whole};
+ghost use Rattle.nodes.specs.Steps.{madeNode, removeNode};
 ghost use Rattle.mem.specs.State.{fsOf, Ready, Still, Stepped};
 use base::Found;
 use base::index;
@@ -39,27 +47,17 @@ use structs::disk_inode_at;
 use table::Row;
 
 // The row of a node that was opened, where the reason is 0.
+#[repr(C)]
 pub struct Opened {
     pub reason: u8,
     pub row: usize,
 }
 
-fn at_row(row: usize) -> Opened {
-    Opened {
-        reason: 0,
-        row: row,
-    }
-}
-
-fn unopened(reason: u8) -> Opened {
-    Opened {
-        reason: reason,
-        row: 0,
-    }
-}
-
 // A node takes the lowest free row. (There is one: an operation's own openings are two at the most.)
-fn open_in(mem: &mut [u8], id: u32, rec: DiskINode, dirty: bool) -> Opened {
+fn open_in(mem: &mut [u8], id: u32, rec: DiskINode, dirty: bool) -> Opened
+    requires { ⌜ Whole (now mem) ⌝ }
+    ensures { λ r. ⌜ ((a w : List ℕ) → Went (openIn (fsOf a w (now (mem .entry))) id rec dirty (freeRow (tableIn (now (mem .entry))))) (openedAs (fsOf a w (now (mem .exit))) (r .row)) (Whole (now (mem .exit)) × (r .row < 34)) (r .reason)) ⌝ }
+{
     let f = find_row(&mem[..], 0);
     match f {
         Found::At(i) => {
@@ -72,53 +70,65 @@ fn open_in(mem: &mut [u8], id: u32, rec: DiskINode, dirty: bool) -> Opened {
                     rec: rec,
                 },
             );
-            at_row(i)
+            Opened { reason: 0, row: i }
         }
-        Found::Nothing => unopened(19),
+        Found::Nothing => Opened { reason: 19, row: 0 },
     }
 }
 
 // ---- 000's get_inode
 
-// The stored record of a node without a row: it is read, its type looked at, its file looked for.
-fn load_node(arena: &[u8], work: &[u8], mem: &mut [u8], id: u32) -> Opened {
-    let meta = [0u8; 16];
-    let mut l = [0u8; 112];
-    let r = read(arena, work, 0, &meta, 128 * index(id), &mut l);
-    if r != 0 {
-        return unopened(r);
-    }
-    let rec = disk_inode_at(&l, 0);
+// A record that was read: its type is looked at, its file looked for.
+fn open_read<'a>(arena: &'a [u8], work: &'a [u8], mem: &mut [u8], id: u32, rec: DiskINode) -> Opened
+    requires { ⌜ Ready (now arena) (now work) (now mem) ⌝ }
+    ensures { λ r. ⌜ Went (guard (leb (rec .kind) 4) stuck (guard (thereIn (view (now (arena .entry)) (now (work .entry))) (nodeFile rec)) stuck (openIn (fsOf (now (arena .entry)) (now (work .entry)) (now (mem .entry))) id rec false (freeRow (tableIn (now (mem .entry))))))) (openedAs (fsOf (now (arena .entry)) (now (work .entry)) (now (mem .exit))) (r .row)) (Whole (now (mem .exit)) × (r .row < 34)) (r .reason) ⌝ }
+{
     if rec.kind > 4 {
-        return unopened(19);
+        return Opened { reason: 19, row: 0 };
     }
     let file = rec.file;
     if !there(arena, work, 1, &file) {
-        return unopened(19);
+        return Opened { reason: 19, row: 0 };
     }
     open_in(mem, id, rec, false)
 }
 
-pub fn get_node(arena: &[u8], work: &[u8], mem: &mut [u8], id: u32) -> Opened
+// The stored record of a node without a row.
+fn load_node<'a>(arena: &'a [u8], work: &'a [u8], mem: &mut [u8], id: u32) -> Opened
+    requires { ⌜ Ready (now arena) (now work) (now mem) ⌝ }
+    ensures { λ r. ⌜ Went (loadNode (fsOf (now (arena .entry)) (now (work .entry)) (now (mem .entry))) id) (openedAs (fsOf (now (arena .entry)) (now (work .entry)) (now (mem .exit))) (r .row)) (Whole (now (mem .exit)) × (r .row < 34)) (r .reason) ⌝ }
+{
+    let meta = [0u8; 16];
+    let mut l = [0u8; 112];
+    let r = read(arena, work, 0, &meta, 128 * index(id), &mut l);
+    if r != 0 {
+        return Opened { reason: r, row: 0 };
+    }
+    open_read(arena, work, mem, id, disk_inode_at(&l, 0))
+}
+
+pub fn get_node<'a>(arena: &'a [u8], work: &'a [u8], mem: &mut [u8], id: u32) -> Opened
     requires { ⌜ Ready (now arena) (now work) (now mem) ⌝ }
     ensures { λ r. ⌜ Went (getNode (fsOf (now (arena .entry)) (now (work .entry)) (now (mem .entry))) id) (openedAs (fsOf (now (arena .entry)) (now (work .entry)) (now (mem .exit))) (r .row)) (Whole (now (mem .exit)) × (r .row < 34)) (r .reason) ⌝ }
 {
     if !has_meta(&mem[..]) {
-        return unopened(19);
+        return Opened { reason: 19, row: 0 };
     }
     if !is_used(&mem[..], id) {
-        return unopened(19);
+        return Opened { reason: 19, row: 0 };
     }
     let f = find_row(&mem[..], id);
     match f {
-        Found::At(i) => at_row(i),
+        Found::At(i) => Opened { reason: 0, row: i },
         Found::Nothing => load_node(arena, work, mem, id),
     }
 }
 
 // ---- 000's new_inode
 
-fn new_record(kind: u32, mode: u16, time: Timespec, file: [u8; 16]) -> DiskINode {
+fn new_record(kind: u32, mode: u16, time: Timespec, file: [u8; 16]) -> DiskINode
+    ensures { λ r. ⌜ r ≡ newRecord kind mode time file ⌝ }
+{
     DiskINode {
         size: 0,
         kind: kind,
@@ -137,7 +147,10 @@ fn new_record(kind: u32, mode: u16, time: Timespec, file: [u8; 16]) -> DiskINode
 }
 
 // Id 0, and an id that has a row, stick.
-fn is_new(mem: &[u8], id: u32) -> bool {
+fn is_new(mem: &[u8], id: u32) -> bool
+    requires { ⌜ Whole (now mem) ⌝ }
+    ensures { λ r. ⌜ r ≡ (not (eqb id 0) && noRow (rowOf (tableIn (now (mem .entry))) id)) ⌝ }
+{
     if id == 0 {
         return false;
     }
@@ -157,13 +170,16 @@ fn make_node(
     mode: u16,
     time: Timespec,
     file: [u8; 16],
-) -> Opened {
+) -> Opened
+    requires { ⌜ Ready (now arena) (now work) (now mem) × (1 ≤ left (now work)) ⌝ }
+    ensures { λ r. ⌜ Went (madeNode (fsOf (now (arena .entry)) (now (work .entry)) (now (mem .entry))) id kind mode time file) (openedAs (fsOf (now (arena .entry)) (now (work .exit)) (now (mem .exit))) (r .row)) (Still (now (arena .entry)) (now (work .entry)) (now (work .exit)) (now (mem .exit)) 1 × (r .row < 34)) (r .reason) ⌝ }
+{
     if !is_new(&mem[..], id) {
-        return unopened(19);
+        return Opened { reason: 19, row: 0 };
     }
     let r = make(arena, work, 1, &file);
     if r != 0 {
-        return unopened(r);
+        return Opened { reason: r, row: 0 };
     }
     open_in(mem, id, new_record(kind, mode, time, file), true)
 }
@@ -182,7 +198,8 @@ pub fn new_node(
 {
     let n = alloc_block(arena, work, mem);
     if n.reason != 0 {
-        return unopened(n.reason);
+        let r = n.reason;
+        return Opened { reason: r, row: 0 };
     }
     make_node(arena, work, mem, n.id, kind, mode, time, file)
 }
@@ -190,7 +207,10 @@ pub fn new_node(
 // ---- 000's sync_metadata of a node
 
 // The record, at 128 x id. In memory it has its bytes already.
-fn store_row(arena: &[u8], work: &mut [u8], mem: &mut [u8], i: usize) -> u8 {
+fn store_row(arena: &[u8], work: &mut [u8], mem: &mut [u8], i: usize) -> u8
+    requires { ⌜ Ready (now arena) (now work) (now mem) × ((3 ≤ left (now work)) × (i < 34)) ⌝ }
+    ensures { λ r. ⌜ Stepped (storeRow (fsOf (now (arena .entry)) (now (work .entry)) (now (mem .entry))) i) (now (arena .entry)) (now (work .entry)) (now (work .exit)) (now (mem .exit)) 3 r ⌝ }
+{
     let meta = [0u8; 16];
     let at = 128 * index(id_at(&mem[..], i));
     let o = 117 * i + 5;
@@ -214,21 +234,34 @@ pub fn sync_row(arena: &[u8], work: &mut [u8], mem: &mut [u8], i: usize) -> u8
 
 // ---- 000's Drop of a node
 
-fn free_node(arena: &[u8], work: &mut [u8], mem: &mut [u8], i: usize) -> u8 {
-    let id = id_at(&mem[..], i);
-    let file = rec_at(&mem[..], i).file;
-    let r = free_block(mem, id);
+// The id is free: superblock and maps are stored, and the file is removed.
+fn remove_node(arena: &[u8], work: &mut [u8], mem: &[u8], i: usize) -> u8
+    requires { ⌜ Ready (now arena) (now work) (now mem) × ((15 ≤ left (now work)) × (i < 34)) ⌝ }
+    ensures { λ r. ⌜ Stepped (removeNode (fsOf (now (arena .entry)) (now (work .entry)) (now (mem .entry))) i) (now (arena .entry)) (now (work .entry)) (now (work .exit)) (now (mem .entry)) 15 r ⌝ }
+{
+    let r = sync_meta(arena, work, mem);
     if r != 0 {
         return r;
     }
-    let r = sync_meta(arena, work, &mem[..]);
-    if r != 0 {
-        return r;
-    }
+    let file = rec_at(mem, i).file;
     drop(arena, work, 1, &file)
 }
 
-fn free_unlinked(arena: &[u8], work: &mut [u8], mem: &mut [u8], i: usize) -> u8 {
+fn free_node(arena: &[u8], work: &mut [u8], mem: &mut [u8], i: usize) -> u8
+    requires { ⌜ Ready (now arena) (now work) (now mem) × ((15 ≤ left (now work)) × (i < 34)) ⌝ }
+    ensures { λ r. ⌜ Stepped (freeNode (fsOf (now (arena .entry)) (now (work .entry)) (now (mem .entry))) i) (now (arena .entry)) (now (work .entry)) (now (work .exit)) (now (mem .exit)) 15 r ⌝ }
+{
+    let r = free_block(mem, id_at(&mem[..], i));
+    if r != 0 {
+        return r;
+    }
+    remove_node(arena, work, &mem[..], i)
+}
+
+fn free_unlinked(arena: &[u8], work: &mut [u8], mem: &mut [u8], i: usize) -> u8
+    requires { ⌜ Ready (now arena) (now work) (now mem) × ((15 ≤ left (now work)) × (i < 34)) ⌝ }
+    ensures { λ r. ⌜ Stepped (pick (eqb (rowAt (tableIn (now (mem .entry))) i .rec .nlinks) 0) (freeNode (fsOf (now (arena .entry)) (now (work .entry)) (now (mem .entry))) i) (done (fsOf (now (arena .entry)) (now (work .entry)) (now (mem .entry))))) (now (arena .entry)) (now (work .entry)) (now (work .exit)) (now (mem .exit)) 15 r ⌝ }
+{
     if rec_at(&mem[..], i).nlinks == 0 {
         return free_node(arena, work, mem, i);
     }

@@ -1,31 +1,39 @@
 // Superblock and free maps: read at a call's start, changed in memory, stored by sync_meta (000's SEFS).
 ghost use mathlib.Core.Path.{_≡_};
-ghost use Prim.Native.Nat.{ℕ, _+_, _*_, _-_, _<_, _≤_};
+ghost use mathlib.Core.Bool.{true};
 ghost use mathlib.Core.List.{List};
-ghost use lib.ListN.{length};
-ghost use Rattle.base.specs.Out.{Went};
+ghost use Prim.Native.Nat.{ℕ, _+_, _*_, _-_, _<_, _≤_};
+ghost use lib.ListN.{length, getD};
+ghost use lib.Dec.{ltb};
+ghost use Rattle.base.specs.Out.{Went, answer, kept, done};
+ghost use Rattle.base.specs.Parts.{part};
+ghost use Rattle.base.specs.Search.{pick};
 ghost use Rattle.overlay.specs.View.{view, left, Fine};
-ghost use Rattle.sefs.specs.Meta.{loadMeta, syncMeta, allocBlock, freeBlock, isUsed};
-ghost use Rattle.mem.specs.Mem.{tableIn, metaIn, Whole};
+ghost use Rattle.overlay.specs.Steps.{Did};
+ghost use Rattle.files.specs.Read.{readFile};
+ghost use Rattle.files.specs.Store.{putFile};
+ghost use Rattle.sefs.specs.Meta.{metaFile, mapAt, loadMaps, loadMeta, storeMaps, syncMeta, ids, firstBit, isUsed, addGroup, takeBit, allocBlock, freeBlock};
+ghost use Rattle.mem.specs.Mem.{tableIn, superIn, mapsIn, metaIn, Whole};
+ghost use Rattle.nodes.specs.Steps.{metaOf};
 ghost use Rattle.mem.specs.State.{fsOf, Ready, Still, Stepped};
 use base::Found;
 use base::index;
 use files::read::read;
 use files::store::cut;
 use files::store::put;
+use mem::add_group;
 use mem::bit_at;
 use mem::first_bit;
 use mem::has_meta;
 use mem::map_bytes;
 use mem::put_bit;
-use mem::put_has;
-use mem::put_new_map;
-use mem::put_super;
+use mem::put_flag;
 use mem::super_at;
 use mem::super_bytes;
-use structs::SuperBlock;
+use structs::super_block_at;
 
 // The id that was allocated, where the reason is 0.
+#[repr(C)]
 pub struct Allocated {
     pub reason: u8,
     pub id: u32,
@@ -33,27 +41,46 @@ pub struct Allocated {
 
 // ---- reading
 
-fn read_meta(arena: &[u8], work: &[u8], pos: usize, out: &mut [u8]) -> u8 {
+fn read_meta<'a>(arena: &'a [u8], work: &'a [u8], pos: usize, out: &mut [u8]) -> u8
+    requires { ⌜ Fine (now arena) (now work) ⌝ }
+    ensures { λ r. ⌜ r ≡ answer (readFile (view (now (arena .entry)) (now (work .entry))) metaFile pos (length (now (out .entry)))) ⌝ }
+    ensures { λ _. ⌜ now (out .exit) ≡ kept (now (out .entry)) (readFile (view (now (arena .entry)) (now (work .entry))) metaFile pos (length (now (out .entry)))) ⌝ }
+{
     let meta = [0u8; 16];
     read(arena, work, 0, &meta, pos, out)
 }
 
 // Group g's map is block 1024g + 1, and a block has 128 bytes.
-fn map_at(g: usize) -> usize {
+fn map_at(g: usize) -> usize
+    requires { ⌜ g < 4 ⌝ }
+    ensures { λ r. ⌜ r ≡ mapAt g ⌝ }
+{
     128 * (1024 * g + 1)
 }
 
-pub fn load_super(arena: &[u8], work: &[u8], mem: &mut [u8]) -> u8 {
+pub fn load_super<'a>(arena: &'a [u8], work: &'a [u8], mem: &mut [u8]) -> u8
+    requires { ⌜ Fine (now arena) (now work) × (length (now mem) ≡ 4899) ⌝ }
+    ensures { λ r. ⌜ Went (readFile (view (now (arena .entry)) (now (work .entry))) metaFile 0 16) (part (now (mem .exit)) 4371 4387) Unit r ⌝ }
+    ensures { λ _. ⌜ part (now (mem .exit)) 0 4371 ≡ part (now (mem .entry)) 0 4371 ⌝ }
+{
     read_meta(arena, work, 0, &mut mem[4371..4387])
 }
 
-fn load_map(arena: &[u8], work: &[u8], mem: &mut [u8], g: usize) -> u8 {
+fn load_map<'a>(arena: &'a [u8], work: &'a [u8], mem: &mut [u8], g: usize) -> u8
+    requires { ⌜ Fine (now arena) (now work) × ((length (now mem) ≡ 4899) × (g < 4)) ⌝ }
+    ensures { λ r. ⌜ Went (readFile (view (now (arena .entry)) (now (work .entry))) metaFile (mapAt g) 128) (part (now (mem .exit)) (4387 + 128 * g) (4387 + 128 * g + 128)) Unit r ⌝ }
+    ensures { λ _. ⌜ part (now (mem .exit)) 0 (4387 + 128 * g) ≡ part (now (mem .entry)) 0 (4387 + 128 * g) ⌝ }
+{
     let o = 4387 + 128 * g;
     read_meta(arena, work, map_at(g), &mut mem[o..o + 128])
 }
 
 // The maps of the first n groups.
-pub fn load_maps(arena: &[u8], work: &[u8], mem: &mut [u8], n: usize) -> u8 {
+pub fn load_maps<'a>(arena: &'a [u8], work: &'a [u8], mem: &mut [u8], n: usize) -> u8
+    requires { ⌜ Fine (now arena) (now work) × ((length (now mem) ≡ 4899) × (n ≤ 4)) ⌝ }
+    ensures { λ r. ⌜ Went (loadMaps (view (now (arena .entry)) (now (work .entry))) n) (part (now (mem .exit)) 4387 (4387 + 128 * n)) Unit r ⌝ }
+    ensures { λ _. ⌜ part (now (mem .exit)) 0 4387 ≡ part (now (mem .entry)) 0 4387 ⌝ }
+{
     let mut g: usize = 0;
     while g < n {
         let r = load_map(arena, work, mem, g);
@@ -65,12 +92,16 @@ pub fn load_maps(arena: &[u8], work: &[u8], mem: &mut [u8], n: usize) -> u8 {
     0
 }
 
-fn read_all(arena: &[u8], work: &[u8], mem: &mut [u8]) -> u8 {
+fn read_all<'a>(arena: &'a [u8], work: &'a [u8], mem: &mut [u8]) -> u8
+    requires { ⌜ Fine (now arena) (now work) × (length (now mem) ≡ 4899) ⌝ }
+    ensures { λ r. ⌜ Went (loadMeta (view (now (arena .entry)) (now (work .entry)))) (metaOf (now (mem .exit))) ((0 < superIn (now (mem .exit)) .groups) × (superIn (now (mem .exit)) .groups ≤ 4)) r ⌝ }
+    ensures { λ _. ⌜ part (now (mem .exit)) 0 4371 ≡ part (now (mem .entry)) 0 4371 ⌝ }
+{
     let r = load_super(arena, work, mem);
     if r != 0 {
         return r;
     }
-    let groups = super_at(&mem[..]).groups;
+    let groups = super_block_at(&mem[..], 4371).groups;
     if groups == 0 {
         return 19;
     }
@@ -81,22 +112,30 @@ fn read_all(arena: &[u8], work: &[u8], mem: &mut [u8]) -> u8 {
 }
 
 // At a call's start: whether they could be read is kept beside them, and a step that needs them sticks where they could not.
-pub fn load_meta(arena: &[u8], work: &[u8], mem: &mut [u8])
+pub fn load_meta<'a>(arena: &'a [u8], work: &'a [u8], mem: &mut [u8])
     requires { ⌜ Fine (now arena) (now work) × (length (now mem) ≡ 4899) ⌝ }
     ensures { λ r. ⌜ (metaIn (now (mem .exit)) ≡ loadMeta (view (now (arena .entry)) (now (work .entry)))) × ((tableIn (now (mem .exit)) ≡ tableIn (now (mem .entry))) × Whole (now (mem .exit))) ⌝ }
 {
     let r = read_all(arena, work, mem);
-    put_has(mem, r == 0);
+    put_flag(mem, r == 0);
 }
 
 // ---- storing: superblock first, then the maps of all groups in rising order
 
-fn store_map(arena: &[u8], work: &mut [u8], mem: &[u8], g: usize) -> u8 {
+fn store_map(arena: &[u8], work: &mut [u8], mem: &[u8], g: usize) -> u8
+    requires { ⌜ Ready (now arena) (now work) (now mem) × (3 ≤ left (now work)) ⌝ }
+    requires { ⌜ (getD (now mem) 4370 0 ≡ 1) × (g < superIn (now mem) .groups) ⌝ }
+    ensures { λ r. ⌜ Did (putFile (view (now (arena .entry)) (now (work .entry))) metaFile (mapAt g) (part (mapsIn (now (mem .entry))) (128 * g) (128 * g + 128))) (now (arena .entry)) (now (work .entry)) (now (work .exit)) 3 r ⌝ }
+{
     let meta = [0u8; 16];
     put(arena, work, 0, &meta, map_at(g), map_bytes(mem, g))
 }
 
-fn store_maps(arena: &[u8], work: &mut [u8], mem: &[u8], n: usize) -> u8 {
+fn store_maps(arena: &[u8], work: &mut [u8], mem: &[u8], n: usize) -> u8
+    requires { ⌜ Ready (now arena) (now work) (now mem) × (3 * n ≤ left (now work)) ⌝ }
+    requires { ⌜ (getD (now mem) 4370 0 ≡ 1) × (n ≤ superIn (now mem) .groups) ⌝ }
+    ensures { λ r. ⌜ Did (storeMaps (view (now (arena .entry)) (now (work .entry))) (mapsIn (now (mem .entry))) n) (now (arena .entry)) (now (work .entry)) (now (work .exit)) (3 * n) r ⌝ }
+{
     let mut g: usize = 0;
     while g < n {
         let r = store_map(arena, work, mem, g);
@@ -127,7 +166,10 @@ pub fn sync_meta(arena: &[u8], work: &mut [u8], mem: &[u8]) -> u8
 // ---- ids
 
 // An id that a node may have: not 0, below the maps' end, and its bit clear.
-pub fn is_used(mem: &[u8], id: u32) -> bool {
+pub fn is_used(mem: &[u8], id: u32) -> bool
+    requires { ⌜ Whole (now mem) × (getD (now mem) 4370 0 ≡ 1) ⌝ }
+    ensures { λ r. ⌜ r ≡ isUsed (metaOf (now (mem .entry))) id ⌝ }
+{
     let groups = super_at(mem).groups;
     if id == 0 {
         return false;
@@ -138,36 +180,28 @@ pub fn is_used(mem: &[u8], id: u32) -> bool {
     !bit_at(mem, index(id))
 }
 
-fn not_allocated(reason: u8) -> Allocated {
-    Allocated {
-        reason: reason,
-        id: 0,
-    }
-}
-
-// The group that comes after b's: the file gets its length, and in memory there are its map and its blocks.
-fn grow(arena: &[u8], work: &mut [u8], mem: &mut [u8], b: SuperBlock) -> u8 {
+// The group that comes after the last: the file gets its length, and in memory there are its map and its blocks.
+fn grow(arena: &[u8], work: &mut [u8], mem: &mut [u8], groups: u32) -> u8
+    requires { ⌜ Ready (now arena) (now work) (now mem) × (2 ≤ left (now work)) ⌝ }
+    requires { ⌜ (getD (now mem) 4370 0 ≡ 1) × (groups ≡ superIn (now mem) .groups) ⌝ }
+    requires { ⌜ (superIn (now mem) .groups < 4) × ((superIn (now mem) .blocks + 1024 < 4294967296) × (superIn (now mem) .unused + 1023 < 4294967296)) ⌝ }
+    ensures { λ r. ⌜ Stepped (addGroup (fsOf (now (arena .entry)) (now (work .entry)) (now (mem .entry))) (metaOf (now (mem .entry)))) (now (arena .entry)) (now (work .entry)) (now (work .exit)) (now (mem .exit)) 2 r ⌝ }
+{
     let meta = [0u8; 16];
-    let groups = index(b.groups);
-    let r = cut(arena, work, 0, &meta, 131072 * (groups + 1));
+    let r = cut(arena, work, 0, &meta, 131072 * (index(groups) + 1));
     if r != 0 {
         return r;
     }
-    put_new_map(mem, groups);
-    put_super(
-        mem,
-        SuperBlock {
-            magic: b.magic,
-            blocks: b.blocks + 1024,
-            unused: b.unused + 1023,
-            groups: b.groups + 1,
-        },
-    );
+    add_group(mem);
     0
 }
 
 // 17 at 4 groups; an overflow sticks.
-fn add_group(arena: &[u8], work: &mut [u8], mem: &mut [u8]) -> u8 {
+fn new_group(arena: &[u8], work: &mut [u8], mem: &mut [u8]) -> u8
+    requires { ⌜ Ready (now arena) (now work) (now mem) × (2 ≤ left (now work)) ⌝ }
+    requires { ⌜ getD (now mem) 4370 0 ≡ 1 ⌝ }
+    ensures { λ r. ⌜ Stepped (addGroup (fsOf (now (arena .entry)) (now (work .entry)) (now (mem .entry))) (metaOf (now (mem .entry)))) (now (arena .entry)) (now (work .entry)) (now (work .exit)) (now (mem .exit)) 2 r ⌝ }
+{
     let b = super_at(&mem[..]);
     if b.groups >= 4 {
         return 17;
@@ -178,80 +212,90 @@ fn add_group(arena: &[u8], work: &mut [u8], mem: &mut [u8]) -> u8 {
     if b.unused > 4294966272 {
         return 19;
     }
-    grow(arena, work, mem, b)
+    grow(arena, work, mem, b.groups)
 }
 
 // Only if no bit is set does a group come.
-fn ensure_bit(arena: &[u8], work: &mut [u8], mem: &mut [u8]) -> u8 {
+fn ensure_bit(arena: &[u8], work: &mut [u8], mem: &mut [u8]) -> u8
+    requires { ⌜ Ready (now arena) (now work) (now mem) × (2 ≤ left (now work)) ⌝ }
+    requires { ⌜ getD (now mem) 4370 0 ≡ 1 ⌝ }
+    ensures { λ r. ⌜ Stepped (pick (ltb (firstBit (metaOf (now (mem .entry)))) (1024 * superIn (now (mem .entry)) .groups)) (done (fsOf (now (arena .entry)) (now (work .entry)) (now (mem .entry)))) (addGroup (fsOf (now (arena .entry)) (now (work .entry)) (now (mem .entry))) (metaOf (now (mem .entry))))) (now (arena .entry)) (now (work .entry)) (now (work .exit)) (now (mem .exit)) 2 r ⌝ }
+{
     let f = first_bit(&mem[..]);
     match f {
         Found::At(_) => 0,
-        Found::Nothing => add_group(arena, work, mem),
+        Found::Nothing => new_group(arena, work, mem),
     }
 }
 
 // Bit i is cleared, and unused falls by one; it sticks at 0.
-fn take_bit_at(mem: &mut [u8], i: usize) -> Allocated {
-    let b = super_at(&mem[..]);
-    if b.unused == 0 {
-        return not_allocated(19);
+fn take_bit_at(mem: &mut [u8], i: usize) -> Allocated
+    requires { ⌜ Whole (now mem) × (getD (now mem) 4370 0 ≡ 1) ⌝ }
+    requires { ⌜ (i ≡ firstBit (metaOf (now mem))) × (i < 1024 * superIn (now mem) .groups) ⌝ }
+    ensures { λ r. ⌜ ((a w : List ℕ) → Went (takeBit (fsOf a w (now (mem .entry))) (metaOf (now (mem .entry)))) (record { state = fsOf a w (now (mem .exit)); id = r .id }) (Whole (now (mem .exit))) (r .reason)) ⌝ }
+{
+    let unused = super_at(&mem[..]).unused;
+    if unused == 0 {
+        return Allocated { reason: 19, id: 0 };
     }
-    put_bit(mem, i, false);
-    put_super(
-        mem,
-        SuperBlock {
-            magic: b.magic,
-            blocks: b.blocks,
-            unused: b.unused - 1,
-            groups: b.groups,
-        },
-    );
+    put_bit(mem, i, false, unused - 1);
     Allocated {
         reason: 0,
         id: i as u32,
     }
 }
 
-fn take_bit(mem: &mut [u8]) -> Allocated {
+// The lowest set bit; there is one.
+fn take_bit(mem: &mut [u8]) -> Allocated
+    requires { ⌜ Whole (now mem) × (getD (now mem) 4370 0 ≡ 1) ⌝ }
+    requires { ⌜ firstBit (metaOf (now mem)) < 1024 * superIn (now mem) .groups ⌝ }
+    ensures { λ r. ⌜ ((a w : List ℕ) → Went (takeBit (fsOf a w (now (mem .entry))) (metaOf (now (mem .entry)))) (record { state = fsOf a w (now (mem .exit)); id = r .id }) (Whole (now (mem .exit))) (r .reason)) ⌝ }
+{
     let f = first_bit(&mem[..]);
     match f {
         Found::At(i) => take_bit_at(mem, i),
-        Found::Nothing => not_allocated(19),
+        Found::Nothing => Allocated { reason: 19, id: 0 },
     }
 }
 
-pub fn alloc_block(arena: &[u8], work: &mut [u8], mem: &mut [u8]) -> Allocated {
+pub fn alloc_block(arena: &[u8], work: &mut [u8], mem: &mut [u8]) -> Allocated
+    requires { ⌜ Ready (now arena) (now work) (now mem) × (2 ≤ left (now work)) ⌝ }
+    ensures { λ r. ⌜ Went (allocBlock (fsOf (now (arena .entry)) (now (work .entry)) (now (mem .entry)))) (record { state = fsOf (now (arena .entry)) (now (work .exit)) (now (mem .exit)); id = r .id }) (Still (now (arena .entry)) (now (work .entry)) (now (work .exit)) (now (mem .exit)) 2) (r .reason) ⌝ }
+{
     if !has_meta(&mem[..]) {
-        return not_allocated(19);
+        return Allocated { reason: 19, id: 0 };
     }
     let r = ensure_bit(arena, work, mem);
     if r != 0 {
-        return not_allocated(r);
+        return Allocated { reason: r, id: 0 };
     }
     take_bit(mem)
 }
 
-// The bit is set, and unused rises by one. It sticks where the bit is set or lies beyond the maps, and at 2^32-1.
-pub fn free_block(mem: &mut [u8], id: u32) -> u8 {
+// The bit of an id in use is set, and unused rises by one; it sticks at 2^32-1.
+fn set_free(mem: &mut [u8], id: u32) -> u8
+    requires { ⌜ Whole (now mem) × (getD (now mem) 4370 0 ≡ 1) ⌝ }
+    requires { ⌜ isUsed (metaOf (now mem)) id ≡ true ⌝ }
+    ensures { λ r. ⌜ ((a w : List ℕ) → Went (freeBlock (fsOf a w (now (mem .entry))) id) (fsOf a w (now (mem .exit))) (Whole (now (mem .exit))) r) ⌝ }
+{
+    let unused = super_at(&mem[..]).unused;
+    if unused == 4294967295 {
+        return 19;
+    }
+    put_bit(mem, index(id), true, unused + 1);
+    0
+}
+
+// It sticks where the bit is set or lies beyond the maps.
+pub fn free_block(mem: &mut [u8], id: u32) -> u8
+    requires { ⌜ Whole (now mem) ⌝ }
+    ensures { λ r. ⌜ ((a w : List ℕ) → Went (freeBlock (fsOf a w (now (mem .entry))) id) (fsOf a w (now (mem .exit))) (Whole (now (mem .exit))) r) ⌝ }
+{
     if !has_meta(&mem[..]) {
         return 19;
     }
     if !is_used(&mem[..], id) {
         return 19;
     }
-    let b = super_at(&mem[..]);
-    if b.unused == 4294967295 {
-        return 19;
-    }
-    put_bit(mem, index(id), true);
-    put_super(
-        mem,
-        SuperBlock {
-            magic: b.magic,
-            blocks: b.blocks,
-            unused: b.unused + 1,
-            groups: b.groups,
-        },
-    );
-    0
+    set_free(mem, id)
 }

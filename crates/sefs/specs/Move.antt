@@ -4,7 +4,7 @@ use mathlib.Core.List.{List}
 use Prim.Native.Nat.{ℕ, zero, suc, _+_}
 use lib.Dec.{eqb, ltb, leb}
 use Rattle.base.specs.Out.{Out, done, refused, ensure, guard, _>>=_}
-use Rattle.base.specs.Reasons.{notDir, isDir, dirNotEmpty}
+use Rattle.base.specs.Reasons.{notDir, isDir, dirNotEmpty, stuck}
 use Rattle.base.specs.Search.{pick}
 use Rattle.base.specs.declared.Found.{Found}
 use Rattle.base.specs.declared.Found.the-variants.{At, Nothing}
@@ -68,8 +68,9 @@ moveDots s i j = do
   s ← nlinksDec s i
   nlinksInc s j
 
+-- (000 looks at the moved node's type: one above 4 sticks)
 unfoldable pub moveLinks : Fs → ℕ → ℕ → ℕ → Out Fs
-moveLinks s i j c = pick (isFolder (recAt s c .kind)) (moveDots s i j) (done s)
+moveLinks s i j c = guard (leb (recAt s c .kind) 4) stuck (pick (isFolder (recAt s c .kind)) (moveDots s i j) (done s))
 
 unfoldable pub moveBetween : Fs → ℕ → ℕ → Slot → List ℕ → Replaced → Out After
 moveBetween s i j old name r = do

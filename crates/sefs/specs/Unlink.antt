@@ -18,9 +18,10 @@ use Rattle.sefs.specs.Folders.{direntNodeRemove}
 use Rattle.sefs.specs.Ask.{admit, byHandle, goodName, notLong, notSpecial, liveFolder, start}
 use Rattle.sefs.specs.Create.{After, after}
 
--- a folder has at least 2 slots (it sticks otherwise), and here no more: 13
+-- 000 looks at the type, so one above 4 sticks. A folder has at least 2 slots (it sticks otherwise), and here no more: 13
 unfoldable pub notFull : DiskINode → Out Unit
 notFull r = do
+  _ ← ensure (leb (r .kind) 4) stuck
   _ ← ensure (not (isFolder (r .kind)) || leb 2 (r .blocks)) stuck
   ensure (not (isFolder (r .kind)) || leb (r .blocks) 2) dirNotEmpty
 
