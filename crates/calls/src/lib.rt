@@ -1,27 +1,21 @@
 // What a call answers, and what it asks before its steps: the reasons that every call can give, and those about folders and names.
 // A question answers 0, or the number of the reason that refuses the call.
+ghost use mathlib.Core.Path.{_≡_};
+ghost use Prim.Native.Nat.{_<_};
+ghost use lib.ListN.{length};
+ghost use Rattle.base.specs.Out.{Went, answer};
+ghost use Rattle.table.specs.Table.{addHold};
+ghost use Rattle.sefs.specs.Ask.{admitArena, byHandle, goodName, notLong, notSpecial, liveFolder, notRemoved};
+ghost use Rattle.sefs.specs.Ask.{known as knownType, folder as isFolder};
+ghost use Rattle.mem.specs.Mem.{tableIn};
+ghost use Rattle.calls.specs.Answers.{doneWith, refusedWith, notGiven, heldWith, afterOf, givenOf};
+ghost use Rattle.calls.specs.Asked.{admitIf, firstOf, reached, Reached};
 use base::Found;
 use mem::table_at;
+use sefs::Metadata;
 use structs::DiskINode;
-use structs::Timespec;
 use table::Handle;
 use table::Table;
-
-// What metadata tells (vfs.rs: Metadata).
-#[repr(C)]
-pub struct Metadata {
-    pub inode: u32,
-    pub size: u64,
-    pub mode: u16,
-    pub kind: u32,
-    pub blocks: u32,
-    pub atime: Timespec,
-    pub mtime: Timespec,
-    pub ctime: Timespec,
-    pub nlinks: u16,
-    pub uid: u32,
-    pub gid: u32,
-}
 
 // The answer of a call that gives nothing else.
 pub enum Answer {
@@ -40,6 +34,7 @@ pub enum Told {
     Refused(u8),
 }
 
+// The slots that were written, or the reason.
 pub enum Listed {
     Slots(usize),
     Refused(u8),
@@ -56,21 +51,27 @@ pub struct Given {
     pub table: Table,
 }
 
-pub fn done(t: Table) -> After {
+pub fn done(t: Table) -> After
+    ensures { λ r. ⌜ r ≡ doneWith t ⌝ }
+{
     After {
         answer: Answer::Done,
         table: t,
     }
 }
 
-pub fn refused(t: Table, reason: u8) -> After {
+pub fn refused(t: Table, reason: u8) -> After
+    ensures { λ r. ⌜ r ≡ refusedWith t reason ⌝ }
+{
     After {
         answer: Answer::Refused(reason),
         table: t,
     }
 }
 
-pub fn not_given(t: Table, reason: u8) -> Given {
+pub fn not_given(t: Table, reason: u8) -> Given
+    ensures { λ r. ⌜ r ≡ notGiven t reason ⌝ }
+{
     Given {
         answer: Got::Refused(reason),
         table: t,
@@ -78,7 +79,10 @@ pub fn not_given(t: Table, reason: u8) -> Given {
 }
 
 // What a call answers once its steps are decided: the table as memory has it, or the one that the call was given.
-pub fn after(t: Table, mem: &[u8], reason: u8) -> After {
+pub fn settle(t: Table, mem: &[u8], reason: u8) -> After
+    requires { ⌜ length (now mem) ≡ 4899 ⌝ }
+    ensures { λ r. ⌜ r ≡ afterOf t (tableIn (now (mem .entry))) reason ⌝ }
+{
     if reason != 0 {
         return refused(t, reason);
     }
@@ -86,7 +90,10 @@ pub fn after(t: Table, mem: &[u8], reason: u8) -> After {
 }
 
 // The table as memory has it, with a hold on the row.
-fn held(mem: &[u8], row: usize) -> Given {
+fn held(mem: &[u8], row: usize) -> Given
+    requires { ⌜ (length (now mem) ≡ 4899) × (row < 34) ⌝ }
+    ensures { λ r. ⌜ r ≡ heldWith (addHold (tableIn (now (mem .entry))) row) ⌝ }
+{
     let a = table::add_hold(table_at(mem), row as u32);
     let h = a.handle;
     let u = a.table;
@@ -96,7 +103,10 @@ fn held(mem: &[u8], row: usize) -> Given {
     }
 }
 
-pub fn given(t: Table, mem: &[u8], reason: u8, row: usize) -> Given {
+pub fn settle_held(t: Table, mem: &[u8], reason: u8, row: usize) -> Given
+    requires { ⌜ (length (now mem) ≡ 4899) × (reason ≡ 0 → row < 34) ⌝ }
+    ensures { λ r. ⌜ r ≡ givenOf t (addHold (tableIn (now (mem .entry))) row) reason ⌝ }
+{
     if reason != 0 {
         return not_given(t, reason);
     }
@@ -105,7 +115,9 @@ pub fn given(t: Table, mem: &[u8], reason: u8, row: usize) -> Given {
 
 // ---- 1, 2, 3
 
-pub fn admit_arena(arena: &[u8]) -> u8 {
+pub fn admit_arena(arena: &[u8]) -> u8
+    ensures { λ r. ⌜ r ≡ answer (admitArena (now (arena .entry))) ⌝ }
+{
     if !arena::legal(arena) {
         return 1;
     }
@@ -116,26 +128,32 @@ pub fn admit_arena(arena: &[u8]) -> u8 {
 }
 
 // `formed`: whether the table is well formed.
-pub fn admit(arena: &[u8], formed: bool) -> u8 {
+pub fn admit(arena: &[u8], formed: bool) -> u8
+    ensures { λ r. ⌜ r ≡ answer (admitIf (now (arena .entry)) formed) ⌝ }
+{
     let r = admit_arena(arena);
     if r != 0 {
         return r;
     }
-    if !formed {
-        return 3;
+    if formed {
+        return 0;
     }
-    0
+    3
 }
 
 // ---- names
 
 // 5: a zero byte inside, or not UTF-8.
-pub fn good_name(name: &[u8]) -> u8 {
+pub fn good_name(name: &[u8]) -> u8
+    ensures { λ r. ⌜ r ≡ answer (goodName (now (name .entry))) ⌝ }
+{
     utf8::early_reason(utf8::name_verdict(name))
 }
 
 // 10: over 255 bytes.
-pub fn not_long(name: &[u8]) -> u8 {
+pub fn not_long(name: &[u8]) -> u8
+    ensures { λ r. ⌜ r ≡ answer (notLong (now (name .entry))) ⌝ }
+{
     if name.len() > 255 {
         return 10;
     }
@@ -143,7 +161,9 @@ pub fn not_long(name: &[u8]) -> u8 {
 }
 
 // 9: `.`, `..` and the empty name.
-pub fn not_special(name: &[u8]) -> u8 {
+pub fn not_special(name: &[u8]) -> u8
+    ensures { λ r. ⌜ r ≡ answer (notSpecial (now (name .entry))) ⌝ }
+{
     if utf8::is_special(name) {
         return 9;
     }
@@ -153,33 +173,38 @@ pub fn not_special(name: &[u8]) -> u8 {
 // ---- records
 
 // 000 takes metadata: type 0, and a type above 4, stick.
-pub fn known(rec: DiskINode) -> u8 {
-    if rec.kind == 0 {
-        return 19;
+pub fn known(rec: DiskINode) -> u8
+    ensures { λ r. ⌜ r ≡ answer (knownType rec) ⌝ }
+{
+    if (0 < rec.kind) & (rec.kind <= 4) {
+        return 0;
     }
-    if rec.kind > 4 {
-        return 19;
-    }
-    0
+    19
 }
 
 // 7, once the type is known.
-pub fn folder(rec: DiskINode) -> u8 {
-    if rec.kind != 2 {
-        return 7;
+pub fn folder(rec: DiskINode) -> u8
+    ensures { λ r. ⌜ r ≡ answer (isFolder rec) ⌝ }
+{
+    if rec.kind == 2 {
+        return 0;
     }
-    0
+    7
 }
 
-fn not_removed(rec: DiskINode) -> u8 {
-    if rec.nlinks == 0 {
-        return 8;
+fn not_removed(rec: DiskINode) -> u8
+    ensures { λ r. ⌜ r ≡ answer (notRemoved rec) ⌝ }
+{
+    if 0 < rec.nlinks {
+        return 0;
     }
-    0
+    8
 }
 
 // A folder that something is done in: its metadata, 7, 8.
-pub fn live_folder(rec: DiskINode) -> u8 {
+pub fn live_folder(rec: DiskINode) -> u8
+    ensures { λ r. ⌜ r ≡ answer (liveFolder rec) ⌝ }
+{
     let r = known(rec);
     if r != 0 {
         return r;
@@ -193,41 +218,55 @@ pub fn live_folder(rec: DiskINode) -> u8 {
 
 // ---- handles
 
-// The row of a handle, where the reason is 0; 4 where it is not live.
+// The row of a handle, where the reason is 0.
 pub struct ByHandle {
     pub reason: u8,
     pub row: usize,
 }
 
-fn no_handle(reason: u8) -> ByHandle {
-    ByHandle {
-        reason: reason,
-        row: 0,
-    }
-}
-
-pub fn by_handle(t: Table, h: Handle) -> ByHandle {
+// 4 where it is not live.
+pub fn by_handle(t: Table, h: Handle) -> ByHandle
+    ensures { λ r. ⌜ Went (byHandle t h) (r .row) (r .row < 34) (r .reason) ⌝ }
+{
     let f = table::live(t, h);
     match f {
         Found::At(i) => ByHandle { reason: 0, row: i },
-        Found::Nothing => no_handle(4),
+        Found::Nothing => ByHandle { reason: 4, row: 0 },
     }
+}
+
+// The first of two reasons.
+fn first(r: u8, s: u8) -> u8
+    ensures { λ x. ⌜ x ≡ firstOf r s ⌝ }
+{
+    if r != 0 {
+        return r;
+    }
+    s
 }
 
 // 1, 2, 3, 4.
-pub fn admit_by(arena: &[u8], formed: bool, b: ByHandle) -> u8 {
-    let r = admit(arena, formed);
-    if r != 0 {
-        return r;
-    }
-    b.reason
+pub fn admit_by(arena: &[u8], formed: bool, b: ByHandle) -> u8
+    ensures { λ r. ⌜ r ≡ firstOf (answer (admitIf (now (arena .entry)) formed)) (b .reason) ⌝ }
+{
+    first(admit(arena, formed), b.reason)
 }
 
 // The same for two handles.
-pub fn admit_two(arena: &[u8], formed: bool, b: ByHandle, c: ByHandle) -> u8 {
-    let r = admit_by(arena, formed, b);
-    if r != 0 {
-        return r;
+pub fn admit_two(arena: &[u8], formed: bool, b: ByHandle, c: ByHandle) -> u8
+    ensures { λ r. ⌜ r ≡ firstOf (firstOf (answer (admitIf (now (arena .entry)) formed)) (b .reason)) (c .reason) ⌝ }
+{
+    first(admit_by(arena, formed, b), c.reason)
+}
+
+// What a call with one handle asks first: 1, 2, 3, 4.
+pub fn reach(arena: &[u8], t: Table, h: Handle) -> ByHandle
+    ensures { λ r. ⌜ Went (reached (now (arena .entry)) t h) (r .row) (Reached (now (arena .entry)) (r .row)) (r .reason) ⌝ }
+{
+    let b = by_handle(t, h);
+    let r = admit_by(arena, table::well_formed(t), b);
+    ByHandle {
+        reason: r,
+        row: b.row,
     }
-    c.reason
 }

@@ -1,0 +1,27 @@
+-- Answers, from a step's reason.
+use mathlib.Core.Path.{_≡_, refl}
+use Prim.Native.Nat.{ℕ}
+use Rattle.base.specs.Out.{Out, done, refused}
+use Rattle.table.specs.declared.Table.{Table}
+use Rattle.table.specs.declared.Added.{Added}
+use Rattle.calls.specs.Answers.{doneWith, refusedWith, heldWith, notGiven, afterOf, givenOf}
+use Rattle.calls.specs.declared.After.{After}
+use Rattle.calls.specs.declared.Given.{Given}
+use lib.Dec.{eqb}
+use borrow.Author.Tests.{eq-eqb, ne-eqb}
+
+pub after-done : (t u : Table) (n : ℕ) → n ≡ 0 → doneWith u ≡ afterOf t u n
+unfolding afterOf
+after-done t u n z = rw (eq-eqb n 0 z)
+
+pub after-refused : (t u : Table) (n : ℕ) → (n ≡ 0 → ⊥) → refusedWith t n ≡ afterOf t u n
+unfolding afterOf
+after-refused t u n z = rw (ne-eqb n 0 z)
+
+pub given-held : (t : Table) (x : Added) (n : ℕ) → n ≡ 0 → heldWith x ≡ givenOf t x n
+unfolding givenOf
+given-held t x n z = rw (eq-eqb n 0 z)
+
+pub given-refused : (t : Table) (x : Added) (n : ℕ) → (n ≡ 0 → ⊥) → notGiven t n ≡ givenOf t x n
+unfolding givenOf
+given-refused t x n z = rw (ne-eqb n 0 z)

@@ -1,0 +1,161 @@
+-- Questions: what an answer's number says of the outcome, and one question after another.
+use mathlib.Core.Path.{_≡_, refl, sym, _∙_, ap}
+use mathlib.Core.Bool.{Bool, true, false, _&&_}
+use mathlib.Core.List.{List}
+use Prim.Native.Nat.{ℕ, zero, suc, _<_, _≤_, _*_}
+use native.Mathlib.Omega.{arith}
+use lib.ListN.{length}
+use lib.Dec.{eqb, ltb, leb}
+use Rattle.base.specs.Out.{Out, done, refused, bind, ensure, answer, Ok, went, said, Went, well, ill}
+use Rattle.base.specs.Reasons.{badTable, badHandle}
+use Rattle.base.specs.Search.{pick, foundBelow}
+use Rattle.base.specs.declared.Found.{Found}
+use Rattle.base.specs.declared.Found.the-variants.{At, Nothing}
+use Rattle.base.proofs.Bools.{bool-cases}
+use Rattle.base.proofs.Outs.{ok-bind, went-weaken}
+use Rattle.base.proofs.Searches.{at-found}
+use Rattle.structs.specs.declared.DiskINode.{DiskINode}
+use Rattle.utf8.specs.Names.{earlyReason}
+use Rattle.utf8.specs.declared.NameVerdict.{NameVerdict}
+use Rattle.utf8.specs.declared.NameVerdict.the-variants.{Good, Bad}
+use Rattle.table.specs.declared.Table.{Table}
+use Rattle.table.specs.declared.Handle.{Handle}
+use Rattle.table.specs.Table.{holdAt, isLive, liveRow}
+use Rattle.table.specs.Formed.{wellFormed}
+use Rattle.arena.specs.Blocks.{legal}
+use Rattle.sound.specs.Sound.{sound}
+use Rattle.sefs.specs.Ask.{admitArena, admit, byHandle, orBadHandle, known, folder, notRemoved, liveFolder}
+use Rattle.calls.specs.Asked.{admitIf, firstOf, reached, Reached}
+
+-- a refusal has a reason's number, and no reason's number is 0
+abbrev pub Asks : {A : Type 0} → Out A → Type 0
+Asks o = Ok (λ x. Unit) (λ n. 0 < n) o
+
+pub asks-ensure : (b : Bool) (n : ℕ) → 0 < n → Asks (ensure b n)
+asks-ensure true n l = went tt
+asks-ensure false n l = said l
+
+pub asks-then : {A B : Type 0} {m : Out A} {f : A → Out B} → Asks m → ((x : A) → Asks (f x)) → Asks (bind m f)
+asks-then p q = ok-bind p (λ x _. q x)
+
+-- a number above 0 is the reason
+pub asked-not : {A : Type 0} (o : Out A) (r : ℕ) → r ≡ answer o → (r ≡ 0 → ⊥) → o ≡ refused r
+asked-not (done x) r e z = absurd (z e)
+asked-not (refused n) r e z = ap refused (sym e)
+
+-- 0 says that nothing was refused
+pub asked-done : (o : Out Unit) → Asks o → (r : ℕ) → r ≡ answer o → r ≡ 0 → o ≡ done tt
+asked-done (done x) s r e z = refl
+asked-done (refused n) (said l) r e z = absurd (omega arith)
+
+pub asked-went : (o : Out Unit) → Asks o → (r : ℕ) → r ≡ answer o → Went o tt Unit r
+asked-went (done x) s r e = rw e (well refl tt)
+asked-went (refused n) (said l) r e = rw e (ill l refl)
+
+-- a test's answer
+pub ensure-done : {b : Bool} (n : ℕ) → b ≡ true → 0 ≡ answer (ensure b n)
+ensure-done n e = rw e
+
+pub ensure-not : {b : Bool} (n : ℕ) → b ≡ false → n ≡ answer (ensure b n)
+ensure-not n e = rw e
+
+-- a question that refuses answers for what comes after it; else what comes after it answers
+pub answer-stop : {A B : Type 0} (o : Out A) (f : A → Out B) (r : ℕ) → r ≡ answer o → (r ≡ 0 → ⊥) → r ≡ answer (bind o f)
+answer-stop (done x) f r e z = absurd (z e)
+answer-stop (refused n) f r e z = e
+
+pub answer-next : {B : Type 0} (o : Out Unit) (f : Unit → Out B) → Asks o → (r : ℕ) → r ≡ answer o → r ≡ 0 → answer (f tt) ≡ answer (bind o f)
+answer-next (done x) f s r e z = refl
+answer-next (refused n) f (said l) r e z = absurd (omega arith)
+
+-- ---- the questions
+
+pub asks-arena : (a : List ℕ) → Asks (admitArena a)
+unfolding admitArena
+asks-arena a = asks-then (asks-ensure (legal a) 1 (omega arith)) (λ _. asks-ensure (sound a) 2 (omega arith))
+
+pub asks-admitIf : (a : List ℕ) (formed : Bool) → Asks (admitIf a formed)
+unfolding admitIf
+asks-admitIf a formed = asks-then (asks-arena a) (λ _. asks-ensure formed 3 (omega arith))
+
+pub asks-live : (r : DiskINode) → Asks (liveFolder r)
+unfolding liveFolder
+asks-live r =
+    asks-then (asks-ensure (ltb 0 (r .kind) && leb (r .kind) 4) 19 (omega arith))
+    (λ _. asks-then (asks-ensure (eqb (r .kind) 2) 7 (omega arith)) (λ _. asks-ensure (ltb 0 (r .nlinks)) 8 (omega arith)))
+
+-- the questions of a live folder, in turn: a number n that the question before answered
+module _ (r : DiskINode) (n : ℕ) where
+  pub live-stop : n ≡ answer (known r) → (n ≡ 0 → ⊥) → n ≡ answer (liveFolder r)
+  unfolding liveFolder
+  live-stop e z = answer-stop (known r) (λ _. bind (folder r) (λ _. notRemoved r)) n e z
+
+  pub live-next : n ≡ answer (known r) → n ≡ 0 → answer (bind (folder r) (λ _. notRemoved r)) ≡ answer (liveFolder r)
+  unfolding liveFolder
+  live-next e z = answer-next (known r) (λ _. bind (folder r) (λ _. notRemoved r)) (asks-ensure (ltb 0 (r .kind) && leb (r .kind) 4) 19 (omega arith)) n e z
+
+  pub folder-stop : n ≡ answer (folder r) → (n ≡ 0 → ⊥) → n ≡ answer (bind (folder r) (λ _. notRemoved r))
+  folder-stop e z = answer-stop (folder r) (λ _. notRemoved r) n e z
+
+  pub folder-next : n ≡ answer (folder r) → n ≡ 0 → answer (notRemoved r) ≡ answer (bind (folder r) (λ _. notRemoved r))
+  folder-next e z = answer-next (folder r) (λ _. notRemoved r) (asks-ensure (eqb (r .kind) 2) 7 (omega arith)) n e z
+
+-- those of an arena and a table
+module _ (a : List ℕ) (formed : Bool) (n : ℕ) where
+  pub admit-stop : n ≡ answer (admitArena a) → (n ≡ 0 → ⊥) → n ≡ answer (admitIf a formed)
+  unfolding admitIf
+  admit-stop e z = answer-stop (admitArena a) (λ _. ensure formed 3) n e z
+
+  pub admit-next : n ≡ answer (admitArena a) → n ≡ 0 → answer (ensure formed 3) ≡ answer (admitIf a formed)
+  unfolding admitIf
+  admit-next e z = answer-next (admitArena a) (λ _. ensure formed 3) (asks-arena a) n e z
+
+-- an arena that is admitted has a legal length
+pub admitted-legal : (a : List ℕ) (formed : Bool) (u : Unit) → admitIf a formed ≡ done u → legal a ≡ true
+unfolding admitIf admitArena
+admitted-legal a formed u e = go (legal a) refl
+  where
+    go : (b : Bool) → legal a ≡ b → b ≡ true
+    go true q = refl
+    go false q = absurd (let z : _≡_ {A = ℕ} 0 1 = cc in omega arith)
+
+pub admit-is : (a : List ℕ) (t : Table) → admit a t ≡ admitIf a (wellFormed t)
+unfolding admit admitIf
+admit-is a t = refl
+
+-- a name is bad by reason 5, or by none
+pub early : (v : NameVerdict) → earlyReason v ≡ answer (ensure (eqb (earlyReason v) 0) 5)
+early (Good long) = refl
+early Bad = refl
+
+-- ---- handles
+
+-- the row of a live handle is a row
+pub live-below : (t : Table) (h : Handle) (i : ℕ) → liveRow t h ≡ At i → i < 34
+unfolding liveRow
+live-below t h i = go (isLive t h)
+  where
+    go : (b : Bool) → pick b (foundBelow (holdAt t (h .hold) .row) 34) Nothing ≡ At i → i < 34
+    go true e = at-found _ 34 i e .1
+    go false e = absurd (let z : _≡_ {A = ℕ} 0 1 = cc in omega arith)
+
+pub handle-at : (t : Table) (h : Handle) (i : ℕ) → liveRow t h ≡ At i → Went (byHandle t h) i (i < 34) 0
+handle-at t h i e = well (rw e) (live-below t h i e)
+
+pub handle-not : (t : Table) (h : Handle) (i : ℕ) → liveRow t h ≡ Nothing → Went (byHandle t h) i (i < 34) 4
+handle-not t h i e = ill {r = 4} (omega arith) (rw e)
+
+pub first-not : (r s : ℕ) → (r ≡ 0 → ⊥) → r ≡ firstOf r s
+first-not zero s z = absurd (z refl)
+first-not (suc r) s z = refl
+
+-- the reason of the first questions and the handle's, together: every call with one handle begins so
+pub went-reached : (a : List ℕ) (t : Table) (h : Handle) (row reason r : ℕ) → Went (byHandle t h) row (row < 34) reason
+    → r ≡ firstOf (answer (admitIf a (wellFormed t))) reason → Went (reached a t h) row (Reached a row) r
+unfolding reached
+went-reached a t h row reason r g e = rw (admit-is a t) (go (admitIf a (wellFormed t)) refl (asks-admitIf a (wellFormed t)) e)
+  where
+    go : (o : Out Unit) → admitIf a (wellFormed t) ≡ o → Asks o → r ≡ firstOf (answer o) reason → Went (bind o (λ _. byHandle t h)) row (Reached a row) r
+    go (done u) q s f = rw f (went-weaken (λ l. record { legal = admitted-legal a (wellFormed t) u q; below = l }) g)
+    go (refused zero) q (said l) f = absurd (omega arith)
+    go (refused (suc n)) q (said l) f = rw f (ill l refl)

@@ -1,0 +1,17 @@
+-- `calls::first`: the first, or the second.
+use borrow.Author.Needs.{needs}
+use Rattle.calls.proofs.Asks.{first-not}
+use mathlib.Core.Path.{sym, _∙_, ap}
+use Rattle.calls.specs.Asked.{firstOf}
+use Prim.Native.Nat.{ℕ}
+use Rattle.calls.proofs.first.Statement.{statement}
+use Rattle.calls.proofs.first.Tie as tie
+
+returns : tie.Need-returns
+returns c = first-not _ _ (c .if1 .taken)
+
+returns-2 : tie.Need-returns-2
+returns-2 c = rw (c .if1 .left)
+
+pub first-spec : {M : Type 1} → statement M
+first-spec = tie.close (tie.spec returns returns-2)

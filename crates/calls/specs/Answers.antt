@@ -1,0 +1,88 @@
+-- The calls' answers: the case that an outcome gives, and document 01's number for every case, 0 where the call was done.
+use mathlib.Core.Bool.{Bool, true, false}
+use mathlib.Core.List.{List}
+use Prim.Native.Nat.{ℕ, _/_}
+use lib.ListN.{length}
+use lib.Dec.{eqb}
+use Rattle.base.specs.Out.{Out, done, refused}
+use Rattle.base.specs.Search.{pick}
+use Rattle.table.specs.declared.Table.{Table}
+use Rattle.table.specs.declared.Handle.{Handle}
+use Rattle.table.specs.declared.Added.{Added}
+use Rattle.sefs.specs.declared.Metadata.{Metadata}
+use Rattle.calls.specs.declared.Answer.{Answer}
+use Rattle.calls.specs.declared.Answer.the-variants as answers
+use Rattle.calls.specs.declared.Got.{Got}
+use Rattle.calls.specs.declared.Got.the-variants as gots
+use Rattle.calls.specs.declared.Told.{Told}
+use Rattle.calls.specs.declared.Told.the-variants as tolds
+use Rattle.calls.specs.declared.Listed.{Listed}
+use Rattle.calls.specs.declared.Listed.the-variants as listeds
+use Rattle.calls.specs.declared.After.{After}
+use Rattle.calls.specs.declared.Given.{Given}
+
+-- ---- a call that gives nothing else
+
+abbrev pub answerOf : {A : Type 0} → Out A → Answer
+answerOf (done x) = answers.Done
+answerOf (refused n) = answers.Refused n
+
+abbrev pub answerNumber : Answer → ℕ
+answerNumber answers.Done = 0
+answerNumber (answers.Refused n) = n
+
+-- ---- a call that makes a hold
+
+abbrev pub gotOf : Out Added → Got
+gotOf (done x) = gots.Held (x .handle)
+gotOf (refused n) = gots.Refused n
+
+abbrev pub gotNumber : Got → ℕ
+gotNumber (gots.Held h) = 0
+gotNumber (gots.Refused n) = n
+
+-- the table afterwards: "A refusal returns its number only; .. table .. keep their bytes"
+abbrev pub heldTable : Table → Out Added → Table
+heldTable t (done x) = x .table
+heldTable t (refused n) = t
+
+-- ---- metadata
+
+abbrev pub toldOf : Out Metadata → Told
+toldOf (done m) = tolds.Tells m
+toldOf (refused n) = tolds.Refused n
+
+abbrev pub toldNumber : Told → ℕ
+toldNumber (tolds.Tells m) = 0
+toldNumber (tolds.Refused n) = n
+
+-- ---- listing: as many slots as were written, of 264 bytes each
+
+abbrev pub listedOf : Out (List ℕ) → Listed
+listedOf (done l) = listeds.Slots (length l / 264)
+listedOf (refused n) = listeds.Refused n
+
+abbrev pub listedNumber : Listed → ℕ
+listedNumber (listeds.Slots n) = 0
+listedNumber (listeds.Refused n) = n
+
+-- ---- an answer with a table
+
+abbrev pub doneWith : Table → After
+doneWith t = record { answer = answers.Done; table = t }
+
+abbrev pub refusedWith : Table → ℕ → After
+refusedWith t n = record { answer = answers.Refused n; table = t }
+
+abbrev pub heldWith : Added → Given
+heldWith x = record { answer = gots.Held (x .handle); table = x .table }
+
+abbrev pub notGiven : Table → ℕ → Given
+notGiven t n = record { answer = gots.Refused n; table = t }
+
+-- by a reason's number: t is the table that the call was given, u the one that its steps left
+unfoldable pub afterOf : Table → Table → ℕ → After
+afterOf t u n = pick (eqb n 0) (doneWith u) (refusedWith t n)
+
+unfoldable pub givenOf : Table → Added → ℕ → Given
+givenOf t x n = pick (eqb n 0) (heldWith x) (notGiven t n)
