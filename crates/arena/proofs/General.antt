@@ -1,20 +1,17 @@
 -- Laws that are not about arenas.
-use mathlib.Core.Path.{_≡_, refl, sym, ap, ap₂, _∙_, subst}
-use mathlib.Core.Bool.{Bool, true, false, _&&_}
-use mathlib.Core.List.{List, [], _∷_, _++_}
-use mathlib.Core.Logic.{⊎-elim}
-use Prim.Native.Nat.{ℕ, zero, suc, _+_, _≤_, _<_}
-use native.Mathlib.Nat.{add-zero}
+use mathlib.Core.Path.{_≡_, refl, sym, ap, ap₂, _∙_}
+use mathlib.Core.Bool.{Bool, true, false}
+use mathlib.Core.List.{List, _++_}
+use Prim.Native.Nat.{ℕ, _+_, _≤_, _<_}
 use native.Mathlib.Omega.{arith}
-use lib.ListN.{length, getD, take, drop}
-use lib.Dec.{T, eqb}
+use lib.ListN.{length, getD}
 use lib.Seq.{ext-getD}
 use Rattle.base.specs.Parts.{part}
 use Rattle.base.specs.Decides.{same}
 use Rattle.base.proofs.Bools.{T-true, true-T}
 use Rattle.base.proofs.Lists.{length-part, getD-part}
 use Rattle.base.proofs.Tests.{decides-same}
-use Rattle.le.specs.Le.{Bytes, leAt, leOf, leBytes}
+use Rattle.le.specs.Le.{Bytes, leAt, leBytes}
 use Rattle.le.proofs.General.{part-join, part-all}
 use Rattle.le.proofs.Laws.{leBytes-leOf}
 

@@ -59,13 +59,13 @@ fn read_run<'a>(arena: &'a [u8], work: &'a [u8], which: u8, name: &[u8], pos: us
     ensures { λ _. ⌜ now (out .exit) ≡ tab (byteAt (view (now (arena .entry)) (now (work .entry))) (file which (now (name .entry)))) pos (length (now (out .entry))) ⌝ }
 {
     let total = out.len();
-    let mut done: usize = 0;
-    while done < total {
-        let p = pos + done;
-        let m = least(480 - p % 480, total - done);
-        let e = done + m;
-        read_part(arena, work, which, name, p, &mut out[done..e]);
-        done = e;
+    let mut got: usize = 0;
+    while got < total {
+        let p = pos + got;
+        let m = least(480 - p % 480, total - got);
+        let e = got + m;
+        read_part(arena, work, which, name, p, &mut out[got..e]);
+        got = e;
     }
 }
 

@@ -1,7 +1,7 @@
 // The four stores: put, cut, make, drop. Each works on the view and answers as its definition does there; the arena itself is only read.
 ghost use mathlib.Core.Path.{_≡_};
 ghost use Prim.Native.Nat.{ℕ, _+_, _*_, _-_, _<_, _≤_, _/_, _%_};
-ghost use lib.ListN.{length};
+ghost use lib.ListN.{length, replicate};
 ghost use lib.Dec.{ltb};
 ghost use Rattle.base.specs.Out.{done, bind};
 ghost use Rattle.base.specs.Parts.{part, paste};
@@ -19,6 +19,7 @@ use crate::find_head;
 use arena::is_data;
 use arena::is_head;
 use arena::make_block;
+use base::clear;
 use base::copy;
 use base::index;
 use base::least;
@@ -154,14 +155,7 @@ fn put_block(
 }
 
 // The blocks that src touches, in rising order: a run of at most 480 bytes touches one or two.
-fn put_blocks(
-    arena: &[u8],
-    work: &mut [u8],
-    which: u8,
-    name: &[u8],
-    pos: usize,
-    src: &[u8],
-) -> u8
+fn put_blocks(arena: &[u8], work: &mut [u8], which: u8, name: &[u8], pos: usize, src: &[u8]) -> u8
     requires { ⌜ Fine (now arena) (now work) × (2 ≤ left (now work)) ⌝ }
     requires { ⌜ (length (now name) ≡ 16) × ((pos + length (now src) ≤ 4294967295) × ((0 < length (now src)) × (length (now src) ≤ 480))) ⌝ }
     ensures { λ r. ⌜ Did (bind (putBlock (view (now (arena .entry)) (now (work .entry))) (file which (now (name .entry))) pos (now (src .entry)) (pos / 480)) (λ d. pick (ltb (pos / 480) ((pos + length (now (src .entry)) - 1) / 480)) (putBlock d (file which (now (name .entry))) pos (now (src .entry)) ((pos + length (now (src .entry)) - 1) / 480)) (done d))) (now (arena .entry)) (now (work .entry)) (now (work .exit)) 2 r ⌝ }
@@ -266,6 +260,15 @@ fn free_past(arena: &[u8], work: &mut [u8], which: u8, name: &[u8], len: usize)
     }
 }
 
+// The payload of a block from `off` on becomes zero.
+fn clear_from(b: &mut [u8], off: usize)
+    requires { ⌜ (length (now b) ≡ 512) × (off ≤ 480) ⌝ }
+    ensures { λ _. ⌜ now (b .exit) ≡ paste (now (b .entry)) (24 + off) (replicate (480 - off) 0) ⌝ }
+{
+    let s = 24 + off;
+    clear(&mut b[s..504]);
+}
+
 // The bytes past len in the block that len falls into become zero.
 fn zero_tail(arena: &[u8], work: &mut [u8], which: u8, name: &[u8], len: usize)
     requires { ⌜ Fine (now arena) (now work) × (1 ≤ left (now work)) ⌝ }
@@ -276,10 +279,10 @@ fn zero_tail(arena: &[u8], work: &mut [u8], which: u8, name: &[u8], len: usize)
     if k >= arena.len() / 512 {
         return;
     }
-    let z = [0u8; 480];
-    let off = len % 480;
-    let m = 480 - off;
-    edit(arena, work, k, 24 + off, &z[..m]);
+    let mut b = [0u8; 512];
+    copy(&mut b, block(arena, &work[..], k));
+    clear_from(&mut b, len % 480);
+    overlay::store(work, k, &b);
 }
 
 // The file's length becomes len.

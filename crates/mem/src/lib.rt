@@ -7,22 +7,24 @@
 //   4371  the superblock, 16 bytes
 //   4387  the maps of up to four groups, 128 bytes each, up to 4899
 ghost use mathlib.Core.Path.{_≡_};
-ghost use mathlib.Core.Bool.{true, false};
-ghost use mathlib.Core.List.{_++_};
-ghost use Prim.Native.Nat.{ℕ, _+_, _*_, _-_, _<_, _≤_, _/_};
-ghost use lib.ListN.{length, getD};
+ghost use mathlib.Core.Bool.{true};
+ghost use mathlib.Core.List.{_∷_};
+ghost use Prim.Native.Nat.{_+_, _*_, _<_};
+ghost use lib.ListN.{length, getD, set, replicate};
 ghost use lib.Dec.{eqb};
+ghost use Rattle.base.specs.Count.{bit};
 ghost use Rattle.base.specs.Out.{done};
 ghost use Rattle.base.specs.Parts.{part};
 ghost use Rattle.base.specs.Search.{lowest, foundBelow};
 ghost use Rattle.maps.specs.Maps.{bitAt, withBit};
 ghost use Rattle.table.specs.Table.{rowAt, namesRow, rowOf, rowUsed, takeRow, withRow, withDirty, freeRowAt};
-ghost use Rattle.sefs.specs.Meta.{newMap, superWith, grown};
+ghost use Rattle.sefs.specs.Create.{freshMeta};
+ghost use Rattle.sefs.specs.Meta.{superWith, grown};
 ghost use Rattle.mem.specs.Mem.{tableIn, superIn, mapsIn, metaIn, Whole, Tabled, Mapped};
 use base::Found;
-use base::clear;
 use base::index;
 use structs::DiskINode;
+use structs::SEFS_MAGIC;
 use structs::SuperBlock;
 use structs::put_super_block;
 use structs::super_block_at;
@@ -219,24 +221,24 @@ pub fn add_group(mem: &mut [u8])
 {
     let mut sb = super_at(&mem[..]);
     let o = 4387 + 128 * index(sb.groups);
-    put_new_map(&mut mem[o..o + 128]);
+    put_map(&mut mem[o..o + 128], 253);
     sb.blocks = sb.blocks + 1024;
     sb.unused = sb.unused + 1023;
     sb.groups = sb.groups + 1;
     put_super_block(mem, 4371, sb);
 }
 
-// Every bit set but the second.
-fn put_new_map(map: &mut [u8])
+// A group's map: the first byte, and every bit of the others set.
+fn put_map(map: &mut [u8], first: u8)
     requires { ⌜ length (now map) ≡ 128 ⌝ }
-    ensures { λ _. ⌜ now (map .exit) ≡ newMap ⌝ }
+    ensures { λ _. ⌜ now (map .exit) ≡ first ∷ replicate 127 255 ⌝ }
 {
     let mut i: usize = 0;
     while i < 128 {
         map[i] = 255;
         i = i + 1;
     }
-    map[0] = 253;
+    map[0] = first;
 }
 
 // ---- the start and the end of a call
@@ -254,4 +256,37 @@ pub fn table_at(mem: &[u8]) -> Table
     ensures { λ r. ⌜ r ≡ tableIn (now (mem .entry)) ⌝ }
 {
     table_bytes::read_table(mem)
+}
+
+fn mark_of(b: bool) -> u8
+    ensures { λ r. ⌜ r ≡ bit b ⌝ }
+{
+    b as u8
+}
+
+// Whether superblock and maps could be read.
+pub fn put_flag(mem: &mut [u8], b: bool)
+    requires { ⌜ length (now mem) ≡ 4899 ⌝ }
+    ensures { λ _. ⌜ now (mem .exit) ≡ set (now (mem .entry)) 4370 (bit b) ⌝ }
+{
+    mem[4370] = mark_of(b);
+}
+
+// What format starts from: one group, with the bits of the superblock's and the map's own block clear.
+pub fn fresh_meta(mem: &mut [u8])
+    requires { ⌜ length (now mem) ≡ 4899 ⌝ }
+    ensures { λ _. ⌜ (metaIn (now (mem .exit)) ≡ done freshMeta) × (tableIn (now (mem .exit)) ≡ tableIn (now (mem .entry))) × Whole (now (mem .exit)) ⌝ }
+{
+    put_flag(mem, true);
+    put_map(&mut mem[4387..4515], 252);
+    put_super_block(
+        mem,
+        4371,
+        SuperBlock {
+            magic: SEFS_MAGIC,
+            blocks: 1024,
+            unused: 1022,
+            groups: 1,
+        },
+    );
 }

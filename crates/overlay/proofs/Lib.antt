@@ -1,2 +1,3 @@
+pub mod General
 pub mod Views
 pub mod Chains

@@ -7,17 +7,19 @@ use Prim.Native.Nat.{ℕ, zero, suc, _+_, _*_, _≤_, _<_, _-_, _/_}
 use native.Mathlib.Numerals.{add-one}
 use native.Mathlib.Omega.{arith}
 use native.Mathlib.Decide.{ℕ-discrete}
-use lib.ListN.{length, getD, take, drop, set, length-set}
+use lib.ListN.{length, getD, take, drop, set, replicate, length-set, length-replicate}
 use lib.Seq.{getD-set-same, getD-set-other}
 use lib.Dec.{eqb}
 use borrow.Author.Tests.{eq-eqb, ne-eqb}
 use Rattle.base.specs.Search.{pick}
 use Rattle.arena.specs.Blocks.{blk, putBlk, blocks}
 use Rattle.arena.specs.Fields.{seal, zeros}
-use Rattle.arena.proofs.Blocks.{length-blk, length-putBlk, blk-putBlk-same, blk-putBlk-other, getD-putBlk, ext-blk}
+use Rattle.arena.proofs.Blocks.{length-blk, getD-blk, length-putBlk, blk-putBlk-same, blk-putBlk-other, getD-putBlk, ext-blk}
+use Rattle.arena.proofs.Fresh.{zeros-is}
 use Rattle.arena.proofs.Seals.{length-seal, seal-seal, seal-zeros}
 use Rattle.overlay.specs.View.{markOf, usedOf, blkOf, viewTo, view, committed, left, stored, freed, begun, Fine}
 use Rattle.overlay.specs.Steps.{Changed}
+use Rattle.overlay.proofs.General.{getD-zero-list}
 
 -- a change of a byte below block j leaves block j
 blk-set : (w : List ℕ) (i x j : ℕ) → i < 512 * j → blk (set w i x) j ≡ blk w j
@@ -311,3 +313,23 @@ module _ (a w : List ℕ) (whole : length a ≡ 512 * blocks a) (small : blocks 
   pub left-start : left (begun w) ≡ blocks w - 10
   unfolding begun left
   left-start = omega (arith, length-set w 4096 10, used-start)
+
+-- ---- a workspace of zeros, made ready
+
+pub record Ready (a w : List ℕ) (m : ℕ) : Type 0 where
+  pub fine : Fine a w
+  pub is : view a w ≡ a
+  pub room : left w ≡ m - 10
+
+pub ready : (a w : List ℕ) (m : ℕ) → length a ≡ 512 * blocks a → blocks a ≤ 4096 → 10 ≤ m → m ≤ 255 → w ≡ begun (replicate (512 * m) 0) → Ready a w m
+ready a w m whole small ten few e =
+    let z : List ℕ = replicate (512 * m) 0 in
+    let lz : length (replicate {A = ℕ} (512 * m) 0) ≡ 512 * m = length-replicate (512 * m) 0 in
+    let bz : blocks (replicate (512 * m) 0) ≡ m = omega arith in
+    let nine : blk (replicate (512 * m) 0) 9 ≡ zeros = zeros-is _ (length-blk z 9 (omega arith)) (λ j l. getD-blk z 9 j l ∙ getD-zero-list (512 * m) (512 * 9 + j)) in
+    let size : length (replicate {A = ℕ} (512 * m) 0) ≡ 512 * blocks (replicate (512 * m) 0) = omega arith in
+    rw e (record {
+      fine = fine-start a z whole small size (omega arith) (omega arith) (getD-zero-list (512 * m)) nine;
+      is = view-start a z whole small size (omega arith) (omega arith) (getD-zero-list (512 * m)) nine;
+      room = left-start a z whole small size (omega arith) (omega arith) (getD-zero-list (512 * m)) nine ∙ omega arith;
+    })

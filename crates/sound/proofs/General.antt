@@ -1,17 +1,17 @@
 -- Laws that are not about arenas.
-use mathlib.Core.Path.{_≡_, refl, sym, ap, ap₂, _∙_, subst}
-use mathlib.Core.Bool.{Bool, true, false, _&&_, _||_, not, true≢false}
-use mathlib.Core.List.{List, [], _∷_}
+use mathlib.Core.Path.{_≡_, refl, sym, ap, _∙_}
+use mathlib.Core.Bool.{Bool, true, false, _&&_, _||_}
+use mathlib.Core.List.{List}
 use mathlib.Core.Logic.{⊎-elim}
 use Prim.Native.Nat.{ℕ, zero, suc, _+_, _-_, _≤_, _<_}
 use native.Mathlib.Nat.{eq-or-lt-of-le}
 use native.Mathlib.Numerals.{add-one}
 use native.Mathlib.Omega.{arith}
 use native.Mathlib.Decide.{ℕ-discrete}
-use lib.Bits.{bitOr, bitAnd, or-add-and, and-le-l, and-le-r}
+use lib.Bits.{bitOr, or-add-and, and-le-l, and-le-r}
 use lib.Dec.{T, eqb}
 use lib.ListN.{length, getD}
-use borrow.Author.Tests.{eq-eqb, ne-eqb, eqb-true}
+use borrow.Author.Tests.{eq-eqb, ne-eqb}
 use Rattle.base.specs.Count.{allTo}
 use Rattle.base.specs.Decides.{Decides, every}
 use Rattle.base.specs.Search.{last}
@@ -26,20 +26,9 @@ pub and-true : (b : Bool) → (b && true) ≡ b
 and-true true = refl
 and-true false = refl
 
-pub or-true : (b : Bool) → (b || true) ≡ true
-or-true true = refl
-or-true false = refl
-
 -- two tests of one statement
 pub decides-both : {a b : Bool} {P : Type 0} → Decides a P → Decides b P → a ≡ b
 decides-both {a} {b} p q = same-bool a b (λ e. T-true b (q .left (p .right (true-T a e)))) (λ e. T-true a (p .left (q .right (true-T b e))))
-
-pub decides-not-true : {a : Bool} {P : Type 0} → Decides a P → (P → ⊥) → a ≡ false
-decides-not-true {a} d n = go a refl
-  where
-    go : (t : Bool) → a ≡ t → a ≡ false
-    go true e = absurd (n (d .right (true-T a e)))
-    go false e = e
 
 -- one or the other: the other, unless the one
 pub decides-unless : {a b : Bool} {P Q : Type 0} → Decides a P → Decides b Q → Decides (a || b) ((P → ⊥) → Q)

@@ -1,24 +1,23 @@
 -- What `sound` says of each block, and what it takes.
 use mathlib.Core.Path.{_≡_, refl, sym, ap, ap₂, _∙_, subst}
-use mathlib.Core.Bool.{Bool, true, false, _&&_, _||_, not}
+use mathlib.Core.Bool.{true, false, not, _||_}
 use mathlib.Core.List.{List}
-use mathlib.Core.Logic.{⊎-elim, _≢_}
-use Prim.Native.Nat.{ℕ, zero, suc, _+_, _*_, _-_, _≤_, _<_}
+use mathlib.Core.Logic.{_≢_}
+use Prim.Native.Nat.{ℕ, _+_, _*_, _-_, _≤_, _<_}
 use native.Mathlib.Omega.{arith}
-use lib.Dec.{T, eqb, ltb}
-use lib.ListN.{length, getD, take, drop, length-take, length-drop}
-use borrow.Author.Tests.{eq-eqb, ne-eqb, lt-ltb, le-ltb}
-use Rattle.base.specs.Count.{allTo}
-use Rattle.base.specs.Decides.{Decides, every}
+use lib.Dec.{eqb}
+use lib.ListN.{length, getD, drop, length-take, length-drop}
+use borrow.Author.Tests.{ne-eqb, lt-ltb, le-ltb}
+use Rattle.base.specs.Decides.{Decides}
 use Rattle.base.specs.Parts.{part}
 use Rattle.base.proofs.Bools.{T-true, true-T}
 use Rattle.base.proofs.Lists.{getD-part}
-use Rattle.base.proofs.Tests.{decides-iff, decides-eqb, decides-ltb, decides-and, decides-if, decides-all, decides-every, decides-true}
+use Rattle.base.proofs.Tests.{decides-iff, decides-eqb, decides-ltb, decides-and, decides-if, decides-all, decides-every}
 use Rattle.arena.specs.Blocks.{blk, blocks}
-use Rattle.arena.specs.Fields.{File, tagOf, whichOf, nameOf, numberOf, fileOf, isFree, checkOf, storedCheck, zeros}
+use Rattle.arena.specs.Fields.{tagOf, whichOf, numberOf, fileOf, isFree, checkOf, storedCheck, zeros}
 use Rattle.arena.specs.Places.{headOf, dataOf}
 use Rattle.arena.proofs.Blocks.{length-blk}
-use Rattle.arena.proofs.Fresh.{length-zeros, getD-zeros, zeros-is}
+use Rattle.arena.proofs.Fresh.{getD-zeros, zeros-is}
 use Rattle.arena.proofs.Seals.{zeros-right}
 use Rattle.sound.specs.Sound.{allZero, layout, blockSound, headOnce, dataOnce, within, under, soundAt, sound}
 use Rattle.sound.proofs.General.{decides-both, decides-unless, and-true}

@@ -56,7 +56,7 @@ loop-again : tie.Need-loop-again Inv-loop μ-loop
 loop-again c =
     let r = c .before .before .before .before .before in
     let l = r .before .before .before .before in
-    let t = not-false _ (c .if1 .left) in (
+    let t : r .add-block .result ≡ true = not-false _ (c .if1 .left) in (
       omega arith,
       allTo-more _ _ (l .loop .inv .1) (sym (r .add-block .ensures .0) ∙ t),
       r .add-block .ensures .1 t,

@@ -1,5 +1,5 @@
 -- `sound::block::layout_ok`: a test of the definition at each return, those before it passed.
-use mathlib.Core.Path.{_≡_, sym, _∙_, ap₂}
+use mathlib.Core.Path.{sym, _∙_, ap₂}
 use lib.Dec.{eqb}
 use borrow.Author.Tests.{lt-ltb, le-ltb, not-true, not-false}
 use Rattle.sound.specs.Sound.{layout}

@@ -136,7 +136,7 @@ returns-3 c =
     let s = e1 .before .before .before .before .before .before in
     let a = s .args .arena .now in
     let l = laid e2 in (
-      sym (alone-used a (s .args .k) (e1 .if1 .left) l ∙ once-seen a (s .args .k) (s .pre .0 .0) (e1 .if1 .left) (layout-tag (blk a (s .args .k)) l) _ (found (c .before)) (c .if3 .taken)),
+      sym (alone-used a (s .args .k) (e1 .if1 .left) l ∙ once-seen a (s .args .k) (s .pre .0 .0) (e1 .if1 .left) (layout-tag (blk a (s .args .k)) l) (c .before .find-key .result) (found (c .before)) (omega (arith, c .if3 .taken))),
       λ e. absurd (true≢false (sym e)),
     )
 
@@ -164,7 +164,7 @@ returns-4 c =
     let l = laid e2 in
     let b : List ℕ = blk a k in
     let h-is : h .hash-key .result ≡ hashOf (blk a k) = h .hash-key .ensures .0 ∙ ap (hashKey (eqb (tagOf b) 1) (whichOf b) (nameOf b)) (u .u32-at .ensures) in (
-      sym (alone-used a k (e1 .if1 .left) l ∙ once-new a k (s .pre .0 .0) (e1 .if1 .left) (layout-tag b l) _ (found (e3 .before)) (e3 .if3 .left)),
+      sym (alone-used a k (e1 .if1 .left) l ∙ once-new a k (s .pre .0 .0) (e1 .if1 .left) (layout-tag b l) (e3 .before .find-key .result) (found (e3 .before)) (omega (arith, e3 .if3 .left))),
       λ _. chains-as a _ _ _ _ (k + 1) (i .insert .ensures .0) (i .insert .ensures .1)
           (chains-more a (s .args .first .now) (s .args .next .now) k (h .hash-key .result) (s .pre .1) (e1 .if1 .left) h-is (h .hash-key .ensures .1) (s .pre .0 .1 .1 .0) (omega (arith, s .pre .0))),
     )

@@ -1,5 +1,5 @@
 -- `sound::chain::file_hash`: four words of the name, weighed; each product is below 2^61.
-use mathlib.Core.Path.{_≡_, _∙_}
+use mathlib.Core.Path.{_∙_}
 use native.Mathlib.Omega.{arith}
 use borrow.Author.Needs.{needs}
 use Rattle.sound.specs.Chain.{fileHash}

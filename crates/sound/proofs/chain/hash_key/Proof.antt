@@ -1,5 +1,5 @@
 -- `sound::chain::hash_key`: the two kinds of key.
-use mathlib.Core.Path.{_≡_, _∙_, ap, ap₂}
+use mathlib.Core.Path.{_∙_, ap, ap₂}
 use Prim.Native.Nat.{ℕ, _+_, _*_}
 use borrow.Author.Needs.{needs}
 use Rattle.sound.specs.Chain.{hashKey, bucketOf}

@@ -1,0 +1,6 @@
+pub mod General
+pub mod Finds
+pub mod Runs
+pub mod Blocks
+pub mod Puts
+pub mod Clears
