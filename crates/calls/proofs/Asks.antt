@@ -12,7 +12,7 @@ use Rattle.base.specs.Search.{pick, foundBelow}
 use Rattle.base.specs.declared.Found.{Found}
 use Rattle.base.specs.declared.Found.the-variants.{At, Nothing}
 use Rattle.base.proofs.Bools.{bool-cases}
-use Rattle.base.proofs.Outs.{ok-bind, went-weaken}
+use Rattle.base.proofs.Outs.{ok-bind, bind-assoc, went-is, went-not, went-weaken}
 use Rattle.base.proofs.Searches.{at-found}
 use Rattle.structs.specs.declared.DiskINode.{DiskINode}
 use Rattle.utf8.specs.Names.{earlyReason}
@@ -159,3 +159,13 @@ went-reached a t h row reason r g e = rw (admit-is a t) (go (admitIf a (wellForm
     go (done u) q s f = rw f (went-weaken (λ l. record { legal = admitted-legal a (wellFormed t) u q; below = l }) g)
     go (refused zero) q (said l) f = absurd (omega arith)
     go (refused (suc n)) q (said l) f = rw f (ill l refl)
+
+-- a call with one handle, after its first questions
+module _ {A : Type 0} {P : Type 0} (a : List ℕ) (t : Table) (h : Handle) (f : ℕ → Out A) (row r : ℕ) (g : Went (reached a t h) row P r) where
+  pub call-stop : (r ≡ 0 → ⊥) → bind (admit a t) (λ _. bind (byHandle t h) f) ≡ refused r
+  unfolding reached
+  call-stop z = sym (bind-assoc (admit a t) (λ _. byHandle t h) f) ∙ rw (went-not g z)
+
+  pub call-next : r ≡ 0 → bind (admit a t) (λ _. bind (byHandle t h) f) ≡ f row
+  unfolding reached
+  call-next z = sym (bind-assoc (admit a t) (λ _. byHandle t h) f) ∙ rw (went-is g z)

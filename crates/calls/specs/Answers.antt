@@ -5,6 +5,7 @@ use Prim.Native.Nat.{ℕ, _/_}
 use lib.ListN.{length}
 use lib.Dec.{eqb}
 use Rattle.base.specs.Out.{Out, done, refused}
+use Rattle.base.specs.Parts.{paste}
 use Rattle.base.specs.Search.{pick}
 use Rattle.table.specs.declared.Table.{Table}
 use Rattle.table.specs.declared.Handle.{Handle}
@@ -65,6 +66,13 @@ listedOf (refused n) = listeds.Refused n
 abbrev pub listedNumber : Listed → ℕ
 listedNumber (listeds.Slots n) = 0
 listedNumber (listeds.Refused n) = n
+
+-- ---- an output
+
+-- "Slots are written as stored, the output's rest stays"; a refusal leaves it
+abbrev pub laid : List ℕ → Out (List ℕ) → List ℕ
+laid out (done l) = paste out 0 l
+laid out (refused n) = out
 
 -- ---- an answer with a table
 

@@ -1,0 +1,17 @@
+-- `calls_look::as_answer`: by the reason.
+use Prim.Native.Nat.{_-_}
+use Rattle.calls.specs.declared.Told.the-variants as tolds
+use Rattle.calls.specs.declared.Answer.the-variants as answers
+use Rattle.calls.specs.declared.Listed.the-variants as listeds
+use Rattle.calls_look.proofs.Looks.{answer-as}
+use Rattle.calls_look.proofs.as_answer.Statement.{statement}
+use Rattle.calls_look.proofs.as_answer.Tie as tie
+
+returns : tie.Need-returns
+returns c = rw (c .if1 .taken)
+
+returns-2 : tie.Need-returns-2
+returns-2 c = answer-as _ (c .if1 .left)
+
+pub as-answer-spec : {M : Type 1} → statement M
+as-answer-spec = tie.close (tie.spec returns returns-2)

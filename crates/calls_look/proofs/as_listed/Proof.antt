@@ -1,0 +1,17 @@
+-- `calls_look::as_listed`: by the reason.
+use Prim.Native.Nat.{_-_}
+use Rattle.calls.specs.declared.Told.the-variants as tolds
+use Rattle.calls.specs.declared.Answer.the-variants as answers
+use Rattle.calls.specs.declared.Listed.the-variants as listeds
+use Rattle.calls_look.proofs.Looks.{listed-as}
+use Rattle.calls_look.proofs.as_listed.Statement.{statement}
+use Rattle.calls_look.proofs.as_listed.Tie as tie
+
+returns : tie.Need-returns
+returns c = rw (c .if1 .taken)
+
+returns-2 : tie.Need-returns-2
+returns-2 c = listed-as _ _ (c .if1 .left)
+
+pub as-listed-spec : {M : Type 1} → statement M
+as-listed-spec = tie.close (tie.spec returns returns-2)
