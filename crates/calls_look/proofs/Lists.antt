@@ -59,9 +59,11 @@ module _ (a : List ℕ) (r : DiskINode) (k : ℕ) (l : List ℕ) where
       last : (m : List ℕ) (b : Bool) → bind (ensure b 19) (λ _. done m) ≡ done l → done m ≡ done l
       last m true e = e
       last m false e = absurd (let z : _≡_ {A = ℕ} 0 1 = cc in omega arith)
+
       mid : (m : List ℕ) (b : Bool) → bind (bind (ensure b 19) (λ _. done m)) (λ x. bind (ensure (ltb 0 (entryOf x .kind)) 19) (λ _. done x)) ≡ done l → done m ≡ done l
       mid m true e = last m (ltb 0 (entryOf m .kind)) e
       mid m false e = absurd (let z : _≡_ {A = ℕ} 0 1 = cc in omega arith)
+
       go : (o : Out (List ℕ)) → bind (bind o (λ m. bind (ensure (isEnded (storedName (entryOf m .name))) 19) (λ _. done m))) (λ x. bind (ensure (ltb 0 (entryOf x .kind)) 19) (λ _. done x)) ≡ done l → o ≡ done l
       go (done m) e = mid m (isEnded (storedName (entryOf m .name))) e
       go (refused n) e = absurd (let z : _≡_ {A = ℕ} 0 1 = cc in omega arith)

@@ -183,15 +183,22 @@ fn entry_ask(rec: DiskINode, k: u64, room: usize) -> u8
 }
 
 // Slot k goes to the output's start, once it is known to be readable.
-fn write_entry(arena: &[u8], work: &mut [u8], slot: &mut [u8], rec: DiskINode, k: usize, out: &mut [u8]) -> u8
+fn write_entry(
+    arena: &[u8],
+    work: &mut [u8],
+    slot: &mut [u8],
+    rec: DiskINode,
+    k: usize,
+    out: &mut [u8],
+) -> u8
     requires { ⌜ (legal (now arena) ≡ true) × ((now work ≡ replicate 5120 0) × (length (now slot) ≡ 264)) ⌝ }
     requires { ⌜ (k ≤ 4294967295) × (264 ≤ length (now out)) ⌝ }
     ensures { λ r. ⌜ Laid (namedSlot (now (arena .entry)) rec k) (now (out .entry)) (now (out .exit)) 264 r ⌝ }
 {
     begin(work);
-    let r = named_slot(arena, &work[..], rec, k, slot);
-    if r != 0 {
-        return r;
+    let stuck = named_slot(arena, &work[..], rec, k, slot);
+    if stuck != 0 {
+        return stuck;
     }
     copy(&mut out[..264], &slot[..]);
     0

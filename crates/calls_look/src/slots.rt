@@ -27,7 +27,13 @@ fn is_ended(name: &[u8]) -> bool
 }
 
 // The bytes of slot k, where its name is looked at.
-pub fn named_slot<'a>(arena: &'a [u8], work: &'a [u8], rec: DiskINode, k: usize, slot: &mut [u8]) -> u8
+pub fn named_slot<'a>(
+    arena: &'a [u8],
+    work: &'a [u8],
+    rec: DiskINode,
+    k: usize,
+    slot: &mut [u8],
+) -> u8
     requires { ⌜ Fine (now arena) (now work) × ((k ≤ 4294967295) × (length (now slot) ≡ 264)) ⌝ }
     ensures { λ r. ⌜ Went (namedSlot (view (now (arena .entry)) (now (work .entry))) rec k) (now (slot .exit)) (length (now (slot .exit)) ≡ 264) r ⌝ }
 {
