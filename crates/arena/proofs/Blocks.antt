@@ -9,11 +9,11 @@ use lib.ListN.{length, getD}
 use lib.Dec.{eqb, leb}
 use lib.Seq.{ext-getD}
 use borrow.Author.Tests.{eqb-true, leb-true}
+use Rattle.base.proofs.Parts.{part-all, paste-all}
 use Rattle.base.specs.Parts.{part, back, paste}
 use Rattle.base.proofs.Bools.{and-parts}
 use Rattle.base.proofs.Lists.{getD-paste-out, length-part, getD-part, length-paste, part-paste, part-paste-other, paste-own}
 use Rattle.le.specs.Le.{Bytes}
-use Rattle.le.proofs.General.{part-all, paste-all}
 use Rattle.arena.specs.Blocks.{blk, putBlk, blocks, legal}
 
 -- a block that is there has 512 bytes

@@ -9,14 +9,15 @@ use lib.ListN.{length, getD, drop, length-take, length-drop}
 use lib.Dec.{eqb}
 use lib.Seq.{ext-getD}
 use borrow.Author.Tests.{eq-eqb, ne-eqb, eqb-true}
+use Rattle.base.proofs.Parts.{part-halves}
+use Rattle.base.proofs.Sames.{same-true, same-own, same-false}
 use Rattle.base.specs.Decides.{same}
 use Rattle.base.specs.Parts.{part}
 use Rattle.base.proofs.Bools.{and-parts, same-bool}
 use Rattle.base.proofs.Lists.{getD-part, part-paste-other}
 use Rattle.le.specs.Le.{Bytes, leAt, leOf, leBytes, lePut}
-use Rattle.le.proofs.Laws.{leAt-part, length-leBytes, getD-lePut-out, leAt-lePut-fits}
+use Rattle.le.proofs.Laws.{leAt-part, length-leBytes, getD-lePut-out, leAt-lePut-fits, leAt-same}
 use Rattle.arena.specs.Fields.{File, file, sameFile, tagOf, nameOf, numberOf, fileOf, isFree, isHead, isData}
-use Rattle.arena.proofs.General.{same-true, same-own, same-false, leAt-same, part-halves}
 
 -- ---- a block's name, compared by its halves
 

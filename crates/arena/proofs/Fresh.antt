@@ -8,11 +8,11 @@ use native.Mathlib.Omega.{arith}
 use native.Mathlib.Decide.{ℕ-discrete}
 use lib.ListN.{length, getD, set, replicate, length-set, length-replicate, getD-replicate, List·getD-eq-default}
 use lib.Seq.{getD-set-same, getD-set-other, set-out, ext-getD}
+use Rattle.base.proofs.Parts.{paste-all}
 use Rattle.base.specs.Parts.{part, back, paste}
 use Rattle.base.proofs.Lists.{length-paste, getD-paste-out, part-paste, part-paste-other}
 use Rattle.base.proofs.Numbers.{lt-or-le}
 use Rattle.le.specs.Le.{Bytes, leAt, lePut, leBytes}
-use Rattle.le.proofs.General.{paste-all}
 use Rattle.le.proofs.Laws.{length-leBytes, length-lePut, getD-lePut-out, leAt-lePut-fits, lePut-bytes}
 use Rattle.arena.specs.Fields.{File, file, fileOf, tagOf, whichOf, nameOf, numberOf, isHead, isData, zeros, fresh}
 use Rattle.arena.proofs.Fields.{head-own, data-own}

@@ -3,7 +3,7 @@ use mathlib.Core.Path.{_≡_, refl, sym, ap, _∙_, subst}
 use mathlib.Core.Bool.{Bool, true, false}
 use Prim.Native.Nat.{ℕ, zero, suc, _<_}
 use native.Mathlib.Omega.{arith}
-use Rattle.base.specs.Out.{Out, done, refused, bind, guard, Ok, went, said, Went, well, ill}
+use Rattle.base.specs.Out.{Out, done, refused, bind, guard, answer, kept, Ok, went, said, Went, well, ill}
 
 pub ok-bind : {A B : Type 0} {P : A → Type 0} {Q : B → Type 0} {R : ℕ → Type 0} {m : Out A} {f : A → Out B}
     → Ok P R m → ((a : A) → P a → Ok Q R (f a)) → Ok Q R (bind m f)
@@ -66,3 +66,27 @@ went-stop f w z g = ill (above-zero _ z) (rw (went-not g z))
 pub went-weaken : {A : Type 0} {o : Out A} {v : A} {P Q : Type 0} {r : ℕ} → (P → Q) → Went o v P r → Went o v Q r
 went-weaken f (well e p) = well e (f p)
 went-weaken f (ill l e) = ill l e
+
+-- ---- outcomes and what is kept
+
+-- a chain whose last step does nothing
+pub bind-done : {A : Type 0} (m : Out A) → bind m done ≡ m
+bind-done (done x) = refl
+bind-done (refused n) = refl
+
+-- what code answers, and what it leaves, where an outcome was refused and where it was done
+pub refused-says : {A : Type 0} {o : Out A} {n : ℕ} (x : A) → o ≡ refused n → (n ≡ answer o) × (x ≡ kept x o)
+refused-says x e = (sym (ap answer e), sym (ap (kept x) e))
+
+pub done-says : {A : Type 0} {o : Out A} {y : A} (x : A) → o ≡ done y → (0 ≡ answer o) × (y ≡ kept x o)
+done-says x e = (sym (ap answer e), sym (ap (kept x) e))
+
+-- an outcome that is not refused is done
+pub ok-does : {A : Type 0} {Q : A → Type 0} {R : ℕ → Type 0} {m : Out A} → Ok Q R m → ((n : ℕ) → R n → ⊥) → (x : A) × (m ≡ done x) × Q x
+ok-does (went {a = a} q) never = (a, refl, q)
+ok-does (said {n = n} r) never = absurd (never n r)
+
+-- a test before the rest
+pub ok-test : {A : Type 0} {Q : A → Type 0} {R : ℕ → Type 0} (b : Bool) (n : ℕ) {m : Out A} → (b ≡ false → R n) → (b ≡ true → Ok Q R m) → Ok Q R (guard b n m)
+ok-test true n r h = h refl
+ok-test false n r h = said (r refl)

@@ -1,4 +1,3 @@
-pub mod General
 pub mod Finds
 pub mod Runs
 pub mod Blocks

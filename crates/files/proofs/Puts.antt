@@ -9,6 +9,7 @@ use native.Mathlib.Omega.{arith}
 use lib.ListN.{length}
 use lib.Dec.{ltb, leb}
 use borrow.Author.Tests.{lt-ltb, le-ltb, le-leb, lt-leb}
+use Rattle.base.proofs.Outs.{bind-done}
 use Rattle.base.specs.Out.{Out, done, refused, bind}
 use Rattle.base.specs.Search.{pick}
 use Rattle.base.proofs.Numbers.{lt-or-le}
@@ -21,7 +22,6 @@ use Rattle.overlay.specs.Steps.{Changed, Did, went, stuck}
 use Rattle.overlay.proofs.Chains.{Well, changed-more, did-next}
 use Rattle.files.specs.Read.{there, lengthOf}
 use Rattle.files.specs.Store.{setLength, raise, putBlock, putTo, touched, putFile}
-use Rattle.files.proofs.General.{bind-done}
 
 -- the length raised, as the code has it for a head at block k
 pub raise-is : (v : List ℕ) (f : File) (k len : ℕ) → k ≡ headOf v f → there v f ≡ true → pick (ltb (numberOf (blk v k)) len) (putBlk v k (seal (lePut (blk v k) 20 4 len))) v ≡ raise v f len

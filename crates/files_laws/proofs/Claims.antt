@@ -6,6 +6,8 @@ use mathlib.Core.Logic.{inl, inr, _≢_}
 use Prim.Native.Nat.{ℕ, _+_, _≤_, _<_}
 use native.Mathlib.Omega.{arith}
 use lib.ListN.{length, getD}
+use Rattle.base.proofs.Finds.{countTo-some}
+use Rattle.base.proofs.Sames.{test-fails}
 use Rattle.base.specs.Count.{bit}
 use Rattle.base.specs.Parts.{paste}
 use Rattle.base.proofs.Counts.{countTo-none}
@@ -19,7 +21,6 @@ use Rattle.arena.proofs.Fields.{head-not, data-is, data-not, free-is, free-not,
 use Rattle.arena.proofs.Fresh.{length-fresh, fresh-tag, fresh-rest, fresh-bytes, fresh-data}
 use Rattle.arena.proofs.Places.{free-first, count-putBlk}
 use Rattle.files.specs.Read.{there, present}
-use Rattle.files_laws.proofs.General.{not-true, countTo-some}
 use Rattle.files_laws.proofs.Views.{alike-own, byteIn, AlikeHead, AlikeData, present-of, present-not, data-at, byte-here, byte-none, there-same, length-same, present-same, byte-same}
 use Rattle.files_laws.proofs.Shapes.{shaped-fresh, length-written, written-24, written-in, written-out, written-bytes, written-sound}
 use Rattle.files_laws.proofs.Steps.{put-each, put-others, put-tidy, name-size, name-bytes, name-which, name-good}
@@ -102,7 +103,7 @@ module _ (a : List ℕ) (f : File) (q off : ℕ) (src : List ℕ) (was : there a
   data-made : (r : ℕ) → r ≢ q → (j : ℕ) → AlikeData f r (blk c j) (blk a j)
   data-made r ne =
       put-each a k new room size-made (AlikeData f r)
-      (record { block = not-true (isData f r new) (λ e. ne (sym (sole f r e .1))) ∙ sym (free-data a room f r); payload = λ e. absurd (true-false e (free-data a room f r)) })
+      (record { block = test-fails (isData f r new) (λ e. ne (sym (sole f r e .1))) ∙ sym (free-data a room f r); payload = λ e. absurd (true-false e (free-data a room f r)) })
       (λ b. alike-own f b .block r)
 
   at-made : isData f q (blk c k) ≡ true

@@ -9,22 +9,21 @@ use native.Mathlib.Omega.{arith}
 use lib.ListN.{length, getD, replicate, length-replicate, getD-replicate, List·getD-eq-default}
 use lib.Dec.{ltb, leb}
 use borrow.Author.Tests.{lt-ltb, le-ltb, ltb-true, le-leb, lt-leb, leb-true, leb-false}
+use Rattle.base.proofs.Sames.{and-true, test-fails}
 use Rattle.base.specs.Count.{bit}
 use Rattle.base.specs.Out.{done, refused, Ok, went}
 use Rattle.base.specs.Parts.{paste}
 use Rattle.base.proofs.Bools.{bool-cases, true-false, and-both, and-parts, and-false}
 use Rattle.base.proofs.Numbers.{lt-or-le}
-use Rattle.base.proofs.Outs.{ok-done}
+use Rattle.base.proofs.Outs.{ok-done, ok-does, ok-test}
 use Rattle.le.specs.Le.{Bytes}
 use Rattle.arena.specs.Blocks.{blk, putBlk, blocks}
 use Rattle.arena.specs.Fields.{File, tagOf, numberOf, isFree, isHead, isData, seal}
 use Rattle.arena.specs.Places.{dataOf, freeCount}
 use Rattle.arena.proofs.Fields.{data-is, head-not, free-not}
-use Rattle.sound.proofs.General.{and-true}
 use Rattle.files.specs.Read.{there, lengthOf, present, byteAt}
 use Rattle.files.specs.Store.{longest, setLength, clearAll, isPast, zeroTail, cutFile}
 use Rattle.files_laws.specs.Laws.{Inside, Kept, pastCount, Cut, CutRefused, missing, far}
-use Rattle.files_laws.proofs.General.{ok-does, ok-test, not-true}
 use Rattle.files_laws.proofs.Views.{alike-own, byteIn, AlikeHead, AlikeData, byte-in, byte-none, present-none, there-same, length-same, present-same, byte-same, kept-refl, kept-next}
 use Rattle.files_laws.proofs.Parts.{Tidy, sound-tidy, sound-after}
 use Rattle.files_laws.proofs.Steps.{other-stranger, zeros-stranger}
@@ -60,7 +59,7 @@ module _ (f : File) (len : ℕ) (b : List ℕ) where
 
   -- a block below the end is not one of them
   past-below : (q : ℕ) → 480 * q < len → isPast f len b ≡ true → isData f q b ≡ false
-  past-below q l e = not-true (isData f q b) (λ h. absurd (omega (arith, past-number e, data-is f q b h .number)))
+  past-below q l e = test-fails (isData f q b) (λ h. absurd (omega (arith, past-number e, data-is f q b h .number)))
 
 record Cleared (c d : List ℕ) (f : File) (len : ℕ) : Type 0 where
   size : length d ≡ length c

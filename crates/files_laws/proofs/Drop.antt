@@ -7,13 +7,12 @@ use Prim.Native.Nat.{ℕ, _/_, _%_}
 use native.Mathlib.Omega.{arith}
 use Rattle.base.specs.Out.{done, refused, Ok, went}
 use Rattle.base.proofs.Bools.{or-cases, or-first, or-second, true-false}
-use Rattle.base.proofs.Outs.{ok-done}
+use Rattle.base.proofs.Outs.{ok-done, ok-does, ok-test}
 use Rattle.arena.specs.Fields.{File, numberOf, fileOf, isFree, isHead, isData}
 use Rattle.arena.proofs.Fields.{head-is, data-is, free-not}
 use Rattle.files.specs.Read.{there, present, byteAt}
 use Rattle.files.specs.Store.{clearAll, isOf, dropFile}
 use Rattle.files_laws.specs.Laws.{Kept, ownCount, Drop, DropRefused, missing}
-use Rattle.files_laws.proofs.General.{ok-does, ok-test}
 use Rattle.files_laws.proofs.Views.{byte-in, byte-none, there-none, length-none, present-none}
 use Rattle.files_laws.proofs.Parts.{sound-tidy, sound-after}
 use Rattle.files_laws.proofs.Steps.{other-stranger, zeros-stranger}

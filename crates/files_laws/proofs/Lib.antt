@@ -1,4 +1,3 @@
-pub mod General
 pub mod Views
 pub mod Parts
 pub mod Shapes

@@ -11,7 +11,7 @@ use borrow.Author.Tests.{le-ltb, ltb-true, ltb-false}
 use Rattle.base.specs.Out.{done, refused, Ok, went}
 use Rattle.base.proofs.Bools.{true-false}
 use Rattle.base.proofs.Numbers.{lt-or-le}
-use Rattle.base.proofs.Outs.{ok-done}
+use Rattle.base.proofs.Outs.{ok-done, ok-does, ok-test}
 use Rattle.le.specs.Le.{Bytes}
 use Rattle.arena.specs.Blocks.{blk, putBlk, blocks}
 use Rattle.arena.specs.Fields.{File, seal, fresh, tagOf, numberOf, isHead, isData}
@@ -23,7 +23,6 @@ use Rattle.arena.proofs.Seals.{length-seal, seal-bytes, seal-number, seal-head}
 use Rattle.files.specs.Read.{byteAt, there, lengthOf, present}
 use Rattle.files.specs.Store.{claim, makeFile}
 use Rattle.files_laws.specs.Laws.{Named, Make, MakeRefused, full, Kept}
-use Rattle.files_laws.proofs.General.{ok-does, ok-test}
 use Rattle.files_laws.proofs.Views.{alike-own, byte-in, length-none, AlikeData, there-of, there-not, length-here, head-at, present-same, byte-same}
 use Rattle.files_laws.proofs.Parts.{sound-tidy, sound-inside, no-blocks, sound-after, Tidy}
 use Rattle.files_laws.proofs.Shapes.{shaped-fresh, shaped-seal}

@@ -10,15 +10,17 @@ use native.Mathlib.Omega.{arith}
 use lib.ListN.{length, getD}
 use lib.Dec.{ltb, leb}
 use borrow.Author.Tests.{lt-ltb, le-ltb, ltb-true, ltb-false, lt-leb, leb-true, leb-false}
+use Rattle.base.proofs.Sames.{or-no}
+use Rattle.base.proofs.Finds.{countTo-suc, countTo-first}
+use Rattle.base.proofs.Parts.{part-all}
 use Rattle.base.specs.Count.{sumTo, countTo, bit}
 use Rattle.base.specs.Out.{Out, done, refused, Ok, went, said}
 use Rattle.base.specs.Parts.{part}
 use Rattle.base.proofs.Bools.{bool-cases, true-false, or-cases, or-second}
 use Rattle.base.proofs.Lists.{length-part, getD-part}
 use Rattle.base.proofs.Numbers.{lt-or-le}
-use Rattle.base.proofs.Outs.{ok-bind, ok-weaken, ok-done}
+use Rattle.base.proofs.Outs.{ok-bind, ok-weaken, ok-done, ok-does, ok-test}
 use Rattle.le.specs.Le.{Bytes}
-use Rattle.le.proofs.General.{part-all}
 use Rattle.arena.specs.Blocks.{blocks}
 use Rattle.arena.specs.Fields.{File}
 use Rattle.arena.specs.Places.{freeOf, freeCount}
@@ -26,7 +28,6 @@ use Rattle.sound.specs.Sound.{sound}
 use Rattle.files.specs.Read.{there, lengthOf, present, byteAt}
 use Rattle.files.specs.Store.{longest, claim, writeBlk, raise, lo, hi, putBlock, putTo, touched, putFile}
 use Rattle.files_laws.specs.Laws.{Kept, touches, lacking, Put, PutRefused, missing, far, full}
-use Rattle.files_laws.proofs.General.{ok-does, ok-test, countTo-suc, countTo-first, or-no}
 use Rattle.files_laws.proofs.Views.{byteIn, byte-in, kept-refl, kept-next}
 use Rattle.files_laws.proofs.Parts.{Tidy, sound-tidy, sound-inside, sound-after}
 use Rattle.files_laws.proofs.Lengths.{Lengthened, lengthened}

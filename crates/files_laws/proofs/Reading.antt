@@ -8,6 +8,7 @@ use native.Mathlib.Omega.{arith}
 use lib.ListN.{length, getD, replicate}
 use lib.Dec.{leb}
 use borrow.Author.Tests.{leb-true, leb-false}
+use Rattle.base.proofs.Outs.{ok-test}
 use Rattle.base.specs.Out.{done, refused, guard, Ok, went}
 use Rattle.base.proofs.Numbers.{lt-or-le}
 use Rattle.base.proofs.Lists.{length-tab, getD-tab, tab-cong, tab-getD, tab-zeros}
@@ -16,7 +17,6 @@ use Rattle.sound.specs.Sound.{sound}
 use Rattle.files.specs.Read.{there, lengthOf, byteAt, readFile}
 use Rattle.files.proofs.Runs.{read-missing, read-short, read-done}
 use Rattle.files_laws.specs.Laws.{Kept, Put, Cut, Drop, Read, ReadRefused, missing, short}
-use Rattle.files_laws.proofs.General.{ok-test}
 use Rattle.files_laws.proofs.Parts.{sound-inside}
 
 module _ (a : List ℕ) (f : File) (pos n : ℕ) where

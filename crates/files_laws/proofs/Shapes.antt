@@ -5,10 +5,10 @@ use mathlib.Core.Logic.{_≢_}
 use Prim.Native.Nat.{ℕ, _+_, _-_, _≤_, _<_}
 use native.Mathlib.Omega.{arith}
 use lib.ListN.{length, getD}
+use Rattle.base.proofs.Parts.{paste-all}
 use Rattle.base.specs.Parts.{paste}
 use Rattle.base.proofs.Lists.{getD-part, length-paste, getD-paste-in, getD-paste-out, part-paste-other}
 use Rattle.le.specs.Le.{Bytes, lePut, leBytes}
-use Rattle.le.proofs.General.{paste-all}
 use Rattle.le.proofs.Laws.{length-leBytes, length-lePut, getD-lePut-out, leAt-lePut-fits, lePut-bytes}
 use Rattle.arena.specs.Fields.{File, file, tagOf, whichOf, numberOf, fileOf, seal, fresh}
 use Rattle.arena.proofs.Fields.{Same24}

@@ -7,13 +7,14 @@ use Prim.Native.Nat.{ℕ, _+_, _<_}
 use native.Mathlib.Decide.{ℕ-discrete}
 use native.Mathlib.Omega.{arith}
 use lib.ListN.{length, getD, List·getD-eq-default}
+use Rattle.base.proofs.Sames.{test-fails}
+use Rattle.base.proofs.Parts.{part-all}
 use Rattle.base.specs.Count.{countTo}
 use Rattle.base.proofs.Bools.{true-false}
 use Rattle.base.proofs.Counts.{countTo-cong}
 use Rattle.base.proofs.Lists.{length-part, getD-part}
 use Rattle.base.proofs.Numbers.{lt-or-le}
 use Rattle.le.specs.Le.{Bytes}
-use Rattle.le.proofs.General.{part-all}
 use Rattle.arena.specs.Blocks.{blk, putBlk, blocks}
 use Rattle.arena.specs.Fields.{File, tagOf, whichOf, nameOf, fileOf, isHead, isData, zeros}
 use Rattle.arena.specs.Places.{headOf}
@@ -24,7 +25,6 @@ use Rattle.arena.proofs.Places.{test-putBlk}
 use Rattle.sound.proofs.Sounds.{BlockSound}
 use Rattle.files.specs.Read.{there}
 use Rattle.files_laws.specs.Laws.{Named, Kept}
-use Rattle.files_laws.proofs.General.{not-true}
 use Rattle.files_laws.proofs.Views.{Alike, alike-own, kept-of, there-at, there-hit}
 use Rattle.files_laws.proofs.Parts.{Once, Tidy}
 
@@ -43,8 +43,8 @@ zeros-stranger g = free-stranger g zeros (getD-zeros 0)
 
 pub other-stranger : (f g : File) (b : List ℕ) → fileOf b ≡ f → f ≢ g → Stranger g b
 other-stranger f g b e n = record {
-  head = not-true (isHead g b) (λ h. n (sym e ∙ head-is g b h .of));
-  block = λ q. not-true (isData g q b) (λ h. n (sym e ∙ data-is g q b h .of));
+  head = test-fails (isHead g b) (λ h. n (sym e ∙ head-is g b h .of));
+  block = λ q. test-fails (isData g q b) (λ h. n (sym e ∙ data-is g q b h .of));
 }
 
 pub strangers-alike : {g : File} {b c : List ℕ} → Stranger g b → Stranger g c → Alike g b c

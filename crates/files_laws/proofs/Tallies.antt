@@ -8,6 +8,7 @@ use native.Mathlib.Decide.{ℕ-discrete}
 use native.Mathlib.Omega.{arith}
 use lib.Dec.{ltb, leb}
 use borrow.Author.Tests.{lt-ltb, ltb-true, leb-true, le-leb}
+use Rattle.base.proofs.Sames.{and-true, test-fails}
 use Rattle.base.specs.Count.{sumTo, countTo, bit, ind}
 use Rattle.base.specs.Search.{lowest}
 use Rattle.base.proofs.Bools.{bool-cases, true-false, and-both, and-parts, same-bool}
@@ -18,11 +19,9 @@ use Rattle.arena.specs.Fields.{File, numberOf, isHead, isData}
 use Rattle.arena.specs.Places.{headOf, dataOf}
 use Rattle.arena.proofs.Fields.{data-is, data-not, head-is}
 use Rattle.sound.specs.Sound.{sound}
-use Rattle.sound.proofs.General.{and-true}
 use Rattle.files.specs.Read.{there, lengthOf, present}
 use Rattle.files.specs.Store.{touched, isPast, isOf}
 use Rattle.files_laws.specs.Laws.{touches, lacking, pastCount, ownCount}
-use Rattle.files_laws.proofs.General.{not-true}
 use Rattle.files_laws.proofs.Views.{there-at, there-hit, present-at, present-hit, present-of}
 use Rattle.files_laws.proofs.Parts.{Tidy, sound-tidy, sound-inside}
 use Rattle.files_laws.proofs.Cut.{past-own, past-data, past-number}
@@ -50,10 +49,10 @@ countTo-once p n once =
     let k : ℕ = lowest p n in
     sumTo-cong (λ i. bit (p i)) (λ i. ind k i) n (λ i l. elim (ℕ-discrete i k) [
       | yes x ↦ ap (λ (j : ℕ). bit (p j)) x ∙ ap bit (s .1) ∙ sym (ap (ind k) x ∙ ind-same k)
-      | no x ↦ ap bit (not-true (p i) (λ y. x (once i k l (s .0) y (s .1)))) ∙ sym (ind-other k i (λ y. x (sym y)))
+      | no x ↦ ap bit (test-fails (p i) (λ y. x (once i k l (s .0) y (s .1)))) ∙ sym (ind-other k i (λ y. x (sym y)))
     ])
     ∙ sumTo-ind n k (s .0) ∙ sym (ap bit e))
-    (λ e. countTo-none p n (λ i l. not-true (p i) (λ y. true-false (some-of p n i l y) e)) ∙ sym (ap bit e))
+    (λ e. countTo-none p n (λ i l. test-fails (p i) (λ y. true-false (some-of p n i l y) e)) ∙ sym (ap bit e))
     (bool-cases (some p n))
 
 -- pairs in which nothing stands twice: as many on the left as on the right

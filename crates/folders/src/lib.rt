@@ -16,7 +16,7 @@ ghost use Rattle.sefs.specs.Records.{withLinks, withBlocks};
 ghost use Rattle.sefs.specs.Nodes.{idAt};
 ghost use Rattle.sefs.specs.Folders.{entry, putSlot, direntInit, direntAppend, direntRemove, nlinksInc, nlinksDec, unlinkFolder, direntNodeRemove};
 ghost use Rattle.mem.specs.Mem.{tableIn, Whole};
-ghost use Rattle.mem.specs.State.{fsOf, Ready, Still, Stepped};
+ghost use Rattle.mem.specs.State.{fsOf, Ready, Stepped};
 ghost use Rattle.folders.specs.Steps.{Blocked, Linked, shortened, unlinkDots};
 use base::index;
 use base::least;
@@ -41,13 +41,19 @@ pub fn put_entry(slot: &mut [u8], id: u32, name: &[u8], kind: u32)
     put_u32(slot, 260, kind);
 }
 
-// 264 bytes at slot k of folder i. (A place that no file reaches is as far as any other such place.)
+// A node's file, by its name.
+fn file_of(rec: DiskINode) -> [u8; 16]
+    ensures { λ r. ⌜ r ≡ rec .file ⌝ }
+{
+    rec.file
+}
+
+// 264 bytes at slot k of folder i. (The place is held below a bound, so that it does not wrap: no file is so long, and past it every store is refused alike.)
 pub fn put_slot(arena: &[u8], work: &mut [u8], mem: &[u8], i: usize, k: usize, slot: &[u8]) -> u8
     requires { ⌜ Ready (now arena) (now work) (now mem) × ((3 ≤ left (now work)) × ((i < 34) × (length (now slot) ≡ 264))) ⌝ }
     ensures { λ r. ⌜ Stepped (putSlot (fsOf (now (arena .entry)) (now (work .entry)) (now (mem .entry))) i k (now (slot .entry))) (now (arena .entry)) (now (work .entry)) (now (work .exit)) (now (mem .entry)) 3 r ⌝ }
 {
-    let rec = rec_at(mem, i);
-    let file = rec.file;
+    let file = file_of(rec_at(mem, i));
     put(arena, work, 1, &file, 264 * least(k, 16777216), slot)
 }
 
@@ -156,7 +162,7 @@ fn shorten(arena: &[u8], work: &mut [u8], mem: &mut [u8], i: usize) -> u8
     ensures { λ r. ⌜ Stepped (shortened (fsOf (now (arena .entry)) (now (work .entry)) (now (mem .entry))) i) (now (arena .entry)) (now (work .entry)) (now (work .exit)) (now (mem .exit)) 2 r ⌝ }
 {
     let rec = rec_at(&mem[..], i);
-    let file = rec.file;
+    let file = file_of(rec);
     let last = rec.blocks - 1;
     let r = cut(arena, work, 1, &file, 264 * index(last));
     if r != 0 {
@@ -166,7 +172,7 @@ fn shorten(arena: &[u8], work: &mut [u8], mem: &mut [u8], i: usize) -> u8
     0
 }
 
-// Where l is the last slot: the hole is filled and the file shortened.
+// `slot` is the last one: the hole is filled with it, and the file shortened.
 fn close_hole(
     arena: &[u8],
     work: &mut [u8],

@@ -1,6 +1,6 @@
 // A folder's slots, read (000's read_direntry and the lookups). A slot's 264 bytes go to a buffer that the caller lends.
 ghost use mathlib.Core.Path.{_≡_};
-ghost use Prim.Native.Nat.{ℕ, _<_, _≤_};
+ghost use Prim.Native.Nat.{_<_, _≤_};
 ghost use lib.ListN.{length};
 ghost use Rattle.base.specs.Out.{Went, done};
 ghost use Rattle.structs.specs.Layout.{entryOf};

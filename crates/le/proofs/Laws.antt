@@ -6,10 +6,10 @@ use native.Mathlib.Nat.{zero-add, suc-add, mul-assoc, mul-comm, pow-suc, pow-suc
 use native.Mathlib.Omega.{arith}
 use lib.Arith.{mod-mul}
 use lib.ListN.{length, getD, drop, set, length-take}
+use Rattle.base.proofs.Parts.{part-join, part-part, part-one, part-all, paste-all, paste-whole}
 use Rattle.base.specs.Parts.{part, paste}
 use Rattle.base.proofs.Lists.{length-part, length-paste, part-paste, part-paste-other, paste-paste, paste-own, getD-paste-out, set-paste}
 use Rattle.le.specs.Le.{Bytes, leOf, leBytes, leAt, lePut}
-use Rattle.le.proofs.General.{part-join, part-part, part-one, part-all, paste-all}
 
 -- ---- a list and its number
 
@@ -169,3 +169,18 @@ read-two n l s low high h e f =
 pub write-two :
     (n : ℕ) (l a b : List ℕ) (s v : ℕ) → s + n + n ≤ length l → a ≡ lePut l s n (v % 256 ^ n) → b ≡ lePut a (s + n) n (v / 256 ^ n) → b ≡ lePut l s (n + n) v
 write-two n l a b s v h e f = f ∙ ap (λ (x : List ℕ). lePut x (s + n) n (v / 256 ^ n)) e ∙ lePut-join l s n n v h
+
+-- numbers of n bytes that are equal have the same bytes
+pub leAt-same : (l m : List ℕ) (s t n : ℕ) → Bytes l → Bytes m → s + n ≤ length l → t + n ≤ length m → leAt l s n ≡ leAt m t n → part l s (s + n) ≡ part m t (t + n)
+unfolding leAt
+leAt-same l m s t n p q h k e =
+    let a : length (part l s (s + n)) ≡ n = length-part l s (s + n) (omega arith) h ∙ omega arith in
+    let b : length (part m t (t + n)) ≡ n = length-part m t (t + n) (omega arith) k ∙ omega arith in
+    sym (leBytes-leOf (part l s (s + n)) (part-all (λ x. x < 256) l (omega arith) p s (s + n)))
+    ∙ ap₂ leBytes (a ∙ sym b) e
+    ∙ leBytes-leOf (part m t (t + n)) (part-all (λ x. x < 256) m (omega arith) q t (t + n))
+
+-- a number put into a buffer of its own width
+pub lePut-whole : (d : List ℕ) (n v : ℕ) → length d ≡ n → lePut d 0 n v ≡ leBytes n v
+unfolding lePut
+lePut-whole d n v e = paste-whole d (leBytes n v) (e ∙ sym (length-leBytes n v))

@@ -10,13 +10,13 @@ use lib.Dec.{eqb}
 use lib.ListN.{length, getD, take, drop, set, length-set, length-drop}
 use lib.Seq.{take-all, getD-take, getD-set-same, getD-set-other, take-set-lt}
 use borrow.Author.Tests.{eq-eqb}
+use Rattle.base.proofs.Parts.{part-part, part-join, part-all}
 use Rattle.base.specs.Out.{done, refused}
 use Rattle.base.specs.Parts.{part, back, paste}
 use Rattle.base.specs.Reasons.{stuck}
 use Rattle.base.specs.Search.{pick}
 use Rattle.base.proofs.Lists.{length-part, getD-part, length-paste, getD-paste-out, part-paste-other, set-paste}
 use Rattle.le.specs.Le.{Bytes, leOf, leAt}
-use Rattle.le.proofs.General.{part-part, part-join, part-all}
 use Rattle.structs.specs.Layout.{superOf, superBytes}
 use Rattle.structs.specs.Fits.{SuperFits}
 use Rattle.structs.specs.declared.SuperBlock.{SuperBlock}

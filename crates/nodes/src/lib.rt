@@ -6,15 +6,17 @@ pub mod meta;
 ghost use mathlib.Core.Path.{_≡_};
 ghost use mathlib.Core.Bool.{false, not, _&&_};
 ghost use mathlib.Core.List.{List};
-ghost use Prim.Native.Nat.{ℕ, _+_, _*_, _-_, _<_, _≤_};
-ghost use lib.ListN.{length};
+ghost use Prim.Native.Nat.{ℕ, _+_, _*_, _<_, _≤_};
 ghost use lib.Dec.{eqb, leb};
 ghost use Rattle.base.specs.Out.{Went, done, guard};
 ghost use Rattle.base.specs.Reasons.{stuck};
 ghost use Rattle.base.specs.Search.{pick};
 ghost use Rattle.table.specs.Table.{rowAt, rowOf, freeRow};
-ghost use Rattle.overlay.specs.View.{view, left};
+ghost use Rattle.arena.specs.Fields.{file};
+ghost use Rattle.overlay.specs.View.{view, left, Fine};
+ghost use Rattle.overlay.specs.Steps.{Did};
 ghost use Rattle.files.specs.Read.{there as thereIn};
+ghost use Rattle.files.specs.Store.{dropFile};
 ghost use Rattle.sefs.specs.Records.{newRecord};
 ghost use Rattle.sefs.specs.Nodes.{opened as openedAs, nodeFile, openIn, loadNode, getNode, noRow, newNode, storeRow, syncRow, freeNode, dropNode};
 ghost use Rattle.sefs.specs.Nodes.{release as releaseNode};
@@ -78,6 +80,13 @@ fn open_in(mem: &mut [u8], id: u32, rec: DiskINode, dirty: bool) -> Opened
 
 // ---- 000's get_inode
 
+fn has_file<'a>(arena: &'a [u8], work: &'a [u8], name: [u8; 16]) -> bool
+    requires { ⌜ Fine (now arena) (now work) ⌝ }
+    ensures { λ r. ⌜ r ≡ thereIn (view (now (arena .entry)) (now (work .entry))) (file 1 name) ⌝ }
+{
+    there(arena, work, 1, &name)
+}
+
 // A record that was read: its type is looked at, its file looked for.
 fn open_read<'a>(arena: &'a [u8], work: &'a [u8], mem: &mut [u8], id: u32, rec: DiskINode) -> Opened
     requires { ⌜ Ready (now arena) (now work) (now mem) ⌝ }
@@ -87,7 +96,7 @@ fn open_read<'a>(arena: &'a [u8], work: &'a [u8], mem: &mut [u8], id: u32, rec: 
         return Opened { reason: 19, row: 0 };
     }
     let file = rec.file;
-    if !there(arena, work, 1, &file) {
+    if !has_file(arena, work, file) {
         return Opened { reason: 19, row: 0 };
     }
     open_in(mem, id, rec, false)
@@ -234,6 +243,13 @@ pub fn sync_row(arena: &[u8], work: &mut [u8], mem: &mut [u8], i: usize) -> u8
 
 // ---- 000's Drop of a node
 
+fn drop_file(arena: &[u8], work: &mut [u8], name: [u8; 16]) -> u8
+    requires { ⌜ Fine (now arena) (now work) ⌝ }
+    ensures { λ r. ⌜ Did (dropFile (view (now (arena .entry)) (now (work .entry))) (file 1 name)) (now (arena .entry)) (now (work .entry)) (now (work .exit)) 0 r ⌝ }
+{
+    drop(arena, work, 1, &name)
+}
+
 // The id is free: superblock and maps are stored, and the file is removed.
 fn remove_node(arena: &[u8], work: &mut [u8], mem: &[u8], i: usize) -> u8
     requires { ⌜ Ready (now arena) (now work) (now mem) × ((15 ≤ left (now work)) × (i < 34)) ⌝ }
@@ -244,7 +260,7 @@ fn remove_node(arena: &[u8], work: &mut [u8], mem: &[u8], i: usize) -> u8
         return r;
     }
     let file = rec_at(mem, i).file;
-    drop(arena, work, 1, &file)
+    drop_file(arena, work, file)
 }
 
 fn free_node(arena: &[u8], work: &mut [u8], mem: &mut [u8], i: usize) -> u8

@@ -12,7 +12,7 @@ ghost use Rattle.overlay.specs.View.{view, left, Fine};
 ghost use Rattle.overlay.specs.Steps.{Did};
 ghost use Rattle.files.specs.Read.{readFile};
 ghost use Rattle.files.specs.Store.{putFile};
-ghost use Rattle.sefs.specs.Meta.{metaFile, mapAt, loadMaps, loadMeta, storeMaps, syncMeta, ids, firstBit, isUsed, addGroup, takeBit, allocBlock, freeBlock};
+ghost use Rattle.sefs.specs.Meta.{metaFile, mapAt, loadMaps, loadMeta, storeMaps, syncMeta, firstBit, isUsed, addGroup, takeBit, allocBlock, freeBlock};
 ghost use Rattle.mem.specs.Mem.{tableIn, superIn, mapsIn, metaIn, Whole};
 ghost use Rattle.nodes.specs.Steps.{metaOf};
 ghost use Rattle.mem.specs.State.{fsOf, Ready, Still, Stepped};

@@ -4,10 +4,9 @@ use mathlib.Core.List.{List}
 use Prim.Native.Nat.{ℕ, _+_, _≤_}
 use native.Mathlib.Omega.{arith}
 use Rattle.base.specs.Out.{Out, done, refused, bind, answer, kept}
-use Rattle.base.proofs.Outs.{above-zero}
+use Rattle.base.proofs.Outs.{above-zero, refused-says, done-says}
 use Rattle.overlay.specs.View.{view, left, Fine}
 use Rattle.overlay.specs.Steps.{Changed, Did, went, stuck}
-use Rattle.overlay.proofs.General.{refused-says, done-says}
 
 -- nothing was changed
 pub changed-none : (a w : List ℕ) → Fine a w → Changed a w w (view a w) 0

@@ -118,7 +118,7 @@ unfoldable pub freeBlock : Fs → ℕ → Out Fs
 freeBlock s id = do
   m ← s .meta
   guard (isUsed m id) stuck (guard (ltb (m .super .unused + 1) 4294967296) stuck
-    (done (withMeta s (record {
-      super = superWith (m .super) (m .super .blocks) (m .super .unused + 1) (m .super .groups);
-      maps = withBit (m .maps) id true;
-    }))))
+      (done (withMeta s (record {
+        super = superWith (m .super) (m .super .blocks) (m .super .unused + 1) (m .super .groups);
+        maps = withBit (m .maps) id true;
+      }))))

@@ -55,7 +55,7 @@ unfoldable pub loadNode : Fs → ℕ → Out Opened
 loadNode s id = do
   l ← readFile (s .arena) metaFile (128 * id) 112
   guard (leb (recordOf l .kind) 4) stuck (guard (there (s .arena) (nodeFile (recordOf l))) stuck
-    (openIn s id (recordOf l) false (freeRow (s .table))))
+      (openIn s id (recordOf l) false (freeRow (s .table))))
 
 abbrev pub openAt : Fs → ℕ → Found → Out Opened
 openAt s id (At i) = done (opened s i)

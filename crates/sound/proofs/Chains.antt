@@ -11,6 +11,7 @@ use lib.Dec.{eqb, ltb}
 use lib.ListN.{length, getD, set}
 use lib.Seq.{getD-set-same, getD-set-other}
 use borrow.Author.Tests.{eq-eqb, ne-eqb, eqb-true, lt-ltb, le-ltb, ltb-true}
+use Rattle.base.proofs.Sames.{last-one, allTo-and, and-true}
 use Rattle.base.specs.Count.{allTo}
 use Rattle.base.specs.Search.{lowest, last}
 use Rattle.base.proofs.Bools.{and-parts, true-false}
@@ -24,7 +25,6 @@ use Rattle.arena.proofs.Fields.{head-is, head-own, data-is, data-own, free-own,
 use Rattle.arena.proofs.Places.{head-first}
 use Rattle.sound.specs.Sound.{blockSound, layout, headOnce, dataOnce, within, under, soundAt, sound}
 use Rattle.sound.specs.Chain.{isKey, hashKey, hashOf, inBucket, Chains, alone}
-use Rattle.sound.proofs.General.{last-one, allTo-and, and-true}
 use Rattle.sound.proofs.Sounds.{used-sound}
 
 -- ---- keys and buckets

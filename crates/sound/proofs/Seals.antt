@@ -5,10 +5,10 @@ use mathlib.Core.Logic.{_≢_}
 use Prim.Native.Nat.{ℕ, _+_, _-_, _≤_, _<_}
 use native.Mathlib.Omega.{arith}
 use lib.ListN.{length, getD}
+use Rattle.base.proofs.Parts.{paste-all}
 use Rattle.base.specs.Parts.{paste}
 use Rattle.base.proofs.Lists.{length-paste, getD-paste-out, getD-part}
 use Rattle.le.specs.Le.{Bytes, lePut}
-use Rattle.le.proofs.General.{paste-all}
 use Rattle.le.proofs.Laws.{length-lePut, getD-lePut-out, lePut-bytes}
 use Rattle.arena.specs.Fields.{File, FileOk, tagOf, whichOf, numberOf, seal, fresh}
 use Rattle.arena.proofs.Fresh.{length-fresh, fresh-tag, fresh-which, fresh-name, fresh-rest, fresh-bytes}

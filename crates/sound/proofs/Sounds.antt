@@ -8,6 +8,7 @@ use native.Mathlib.Omega.{arith}
 use lib.Dec.{eqb}
 use lib.ListN.{length, getD, drop, length-take, length-drop}
 use borrow.Author.Tests.{ne-eqb, lt-ltb, le-ltb}
+use Rattle.base.proofs.Sames.{decides-both, decides-unless, and-true}
 use Rattle.base.specs.Decides.{Decides}
 use Rattle.base.specs.Parts.{part}
 use Rattle.base.proofs.Bools.{T-true, true-T}
@@ -20,7 +21,6 @@ use Rattle.arena.proofs.Blocks.{length-blk}
 use Rattle.arena.proofs.Fresh.{getD-zeros, zeros-is}
 use Rattle.arena.proofs.Seals.{zeros-right}
 use Rattle.sound.specs.Sound.{allZero, layout, blockSound, headOnce, dataOnce, within, under, soundAt, sound}
-use Rattle.sound.proofs.General.{decides-both, decides-unless, and-true}
 
 -- ---- zeros
 

@@ -5,10 +5,10 @@ use mathlib.Core.List.{List}
 use Prim.Native.Nat.{ℕ, _+_, _≤_, _<_}
 use native.Mathlib.Omega.{arith}
 use lib.ListN.{length, getD}
+use Rattle.base.proofs.Parts.{part-all}
 use Rattle.base.specs.Parts.{part, paste}
 use Rattle.base.proofs.Lists.{length-part, part-paste, paste-own, getD-paste-out}
 use Rattle.le.specs.Le.{Bytes}
-use Rattle.le.proofs.General.{part-all}
 use Rattle.structs.specs.declared.SuperBlock.{SuperBlock}
 use Rattle.structs.specs.declared.DiskINode.{DiskINode}
 use Rattle.structs.specs.declared.DiskEntry.{DiskEntry}

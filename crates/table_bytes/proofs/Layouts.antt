@@ -9,17 +9,17 @@ use native.Mathlib.Omega.{arith}
 use lib.ListN.{length, getD, take}
 use lib.Dec.{eqb}
 use borrow.Author.Tests.{eq-eqb, ne-eqb}
+use Rattle.base.proofs.Parts.{part-all, part-one, part-part}
 use Rattle.base.specs.Count.{bit}
 use Rattle.base.specs.Parts.{part}
 use Rattle.base.proofs.Counts.{bit-le}
 use Rattle.base.proofs.Lists.{length-part, getD-part}
 use Rattle.base.proofs.Numbers.{lt-or-le}
 use Rattle.le.specs.Le.{Bytes, leAt, leBytes}
-use Rattle.le.proofs.General.{part-all, part-one, part-part}
 use Rattle.le.proofs.Laws.{length-leBytes, leAt-below, leBytes-bytes}
 use Rattle.structs.specs.Layout.{join, recordOf, recordBytes}
 use Rattle.structs.proofs.Joins.{total, length-join, field-of, bytes-at, bytes-append, bytes-nil}
-use Rattle.structs.proofs.Layouts.{length-recordBytes, recordOf-recordBytes, recordBytes-recordOf, recordBytes-bytes, recordOf-fits}
+use Rattle.structs.proofs.Layouts.{length-recordBytes, recordOf-recordBytes, recordBytes-recordOf, recordBytes-bytes, recordOf-fits, number-back, whole}
 use Rattle.table.specs.declared.Row.{Row}
 use Rattle.table.specs.declared.Hold.{Hold}
 use Rattle.table.specs.declared.Table.{Table}
@@ -28,7 +28,6 @@ use Rattle.table.specs.Table.{offRow, rowAt, holdAt}
 use Rattle.table_bytes.specs.Runs.{runTo, listTo}
 use Rattle.table_bytes.specs.Layout.{rowFrom, rowFields, rowBytes, holdFrom, holdFields, holdBytes, rowAtPlace, holdAtPlace, tableOf, tableFields, tableBytes}
 use Rattle.table_bytes.specs.Fits.{RowFits, HoldFits, TableFits, Marked}
-use Rattle.table_bytes.proofs.General.{number-back, whole}
 use Rattle.table_bytes.proofs.Runs.{length-run, part-run, run-parts, run-cong, getD-list, length-list, list-is}
 
 -- ---- a row

@@ -8,9 +8,9 @@ use mathlib.Core.List.{List, [], _∷_, _++_, append-assoc}
 use mathlib.Core.Logic.{⊎-elim}
 use lib.ListN.{length, getD, take, drop, set, take-append-drop, length-append, length-set, List·getD-append}
 use lib.Seq.{take-at, drop-at, getD-at, getD-set-same, getD-set-other, ext-getD}
+use Rattle.base.proofs.Parts.{part-join}
 use Rattle.base.specs.Parts.{part, paste}
 use Rattle.base.proofs.Lists.{paste-paste}
-use Rattle.le.proofs.General.{part-join}
 use Rattle.table_bytes.specs.Runs.{runTo, listTo}
 
 -- nothing laid over a list

@@ -6,6 +6,7 @@ use mathlib.Core.Bool.{false, not}
 use mathlib.Core.Logic.{⊎-elim}
 use lib.Dec.{eqb, ltb}
 use borrow.Author.Tests.{eqb-true, eqb-false, ltb-true, not-true, lt-ltb, eq-eqb}
+use Rattle.base.proofs.Finds.{search-at, search-nothing, search-finds, search-cong}
 use Rattle.base.specs.Count.{allTo}
 use Rattle.base.specs.declared.Found.the-variants.{At, Nothing}
 use Rattle.base.proofs.Bools.{and-parts, and-both, true-false}
@@ -14,7 +15,6 @@ use Rattle.base.proofs.Numbers.{lt-or-le}
 use Rattle.table.specs.declared.Table.{Table}
 use Rattle.table.specs.Table.{rowAt, isRow, rowOf, between, isNext, nextRow}
 use Rattle.table.proofs.Next.{is-next}
-use Rattle.table_laws.proofs.General.{search-at, search-nothing, search-finds, search-cong}
 
 -- ---- by id
 

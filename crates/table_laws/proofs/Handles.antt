@@ -8,6 +8,7 @@ use lib.ListN.{length}
 use lib.Seq.{set-out}
 use lib.Dec.{eqb, ltb}
 use borrow.Author.Tests.{eqb-true, eqb-false, ltb-true, not-true, lt-ltb, eq-eqb, ne-eqb}
+use Rattle.base.proofs.Finds.{eq-cases}
 use Rattle.base.specs.Search.{foundBelow}
 use Rattle.base.specs.declared.Found.the-variants.{At, Nothing}
 use Rattle.base.proofs.Bools.{and-parts, and-both, bool-cases}
@@ -19,7 +20,6 @@ use Rattle.table.specs.declared.Handle.{Handle}
 use Rattle.table.specs.Zero.{zeroHold}
 use Rattle.table.specs.Table.{rowAt, holdAt, withHold, isLive, liveRow, canHold, addHold, closeHold}
 use Rattle.table_laws.specs.Rules.{Formed, Live}
-use Rattle.table_laws.proofs.General.{eq-cases}
 use Rattle.table_laws.proofs.Holds.{hold-here, hold-apart, heldAs, new, add-gives, add-cases, close-is, close-cases}
 
 -- ---- what the code's answer means

@@ -6,6 +6,7 @@ use mathlib.Core.Bool.{true}
 use mathlib.Core.Logic.{⊎-elim}
 use lib.ListN.{length}
 use lib.Seq.{set-out}
+use Rattle.base.proofs.Finds.{eq-cases}
 use Rattle.base.specs.declared.Found.the-variants.{Nothing}
 use Rattle.base.proofs.Numbers.{lt-or-le}
 use Rattle.table.specs.declared.Table.{Table}
@@ -15,7 +16,6 @@ use Rattle.table.specs.Zero.{zeroRow}
 use Rattle.table.specs.Table.{rowAt, holdAt, freeRowAt, withRow, liveRow, canHold, addHold, closeHold}
 use Rattle.table_laws.specs.Rules.{Formed, Live}
 use Rattle.table_laws.specs.Later.{Later, same, add, close, put}
-use Rattle.table_laws.proofs.General.{eq-cases}
 use Rattle.table_laws.proofs.Rows.{row-here, row-apart, free-unnamed}
 use Rattle.table_laws.proofs.Holds.{add-gives, add-cases, close-cases}
 use Rattle.table_laws.proofs.Handles.{Dead, dead-nothing, live-below, add-keeps, add-dead, close-keeps, close-dead, close-ends}

@@ -8,6 +8,7 @@ use lib.ListN.{length, set, length-set}
 use lib.Seq.{getD-set-same, getD-set-other}
 use lib.Dec.{ltb}
 use borrow.Author.Tests.{eqb-true, lt-ltb, le-ltb, ltb-true, not-true, not-false, eq-eqb, ne-eqb}
+use Rattle.base.proofs.Finds.{eq-cases, search-at, search-finds, countTo-room, test-no}
 use Rattle.base.specs.declared.Found.the-variants.{At, Nothing}
 use Rattle.base.proofs.Bools.{and-parts, and-both, true-false, bool-cases}
 use Rattle.base.proofs.Numbers.{lt-or-le}
@@ -18,7 +19,6 @@ use Rattle.table.specs.declared.Hold.{Hold}
 use Rattle.table.specs.Zero.{zeroHold}
 use Rattle.table.specs.Table.{rowAt, holdAt, withRow, withHold, isHold, holdOf, freeHold, liveAt, liveHolds, canHold, addAt, addHold, namesRow, rowUsed, closedAs, closeHold}
 use Rattle.table_laws.specs.Rules.{Holder, Formed, also}
-use Rattle.table_laws.proofs.General.{eq-cases, search-at, search-finds, countTo-room, test-no}
 use Rattle.table_laws.proofs.Rules.{holder-of}
 
 -- the hold put is there, and the others are as they were

@@ -1,4 +1,3 @@
-pub mod General
 pub mod Zeros
 pub mod Rules
 pub mod Finds

@@ -6,13 +6,13 @@ use mathlib.Core.Bool.{Bool}
 use mathlib.Core.Logic.{_⊎_, inl, inr, ⊎-elim}
 use lib.ListN.{length, set, length-set}
 use lib.Seq.{getD-set-same, getD-set-other, ext-getD}
+use Rattle.base.proofs.Finds.{eq-cases}
 use Rattle.structs.specs.declared.DiskINode.{DiskINode}
 use Rattle.table.specs.declared.Table.{Table}
 use Rattle.table.specs.declared.Row.{Row}
 use Rattle.table.specs.Zero.{zeroRow}
 use Rattle.table.specs.Table.{offRow, rowAt, holdAt, withRow, takeRow, withRecord, withDirty, freeRowAt}
 use Rattle.table_laws.specs.Rules.{Holder, Formed, also}
-use Rattle.table_laws.proofs.General.{eq-cases}
 
 -- fewer rows need a hold where more are a call's own
 pub formed-more : {own more : ℕ → Type 0} (t : Table) → ((i : ℕ) → own i → more i) → Formed own t → Formed more t

@@ -6,6 +6,7 @@ use mathlib.Core.Logic.{_⊎_, inr, ⊎-elim, _↔_}
 use lib.ListN.{length}
 use lib.Dec.{eqb, ltb, leb}
 use borrow.Author.Tests.{eqb-true, eqb-false, ltb-true, leb-true, not-true, eq-eqb, ne-eqb, lt-ltb, le-leb}
+use Rattle.base.proofs.Finds.{search-one, test-yes, test-at}
 use Rattle.base.specs.declared.Found.{Found}
 use Rattle.base.specs.declared.Found.the-variants.{At, Nothing}
 use Rattle.base.proofs.Bools.{true-false, and-parts, and-both, bool-cases}
@@ -15,7 +16,6 @@ use Rattle.table.specs.Zero.{zeroRow, zeroHold, zeroRecord, recordZero}
 use Rattle.table.specs.Table.{rowAt, holdAt, isRow, isHold, namesRow, rowOf, holdOf, rowUsed}
 use Rattle.table.specs.Formed.{isAt, holdOk, rowOk, holdsOk, rowsOk, shaped, wellFormed}
 use Rattle.table_laws.specs.Rules.{Holder, Formed, WellFormed}
-use Rattle.table_laws.proofs.General.{search-one, test-yes, test-at}
 use Rattle.table_laws.proofs.Zeros.{record-zero, zero-passes}
 
 at-is : (f : Found) (i : ℕ) → isAt f i ≡ true → f ≡ At i

@@ -9,6 +9,7 @@ use lib.Dec.{eqb, ltb}
 use lib.ListN.{length, getD, take, drop, replicate, length-append, length-replicate, length-drop, drop-of-length-le, getD-replicate, List·getD-append}
 use lib.Seq.{take-append-seam, drop-append-seam, length-take-le, getD-take, getD-append-add}
 use borrow.Author.Tests.{eq-eqb, ne-eqb, eqb-true, eqb-false, lt-ltb, le-ltb, ltb-false}
+use Rattle.base.proofs.Sames.{decided-yes}
 use Rattle.base.specs.Parts.{part, back}
 use Rattle.base.specs.Search.{lowest}
 use Rattle.base.specs.Decides.{Decides, same}
@@ -22,7 +23,6 @@ use Rattle.utf8.specs.declared.StoredName.the-variants.{Ended, Broken}
 use Rattle.utf8.specs.Utf8.{utf8}
 use Rattle.utf8.specs.Grammar.{Octets}
 use Rattle.utf8.specs.Names.{zeroAt, hasZero, nameOf, nameVerdict, GoodName, storedName, EndedAt, asked, isNamed, isDot, isDots, isSpecial, earlyReason, longReason, nameBytes}
-use Rattle.utf8.proofs.General.{decided-yes}
 use Rattle.utf8.proofs.Grammar.{utf8-decides}
 
 -- ---- the first zero

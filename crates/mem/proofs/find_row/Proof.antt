@@ -5,8 +5,8 @@ use mathlib.Core.Bool.{false}
 use native.Mathlib.Omega.{arith}
 use borrow.Author.Count.{below-none, below-more}
 use borrow.Author.Tests.{eq-eqb, ne-eqb}
+use Rattle.base.proofs.Finds.{search-hit, search-none}
 use Rattle.table.specs.Table.{isRow, rowOf}
-use Rattle.table.proofs.General.{search-hit, search-none}
 use Rattle.mem.specs.Mem.{tableIn}
 use Rattle.mem.proofs.find_row.Statement.{statement}
 use Rattle.mem.proofs.find_row.Tie as tie

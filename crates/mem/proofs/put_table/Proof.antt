@@ -4,8 +4,8 @@ use mathlib.Core.List.{List}
 use Prim.Native.Nat.{ℕ}
 use native.Mathlib.Omega.{arith}
 use lib.ListN.{length}
+use Rattle.base.proofs.Finds.{len-of}
 use Rattle.base.specs.Parts.{part}
-use Rattle.table.proofs.General.{len-of}
 use Rattle.table.proofs.Row as row
 use Rattle.table.proofs.Hold as hold
 use Rattle.table.specs.Table.{offRow, rowAt, holdAt}

@@ -4,8 +4,8 @@ use mathlib.Core.Path.{_≡_, sym, _∙_}
 use mathlib.Core.Bool.{false}
 use native.Mathlib.Omega.{arith}
 use borrow.Author.Count.{below-none, below-more}
+use Rattle.base.proofs.Finds.{search-yes, search-no}
 use Rattle.table.specs.Table.{namesRow, rowUsed}
-use Rattle.table.proofs.General.{search-yes, search-no}
 use Rattle.mem.specs.Mem.{tableIn}
 use Rattle.mem.proofs.row_held.Statement.{statement}
 use Rattle.mem.proofs.row_held.Tie as tie

@@ -5,9 +5,9 @@ use mathlib.Core.Bool.{not}
 use mathlib.Core.Logic.{⊎-elim}
 use native.Mathlib.Omega.{arith}
 use borrow.Author.Tests.{eq-eqb, ne-eqb}
+use Rattle.base.proofs.Finds.{count-yes, count-no}
 use Rattle.base.specs.Count.{countTo}
 use Rattle.base.proofs.Counts.{countTo-none, countTo-le}
-use Rattle.table.proofs.General.{count-yes, count-no}
 use Rattle.table.specs.Table.{liveAt, liveHolds}
 use Rattle.table.proofs.live_holds.Statement.{statement}
 use Rattle.table.proofs.live_holds.Tie as tie

@@ -3,11 +3,11 @@ use mathlib.Core.Path.{_≡_, ap, _∙_}
 use native.Mathlib.Omega.{arith}
 use lib.ListN.{length}
 use borrow.Author.Needs.{needs}
+use Rattle.base.proofs.Outs.{refused-says, done-says}
 use Rattle.arena.specs.Fields.{file, numberOf}
 use Rattle.overlay.specs.View.{view}
 use Rattle.overlay.proofs.Views.{length-blkOf}
 use Rattle.files.specs.Read.{lengthOf}
-use Rattle.overlay.proofs.General.{refused-says, done-says}
 use Rattle.files.proofs.Finds.{there-yes, there-no, length-here}
 use Rattle.files.proofs.Runs.{read-missing, read-short, read-done}
 use Rattle.files.proofs.read.read.Statement.{statement}

@@ -3,12 +3,12 @@ use mathlib.Core.Path.{_≡_, ap, _∙_}
 use Prim.Native.Nat.{_+_, _-_, _≤_}
 use native.Mathlib.Omega.{arith}
 use lib.ListN.{length}
+use Rattle.base.proofs.Parts.{run-more, run-all}
 use Rattle.base.specs.Parts.{part, tab}
 use Rattle.base.proofs.Lists.{Stored, stored-none, length-part}
 use Rattle.arena.specs.Fields.{file}
 use Rattle.overlay.specs.View.{view}
 use Rattle.files.specs.Read.{byteAt}
-use Rattle.files.proofs.General.{run-more, run-all}
 use Rattle.files.proofs.read.read_run.Statement.{statement}
 use Rattle.files.proofs.read.read_run.Tie as tie
 

@@ -2,7 +2,7 @@
 use Prim.Native.Nat.{_+_, _-_}
 use native.Mathlib.Omega.{arith}
 use borrow.Author.Needs.{needs}
-use Rattle.files.proofs.General.{back-zeros}
+use Rattle.base.proofs.Parts.{back-zeros}
 use Rattle.files.proofs.store.clear_from.Statement.{statement}
 use Rattle.files.proofs.store.clear_from.Tie as tie
 

@@ -2,8 +2,8 @@
 use mathlib.Core.Path.{refl, _∙_}
 use lib.ListN.{replicate}
 use borrow.Author.Needs.{needs}
+use Rattle.le.proofs.Laws.{lePut-whole}
 use Rattle.le.specs.Le.{lePut}
-use Rattle.files.proofs.General.{lePut-whole}
 use Rattle.files.proofs.store.set_length.Statement.{statement}
 use Rattle.files.proofs.store.set_length.Tie as tie
 

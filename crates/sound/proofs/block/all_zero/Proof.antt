@@ -5,9 +5,9 @@ use Prim.Native.Nat.{ℕ, _-_, _≤_}
 use native.Mathlib.Omega.{arith}
 use lib.Dec.{eqb}
 use lib.ListN.{length, getD}
+use Rattle.base.proofs.Sames.{or-zero, allTo-suc, every-allTo}
 use Rattle.base.specs.Count.{allTo}
 use Rattle.sound.specs.Sound.{allZero}
-use Rattle.sound.proofs.General.{or-zero, allTo-suc, every-allTo}
 use Rattle.sound.proofs.block.all_zero.Statement.{statement}
 use Rattle.sound.proofs.block.all_zero.Tie as tie
 

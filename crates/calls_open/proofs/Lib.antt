@@ -1,0 +1,3 @@
+pub mod General
+pub mod Opens
+pub mod Ones

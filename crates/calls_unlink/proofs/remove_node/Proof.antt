@@ -1,0 +1,49 @@
+-- `calls_unlink::remove_node`: the removal, then the record; 23 blocks and 3.
+use native.Mathlib.Omega.{arith}
+use Rattle.base.proofs.Outs.{went-has}
+use Rattle.calls_unlink.proofs.Parts.{node-stop, node-next}
+use borrow.Author.Needs.{needs}
+use Rattle.calls_unlink.proofs.remove_node.Statement.{statement}
+use Rattle.calls_unlink.proofs.remove_node.Tie as tie
+
+dirent-node-remove-requires : tie.Need-dirent-node-remove-requires
+dirent-node-remove-requires c κs = search needs
+
+same-length : tie.Need-same-length
+same-length c = search needs
+
+same-length-2 : tie.Need-same-length-2
+same-length-2 c = search needs
+
+returns : tie.Need-returns
+returns c =
+    node-stop _ _ _ _ _ _ _ _ _ (c .before .before .before .before .before .dirent-node-remove .ensures) (c .if1 .taken)
+
+sync-row-requires : tie.Need-sync-row-requires
+sync-row-requires c κs =
+    let k = went-has (c .before .before .before .before .before .before .before .dirent-node-remove .ensures) (c .before .before .if1 .left) in
+    let s = c .before .before .before .before .before .before .before .before .before .before .before .before .before in
+    (record { fine = k .fine; whole = k .whole }, (omega (arith, k .room, s .pre .1 .0), s .pre .1 .1 .0))
+
+same-length-3 : tie.Need-same-length-3
+same-length-3 c = search needs
+
+same-length-4 : tie.Need-same-length-4
+same-length-4 c = search needs
+
+returns-2 : tie.Need-returns-2
+returns-2 c =
+    node-next _ _ _ _ _ _ _ _ _ (c .before .before .before .before .before .before .before .before .before .before .before .before .dirent-node-remove .ensures) _ _ _ (c .before .before .before .before .before .before .before .if1 .left) (c .before .before .before .before .sync-row .ensures)
+
+pub remove-node-spec : {M : Type 1} → statement M
+remove-node-spec =
+    tie.close
+    (tie.spec
+    dirent-node-remove-requires
+    same-length
+    same-length-2
+    returns
+    sync-row-requires
+    same-length-3
+    same-length-4
+    returns-2)

@@ -1,0 +1,64 @@
+-- `calls_unlink::unlink_in`: the state is that of the call's start; what the steps left is written where they were done.
+use mathlib.Core.Path.{refl}
+use Rattle.base.proofs.Outs.{went-has}
+use Rattle.calls_unlink.specs.Steps.{unlinkIn}
+use Rattle.calls_close.proofs.Ends.{fs-start, ended-not, ended-done}
+use borrow.Author.Needs.{needs}
+use Rattle.calls_unlink.proofs.unlink_in.Statement.{statement}
+use Rattle.calls_unlink.proofs.unlink_in.Tie as tie
+
+load-meta-requires : tie.Need-load-meta-requires
+load-meta-requires c κs = search needs
+
+unlink-steps-requires : tie.Need-unlink-steps-requires
+unlink-steps-requires c κs = search needs
+
+same-length : tie.Need-same-length
+same-length c = search needs
+
+same-length-2 : tie.Need-same-length-2
+same-length-2 c = search needs
+
+same-length-3 : tie.Need-same-length-3
+same-length-3 c = search needs
+
+returns : tie.Need-returns
+returns c =
+    let s = c .before .before .before .before .before .before .before .before .before .before .before .before .before .before .before .before .before .before .before in
+    let l = c .before .before .before .before .before .before .before .before .before .before .before in
+    ended-not (λ x. unlinkIn x (s .args .i) (s .args .name .now)) _ _ _ (fs-start _ _ _ _ 36 (s .pre .0) (l .load-meta .ensures .0) (l .load-meta .ensures .1 .0)) (c .before .before .before .before .before .unlink-steps .ensures) (c .if1 .taken) refl
+
+commit-requires : tie.Need-commit-requires
+commit-requires c κs =
+    went-has (c .before .before .before .before .before .before .before .unlink-steps .ensures) (c .before .before .if1 .left) .fine
+
+same-length-4 : tie.Need-same-length-4
+same-length-4 c = search needs
+
+same-length-5 : tie.Need-same-length-5
+same-length-5 c = search needs
+
+same-length-6 : tie.Need-same-length-6
+same-length-6 c = search needs
+
+returns-2 : tie.Need-returns-2
+returns-2 c =
+    let s = c .before .before .before .before .before .before .before .before .before .before .before .before .before .before .before .before .before .before .before .before .before .before .before .before in
+    let l = c .before .before .before .before .before .before .before .before .before .before .before .before .before .before .before .before in
+    ended-done (λ x. unlinkIn x (s .args .i) (s .args .name .now)) _ _ _ _ (fs-start _ _ _ _ 36 (s .pre .0) (l .load-meta .ensures .0) (l .load-meta .ensures .1 .0)) (c .before .before .before .before .before .before .before .before .before .before .unlink-steps .ensures) (c .before .before .before .before .before .if1 .left) (c .before .before .commit .ensures)
+
+pub unlink-in-spec : {M : Type 1} → statement M
+unlink-in-spec =
+    tie.close
+    (tie.spec
+    load-meta-requires
+    unlink-steps-requires
+    same-length
+    same-length-2
+    same-length-3
+    returns
+    commit-requires
+    same-length-4
+    same-length-5
+    same-length-6
+    returns-2)

@@ -1,0 +1,5 @@
+pub mod Common
+pub mod States
+pub mod Lookups
+pub mod Entries
+pub mod Folders
