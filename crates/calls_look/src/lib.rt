@@ -196,9 +196,9 @@ fn write_entry(
     ensures { λ r. ⌜ Laid (namedSlot (now (arena .entry)) rec k) (now (out .entry)) (now (out .exit)) 264 r ⌝ }
 {
     begin(work);
-    let r = named_slot(arena, &work[..], rec, k, slot);
-    if r != 0 {
-        return r;
+    let stuck = named_slot(arena, &work[..], rec, k, slot);
+    if stuck != 0 {
+        return stuck;
     }
     copy(&mut out[..264], &slot[..]);
     0

@@ -1,2 +1,3 @@
 pub mod General
 pub mod Opens
+pub mod Ones

@@ -1,7 +1,7 @@
 -- `calls::admit_arena`: the tests in turn; `sound` asks for no more than 4,096 blocks.
+use mathlib.Core.Path.{sym, _∙_}
 use borrow.Author.Needs.{needs}
 use borrow.Author.Tests.{not-true, not-false}
-use mathlib.Core.Path.{sym, _∙_}
 use Rattle.sefs.specs.Ask.{admitArena}
 use Rattle.arena.proofs.Blocks.{legal-is}
 use Rattle.calls.proofs.admit_arena.Statement.{statement}

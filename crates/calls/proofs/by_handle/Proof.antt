@@ -1,7 +1,7 @@
 -- `calls::by_handle`: the row that a live hold names.
+use mathlib.Core.Path.{sym, _∙_}
 use borrow.Author.Needs.{needs}
 use Rattle.calls.proofs.Asks.{handle-at, handle-not}
-use mathlib.Core.Path.{sym, _∙_}
 use Rattle.calls.proofs.by_handle.Statement.{statement}
 use Rattle.calls.proofs.by_handle.Tie as tie
 

@@ -1,9 +1,5 @@
 -- `calls::first`: the first, or the second.
-use borrow.Author.Needs.{needs}
 use Rattle.calls.proofs.Asks.{first-not}
-use mathlib.Core.Path.{sym, _∙_, ap}
-use Rattle.calls.specs.Asked.{firstOf}
-use Prim.Native.Nat.{ℕ}
 use Rattle.calls.proofs.first.Statement.{statement}
 use Rattle.calls.proofs.first.Tie as tie
 

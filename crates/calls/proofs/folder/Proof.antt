@@ -1,6 +1,6 @@
 -- `calls::folder`: the test that its definition makes.
-use Rattle.calls.proofs.Asks.{ensure-done, ensure-not}
 use borrow.Author.Tests.{eq-eqb, ne-eqb}
+use Rattle.calls.proofs.Asks.{ensure-done, ensure-not}
 use Rattle.calls.proofs.folder.Statement.{statement}
 use Rattle.calls.proofs.folder.Tie as tie
 

@@ -1,6 +1,6 @@
 -- `calls::not_long`: the test that its definition makes.
-use Rattle.calls.proofs.Asks.{ensure-done, ensure-not}
 use borrow.Author.Tests.{lt-leb, le-leb}
+use Rattle.calls.proofs.Asks.{ensure-done, ensure-not}
 use Rattle.calls.proofs.not_long.Statement.{statement}
 use Rattle.calls.proofs.not_long.Tie as tie
 

@@ -1,6 +1,6 @@
 -- `calls::not_removed`: the test that its definition makes.
-use Rattle.calls.proofs.Asks.{ensure-done, ensure-not}
 use borrow.Author.Tests.{lt-ltb, le-ltb}
+use Rattle.calls.proofs.Asks.{ensure-done, ensure-not}
 use Rattle.calls.proofs.not_removed.Statement.{statement}
 use Rattle.calls.proofs.not_removed.Tie as tie
 

@@ -1,8 +1,8 @@
 -- `calls::not_special`: the test that its definition makes.
-use borrow.Author.Needs.{needs}
-use Rattle.calls.proofs.Asks.{ensure-done, ensure-not}
 use mathlib.Core.Path.{ap, sym, _∙_}
 use mathlib.Core.Bool.{not}
+use borrow.Author.Needs.{needs}
+use Rattle.calls.proofs.Asks.{ensure-done, ensure-not}
 use Rattle.calls.proofs.not_special.Statement.{statement}
 use Rattle.calls.proofs.not_special.Tie as tie
 

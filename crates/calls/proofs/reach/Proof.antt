@@ -1,8 +1,8 @@
 -- `calls::reach`: the law of the first questions.
-use borrow.Author.Needs.{needs}
-use Rattle.calls.proofs.Asks.{went-reached}
 use mathlib.Core.Path.{_∙_, ap}
 use mathlib.Core.Bool.{Bool}
+use borrow.Author.Needs.{needs}
+use Rattle.calls.proofs.Asks.{went-reached}
 use Rattle.base.specs.Out.{answer}
 use Rattle.calls.specs.Asked.{admitIf, firstOf}
 use Rattle.calls.proofs.reach.Statement.{statement}

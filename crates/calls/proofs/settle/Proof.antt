@@ -1,7 +1,7 @@
 -- `calls::settle`: by the reason.
+use mathlib.Core.Path.{_∙_, ap}
 use borrow.Author.Needs.{needs}
 use Rattle.calls.proofs.Answers.{after-done, after-refused}
-use mathlib.Core.Path.{_∙_, ap}
 use Rattle.calls.specs.Answers.{doneWith}
 use Rattle.calls.proofs.settle.Statement.{statement}
 use Rattle.calls.proofs.settle.Tie as tie
@@ -19,7 +19,10 @@ done-requires : tie.Need-done-requires
 done-requires c κs = search needs
 
 returns-2 : tie.Need-returns-2
-returns-2 c = c .done .ensures ∙ ap doneWith (c .before .table-at .ensures) ∙ after-done _ _ _ (c .before .before .if1 .left)
+returns-2 c =
+    c .done .ensures
+    ∙ ap doneWith (c .before .table-at .ensures)
+    ∙ after-done _ _ _ (c .before .before .if1 .left)
 
 pub settle-spec : {M : Type 1} → statement M
 settle-spec =

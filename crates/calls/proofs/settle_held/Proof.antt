@@ -1,7 +1,7 @@
 -- `calls::settle_held`: by the reason.
+use mathlib.Core.Path.{_∙_}
 use borrow.Author.Needs.{needs}
 use Rattle.calls.proofs.Answers.{given-held, given-refused}
-use mathlib.Core.Path.{_∙_}
 use Rattle.calls.proofs.settle_held.Statement.{statement}
 use Rattle.calls.proofs.settle_held.Tie as tie
 

@@ -1,7 +1,7 @@
 -- `calls_look::get_entry`: the first questions, then the slot.
 use mathlib.Core.Path.{sym, _∙_, ap}
 use mathlib.Core.List.{List}
-use Prim.Native.Nat.{ℕ, _-_}
+use Prim.Native.Nat.{ℕ}
 use lib.ListN.{length}
 use borrow.Author.Needs.{needs}
 use Rattle.base.specs.Out.{Out}
@@ -10,9 +10,6 @@ use Rattle.table.specs.Table.{rowAt}
 use Rattle.sefs.specs.Read.{callEntry}
 use Rattle.calls.specs.Answers.{answerOf, laid}
 use Rattle.calls.proofs.Asks.{call-stop, call-next}
-use Rattle.calls.specs.declared.Told.the-variants as tolds
-use Rattle.calls.specs.declared.Answer.the-variants as answers
-use Rattle.calls.specs.declared.Listed.the-variants as listeds
 use Rattle.calls_look.specs.Look.{entryIn}
 use Rattle.calls_look.proofs.Looks.{laid-answer, laid-out}
 use Rattle.table.specs.declared.Row.{Row}
@@ -24,7 +21,11 @@ reach-requires c κs = search needs
 
 returns : tie.Need-returns
 unfolding callEntry entryIn
-returns c = let s = c .before .before .before .before .before .args in let f : ℕ → Out (List ℕ) = λ i. entryIn (s .arena .now) (rowAt (s .t) i .rec) (s .k) (length (s .out .now)) in let e = call-stop (s .arena .now) (s .t) (s .h) f _ _ (c .before .before .reach .ensures) (c .if1 .taken) in (sym (ap answerOf e), sym (ap (laid (s .out .now)) e))
+returns c =
+    let s = c .before .before .before .before .before .args in
+    let f : ℕ → Out (List ℕ) = λ i. entryIn (s .arena .now) (rowAt (s .t) i .rec) (s .k) (length (s .out .now)) in
+    let e = call-stop (s .arena .now) (s .t) (s .h) f _ _ (c .before .before .reach .ensures) (c .if1 .taken) in
+    (sym (ap answerOf e), sym (ap (laid (s .out .now)) e))
 
 row-at-requires : tie.Need-row-at-requires
 row-at-requires c κs = went-has (c .before .before .reach .ensures) (c .if1 .left) .below
@@ -40,7 +41,15 @@ same-length c = search needs
 
 returns-2 : tie.Need-returns-2
 unfolding callEntry entryIn
-returns-2 c = let s = c .before .before .before .before .before .before .before .before .before .before .before .before .args in let f : ℕ → Out (List ℕ) = λ i. entryIn (s .arena .now) (rowAt (s .t) i .rec) (s .k) (length (s .out .now)) in let e = call-next (s .arena .now) (s .t) (s .h) f _ _ (c .before .before .before .before .before .before .before .before .before .reach .ensures) (c .before .before .before .before .before .before .before .if1 .left) in let L = c .before .before .before .entry-in .ensures in let w = c .before .before .before .before .before .before .row-at .ensures in (c .as-answer .ensures ∙ laid-answer L ∙ ap (λ (w : Row). answerOf (entryIn (s .arena .now) (w .rec) (s .k) (length (s .out .now)))) w ∙ sym (ap answerOf e), laid-out L ∙ ap (λ (w : Row). laid (s .out .now) (entryIn (s .arena .now) (w .rec) (s .k) (length (s .out .now)))) w ∙ sym (ap (laid (s .out .now)) e))
+returns-2 c =
+    let s = c .before .before .before .before .before .before .before .before .before .before .before .before .args in
+    let f : ℕ → Out (List ℕ) = λ i. entryIn (s .arena .now) (rowAt (s .t) i .rec) (s .k) (length (s .out .now)) in
+    let e = call-next (s .arena .now) (s .t) (s .h) f _ _ (c .before .before .before .before .before .before .before .before .before .reach .ensures) (c .before .before .before .before .before .before .before .if1 .left) in
+    let L = c .before .before .before .entry-in .ensures in
+    let w = c .before .before .before .before .before .before .row-at .ensures in (
+      c .as-answer .ensures ∙ laid-answer L ∙ ap (λ (w : Row). answerOf (entryIn (s .arena .now) (w .rec) (s .k) (length (s .out .now)))) w ∙ sym (ap answerOf e),
+      laid-out L ∙ ap (λ (w : Row). laid (s .out .now) (entryIn (s .arena .now) (w .rec) (s .k) (length (s .out .now)))) w ∙ sym (ap (laid (s .out .now)) e),
+    )
 
 pub get-entry-spec : {M : Type 1} → statement M
 get-entry-spec =

@@ -5,11 +5,7 @@ use native.Mathlib.Omega.{arith}
 use lib.ListN.{length}
 use borrow.Author.Needs.{needs}
 use Rattle.calls.specs.Answers.{listedOf, laid}
-use Rattle.calls.specs.declared.Told.the-variants as tolds
-use Rattle.calls.specs.declared.Answer.the-variants as answers
-use Rattle.calls.specs.declared.Listed.the-variants as listeds
-use Rattle.calls_look.proofs.Looks.{laid-out, laid-listed}
-use Rattle.calls_look.proofs.Looks.{list-in-stop, list-in-next}
+use Rattle.calls_look.proofs.Looks.{laid-out, laid-listed, list-in-stop, list-in-next}
 use Rattle.calls_look.proofs.list_in.Statement.{statement}
 use Rattle.calls_look.proofs.list_in.Tie as tie
 
@@ -17,7 +13,10 @@ list-ask-requires : tie.Need-list-ask-requires
 list-ask-requires c κs = search needs
 
 returns : tie.Need-returns
-returns c = let s = c .before .before .before .before .args in let e = list-in-stop (s .arena .now) (s .rec) (s .next) _ _ (c .before .list-ask .ensures) (c .if1 .taken) in (sym (ap listedOf e), sym (ap (laid (s .out .now)) e))
+returns c =
+    let s = c .before .before .before .before .args in
+    let e = list-in-stop (s .arena .now) (s .rec) (s .next) _ _ (c .before .list-ask .ensures) (c .if1 .taken) in
+    (sym (ap listedOf e), sym (ap (laid (s .out .now)) e))
 
 long-requires : tie.Need-long-requires
 long-requires c κs = search needs
@@ -38,7 +37,12 @@ same-length : tie.Need-same-length
 same-length c = search needs
 
 returns-2 : tie.Need-returns-2
-returns-2 c = let s = c .before .before .before .before .before .before .before .before .before .before .before .before .args in let m = c .before .before .before .before .before .least .result in let q : m ≡ min (s .rec .blocks - s .next) (length (s .out .now) / 264) = omega (arith, c .before .before .before .before .before .least .ensures, c .before .before .before .before .before .before .slots-left .ensures, c .before .before .before .before .before .before .before .long .ensures .0) in let L = list-in-next (s .arena .now) (s .rec) (s .next) (length (s .out .now)) _ (c .before .before .before .before .before .before .before .before .before .list-ask .ensures) m (c .before .before .before .before .before .before .before .before .if1 .left) q (c .before .before .before .list-some .ensures) in (c .as-listed .ensures ∙ laid-listed m refl L, laid-out L)
+returns-2 c =
+    let s = c .before .before .before .before .before .before .before .before .before .before .before .before .args in
+    let m = c .before .before .before .before .before .least .result in
+    let q : m ≡ min (s .rec .blocks - s .next) (length (s .out .now) / 264) = omega (arith, c .before .before .before .before .before .least .ensures, c .before .before .before .before .before .before .slots-left .ensures, c .before .before .before .before .before .before .before .long .ensures .0) in
+    let L = list-in-next (s .arena .now) (s .rec) (s .next) (length (s .out .now)) _ (c .before .before .before .before .before .before .before .before .before .list-ask .ensures) m (c .before .before .before .before .before .before .before .before .if1 .left) q (c .before .before .before .list-some .ensures) in
+    (c .as-listed .ensures ∙ laid-listed m refl L, laid-out L)
 
 pub list-in-spec : {M : Type 1} → statement M
 list-in-spec =

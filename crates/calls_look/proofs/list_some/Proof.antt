@@ -1,15 +1,13 @@
 -- `calls_look::list_some`: nothing, or the slots.
-use Prim.Native.Nat.{_-_}
 use borrow.Author.Needs.{needs}
-use Rattle.calls.specs.declared.Told.the-variants as tolds
-use Rattle.calls.specs.declared.Answer.the-variants as answers
-use Rattle.calls.specs.declared.Listed.the-variants as listeds
 use Rattle.calls_look.proofs.Lists.{write-none}
 use Rattle.calls_look.proofs.list_some.Statement.{statement}
 use Rattle.calls_look.proofs.list_some.Tie as tie
 
 returns : tie.Need-returns
-returns c = let s = c .before .before .before .args in write-none _ (s .rec) (s .next) _ (s .n) (c .if1 .taken)
+returns c =
+    let s = c .before .before .before .args in
+    write-none _ (s .rec) (s .next) _ (s .n) (c .if1 .taken)
 
 read-slots-requires : tie.Need-read-slots-requires
 read-slots-requires c κs = search needs

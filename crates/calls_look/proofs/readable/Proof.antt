@@ -1,11 +1,7 @@
 -- `calls_look::readable`: the type, and then 7.
 use mathlib.Core.Path.{_∙_}
-use Prim.Native.Nat.{_-_}
 use borrow.Author.Needs.{needs}
 use borrow.Author.Tests.{lt-leb, le-leb}
-use Rattle.calls.specs.declared.Told.the-variants as tolds
-use Rattle.calls.specs.declared.Answer.the-variants as answers
-use Rattle.calls.specs.declared.Listed.the-variants as listeds
 use Rattle.calls_look.proofs.Looks.{readable-stop, readable-next}
 use Rattle.calls_look.proofs.readable.Statement.{statement}
 use Rattle.calls_look.proofs.readable.Tie as tie

@@ -1,10 +1,6 @@
 -- `calls_look::size_of`: the test that its definition makes.
-use Prim.Native.Nat.{_-_}
 use borrow.Author.Needs.{needs}
 use borrow.Author.Tests.{eq-eqb, ne-eqb}
-use Rattle.calls.specs.declared.Told.the-variants as tolds
-use Rattle.calls.specs.declared.Answer.the-variants as answers
-use Rattle.calls.specs.declared.Listed.the-variants as listeds
 use Rattle.calls_look.proofs.size_of.Statement.{statement}
 use Rattle.calls_look.proofs.size_of.Tie as tie
 

@@ -1,11 +1,7 @@
 -- `calls_look::slots::is_ended`: the cases of a stored name.
 use mathlib.Core.Path.{sym, _∙_, ap}
-use Prim.Native.Nat.{_-_}
 use borrow.Author.Needs.{needs}
 use Rattle.sefs.specs.Slots.{isEnded}
-use Rattle.calls.specs.declared.Told.the-variants as tolds
-use Rattle.calls.specs.declared.Answer.the-variants as answers
-use Rattle.calls.specs.declared.Listed.the-variants as listeds
 use Rattle.calls_look.proofs.slots.is_ended.Statement.{statement}
 use Rattle.calls_look.proofs.slots.is_ended.Tie as tie
 

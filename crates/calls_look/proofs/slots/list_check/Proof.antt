@@ -6,9 +6,6 @@ use lib.ListN.{length}
 use Rattle.base.specs.Out.{done}
 use Rattle.overlay.specs.View.{view}
 use Rattle.sefs.specs.Read.{listTo}
-use Rattle.calls.specs.declared.Told.the-variants as tolds
-use Rattle.calls.specs.declared.Answer.the-variants as answers
-use Rattle.calls.specs.declared.Listed.the-variants as listeds
 use Rattle.calls_look.specs.Look.{whether}
 use Rattle.calls_look.proofs.Lists.{listTo-none, whether-next, whether-stop, whether-all}
 use Rattle.calls_look.proofs.slots.list_check.Statement.{statement}
@@ -21,19 +18,29 @@ abbrev μ-loop : tie.MeasureT-loop
 μ-loop arena work slot₀ rec next n k₀ slot k = n - k
 
 loop-holds : tie.Need-loop-holds Inv-loop μ-loop
-loop-holds c = (omega arith, refl, ap whether (listTo-none _ (c .before .before .before .args .rec) (c .before .before .before .args .next)))
+loop-holds c = (
+  omega arith,
+  refl,
+  ap whether (listTo-none _ (c .before .before .before .args .rec) (c .before .before .before .args .next)),
+)
 
 add-list-slot : tie.Need-add-list-slot Inv-loop μ-loop
 add-list-slot c = omega arith
 
 list-slot-requires : tie.Need-list-slot-requires Inv-loop μ-loop
-list-slot-requires c κs = let p = c .before .before .before .before .before .before .pre in (p .0, (omega arith, c .before .before .loop .inv .1 ∙ p .1 .1))
+list-slot-requires c κs =
+    let p = c .before .before .before .before .before .before .pre in
+    (p .0, (omega arith, c .before .before .loop .inv .1 ∙ p .1 .1))
 
 same-length : tie.Need-same-length Inv-loop μ-loop
-same-length c = c .before .before .before .list-slot .kept .1 .1 .1 .1 .0 ∙ c .before .before .before .before .before .before .loop .inv .1
+same-length c =
+    c .before .before .before .list-slot .kept .1 .1 .1 .1 .0
+    ∙ c .before .before .before .before .before .before .loop .inv .1
 
 returns : tie.Need-returns Inv-loop μ-loop
-returns c = let s = c .before .before .before .before .before .before .before .before .before .before .args in whether-stop _ (s .rec) (s .next) (s .n) _ (c .before .before .before .before .before .loop-test .taken) (c .before .before .before .before .before .before .loop .inv .2) (c .before .before .before .list-slot .ensures) (c .if1 .taken)
+returns c =
+    let s = c .before .before .before .before .before .before .before .before .before .before .args in
+    whether-stop _ (s .rec) (s .next) (s .n) _ (c .before .before .before .before .before .loop-test .taken) (c .before .before .before .before .before .before .loop .inv .2) (c .before .before .before .list-slot .ensures) (c .if1 .taken)
 
 add-k : tie.Need-add-k Inv-loop μ-loop
 add-k c = omega arith
@@ -42,13 +49,20 @@ loop-less : tie.Need-loop-less Inv-loop μ-loop
 loop-less c = omega arith
 
 loop-again : tie.Need-loop-again Inv-loop μ-loop
-loop-again c = let s = c .before .before .before .before .before .before .before .before .before .before .args in (omega arith, c .before .before .before .list-slot .kept .1 .1 .1 .1 .0 ∙ c .before .before .before .before .before .before .loop .inv .1, whether-next _ (s .rec) (s .next) _ (c .before .before .before .before .before .before .loop .inv .2) (c .before .before .before .list-slot .ensures) (c .if1 .left))
+loop-again c =
+    let s = c .before .before .before .before .before .before .before .before .before .before .args in (
+      omega arith,
+      c .before .before .before .list-slot .kept .1 .1 .1 .1 .0 ∙ c .before .before .before .before .before .before .loop .inv .1,
+      whether-next _ (s .rec) (s .next) _ (c .before .before .before .before .before .before .loop .inv .2) (c .before .before .before .list-slot .ensures) (c .if1 .left),
+    )
 
 same-length-2 : tie.Need-same-length-2 Inv-loop μ-loop
 same-length-2 c = c .before .loop .inv .1
 
 returns-2 : tie.Need-returns-2 Inv-loop μ-loop
-returns-2 c = let s = c .before .before .before .before .before .args in whether-all _ (s .rec) (s .next) (s .n) (c .before .loop .k) (omega arith) (c .before .loop .inv .2)
+returns-2 c =
+    let s = c .before .before .before .before .before .args in
+    whether-all _ (s .rec) (s .next) (s .n) (c .before .loop .k) (omega arith) (c .before .loop .inv .2)
 
 pub list-check-spec : {M : Type 1} → statement M
 list-check-spec =

@@ -1,9 +1,5 @@
 -- `calls_look::slots::list_slot`: the named slot, and then its type.
-use Prim.Native.Nat.{_-_}
 use borrow.Author.Needs.{needs}
-use Rattle.calls.specs.declared.Told.the-variants as tolds
-use Rattle.calls.specs.declared.Answer.the-variants as answers
-use Rattle.calls.specs.declared.Listed.the-variants as listeds
 use Rattle.calls_look.proofs.Lists.{list-stop, list-done, list-stuck}
 use Rattle.calls_look.proofs.slots.list_slot.Statement.{statement}
 use Rattle.calls_look.proofs.slots.list_slot.Tie as tie
@@ -15,7 +11,9 @@ same-length : tie.Need-same-length
 same-length c = search needs
 
 returns : tie.Need-returns
-returns c = let s = c .before .before .before .before .before .before .before .before .args in list-stop _ (s .rec) (s .k) (c .before .before .before .named-slot .ensures) (c .if1 .taken)
+returns c =
+    let s = c .before .before .before .before .before .before .before .before .args in
+    list-stop _ (s .rec) (s .k) (c .before .before .before .named-slot .ensures) (c .if1 .taken)
 
 u32-at-requires : tie.Need-u32-at-requires
 u32-at-requires c κs = search needs
@@ -24,13 +22,17 @@ same-length-2 : tie.Need-same-length-2
 same-length-2 c = search needs
 
 returns-2 : tie.Need-returns-2
-returns-2 c = let s = c .before .before .before .before .before .before .before .before .before .before .before .args in list-stuck _ (s .rec) (s .k) (c .before .before .before .before .before .before .named-slot .ensures) _ (c .before .before .before .if1 .left) (c .before .u32-at .ensures) (c .if2 .taken)
+returns-2 c =
+    let s = c .before .before .before .before .before .before .before .before .before .before .before .args in
+    list-stuck _ (s .rec) (s .k) (c .before .before .before .before .before .before .named-slot .ensures) _ (c .before .before .before .if1 .left) (c .before .u32-at .ensures) (c .if2 .taken)
 
 same-length-3 : tie.Need-same-length-3
 same-length-3 c = search needs
 
 returns-3 : tie.Need-returns-3
-returns-3 c = let s = c .before .before .before .before .before .before .before .before .before .before .before .args in list-done _ (s .rec) (s .k) (c .before .before .before .before .before .before .named-slot .ensures) _ (c .before .before .before .if1 .left) (c .before .u32-at .ensures) (c .if2 .left)
+returns-3 c =
+    let s = c .before .before .before .before .before .before .before .before .before .before .before .args in
+    list-done _ (s .rec) (s .k) (c .before .before .before .before .before .before .named-slot .ensures) _ (c .before .before .before .if1 .left) (c .before .u32-at .ensures) (c .if2 .left)
 
 pub list-slot-spec : {M : Type 1} → statement M
 list-slot-spec =

@@ -5,9 +5,6 @@ use native.Mathlib.Omega.{arith}
 use lib.ListN.{length}
 use Rattle.overlay.specs.View.{view}
 use Rattle.sefs.specs.Read.{listTo}
-use Rattle.calls.specs.declared.Told.the-variants as tolds
-use Rattle.calls.specs.declared.Answer.the-variants as answers
-use Rattle.calls.specs.declared.Listed.the-variants as listeds
 use Rattle.calls_look.proofs.Lists.{write-none, write-next, write-all, laid-length}
 use Rattle.calls_look.specs.Look.{Laid}
 use Rattle.base.proofs.Lists.{length-part}
@@ -42,7 +39,11 @@ part-slot-bytes-end : tie.Need-part-slot-bytes-end Inv-loop μ-loop
 part-slot-bytes-end c = omega arith
 
 slot-bytes-requires : tie.Need-slot-bytes-requires Inv-loop μ-loop
-slot-bytes-requires c κs = let k = c .before .before .loop .k in (c .before .before .before .before .before .before .pre .0 .0, (omega arith, length-part (c .before .before .loop .out) (264 * k) (264 * k + 264) (omega arith) (omega arith) ∙ omega arith))
+slot-bytes-requires c κs =
+    let k = c .before .before .loop .k in (
+      c .before .before .before .before .before .before .pre .0 .0,
+      (omega arith, length-part (c .before .before .loop .out) (264 * k) (264 * k + 264) (omega arith) (omega arith) ∙ omega arith),
+    )
 
 add-k : tie.Need-add-k Inv-loop μ-loop
 add-k c = omega arith
@@ -51,13 +52,18 @@ loop-less : tie.Need-loop-less Inv-loop μ-loop
 loop-less c = omega arith
 
 loop-again : tie.Need-loop-again Inv-loop μ-loop
-loop-again c = let s = c .before .before .before .before .before .before .before .before .before in let N = write-next _ (s .args .rec) (s .args .next) (s .args .out .now) (s .args .n) (c .before .before .before .before .before .loop .k) (c .before .before .before .before .loop-test .taken) (s .pre .0 .1 .1) (s .pre .1) (c .before .before .before .before .before .loop .inv .1 .1) (c .before .before .slot-bytes .ensures) in (omega arith, (laid-length (omega arith) N, N))
+loop-again c =
+    let s = c .before .before .before .before .before .before .before .before .before in
+    let N = write-next _ (s .args .rec) (s .args .next) (s .args .out .now) (s .args .n) (c .before .before .before .before .before .loop .k) (c .before .before .before .before .loop-test .taken) (s .pre .0 .1 .1) (s .pre .1) (c .before .before .before .before .before .loop .inv .1 .1) (c .before .before .slot-bytes .ensures) in
+    (omega arith, (laid-length (omega arith) N, N))
 
 same-length : tie.Need-same-length Inv-loop μ-loop
 same-length c = c .before .loop .inv .1 .0
 
 returns : tie.Need-returns Inv-loop μ-loop
-returns c = let s = c .before .before .before .before .before .args in write-all _ (s .rec) (s .next) _ (s .n) (c .before .loop .k) (omega arith) (c .before .loop .inv .1 .1)
+returns c =
+    let s = c .before .before .before .before .before .args in
+    write-all _ (s .rec) (s .next) _ (s .n) (c .before .loop .k) (omega arith) (c .before .loop .inv .1 .1)
 
 pub list-write-spec : {M : Type 1} → statement M
 list-write-spec =

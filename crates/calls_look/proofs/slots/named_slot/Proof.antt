@@ -1,10 +1,6 @@
 -- `calls_look::slots::named_slot`: the bytes, and then the name.
 use mathlib.Core.Path.{sym, _∙_}
-use Prim.Native.Nat.{_-_}
 use borrow.Author.Needs.{needs}
-use Rattle.calls.specs.declared.Told.the-variants as tolds
-use Rattle.calls.specs.declared.Answer.the-variants as answers
-use Rattle.calls.specs.declared.Listed.the-variants as listeds
 use Rattle.calls_look.proofs.Lists.{named-stop, named-done, named-stuck}
 use Rattle.calls_look.proofs.slots.named_slot.Statement.{statement}
 use Rattle.calls_look.proofs.slots.named_slot.Tie as tie
@@ -16,7 +12,9 @@ same-length : tie.Need-same-length
 same-length c = search needs
 
 returns : tie.Need-returns
-returns c = let s = c .before .before .before .before .before .before .before .before .args in named-stop _ (s .rec) (s .k) (c .before .before .before .slot-bytes .ensures) (c .if1 .taken)
+returns c =
+    let s = c .before .before .before .before .before .before .before .before .args in
+    named-stop _ (s .rec) (s .k) (c .before .before .before .slot-bytes .ensures) (c .if1 .taken)
 
 sub-is-ended : tie.Need-sub-is-ended
 sub-is-ended c = search needs
@@ -34,13 +32,17 @@ same-length-2 : tie.Need-same-length-2
 same-length-2 c = search needs
 
 returns-2 : tie.Need-returns-2
-returns-2 c = let s = c .before .before .before .before .before .before .before .before .before .before .before .before .args in named-done _ (s .rec) (s .k) (c .before .before .before .before .before .before .before .slot-bytes .ensures) (c .before .before .before .before .if1 .left) (sym (c .before .is-ended .ensures) ∙ c .if2 .taken)
+returns-2 c =
+    let s = c .before .before .before .before .before .before .before .before .before .before .before .before .args in
+    named-done _ (s .rec) (s .k) (c .before .before .before .before .before .before .before .slot-bytes .ensures) (c .before .before .before .before .if1 .left) (sym (c .before .is-ended .ensures) ∙ c .if2 .taken)
 
 same-length-3 : tie.Need-same-length-3
 same-length-3 c = search needs
 
 returns-3 : tie.Need-returns-3
-returns-3 c = let s = c .before .before .before .before .before .before .before .before .before .before .before .before .args in named-stuck _ (s .rec) (s .k) (c .before .before .before .before .before .before .before .slot-bytes .ensures) (c .before .before .before .before .if1 .left) (sym (c .before .is-ended .ensures) ∙ c .if2 .left)
+returns-3 c =
+    let s = c .before .before .before .before .before .before .before .before .before .before .before .before .args in
+    named-stuck _ (s .rec) (s .k) (c .before .before .before .before .before .before .before .slot-bytes .ensures) (c .before .before .before .before .if1 .left) (sym (c .before .is-ended .ensures) ∙ c .if2 .left)
 
 pub named-slot-spec : {M : Type 1} → statement M
 named-slot-spec =
