@@ -36,14 +36,7 @@ pub fn file_length<'a>(arena: &'a [u8], work: &'a [u8], which: u8, name: &[u8]) 
 }
 
 // The bytes of one block of the file from p on, as many as out takes.
-fn read_part<'a>(
-    arena: &'a [u8],
-    work: &'a [u8],
-    which: u8,
-    name: &[u8],
-    p: usize,
-    out: &mut [u8],
-)
+fn read_part<'a>(arena: &'a [u8], work: &'a [u8], which: u8, name: &[u8], p: usize, out: &mut [u8])
     requires { ⌜ Fine (now arena) (now work) × (length (now name) ≡ 16) ⌝ }
     requires { ⌜ (p ≤ 4294967295) × (p % 480 + length (now out) ≤ 480) ⌝ }
     ensures { λ _. ⌜ now (out .exit) ≡ tab (byteAt (view (now (arena .entry)) (now (work .entry))) (file which (now (name .entry)))) p (length (now (out .entry))) ⌝ }
@@ -60,14 +53,7 @@ fn read_part<'a>(
 }
 
 // A run that is known to lie below the length, block by block.
-fn read_run<'a>(
-    arena: &'a [u8],
-    work: &'a [u8],
-    which: u8,
-    name: &[u8],
-    pos: usize,
-    out: &mut [u8],
-)
+fn read_run<'a>(arena: &'a [u8], work: &'a [u8], which: u8, name: &[u8], pos: usize, out: &mut [u8])
     requires { ⌜ Fine (now arena) (now work) × (length (now name) ≡ 16) ⌝ }
     requires { ⌜ pos + length (now out) ≤ 4294967295 ⌝ }
     ensures { λ _. ⌜ now (out .exit) ≡ tab (byteAt (view (now (arena .entry)) (now (work .entry))) (file which (now (name .entry)))) pos (length (now (out .entry))) ⌝ }

@@ -58,8 +58,7 @@ fn write_new(
     number: u32,
     off: usize,
     src: &[u8],
-) -> u8
-{
+) -> u8 {
     let mut b = [0u8; 512];
     make_block(&mut b, 2, which, name, number);
     let s = 24 + off;
@@ -121,14 +120,7 @@ fn put_block(
 }
 
 // The blocks that src touches, in rising order. A run of at most 480 bytes touches two at the most.
-fn put_blocks(
-    arena: &[u8],
-    work: &mut [u8],
-    which: u8,
-    name: &[u8],
-    pos: usize,
-    src: &[u8],
-) -> u8 {
+fn put_blocks(arena: &[u8], work: &mut [u8], which: u8, name: &[u8], pos: usize, src: &[u8]) -> u8 {
     let first = pos / 480;
     let last = (pos + src.len() - 1) / 480;
     let r = put_block(arena, work, which, name, pos, src, first);

@@ -1,0 +1,48 @@
+-- A folder's slots, read (000's read_direntry and the lookups).
+use mathlib.Core.Bool.{Bool, true, false, not, _&&_}
+use mathlib.Core.List.{List}
+use Prim.Native.Nat.{ℕ, zero, suc, _+_, _*_}
+use lib.Dec.{eqb, ltb, leb}
+use Rattle.base.specs.Out.{Out, done, refused, bind, guard, _>>=_}
+use Rattle.base.specs.Reasons.{stuck}
+use Rattle.base.specs.Search.{pick, foundBelow}
+use Rattle.base.specs.declared.Found.{Found}
+use Rattle.structs.specs.Layout.{entryOf}
+use Rattle.structs.specs.declared.DiskEntry.{DiskEntry}
+use Rattle.structs.specs.declared.DiskINode.{DiskINode}
+use Rattle.utf8.specs.Names.{storedName, isNamed}
+use Rattle.utf8.specs.declared.StoredName.{StoredName}
+use Rattle.utf8.specs.declared.StoredName.the-variants.{Ended, Broken}
+use Rattle.files.specs.Read.{readFile}
+use Rattle.nodes.specs.Nodes.{nodeFile}
+
+-- the 264 bytes of slot k. "A type above 4 read" sticks, whoever reads it
+unfoldable pub slotBytes : List ℕ → DiskINode → ℕ → Out (List ℕ)
+slotBytes a r k = do
+  l ← readFile a (nodeFile r) (264 * k) 264
+  guard (leb (entryOf l .kind) 4) stuck (done l)
+
+-- the name is ended and is UTF-8
+abbrev pub isEnded : StoredName → Bool
+isEnded (Ended n) = true
+isEnded Broken = false
+
+-- slot k, where its name is looked at: "a stored name with no zero or not UTF-8" sticks
+unfoldable pub slotAt : List ℕ → DiskINode → ℕ → Out DiskEntry
+slotAt a r k = do
+  l ← slotBytes a r k
+  guard (isEnded (storedName (entryOf l .name))) stuck (done (entryOf l))
+
+-- "Lookup reads slots in order; the empty name means `.`": the lowest of the first n slots with that name, or n. Slots after it are not read
+unfoldable pub lookTo : List ℕ → DiskINode → List ℕ → ℕ → Out ℕ
+lookTo a r name zero = done 0
+lookTo a r name (suc n) = do
+  k ← lookTo a r name n
+  pick (ltb k n) (done k) (do
+    e ← slotAt a r n
+    done (pick (isNamed (e .name) name) n (suc n)))
+
+unfoldable pub lookup : List ℕ → DiskINode → List ℕ → Out Found
+lookup a r name = do
+  k ← lookTo a r name (r .blocks)
+  done (foundBelow k (r .blocks))

@@ -1,0 +1,72 @@
+// Whether an arena is sound, in time that grows with its length: one pass joins each block to the chain of its hash and looks for its
+// key there, and one looks for the head of each data block.
+mod block;
+pub mod chain;
+
+ghost use mathlib.Core.Path.{_≡_};
+ghost use mathlib.Core.Bool.{true};
+ghost use Prim.Native.Nat.{ℕ, _≤_, _<_};
+ghost use lib.ListN.{length, getD};
+ghost use Rattle.base.specs.Count.{allTo};
+ghost use Rattle.arena.specs.Blocks.{blocks};
+ghost use Rattle.sound.specs.Sound.{under, sound as soundArena};
+ghost use Rattle.sound.specs.Chain.{Chains, alone};
+use chain::add_block;
+use chain::under_at;
+
+// Every block by itself and no key twice; the chains of all blocks.
+fn all_alone(arena: &[u8], first: &mut [u16], next: &mut [u16]) -> bool
+    requires { ⌜ (blocks (now arena) ≤ 4096) × ((length (now first) ≡ 4096) × (length (now next) ≡ 4096)) ⌝ }
+    requires { ⌜ ((h : ℕ) → h < 4096 → getD (now first) h 0 ≡ 0) ⌝ }
+    ensures { λ r. ⌜ r ≡ allTo (alone (now (arena .entry))) (blocks (now (arena .entry))) ⌝ }
+    ensures { λ r. ⌜ (r ≡ true → Chains (now (arena .entry)) (now (first .exit)) (now (next .exit)) (blocks (now (arena .entry)))) ⌝ }
+{
+    let n = arena.len() / 512;
+    let mut k: usize = 0;
+    while k < n {
+        if !add_block(arena, first, next, k) {
+            return false;
+        }
+        k = k + 1;
+    }
+    true
+}
+
+// Every data block under its head.
+fn all_under(arena: &[u8], first: &[u16], next: &[u16]) -> bool
+    requires { ⌜ (blocks (now arena) ≤ 4096) × ((length (now first) ≡ 4096) × (length (now next) ≡ 4096)) ⌝ }
+    requires { ⌜ Chains (now arena) (now first) (now next) (blocks (now arena)) ⌝ }
+    requires { ⌜ allTo (alone (now arena)) (blocks (now arena)) ≡ true ⌝ }
+    ensures { λ r. ⌜ r ≡ allTo (under (now (arena .entry))) (blocks (now (arena .entry))) ⌝ }
+{
+    let n = arena.len() / 512;
+    let mut k: usize = 0;
+    while k < n {
+        if !under_at(arena, first, next, k) {
+            return false;
+        }
+        k = k + 1;
+    }
+    true
+}
+
+pub fn sound_in(arena: &[u8], first: &mut [u16], next: &mut [u16]) -> bool
+    requires { ⌜ (blocks (now arena) ≤ 4096) × ((length (now first) ≡ 4096) × (length (now next) ≡ 4096)) ⌝ }
+    requires { ⌜ ((h : ℕ) → h < 4096 → getD (now first) h 0 ≡ 0) ⌝ }
+    ensures { λ r. ⌜ r ≡ soundArena (now (arena .entry)) ⌝ }
+{
+    if !all_alone(arena, first, next) {
+        return false;
+    }
+    all_under(arena, &first[..], &next[..])
+}
+
+// Whether the arena is sound. A caller has tested that its length is legal.
+pub fn sound(arena: &[u8]) -> bool
+    requires { ⌜ blocks (now arena) ≤ 4096 ⌝ }
+    ensures { λ r. ⌜ r ≡ soundArena (now (arena .entry)) ⌝ }
+{
+    let mut first = [0u16; 4096];
+    let mut next = [0u16; 4096];
+    sound_in(arena, &mut first, &mut next)
+}
