@@ -101,8 +101,13 @@ fn move_dots(mem: &mut [u8], i: usize, j: usize) -> u8 {
     nlinks_inc(mem, j)
 }
 
+// The moved node's type is looked at.
 fn move_links(mem: &mut [u8], i: usize, j: usize, c: usize) -> u8 {
-    if rec_at(&mem[..], c).kind == 2 {
+    let kind = rec_at(&mem[..], c).kind;
+    if kind > 4 {
+        return 19;
+    }
+    if kind == 2 {
         return move_dots(mem, i, j);
     }
     0

@@ -55,8 +55,11 @@ fn unlink_ask(rec: DiskINode, name: &[u8]) -> u8 {
     unlink_name(name)
 }
 
-// A folder has at least 2 slots, and here no more.
+// The type is looked at. A folder has at least 2 slots, and here no more.
 fn not_full(rec: DiskINode) -> u8 {
+    if rec.kind > 4 {
+        return 19;
+    }
     if rec.kind != 2 {
         return 0;
     }
