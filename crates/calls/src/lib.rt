@@ -171,10 +171,63 @@ pub struct ByHandle {
     pub row: usize,
 }
 
+fn no_handle(reason: u8) -> ByHandle {
+    ByHandle {
+        reason: reason,
+        row: 0,
+    }
+}
+
 pub fn by_handle(t: Table, h: Handle) -> ByHandle {
     let f = table::live(t, h);
     match f {
         Found::At(i) => ByHandle { reason: 0, row: i },
-        Found::Nothing => ByHandle { reason: 4, row: 0 },
+        Found::Nothing => no_handle(4),
     }
+}
+
+// 1, 2, 3, 4.
+pub fn admit_by(arena: &[u8], t: Table, h: Handle) -> ByHandle {
+    let r = admit(arena, t);
+    if r != 0 {
+        return no_handle(r);
+    }
+    by_handle(t, h)
+}
+
+// The rows of two handles, where the reason is 0.
+pub struct ByHandles {
+    pub reason: u8,
+    pub row: usize,
+    pub other: usize,
+}
+
+fn no_handles(reason: u8) -> ByHandles {
+    ByHandles {
+        reason: reason,
+        row: 0,
+        other: 0,
+    }
+}
+
+pub fn admit_two(arena: &[u8], t: Table, h: Handle, other: Handle) -> ByHandles {
+    let a = admit_by(arena, t, h);
+    if a.reason != 0 {
+        return no_handles(a.reason);
+    }
+    let b = by_handle(t, other);
+    if b.reason != 0 {
+        return no_handles(b.reason);
+    }
+    ByHandles {
+        reason: 0,
+        row: a.row,
+        other: b.row,
+    }
+}
+
+// The record in row i.
+pub fn rec_of(t: Table, i: usize) -> DiskINode {
+    let row = table::row_at(t, i);
+    row.rec
 }

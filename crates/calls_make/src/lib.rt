@@ -1,16 +1,19 @@
 // Calls that make: format, create, link. Each decides on a view of the arena, and commits once nothing can refuse it any more.
 use base::Found;
 use calls::After;
+use calls::ByHandle;
+use calls::ByHandles;
 use calls::Given;
 use calls::Got;
-use calls::admit;
-use calls::by_handle;
+use calls::admit_by;
+use calls::admit_two;
 use calls::done;
 use calls::good_name;
 use calls::known;
 use calls::live_folder;
 use calls::not_given;
 use calls::not_long;
+use calls::rec_of;
 use calls::refused;
 use files::read::there;
 use files::store::cut;
@@ -39,7 +42,6 @@ use structs::Timespec;
 use table::Handle;
 use table::Table;
 use table::can_hold;
-use table::row_at;
 
 // What a new node is to be.
 pub struct New {
@@ -60,8 +62,9 @@ fn clear_all(work: &mut [u8], n: usize) {
     }
 }
 
-// What is in memory before the root is made: one group, bits 0 and 1 clear.
+// What is in memory before the root is made: no node open, one group, bits 0 and 1 clear.
 fn fresh_meta(mem: &mut [u8]) {
+    put_table(mem, table::empty());
     put_has(mem, true);
     put_super(
         mem,
@@ -133,14 +136,11 @@ fn format_steps(
     fill_root(arena, work, mem, o.row)
 }
 
-fn format_in(arena: &mut [u8], time: Timespec, file: [u8; 16]) -> u8 {
+fn format_in(arena: &mut [u8], mem: &mut [u8], time: Timespec, file: [u8; 16]) -> u8 {
     let mut work = [0u8; 20480];
-    let mut mem = [0u8; 4899];
     overlay::begin(&mut work);
     clear_all(&mut work, arena.len() / 512);
-    put_table(&mut mem, table::empty());
-    fresh_meta(&mut mem);
-    let r = format_steps(&arena[..], &mut work, &mut mem, time, file);
+    let r = format_steps(&arena[..], &mut work, mem, time, file);
     if r != 0 {
         return r;
     }
@@ -153,7 +153,9 @@ pub fn format(arena: &mut [u8], time: Timespec, file: [u8; 16]) -> After {
     if !arena::legal(&arena[..]) {
         return refused(t, 1);
     }
-    let r = format_in(arena, time, file);
+    let mut mem = [0u8; 4899];
+    fresh_meta(&mut mem);
+    let r = format_in(arena, &mut mem, time, file);
     if r != 0 {
         return refused(t, r);
     }
@@ -347,8 +349,9 @@ fn create_decide(
     create_steps(arena, work, mem, i, name, new)
 }
 
-fn held(t: Table, row: usize) -> Given {
-    let a = table::add_hold(t, row as u32);
+// The table as memory has it, with a hold on the row.
+fn held(mem: &[u8], row: usize) -> Given {
+    let a = table::add_hold(table_at(mem), row as u32);
     let h = a.handle;
     let u = a.table;
     Given {
@@ -357,36 +360,49 @@ fn held(t: Table, row: usize) -> Given {
     }
 }
 
-fn create_in(arena: &mut [u8], t: Table, i: usize, name: &[u8], new: New) -> Given {
+fn create_in(
+    arena: &mut [u8],
+    mem: &mut [u8],
+    i: usize,
+    name: &[u8],
+    new: New,
+    room: bool,
+) -> Opened {
     let mut work = [0u8; 20480];
-    let mut mem = [0u8; 4899];
     overlay::begin(&mut work);
-    put_table(&mut mem, t);
-    load_meta(&arena[..], &work, &mut mem);
-    let o = create_decide(&arena[..], &mut work, &mut mem, i, name, new, can_hold(t));
+    load_meta(&arena[..], &work, mem);
+    let o = create_decide(&arena[..], &mut work, mem, i, name, new, room);
     if o.reason != 0 {
-        return not_given(t, o.reason);
+        return o;
     }
     overlay::commit(arena, &work);
-    held(table_at(&mem), o.row)
+    o
+}
+
+// All that is asked before the folder's slots are looked at.
+fn create_admit(arena: &[u8], t: Table, h: Handle, name: &[u8], kind: u32) -> ByHandle {
+    let b = admit_by(arena, t, h);
+    if b.reason != 0 {
+        return b;
+    }
+    ByHandle {
+        reason: create_ask(rec_of(t, b.row), name, kind),
+        row: b.row,
+    }
 }
 
 pub fn create(arena: &mut [u8], t: Table, h: Handle, name: &[u8], new: New) -> Given {
-    let r = admit(&arena[..], t);
-    if r != 0 {
-        return not_given(t, r);
-    }
-    let b = by_handle(t, h);
+    let b = create_admit(&arena[..], t, h, name, new.kind);
     if b.reason != 0 {
         return not_given(t, b.reason);
     }
-    let row = row_at(t, b.row);
-    let rec = row.rec;
-    let r = create_ask(rec, name, new.kind);
-    if r != 0 {
-        return not_given(t, r);
+    let mut mem = [0u8; 4899];
+    put_table(&mut mem, t);
+    let o = create_in(arena, &mut mem, b.row, name, new, can_hold(t));
+    if o.reason != 0 {
+        return not_given(t, o.reason);
     }
-    create_in(arena, t, b.row, name, new)
+    held(&mem, o.row)
 }
 
 // ---- link: 7, 8, 10, 12, 9 (child a folder), 15, then the steps: slot, child's record, folder's record
@@ -464,37 +480,39 @@ fn link_decide(
     link_steps(arena, work, mem, i, name, c)
 }
 
-fn link_in(arena: &mut [u8], t: Table, i: usize, name: &[u8], c: usize) -> After {
-    let mut work = [0u8; 20480];
-    let mut mem = [0u8; 4899];
+fn link_in(arena: &mut [u8], mem: &mut [u8], i: usize, name: &[u8], c: usize) -> u8 {
+    let mut work = [0u8; 10240];
     overlay::begin(&mut work);
-    put_table(&mut mem, t);
-    let r = link_decide(&arena[..], &mut work, &mut mem, i, name, c);
+    let r = link_decide(&arena[..], &mut work, mem, i, name, c);
     if r != 0 {
-        return refused(t, r);
+        return r;
     }
     overlay::commit(arena, &work);
-    done(table_at(&mem))
+    0
+}
+
+fn link_admit(arena: &[u8], t: Table, h: Handle, name: &[u8], child: Handle) -> ByHandles {
+    let b = admit_two(arena, t, h, child);
+    if b.reason != 0 {
+        return b;
+    }
+    ByHandles {
+        reason: link_ask(rec_of(t, b.row), name),
+        row: b.row,
+        other: b.other,
+    }
 }
 
 pub fn link(arena: &mut [u8], t: Table, h: Handle, name: &[u8], child: Handle) -> After {
-    let r = admit(&arena[..], t);
-    if r != 0 {
-        return refused(t, r);
-    }
-    let b = by_handle(t, h);
+    let b = link_admit(&arena[..], t, h, name, child);
     if b.reason != 0 {
         return refused(t, b.reason);
     }
-    let c = by_handle(t, child);
-    if c.reason != 0 {
-        return refused(t, c.reason);
-    }
-    let row = row_at(t, b.row);
-    let rec = row.rec;
-    let r = link_ask(rec, name);
+    let mut mem = [0u8; 4899];
+    put_table(&mut mem, t);
+    let r = link_in(arena, &mut mem, b.row, name, b.other);
     if r != 0 {
         return refused(t, r);
     }
-    link_in(arena, t, b.row, name, c.row)
+    done(table_at(&mem))
 }

@@ -9,13 +9,14 @@ use calls::Metadata;
 use calls::Told;
 use calls::admit;
 use calls::admit_arena;
-use calls::by_handle;
+use calls::admit_by;
 use calls::done;
 use calls::folder;
 use calls::good_name;
 use calls::known;
 use calls::not_given;
 use calls::not_long;
+use calls::rec_of;
 use calls::refused;
 use folders::slots::find_slot;
 use folders::slots::slot_at;
@@ -23,6 +24,7 @@ use le::u32_at;
 use mem::put_table;
 use mem::super_at;
 use mem::table_at;
+use nodes::Opened;
 use nodes::get_node;
 use nodes::meta::load_maps;
 use nodes::meta::load_meta;
@@ -86,8 +88,9 @@ pub fn open(arena: &[u8]) -> After {
 
 // ---- root and find
 
-fn held(t: Table, row: usize) -> Given {
-    let a = add_hold(t, row as u32);
+// The table as memory has it, with a hold on the row.
+fn held(mem: &[u8], row: usize) -> Given {
+    let a = add_hold(table_at(mem), row as u32);
     let h = a.handle;
     let u = a.table;
     Given {
@@ -96,18 +99,22 @@ fn held(t: Table, row: usize) -> Given {
     }
 }
 
+fn open_node(arena: &[u8], mem: &mut [u8], id: u32) -> Opened {
+    let mut work = [0u8; 5120];
+    overlay::begin(&mut work);
+    load_meta(arena, &work, mem);
+    get_node(arena, &work, mem, id)
+}
+
 // A node opened with a hold of its own.
 fn hold_node(arena: &[u8], t: Table, id: u32) -> Given {
-    let mut work = [0u8; 5120];
     let mut mem = [0u8; 4899];
-    overlay::begin(&mut work);
     put_table(&mut mem, t);
-    load_meta(arena, &work, &mut mem);
-    let o = get_node(arena, &work, &mut mem, id);
+    let o = open_node(arena, &mut mem, id);
     if o.reason != 0 {
         return not_given(t, o.reason);
     }
-    held(table_at(&mem), o.row)
+    held(&mem, o.row)
 }
 
 fn hold_new(arena: &[u8], t: Table, id: u32) -> Given {
@@ -174,28 +181,35 @@ fn find_id(arena: &[u8], rec: DiskINode, name: &[u8]) -> Named {
     }
 }
 
-fn find_in(arena: &[u8], t: Table, rec: DiskINode, name: &[u8]) -> Given {
+fn not_named(reason: u8) -> Named {
+    Named {
+        reason: reason,
+        id: 0,
+    }
+}
+
+fn find_in(arena: &[u8], rec: DiskINode, name: &[u8]) -> Named {
     let r = find_ask(rec, name);
     if r != 0 {
-        return not_given(t, r);
+        return not_named(r);
     }
-    let n = find_id(arena, rec, name);
+    find_id(arena, rec, name)
+}
+
+fn find_admit(arena: &[u8], t: Table, h: Handle, name: &[u8]) -> Named {
+    let b = admit_by(arena, t, h);
+    if b.reason != 0 {
+        return not_named(b.reason);
+    }
+    find_in(arena, rec_of(t, b.row), name)
+}
+
+pub fn find(arena: &[u8], t: Table, h: Handle, name: &[u8]) -> Given {
+    let n = find_admit(arena, t, h, name);
     if n.reason != 0 {
         return not_given(t, n.reason);
     }
     hold_new(arena, t, n.id)
-}
-
-pub fn find(arena: &[u8], t: Table, h: Handle, name: &[u8]) -> Given {
-    let r = admit(arena, t);
-    if r != 0 {
-        return not_given(t, r);
-    }
-    let b = by_handle(t, h);
-    if b.reason != 0 {
-        return not_given(t, b.reason);
-    }
-    find_in(arena, t, row_at(t, b.row).rec, name)
 }
 
 // ---- metadata
@@ -236,11 +250,7 @@ fn tell(id: u32, rec: DiskINode) -> Told {
 }
 
 pub fn metadata(arena: &[u8], t: Table, h: Handle) -> Told {
-    let r = admit(arena, t);
-    if r != 0 {
-        return Told::Refused(r);
-    }
-    let b = by_handle(t, h);
+    let b = admit_by(arena, t, h);
     if b.reason != 0 {
         return Told::Refused(b.reason);
     }
@@ -281,11 +291,7 @@ pub fn set_metadata(
     mtime: Timespec,
     ctime: Timespec,
 ) -> After {
-    let r = admit(arena, t);
-    if r != 0 {
-        return refused(t, r);
-    }
-    let b = by_handle(t, h);
+    let b = admit_by(arena, t, h);
     if b.reason != 0 {
         return refused(t, b.reason);
     }
@@ -353,15 +359,11 @@ fn as_answer(reason: u8) -> Answer {
 }
 
 pub fn get_entry(arena: &[u8], t: Table, h: Handle, k: u64, out: &mut [u8]) -> Answer {
-    let r = admit(arena, t);
-    if r != 0 {
-        return as_answer(r);
-    }
-    let b = by_handle(t, h);
+    let b = admit_by(arena, t, h);
     if b.reason != 0 {
         return as_answer(b.reason);
     }
-    as_answer(entry_in(arena, row_at(t, b.row).rec, k, out))
+    as_answer(entry_in(arena, rec_of(t, b.row), k, out))
 }
 
 // ---- listing
@@ -457,15 +459,11 @@ fn list_in(arena: &[u8], rec: DiskINode, next: u64, out: &mut [u8]) -> Listed {
 
 // The slots from `next` on, as stored: as many as there are and as the output takes.
 pub fn list_from(arena: &[u8], t: Table, h: Handle, next: u64, out: &mut [u8]) -> Listed {
-    let r = admit(arena, t);
-    if r != 0 {
-        return Listed::Refused(r);
-    }
-    let b = by_handle(t, h);
+    let b = admit_by(arena, t, h);
     if b.reason != 0 {
         return Listed::Refused(b.reason);
     }
-    list_in(arena, row_at(t, b.row).rec, next, out)
+    list_in(arena, rec_of(t, b.row), next, out)
 }
 
 // Where a listing stands: a folder's handle and the next slot.

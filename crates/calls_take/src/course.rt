@@ -2,14 +2,15 @@
 use base::Found;
 use base::index;
 use calls::After;
-use calls::admit;
-use calls::by_handle;
+use calls::ByHandles;
+use calls::admit_two;
 use calls::done;
 use calls::good_name;
 use calls::known;
 use calls::live_folder;
 use calls::not_long;
 use calls::not_special;
+use calls::rec_of;
 use calls::refused;
 use folders::dirent_append;
 use folders::dirent_node_remove;
@@ -35,7 +36,6 @@ use structs::Verdict;
 use structs::move_verdict;
 use table::Handle;
 use table::Table;
-use table::row_at;
 
 // What deciding a move comes to. `Same`: both names are one node's, and nothing changes.
 enum Course {
@@ -428,20 +428,44 @@ fn move_ask(source: DiskINode, target: DiskINode, old: &[u8], name: &[u8]) -> u8
     live_folder(target)
 }
 
-fn move_in(arena: &mut [u8], t: Table, i: usize, j: usize, old: &[u8], name: &[u8]) -> After {
+fn move_in(
+    arena: &mut [u8],
+    mem: &mut [u8],
+    i: usize,
+    j: usize,
+    old: &[u8],
+    name: &[u8],
+) -> Course {
     let mut work = [0u8; 35840];
-    let mut mem = [0u8; 4899];
     overlay::begin(&mut work);
-    put_table(&mut mem, t);
-    load_meta(&arena[..], &work, &mut mem);
-    let c = move_decide(&arena[..], &mut work, &mut mem, i, j, old, name);
+    load_meta(&arena[..], &work, mem);
+    let c = move_decide(&arena[..], &mut work, mem, i, j, old, name);
     match c {
         Course::Made => {
             overlay::commit(arena, &work);
-            done(table_at(&mem))
+            Course::Made
         }
-        Course::Same => done(t),
-        Course::Refused(r) => refused(t, r),
+        Course::Same => Course::Same,
+        Course::Refused(r) => Course::Refused(r),
+    }
+}
+
+fn move_admit(
+    arena: &[u8],
+    t: Table,
+    h: Handle,
+    old: &[u8],
+    target: Handle,
+    name: &[u8],
+) -> ByHandles {
+    let b = admit_two(arena, t, h, target);
+    if b.reason != 0 {
+        return b;
+    }
+    ByHandles {
+        reason: move_ask(rec_of(t, b.row), rec_of(t, b.other), old, name),
+        row: b.row,
+        other: b.other,
     }
 }
 
@@ -453,25 +477,16 @@ pub fn move_(
     target: Handle,
     name: &[u8],
 ) -> After {
-    let r = admit(&arena[..], t);
-    if r != 0 {
-        return refused(t, r);
-    }
-    let b = by_handle(t, h);
+    let b = move_admit(&arena[..], t, h, old, target, name);
     if b.reason != 0 {
         return refused(t, b.reason);
     }
-    let d = by_handle(t, target);
-    if d.reason != 0 {
-        return refused(t, d.reason);
+    let mut mem = [0u8; 4899];
+    put_table(&mut mem, t);
+    let c = move_in(arena, &mut mem, b.row, b.other, old, name);
+    match c {
+        Course::Made => done(table_at(&mem)),
+        Course::Same => done(t),
+        Course::Refused(r) => refused(t, r),
     }
-    let source = row_at(t, b.row);
-    let dest = row_at(t, d.row);
-    let from = source.rec;
-    let to = dest.rec;
-    let r = move_ask(from, to, old, name);
-    if r != 0 {
-        return refused(t, r);
-    }
-    move_in(arena, t, b.row, d.row, old, name)
 }

@@ -4,13 +4,15 @@ mod course;
 use base::Found;
 use base::index;
 use calls::After;
+use calls::ByHandle;
 use calls::admit;
-use calls::by_handle;
+use calls::admit_by;
 use calls::done;
 use calls::good_name;
 use calls::live_folder;
 use calls::not_long;
 use calls::not_special;
+use calls::rec_of;
 use calls::refused;
 pub use course::move_;
 use files::store::put;
@@ -31,7 +33,6 @@ use structs::DiskINode;
 use table::Handle;
 use table::Table;
 use table::close_hold;
-use table::row_at;
 
 // ---- unlink: 7, 8, 9 (`.`, `..`, empty), 10, 11, 13, then the steps
 
@@ -102,36 +103,41 @@ fn unlink_decide(arena: &[u8], work: &mut [u8], mem: &mut [u8], i: usize, name: 
     unlink_node(arena, work, mem, i, u32_at(&slot, 0), p.place)
 }
 
-fn unlink_in(arena: &mut [u8], t: Table, i: usize, name: &[u8]) -> After {
+fn unlink_in(arena: &mut [u8], mem: &mut [u8], i: usize, name: &[u8]) -> u8 {
     let mut work = [0u8; 20480];
-    let mut mem = [0u8; 4899];
     overlay::begin(&mut work);
-    put_table(&mut mem, t);
-    load_meta(&arena[..], &work, &mut mem);
-    let r = unlink_decide(&arena[..], &mut work, &mut mem, i, name);
+    load_meta(&arena[..], &work, mem);
+    let r = unlink_decide(&arena[..], &mut work, mem, i, name);
     if r != 0 {
-        return refused(t, r);
+        return r;
     }
     overlay::commit(arena, &work);
-    done(table_at(&mem))
+    0
+}
+
+fn unlink_admit(arena: &[u8], t: Table, h: Handle, name: &[u8]) -> ByHandle {
+    let b = admit_by(arena, t, h);
+    if b.reason != 0 {
+        return b;
+    }
+    ByHandle {
+        reason: unlink_ask(rec_of(t, b.row), name),
+        row: b.row,
+    }
 }
 
 pub fn unlink(arena: &mut [u8], t: Table, h: Handle, name: &[u8]) -> After {
-    let r = admit(&arena[..], t);
-    if r != 0 {
-        return refused(t, r);
-    }
-    let b = by_handle(t, h);
+    let b = unlink_admit(&arena[..], t, h, name);
     if b.reason != 0 {
         return refused(t, b.reason);
     }
-    let row = row_at(t, b.row);
-    let rec = row.rec;
-    let r = unlink_ask(rec, name);
+    let mut mem = [0u8; 4899];
+    put_table(&mut mem, t);
+    let r = unlink_in(arena, &mut mem, b.row, name);
     if r != 0 {
         return refused(t, r);
     }
-    unlink_in(arena, t, b.row, name)
+    done(table_at(&mem))
 }
 
 // ---- sync: dirty rows by rising id, as 000's map of open nodes is ordered
@@ -201,17 +207,15 @@ fn sync_decide(arena: &[u8], work: &mut [u8], mem: &mut [u8]) -> u8 {
     sync_rows(arena, work, mem)
 }
 
-fn sync_in(arena: &mut [u8], t: Table) -> After {
+fn sync_in(arena: &mut [u8], mem: &mut [u8]) -> u8 {
     let mut work = [0u8; 40448];
-    let mut mem = [0u8; 4899];
     overlay::begin(&mut work);
-    put_table(&mut mem, t);
-    let r = sync_decide(&arena[..], &mut work, &mut mem);
+    let r = sync_decide(&arena[..], &mut work, mem);
     if r != 0 {
-        return refused(t, r);
+        return r;
     }
     overlay::commit(arena, &work);
-    done(table_at(&mem))
+    0
 }
 
 pub fn sync(arena: &mut [u8], t: Table) -> After {
@@ -219,42 +223,54 @@ pub fn sync(arena: &mut [u8], t: Table) -> After {
     if r != 0 {
         return refused(t, r);
     }
-    sync_in(arena, t)
+    let mut mem = [0u8; 4899];
+    put_table(&mut mem, t);
+    let r = sync_in(arena, &mut mem);
+    if r != 0 {
+        return refused(t, r);
+    }
+    done(table_at(&mem))
 }
 
 // ---- close: a row's last hold stores a dirty record; at links 0 the node is freed
 
-fn close_last(arena: &mut [u8], t: Table, u: Table, i: usize) -> After {
-    let mut work = [0u8; 20480];
-    let mut mem = [0u8; 4899];
-    overlay::begin(&mut work);
-    put_table(&mut mem, u);
-    load_meta(&arena[..], &work, &mut mem);
-    let r = drop_node(&arena[..], &mut work, &mut mem, i);
-    if r != 0 {
-        return refused(t, r);
-    }
-    overlay::commit(arena, &work);
-    done(table_at(&mem))
-}
-
-fn close_in(arena: &mut [u8], t: Table, hold: u32, i: usize) -> After {
+// The hold becomes all zero, and memory has the table without it. Whether it was the row's last.
+fn put_closed(mem: &mut [u8], t: Table, hold: u32) -> bool {
     let c = close_hold(t, hold);
     let u = c.table;
-    if c.last {
-        return close_last(arena, t, u, i);
+    put_table(mem, u);
+    c.last
+}
+
+fn close_in(arena: &mut [u8], mem: &mut [u8], i: usize) -> u8 {
+    let mut work = [0u8; 20480];
+    overlay::begin(&mut work);
+    load_meta(&arena[..], &work, mem);
+    let r = drop_node(&arena[..], &mut work, mem, i);
+    if r != 0 {
+        return r;
     }
-    done(u)
+    overlay::commit(arena, &work);
+    0
+}
+
+fn close_row(arena: &mut [u8], mem: &mut [u8], i: usize, last: bool) -> u8 {
+    if last {
+        return close_in(arena, mem, i);
+    }
+    0
 }
 
 pub fn close(arena: &mut [u8], t: Table, h: Handle) -> After {
-    let r = admit(&arena[..], t);
-    if r != 0 {
-        return refused(t, r);
-    }
-    let b = by_handle(t, h);
+    let b = admit_by(&arena[..], t, h);
     if b.reason != 0 {
         return refused(t, b.reason);
     }
-    close_in(arena, t, h.hold, b.row)
+    let mut mem = [0u8; 4899];
+    let last = put_closed(&mut mem, t, h.hold);
+    let r = close_row(arena, &mut mem, b.row, last);
+    if r != 0 {
+        return refused(t, r);
+    }
+    done(table_at(&mem))
 }
