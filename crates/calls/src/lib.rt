@@ -1,6 +1,7 @@
 // What a call answers, and what it asks before its steps: the reasons that every call can give, and those about folders and names.
 // A question answers 0, or the number of the reason that refuses the call.
 use base::Found;
+use mem::table_at;
 use structs::DiskINode;
 use structs::Timespec;
 use table::Handle;
@@ -74,6 +75,32 @@ pub fn not_given(t: Table, reason: u8) -> Given {
         answer: Got::Refused(reason),
         table: t,
     }
+}
+
+// What a call answers once its steps are decided: the table as memory has it, or the one that the call was given.
+pub fn after(t: Table, mem: &[u8], reason: u8) -> After {
+    if reason != 0 {
+        return refused(t, reason);
+    }
+    done(table_at(mem))
+}
+
+// The table as memory has it, with a hold on the row.
+fn held(mem: &[u8], row: usize) -> Given {
+    let a = table::add_hold(table_at(mem), row as u32);
+    let h = a.handle;
+    let u = a.table;
+    Given {
+        answer: Got::Held(h),
+        table: u,
+    }
+}
+
+pub fn given(t: Table, mem: &[u8], reason: u8, row: usize) -> Given {
+    if reason != 0 {
+        return not_given(t, reason);
+    }
+    held(mem, row)
 }
 
 // ---- 1, 2, 3

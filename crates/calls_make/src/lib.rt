@@ -4,14 +4,14 @@ use calls::After;
 use calls::ByHandle;
 use calls::ByHandles;
 use calls::Given;
-use calls::Got;
 use calls::admit_by;
 use calls::admit_two;
+use calls::after;
 use calls::done;
+use calls::given;
 use calls::good_name;
 use calls::known;
 use calls::live_folder;
-use calls::not_given;
 use calls::not_long;
 use calls::rec_of;
 use calls::refused;
@@ -30,7 +30,6 @@ use mem::put_new_map;
 use mem::put_super;
 use mem::put_table;
 use mem::rec_at;
-use mem::table_at;
 use nodes::Opened;
 use nodes::meta::load_meta;
 use nodes::meta::sync_meta;
@@ -349,17 +348,6 @@ fn create_decide(
     create_steps(arena, work, mem, i, name, new)
 }
 
-// The table as memory has it, with a hold on the row.
-fn held(mem: &[u8], row: usize) -> Given {
-    let a = table::add_hold(table_at(mem), row as u32);
-    let h = a.handle;
-    let u = a.table;
-    Given {
-        answer: Got::Held(h),
-        table: u,
-    }
-}
-
 fn create_in(
     arena: &mut [u8],
     mem: &mut [u8],
@@ -391,18 +379,29 @@ fn create_admit(arena: &[u8], t: Table, h: Handle, name: &[u8], kind: u32) -> By
     }
 }
 
-pub fn create(arena: &mut [u8], t: Table, h: Handle, name: &[u8], new: New) -> Given {
+fn create_all(
+    arena: &mut [u8],
+    t: Table,
+    mem: &mut [u8],
+    h: Handle,
+    name: &[u8],
+    new: New,
+) -> Opened {
     let b = create_admit(&arena[..], t, h, name, new.kind);
     if b.reason != 0 {
-        return not_given(t, b.reason);
+        return Opened {
+            reason: b.reason,
+            row: 0,
+        };
     }
+    put_table(mem, t);
+    create_in(arena, mem, b.row, name, new, can_hold(t))
+}
+
+pub fn create(arena: &mut [u8], t: Table, h: Handle, name: &[u8], new: New) -> Given {
     let mut mem = [0u8; 4899];
-    put_table(&mut mem, t);
-    let o = create_in(arena, &mut mem, b.row, name, new, can_hold(t));
-    if o.reason != 0 {
-        return not_given(t, o.reason);
-    }
-    held(&mem, o.row)
+    let o = create_all(arena, t, &mut mem, h, name, new);
+    given(t, &mem, o.reason, o.row)
 }
 
 // ---- link: 7, 8, 10, 12, 9 (child a folder), 15, then the steps: slot, child's record, folder's record
@@ -503,16 +502,24 @@ fn link_admit(arena: &[u8], t: Table, h: Handle, name: &[u8], child: Handle) -> 
     }
 }
 
-pub fn link(arena: &mut [u8], t: Table, h: Handle, name: &[u8], child: Handle) -> After {
+fn link_all(
+    arena: &mut [u8],
+    t: Table,
+    mem: &mut [u8],
+    h: Handle,
+    name: &[u8],
+    child: Handle,
+) -> u8 {
     let b = link_admit(&arena[..], t, h, name, child);
     if b.reason != 0 {
-        return refused(t, b.reason);
+        return b.reason;
     }
+    put_table(mem, t);
+    link_in(arena, mem, b.row, name, b.other)
+}
+
+pub fn link(arena: &mut [u8], t: Table, h: Handle, name: &[u8], child: Handle) -> After {
     let mut mem = [0u8; 4899];
-    put_table(&mut mem, t);
-    let r = link_in(arena, &mut mem, b.row, name, b.other);
-    if r != 0 {
-        return refused(t, r);
-    }
-    done(table_at(&mem))
+    let r = link_all(arena, t, &mut mem, h, name, child);
+    after(t, &mem, r)
 }

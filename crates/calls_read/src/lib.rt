@@ -3,7 +3,6 @@ use base::index;
 use calls::After;
 use calls::Answer;
 use calls::Given;
-use calls::Got;
 use calls::Listed;
 use calls::Metadata;
 use calls::Told;
@@ -12,6 +11,7 @@ use calls::admit_arena;
 use calls::admit_by;
 use calls::done;
 use calls::folder;
+use calls::given;
 use calls::good_name;
 use calls::known;
 use calls::not_given;
@@ -23,7 +23,6 @@ use folders::slots::slot_at;
 use le::u32_at;
 use mem::put_table;
 use mem::super_at;
-use mem::table_at;
 use nodes::Opened;
 use nodes::get_node;
 use nodes::meta::load_maps;
@@ -33,7 +32,6 @@ use structs::DiskINode;
 use structs::Timespec;
 use table::Handle;
 use table::Table;
-use table::add_hold;
 use table::can_hold;
 use table::row_at;
 use table::take_row;
@@ -88,17 +86,6 @@ pub fn open(arena: &[u8]) -> After {
 
 // ---- root and find
 
-// The table as memory has it, with a hold on the row.
-fn held(mem: &[u8], row: usize) -> Given {
-    let a = add_hold(table_at(mem), row as u32);
-    let h = a.handle;
-    let u = a.table;
-    Given {
-        answer: Got::Held(h),
-        table: u,
-    }
-}
-
 fn open_node(arena: &[u8], mem: &mut [u8], id: u32) -> Opened {
     let mut work = [0u8; 5120];
     overlay::begin(&mut work);
@@ -111,10 +98,7 @@ fn hold_node(arena: &[u8], t: Table, id: u32) -> Given {
     let mut mem = [0u8; 4899];
     put_table(&mut mem, t);
     let o = open_node(arena, &mut mem, id);
-    if o.reason != 0 {
-        return not_given(t, o.reason);
-    }
-    held(&mem, o.row)
+    given(t, &mem, o.reason, o.row)
 }
 
 fn hold_new(arena: &[u8], t: Table, id: u32) -> Given {

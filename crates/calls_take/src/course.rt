@@ -4,6 +4,7 @@ use base::index;
 use calls::After;
 use calls::ByHandles;
 use calls::admit_two;
+use calls::after;
 use calls::done;
 use calls::good_name;
 use calls::known;
@@ -11,7 +12,6 @@ use calls::live_folder;
 use calls::not_long;
 use calls::not_special;
 use calls::rec_of;
-use calls::refused;
 use folders::dirent_append;
 use folders::dirent_node_remove;
 use folders::dirent_remove;
@@ -26,7 +26,6 @@ use le::u32_at;
 use mem::id_at;
 use mem::put_table;
 use mem::rec_at;
-use mem::table_at;
 use nodes::get_node;
 use nodes::meta::load_meta;
 use nodes::release;
@@ -469,6 +468,31 @@ fn move_admit(
     }
 }
 
+fn move_all(
+    arena: &mut [u8],
+    t: Table,
+    mem: &mut [u8],
+    h: Handle,
+    old: &[u8],
+    target: Handle,
+    name: &[u8],
+) -> Course {
+    let b = move_admit(&arena[..], t, h, old, target, name);
+    if b.reason != 0 {
+        return Course::Refused(b.reason);
+    }
+    put_table(mem, t);
+    move_in(arena, mem, b.row, b.other, old, name)
+}
+
+fn move_after(t: Table, mem: &[u8], c: Course) -> After {
+    match c {
+        Course::Made => after(t, mem, 0),
+        Course::Same => done(t),
+        Course::Refused(r) => after(t, mem, r),
+    }
+}
+
 pub fn move_(
     arena: &mut [u8],
     t: Table,
@@ -477,16 +501,7 @@ pub fn move_(
     target: Handle,
     name: &[u8],
 ) -> After {
-    let b = move_admit(&arena[..], t, h, old, target, name);
-    if b.reason != 0 {
-        return refused(t, b.reason);
-    }
     let mut mem = [0u8; 4899];
-    put_table(&mut mem, t);
-    let c = move_in(arena, &mut mem, b.row, b.other, old, name);
-    match c {
-        Course::Made => done(table_at(&mem)),
-        Course::Same => done(t),
-        Course::Refused(r) => refused(t, r),
-    }
+    let c = move_all(arena, t, &mut mem, h, old, target, name);
+    move_after(t, &mem, c)
 }

@@ -7,13 +7,12 @@ use calls::After;
 use calls::ByHandle;
 use calls::admit;
 use calls::admit_by;
-use calls::done;
+use calls::after;
 use calls::good_name;
 use calls::live_folder;
 use calls::not_long;
 use calls::not_special;
 use calls::rec_of;
-use calls::refused;
 pub use course::move_;
 use files::store::put;
 use folders::dirent_node_remove;
@@ -24,7 +23,6 @@ use mem::id_at;
 use mem::next_row;
 use mem::put_table;
 use mem::rec_at;
-use mem::table_at;
 use nodes::drop_node;
 use nodes::get_node;
 use nodes::meta::load_meta;
@@ -126,18 +124,19 @@ fn unlink_admit(arena: &[u8], t: Table, h: Handle, name: &[u8]) -> ByHandle {
     }
 }
 
-pub fn unlink(arena: &mut [u8], t: Table, h: Handle, name: &[u8]) -> After {
+fn unlink_all(arena: &mut [u8], t: Table, mem: &mut [u8], h: Handle, name: &[u8]) -> u8 {
     let b = unlink_admit(&arena[..], t, h, name);
     if b.reason != 0 {
-        return refused(t, b.reason);
+        return b.reason;
     }
+    put_table(mem, t);
+    unlink_in(arena, mem, b.row, name)
+}
+
+pub fn unlink(arena: &mut [u8], t: Table, h: Handle, name: &[u8]) -> After {
     let mut mem = [0u8; 4899];
-    put_table(&mut mem, t);
-    let r = unlink_in(arena, &mut mem, b.row, name);
-    if r != 0 {
-        return refused(t, r);
-    }
-    done(table_at(&mem))
+    let r = unlink_all(arena, t, &mut mem, h, name);
+    after(t, &mem, r)
 }
 
 // ---- sync: dirty rows by rising id, as 000's map of open nodes is ordered
@@ -218,18 +217,19 @@ fn sync_in(arena: &mut [u8], mem: &mut [u8]) -> u8 {
     0
 }
 
-pub fn sync(arena: &mut [u8], t: Table) -> After {
+fn sync_all(arena: &mut [u8], t: Table, mem: &mut [u8]) -> u8 {
     let r = admit(&arena[..], t);
     if r != 0 {
-        return refused(t, r);
+        return r;
     }
+    put_table(mem, t);
+    sync_in(arena, mem)
+}
+
+pub fn sync(arena: &mut [u8], t: Table) -> After {
     let mut mem = [0u8; 4899];
-    put_table(&mut mem, t);
-    let r = sync_in(arena, &mut mem);
-    if r != 0 {
-        return refused(t, r);
-    }
-    done(table_at(&mem))
+    let r = sync_all(arena, t, &mut mem);
+    after(t, &mem, r)
 }
 
 // ---- close: a row's last hold stores a dirty record; at links 0 the node is freed
@@ -261,16 +261,17 @@ fn close_row(arena: &mut [u8], mem: &mut [u8], i: usize, last: bool) -> u8 {
     0
 }
 
-pub fn close(arena: &mut [u8], t: Table, h: Handle) -> After {
+fn close_all(arena: &mut [u8], t: Table, mem: &mut [u8], h: Handle) -> u8 {
     let b = admit_by(&arena[..], t, h);
     if b.reason != 0 {
-        return refused(t, b.reason);
+        return b.reason;
     }
+    let last = put_closed(mem, t, h.hold);
+    close_row(arena, mem, b.row, last)
+}
+
+pub fn close(arena: &mut [u8], t: Table, h: Handle) -> After {
     let mut mem = [0u8; 4899];
-    let last = put_closed(&mut mem, t, h.hold);
-    let r = close_row(arena, &mut mem, b.row, last);
-    if r != 0 {
-        return refused(t, r);
-    }
-    done(table_at(&mem))
+    let r = close_all(arena, t, &mut mem, h);
+    after(t, &mem, r)
 }

@@ -192,56 +192,34 @@ pub fn put_new_map(mem: &mut [u8], group: usize) {
 
 // ---- the whole table
 
-fn put_rows(mem: &mut [u8], t: Table) {
+// A table's bytes, as the calls' steps and the call script have them.
+pub fn put_table(mem: &mut [u8], t: Table) {
     let mut i: usize = 0;
     while i < 34 {
         let r = t.rows[i];
         put_row(mem, i, r);
+        if i < 32 {
+            let h = t.holds[i];
+            put_hold(mem, i, h);
+        }
         i = i + 1;
     }
-}
-
-fn put_holds(mem: &mut [u8], t: Table) {
-    let mut n: usize = 0;
-    while n < 32 {
-        let h = t.holds[n];
-        put_hold(mem, n, h);
-        n = n + 1;
-    }
-}
-
-// A table's bytes, as the calls' steps and the call script have them.
-pub fn put_table(mem: &mut [u8], t: Table) {
-    put_rows(mem, t);
-    put_holds(mem, t);
     put_u64(mem, 4362, t.next);
-}
-
-fn with_rows(mem: &[u8], t: Table) -> Table {
-    let mut u = t;
-    let mut i: usize = 0;
-    while i < 34 {
-        let r = row_at(mem, i);
-        u.rows[i] = r;
-        i = i + 1;
-    }
-    u
-}
-
-fn with_holds(mem: &[u8], t: Table) -> Table {
-    let mut u = t;
-    let mut n: usize = 0;
-    while n < 32 {
-        let h = hold_at(mem, n);
-        u.holds[n] = h;
-        n = n + 1;
-    }
-    u
 }
 
 // The table that these bytes are.
 pub fn table_at(mem: &[u8]) -> Table {
-    let mut t = with_holds(mem, with_rows(mem, table::empty()));
+    let mut t = table::empty();
+    let mut i: usize = 0;
+    while i < 34 {
+        let r = row_at(mem, i);
+        t.rows[i] = r;
+        if i < 32 {
+            let h = hold_at(mem, i);
+            t.holds[i] = h;
+        }
+        i = i + 1;
+    }
     t.next = u64_at(mem, 4362);
     t
 }
