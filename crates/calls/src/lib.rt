@@ -115,12 +115,13 @@ pub fn admit_arena(arena: &[u8]) -> u8 {
     0
 }
 
-pub fn admit(arena: &[u8], t: Table) -> u8 {
+// `formed`: whether the table is well formed.
+pub fn admit(arena: &[u8], formed: bool) -> u8 {
     let r = admit_arena(arena);
     if r != 0 {
         return r;
     }
-    if !table::well_formed(t) {
+    if !formed {
         return 3;
     }
     0
@@ -214,47 +215,19 @@ pub fn by_handle(t: Table, h: Handle) -> ByHandle {
 }
 
 // 1, 2, 3, 4.
-pub fn admit_by(arena: &[u8], t: Table, h: Handle) -> ByHandle {
-    let r = admit(arena, t);
+pub fn admit_by(arena: &[u8], formed: bool, b: ByHandle) -> u8 {
+    let r = admit(arena, formed);
     if r != 0 {
-        return no_handle(r);
+        return r;
     }
-    by_handle(t, h)
+    b.reason
 }
 
-// The rows of two handles, where the reason is 0.
-pub struct ByHandles {
-    pub reason: u8,
-    pub row: usize,
-    pub other: usize,
-}
-
-fn no_handles(reason: u8) -> ByHandles {
-    ByHandles {
-        reason: reason,
-        row: 0,
-        other: 0,
+// The same for two handles.
+pub fn admit_two(arena: &[u8], formed: bool, b: ByHandle, c: ByHandle) -> u8 {
+    let r = admit_by(arena, formed, b);
+    if r != 0 {
+        return r;
     }
-}
-
-pub fn admit_two(arena: &[u8], t: Table, h: Handle, other: Handle) -> ByHandles {
-    let a = admit_by(arena, t, h);
-    if a.reason != 0 {
-        return no_handles(a.reason);
-    }
-    let b = by_handle(t, other);
-    if b.reason != 0 {
-        return no_handles(b.reason);
-    }
-    ByHandles {
-        reason: 0,
-        row: a.row,
-        other: b.row,
-    }
-}
-
-// The record in row i.
-pub fn rec_of(t: Table, i: usize) -> DiskINode {
-    let row = table::row_at(t, i);
-    row.rec
+    c.reason
 }

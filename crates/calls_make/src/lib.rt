@@ -2,18 +2,17 @@
 use base::Found;
 use calls::After;
 use calls::ByHandle;
-use calls::ByHandles;
 use calls::Given;
 use calls::admit_by;
 use calls::admit_two;
 use calls::after;
+use calls::by_handle;
 use calls::done;
 use calls::given;
 use calls::good_name;
 use calls::known;
 use calls::live_folder;
 use calls::not_long;
-use calls::rec_of;
 use calls::refused;
 use files::read::there;
 use files::store::cut;
@@ -41,6 +40,7 @@ use structs::Timespec;
 use table::Handle;
 use table::Table;
 use table::can_hold;
+use table::well_formed;
 
 // What a new node is to be.
 pub struct New {
@@ -368,39 +368,37 @@ fn create_in(
 }
 
 // All that is asked before the folder's slots are looked at.
-fn create_admit(arena: &[u8], t: Table, h: Handle, name: &[u8], kind: u32) -> ByHandle {
-    let b = admit_by(arena, t, h);
-    if b.reason != 0 {
-        return b;
+fn create_admit(arena: &[u8], mem: &[u8], formed: bool, b: ByHandle, name: &[u8], kind: u32) -> u8 {
+    let r = admit_by(arena, formed, b);
+    if r != 0 {
+        return r;
     }
-    ByHandle {
-        reason: create_ask(rec_of(t, b.row), name, kind),
-        row: b.row,
-    }
+    create_ask(rec_at(mem, b.row), name, kind)
 }
 
 fn create_all(
     arena: &mut [u8],
-    t: Table,
     mem: &mut [u8],
-    h: Handle,
+    formed: bool,
+    b: ByHandle,
     name: &[u8],
     new: New,
+    room: bool,
 ) -> Opened {
-    let b = create_admit(&arena[..], t, h, name, new.kind);
-    if b.reason != 0 {
-        return Opened {
-            reason: b.reason,
-            row: 0,
-        };
+    let r = create_admit(&arena[..], &mem[..], formed, b, name, new.kind);
+    if r != 0 {
+        return Opened { reason: r, row: 0 };
     }
-    put_table(mem, t);
-    create_in(arena, mem, b.row, name, new, can_hold(t))
+    create_in(arena, mem, b.row, name, new, room)
 }
 
 pub fn create(arena: &mut [u8], t: Table, h: Handle, name: &[u8], new: New) -> Given {
     let mut mem = [0u8; 4899];
-    let o = create_all(arena, t, &mut mem, h, name, new);
+    put_table(&mut mem, t);
+    let formed = well_formed(t);
+    let b = by_handle(t, h);
+    let room = can_hold(t);
+    let o = create_all(arena, &mut mem, formed, b, name, new, room);
     given(t, &mem, o.reason, o.row)
 }
 
@@ -490,36 +488,35 @@ fn link_in(arena: &mut [u8], mem: &mut [u8], i: usize, name: &[u8], c: usize) ->
     0
 }
 
-fn link_admit(arena: &[u8], t: Table, h: Handle, name: &[u8], child: Handle) -> ByHandles {
-    let b = admit_two(arena, t, h, child);
-    if b.reason != 0 {
-        return b;
+fn link_admit(arena: &[u8], mem: &[u8], formed: bool, b: ByHandle, name: &[u8], c: ByHandle) -> u8 {
+    let r = admit_two(arena, formed, b, c);
+    if r != 0 {
+        return r;
     }
-    ByHandles {
-        reason: link_ask(rec_of(t, b.row), name),
-        row: b.row,
-        other: b.other,
-    }
+    link_ask(rec_at(mem, b.row), name)
 }
 
 fn link_all(
     arena: &mut [u8],
-    t: Table,
     mem: &mut [u8],
-    h: Handle,
+    formed: bool,
+    b: ByHandle,
     name: &[u8],
-    child: Handle,
+    c: ByHandle,
 ) -> u8 {
-    let b = link_admit(&arena[..], t, h, name, child);
-    if b.reason != 0 {
-        return b.reason;
+    let r = link_admit(&arena[..], &mem[..], formed, b, name, c);
+    if r != 0 {
+        return r;
     }
-    put_table(mem, t);
-    link_in(arena, mem, b.row, name, b.other)
+    link_in(arena, mem, b.row, name, c.row)
 }
 
 pub fn link(arena: &mut [u8], t: Table, h: Handle, name: &[u8], child: Handle) -> After {
     let mut mem = [0u8; 4899];
-    let r = link_all(arena, t, &mut mem, h, name, child);
+    put_table(&mut mem, t);
+    let formed = well_formed(t);
+    let b = by_handle(t, h);
+    let c = by_handle(t, child);
+    let r = link_all(arena, &mut mem, formed, b, name, c);
     after(t, &mem, r)
 }

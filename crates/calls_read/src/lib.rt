@@ -2,6 +2,7 @@
 use base::index;
 use calls::After;
 use calls::Answer;
+use calls::ByHandle;
 use calls::Given;
 use calls::Listed;
 use calls::Metadata;
@@ -9,19 +10,19 @@ use calls::Told;
 use calls::admit;
 use calls::admit_arena;
 use calls::admit_by;
+use calls::by_handle;
 use calls::done;
 use calls::folder;
 use calls::given;
 use calls::good_name;
 use calls::known;
-use calls::not_given;
 use calls::not_long;
-use calls::rec_of;
 use calls::refused;
 use folders::slots::find_slot;
 use folders::slots::slot_at;
 use le::u32_at;
 use mem::put_table;
+use mem::rec_at;
 use mem::super_at;
 use nodes::Opened;
 use nodes::get_node;
@@ -35,6 +36,7 @@ use table::Table;
 use table::can_hold;
 use table::row_at;
 use table::take_row;
+use table::well_formed;
 
 // ---- open: the superblock is read before 18, the maps after
 
@@ -93,27 +95,36 @@ fn open_node(arena: &[u8], mem: &mut [u8], id: u32) -> Opened {
     get_node(arena, &work, mem, id)
 }
 
-// A node opened with a hold of its own.
-fn hold_node(arena: &[u8], t: Table, id: u32) -> Given {
-    let mut mem = [0u8; 4899];
-    put_table(&mut mem, t);
-    let o = open_node(arena, &mut mem, id);
-    given(t, &mem, o.reason, o.row)
+// A node opened, for a hold of its own: 16 where none can be given.
+fn open_held(arena: &[u8], mem: &mut [u8], id: u32, room: bool) -> Opened {
+    if !room {
+        return unopened(16);
+    }
+    open_node(arena, mem, id)
 }
 
-fn hold_new(arena: &[u8], t: Table, id: u32) -> Given {
-    if !can_hold(t) {
-        return not_given(t, 16);
+fn unopened(reason: u8) -> Opened {
+    Opened {
+        reason: reason,
+        row: 0,
     }
-    hold_node(arena, t, id)
+}
+
+fn root_all(arena: &[u8], mem: &mut [u8], formed: bool, room: bool) -> Opened {
+    let r = admit(arena, formed);
+    if r != 0 {
+        return unopened(r);
+    }
+    open_held(arena, mem, 2, room)
 }
 
 pub fn root(arena: &[u8], t: Table) -> Given {
-    let r = admit(arena, t);
-    if r != 0 {
-        return not_given(t, r);
-    }
-    hold_new(arena, t, 2)
+    let mut mem = [0u8; 4899];
+    put_table(&mut mem, t);
+    let formed = well_formed(t);
+    let room = can_hold(t);
+    let o = root_all(arena, &mut mem, formed, room);
+    given(t, &mem, o.reason, o.row)
 }
 
 // 8, for exactly `..`.
@@ -180,20 +191,37 @@ fn find_in(arena: &[u8], rec: DiskINode, name: &[u8]) -> Named {
     find_id(arena, rec, name)
 }
 
-fn find_admit(arena: &[u8], t: Table, h: Handle, name: &[u8]) -> Named {
-    let b = admit_by(arena, t, h);
-    if b.reason != 0 {
-        return not_named(b.reason);
+fn find_admit(arena: &[u8], mem: &[u8], formed: bool, b: ByHandle, name: &[u8]) -> Named {
+    let r = admit_by(arena, formed, b);
+    if r != 0 {
+        return not_named(r);
     }
-    find_in(arena, rec_of(t, b.row), name)
+    find_in(arena, rec_at(mem, b.row), name)
+}
+
+fn find_all(
+    arena: &[u8],
+    mem: &mut [u8],
+    formed: bool,
+    b: ByHandle,
+    name: &[u8],
+    room: bool,
+) -> Opened {
+    let n = find_admit(arena, &mem[..], formed, b, name);
+    if n.reason != 0 {
+        return unopened(n.reason);
+    }
+    open_held(arena, mem, n.id, room)
 }
 
 pub fn find(arena: &[u8], t: Table, h: Handle, name: &[u8]) -> Given {
-    let n = find_admit(arena, t, h, name);
-    if n.reason != 0 {
-        return not_given(t, n.reason);
-    }
-    hold_new(arena, t, n.id)
+    let mut mem = [0u8; 4899];
+    put_table(&mut mem, t);
+    let formed = well_formed(t);
+    let b = by_handle(t, h);
+    let room = can_hold(t);
+    let o = find_all(arena, &mut mem, formed, b, name, room);
+    given(t, &mem, o.reason, o.row)
 }
 
 // ---- metadata
@@ -234,9 +262,10 @@ fn tell(id: u32, rec: DiskINode) -> Told {
 }
 
 pub fn metadata(arena: &[u8], t: Table, h: Handle) -> Told {
-    let b = admit_by(arena, t, h);
-    if b.reason != 0 {
-        return Told::Refused(b.reason);
+    let b = by_handle(t, h);
+    let r = admit_by(arena, well_formed(t), b);
+    if r != 0 {
+        return Told::Refused(r);
     }
     let row = row_at(t, b.row);
     let rec = row.rec;
@@ -275,9 +304,10 @@ pub fn set_metadata(
     mtime: Timespec,
     ctime: Timespec,
 ) -> After {
-    let b = admit_by(arena, t, h);
-    if b.reason != 0 {
-        return refused(t, b.reason);
+    let b = by_handle(t, h);
+    let r = admit_by(arena, well_formed(t), b);
+    if r != 0 {
+        return refused(t, r);
     }
     let row = row_at(t, b.row);
     let rec = row.rec;
@@ -343,11 +373,14 @@ fn as_answer(reason: u8) -> Answer {
 }
 
 pub fn get_entry(arena: &[u8], t: Table, h: Handle, k: u64, out: &mut [u8]) -> Answer {
-    let b = admit_by(arena, t, h);
-    if b.reason != 0 {
-        return as_answer(b.reason);
+    let b = by_handle(t, h);
+    let r = admit_by(arena, well_formed(t), b);
+    if r != 0 {
+        return as_answer(r);
     }
-    as_answer(entry_in(arena, rec_of(t, b.row), k, out))
+    let row = row_at(t, b.row);
+    let rec = row.rec;
+    as_answer(entry_in(arena, rec, k, out))
 }
 
 // ---- listing
@@ -443,11 +476,14 @@ fn list_in(arena: &[u8], rec: DiskINode, next: u64, out: &mut [u8]) -> Listed {
 
 // The slots from `next` on, as stored: as many as there are and as the output takes.
 pub fn list_from(arena: &[u8], t: Table, h: Handle, next: u64, out: &mut [u8]) -> Listed {
-    let b = admit_by(arena, t, h);
-    if b.reason != 0 {
-        return Listed::Refused(b.reason);
+    let b = by_handle(t, h);
+    let r = admit_by(arena, well_formed(t), b);
+    if r != 0 {
+        return Listed::Refused(r);
     }
-    list_in(arena, rec_of(t, b.row), next, out)
+    let row = row_at(t, b.row);
+    let rec = row.rec;
+    list_in(arena, rec, next, out)
 }
 
 // Where a listing stands: a folder's handle and the next slot.

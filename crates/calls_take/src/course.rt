@@ -2,16 +2,16 @@
 use base::Found;
 use base::index;
 use calls::After;
-use calls::ByHandles;
+use calls::ByHandle;
 use calls::admit_two;
 use calls::after;
+use calls::by_handle;
 use calls::done;
 use calls::good_name;
 use calls::known;
 use calls::live_folder;
 use calls::not_long;
 use calls::not_special;
-use calls::rec_of;
 use folders::dirent_append;
 use folders::dirent_node_remove;
 use folders::dirent_remove;
@@ -35,6 +35,7 @@ use structs::Verdict;
 use structs::move_verdict;
 use table::Handle;
 use table::Table;
+use table::well_formed;
 
 // What deciding a move comes to. `Same`: both names are one node's, and nothing changes.
 enum Course {
@@ -451,38 +452,34 @@ fn move_in(
 
 fn move_admit(
     arena: &[u8],
-    t: Table,
-    h: Handle,
+    mem: &[u8],
+    formed: bool,
+    b: ByHandle,
     old: &[u8],
-    target: Handle,
+    c: ByHandle,
     name: &[u8],
-) -> ByHandles {
-    let b = admit_two(arena, t, h, target);
-    if b.reason != 0 {
-        return b;
+) -> u8 {
+    let r = admit_two(arena, formed, b, c);
+    if r != 0 {
+        return r;
     }
-    ByHandles {
-        reason: move_ask(rec_of(t, b.row), rec_of(t, b.other), old, name),
-        row: b.row,
-        other: b.other,
-    }
+    move_ask(rec_at(mem, b.row), rec_at(mem, c.row), old, name)
 }
 
 fn move_all(
     arena: &mut [u8],
-    t: Table,
     mem: &mut [u8],
-    h: Handle,
+    formed: bool,
+    b: ByHandle,
     old: &[u8],
-    target: Handle,
+    c: ByHandle,
     name: &[u8],
 ) -> Course {
-    let b = move_admit(&arena[..], t, h, old, target, name);
-    if b.reason != 0 {
-        return Course::Refused(b.reason);
+    let r = move_admit(&arena[..], &mem[..], formed, b, old, c, name);
+    if r != 0 {
+        return Course::Refused(r);
     }
-    put_table(mem, t);
-    move_in(arena, mem, b.row, b.other, old, name)
+    move_in(arena, mem, b.row, c.row, old, name)
 }
 
 fn move_after(t: Table, mem: &[u8], c: Course) -> After {
@@ -502,6 +499,10 @@ pub fn move_(
     name: &[u8],
 ) -> After {
     let mut mem = [0u8; 4899];
-    let c = move_all(arena, t, &mut mem, h, old, target, name);
+    put_table(&mut mem, t);
+    let formed = well_formed(t);
+    let b = by_handle(t, h);
+    let d = by_handle(t, target);
+    let c = move_all(arena, &mut mem, formed, b, old, d, name);
     move_after(t, &mem, c)
 }

@@ -8,11 +8,11 @@ use calls::ByHandle;
 use calls::admit;
 use calls::admit_by;
 use calls::after;
+use calls::by_handle;
 use calls::good_name;
 use calls::live_folder;
 use calls::not_long;
 use calls::not_special;
-use calls::rec_of;
 pub use course::move_;
 use files::store::put;
 use folders::dirent_node_remove;
@@ -31,6 +31,7 @@ use structs::DiskINode;
 use table::Handle;
 use table::Table;
 use table::close_hold;
+use table::well_formed;
 
 // ---- unlink: 7, 8, 9 (`.`, `..`, empty), 10, 11, 13, then the steps
 
@@ -113,29 +114,28 @@ fn unlink_in(arena: &mut [u8], mem: &mut [u8], i: usize, name: &[u8]) -> u8 {
     0
 }
 
-fn unlink_admit(arena: &[u8], t: Table, h: Handle, name: &[u8]) -> ByHandle {
-    let b = admit_by(arena, t, h);
-    if b.reason != 0 {
-        return b;
+fn unlink_admit(arena: &[u8], mem: &[u8], formed: bool, b: ByHandle, name: &[u8]) -> u8 {
+    let r = admit_by(arena, formed, b);
+    if r != 0 {
+        return r;
     }
-    ByHandle {
-        reason: unlink_ask(rec_of(t, b.row), name),
-        row: b.row,
-    }
+    unlink_ask(rec_at(mem, b.row), name)
 }
 
-fn unlink_all(arena: &mut [u8], t: Table, mem: &mut [u8], h: Handle, name: &[u8]) -> u8 {
-    let b = unlink_admit(&arena[..], t, h, name);
-    if b.reason != 0 {
-        return b.reason;
+fn unlink_all(arena: &mut [u8], mem: &mut [u8], formed: bool, b: ByHandle, name: &[u8]) -> u8 {
+    let r = unlink_admit(&arena[..], &mem[..], formed, b, name);
+    if r != 0 {
+        return r;
     }
-    put_table(mem, t);
     unlink_in(arena, mem, b.row, name)
 }
 
 pub fn unlink(arena: &mut [u8], t: Table, h: Handle, name: &[u8]) -> After {
     let mut mem = [0u8; 4899];
-    let r = unlink_all(arena, t, &mut mem, h, name);
+    put_table(&mut mem, t);
+    let formed = well_formed(t);
+    let b = by_handle(t, h);
+    let r = unlink_all(arena, &mut mem, formed, b, name);
     after(t, &mem, r)
 }
 
@@ -217,30 +217,23 @@ fn sync_in(arena: &mut [u8], mem: &mut [u8]) -> u8 {
     0
 }
 
-fn sync_all(arena: &mut [u8], t: Table, mem: &mut [u8]) -> u8 {
-    let r = admit(&arena[..], t);
+fn sync_all(arena: &mut [u8], mem: &mut [u8], formed: bool) -> u8 {
+    let r = admit(&arena[..], formed);
     if r != 0 {
         return r;
     }
-    put_table(mem, t);
     sync_in(arena, mem)
 }
 
 pub fn sync(arena: &mut [u8], t: Table) -> After {
     let mut mem = [0u8; 4899];
-    let r = sync_all(arena, t, &mut mem);
+    put_table(&mut mem, t);
+    let formed = well_formed(t);
+    let r = sync_all(arena, &mut mem, formed);
     after(t, &mem, r)
 }
 
 // ---- close: a row's last hold stores a dirty record; at links 0 the node is freed
-
-// The hold becomes all zero, and memory has the table without it. Whether it was the row's last.
-fn put_closed(mem: &mut [u8], t: Table, hold: u32) -> bool {
-    let c = close_hold(t, hold);
-    let u = c.table;
-    put_table(mem, u);
-    c.last
-}
 
 fn close_in(arena: &mut [u8], mem: &mut [u8], i: usize) -> u8 {
     let mut work = [0u8; 20480];
@@ -261,17 +254,27 @@ fn close_row(arena: &mut [u8], mem: &mut [u8], i: usize, last: bool) -> u8 {
     0
 }
 
-fn close_all(arena: &mut [u8], t: Table, mem: &mut [u8], h: Handle) -> u8 {
-    let b = admit_by(&arena[..], t, h);
-    if b.reason != 0 {
-        return b.reason;
+fn close_all(arena: &mut [u8], mem: &mut [u8], formed: bool, b: ByHandle, last: bool) -> u8 {
+    let r = admit_by(&arena[..], formed, b);
+    if r != 0 {
+        return r;
     }
-    let last = put_closed(mem, t, h.hold);
     close_row(arena, mem, b.row, last)
+}
+
+// Memory has the table without the hold. Whether it was its row's last.
+fn put_closed(mem: &mut [u8], t: Table, hold: u32) -> bool {
+    let c = close_hold(t, hold);
+    let u = c.table;
+    put_table(mem, u);
+    c.last
 }
 
 pub fn close(arena: &mut [u8], t: Table, h: Handle) -> After {
     let mut mem = [0u8; 4899];
-    let r = close_all(arena, t, &mut mem, h);
+    let last = put_closed(&mut mem, t, h.hold);
+    let formed = well_formed(t);
+    let b = by_handle(t, h);
+    let r = close_all(arena, &mut mem, formed, b, last);
     after(t, &mem, r)
 }
