@@ -1,21 +1,19 @@
 -- The laws of block k and of block k replaced: all that is needed of the flat list.
-use mathlib.Core.Path.{_≡_, refl, sym, ap, ap₂, _∙_, subst}
-use mathlib.Core.Bool.{Bool, true, false, _&&_}
-use mathlib.Core.List.{List, [], _∷_, _++_}
-use mathlib.Core.Logic.{⊎-elim, _≢_}
-use Prim.Native.Nat.{ℕ, zero, suc, _+_, _*_, _/_, _%_, _-_, _≤_, _<_}
+use mathlib.Core.Path.{_≡_, sym, ap, ap₂, _∙_, subst}
+use mathlib.Core.Bool.{true, _&&_}
+use mathlib.Core.List.{List}
+use mathlib.Core.Logic.{_≢_}
+use Prim.Native.Nat.{ℕ, _+_, _*_, _/_, _%_, _≤_, _<_}
 use native.Mathlib.Omega.{arith}
-use native.Mathlib.Decide.{ℕ-discrete}
-use lib.ListN.{length, getD, take, drop}
+use lib.ListN.{length, getD}
 use lib.Dec.{eqb, leb}
 use lib.Seq.{ext-getD}
 use borrow.Author.Tests.{eqb-true, leb-true}
+use Rattle.base.proofs.Parts.{part-all, paste-all}
 use Rattle.base.specs.Parts.{part, back, paste}
 use Rattle.base.proofs.Bools.{and-parts}
 use Rattle.base.proofs.Lists.{getD-paste-out, length-part, getD-part, length-paste, part-paste, part-paste-other, paste-own}
-use Rattle.base.proofs.Numbers.{lt-or-le}
 use Rattle.le.specs.Le.{Bytes}
-use Rattle.le.proofs.General.{part-all, paste-all}
 use Rattle.arena.specs.Blocks.{blk, putBlk, blocks, legal}
 
 -- a block that is there has 512 bytes

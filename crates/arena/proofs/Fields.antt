@@ -1,22 +1,23 @@
 -- What the tests of a block say, and that they look at its first 24 bytes alone.
-use mathlib.Core.Path.{_≡_, refl, sym, ap, ap₂, _∙_, subst}
-use mathlib.Core.Bool.{Bool, true, false, _&&_, true≢false}
+use mathlib.Core.Path.{_≡_, refl, sym, ap, ap₂, _∙_}
+use mathlib.Core.Bool.{Bool, true, false, _&&_}
 use mathlib.Core.List.{List}
-use mathlib.Core.Logic.{⊎-elim, _≢_}
-use Prim.Native.Nat.{ℕ, zero, suc, _+_, _-_, _≤_, _<_}
+use mathlib.Core.Logic.{_≢_}
+use Prim.Native.Nat.{ℕ, _+_, _-_, _≤_, _<_}
 use native.Mathlib.Omega.{arith}
-use lib.ListN.{length, getD, take, drop, length-take, length-drop}
+use lib.ListN.{length, getD, drop, length-take, length-drop}
 use lib.Dec.{eqb}
 use lib.Seq.{ext-getD}
 use borrow.Author.Tests.{eq-eqb, ne-eqb, eqb-true}
+use Rattle.base.proofs.Parts.{part-halves}
+use Rattle.base.proofs.Sames.{same-true, same-own, same-false}
 use Rattle.base.specs.Decides.{same}
 use Rattle.base.specs.Parts.{part}
-use Rattle.base.proofs.Bools.{and-parts, and-false, same-bool}
-use Rattle.base.proofs.Lists.{length-part, getD-part}
-use Rattle.le.specs.Le.{Bytes, leAt, leOf}
-use Rattle.le.proofs.Laws.{leAt-part}
-use Rattle.arena.specs.Fields.{File, file, sameFile, tagOf, whichOf, nameOf, numberOf, fileOf, isFree, isHead, isData}
-use Rattle.arena.proofs.General.{same-true, same-own, same-false, leAt-same, part-halves}
+use Rattle.base.proofs.Bools.{and-parts, same-bool}
+use Rattle.base.proofs.Lists.{getD-part, part-paste-other}
+use Rattle.le.specs.Le.{Bytes, leAt, leOf, leBytes, lePut}
+use Rattle.le.proofs.Laws.{leAt-part, length-leBytes, getD-lePut-out, leAt-lePut-fits, leAt-same}
+use Rattle.arena.specs.Fields.{File, file, sameFile, tagOf, nameOf, numberOf, fileOf, isFree, isHead, isData}
 
 -- ---- a block's name, compared by its halves
 
@@ -152,3 +153,21 @@ module _ (b c : List ℕ) (lb : length b ≡ 512) (lc : length c ≡ 512) (h : S
   pub data-cong : (f : File) (q : ℕ) → isData f q b ≡ isData f q c
   unfolding isData
   data-cong f q = rw (tag-cong, number-cong) (ap (λ (g : File). eqb (tagOf c) 2 && (eqb (numberOf c) q && sameFile g f)) file-cong)
+
+-- ---- the number written anew
+
+module _ (b : List ℕ) (n : ℕ) (size : length b ≡ 512) where
+  number-fits : 20 + 4 ≤ length b
+  number-fits = omega arith
+
+  pub renumber-number : n < 4294967296 → numberOf (lePut b 20 4 n) ≡ n
+  renumber-number l = leAt-lePut-fits b 20 4 n number-fits l
+
+  pub renumber-tag : tagOf (lePut b 20 4 n) ≡ tagOf b
+  renumber-tag = getD-lePut-out b 20 4 n number-fits 0 (λ g. absurd (omega arith))
+
+  pub renumber-file : fileOf (lePut b 20 4 n) ≡ fileOf b
+  unfolding lePut
+  renumber-file =
+      ap₂ file (getD-lePut-out b 20 4 n number-fits 1 (λ g. absurd (omega arith)))
+      (part-paste-other b 20 (leBytes 4 n) (omega (arith, length-leBytes 4 n)) 4 20 (λ _. omega arith))

@@ -1,18 +1,18 @@
 -- What a block of zeros and a new block hold.
 use mathlib.Core.Path.{_≡_, refl, sym, ap, ap₂, _∙_, subst}
-use mathlib.Core.Bool.{Bool, true, false}
+use mathlib.Core.Bool.{true}
 use mathlib.Core.List.{List}
-use mathlib.Core.Logic.{⊎-elim, _≢_}
-use Prim.Native.Nat.{ℕ, zero, suc, _+_, _-_, _≤_, _<_}
+use mathlib.Core.Logic.{⊎-elim}
+use Prim.Native.Nat.{ℕ, _+_, _≤_, _<_}
 use native.Mathlib.Omega.{arith}
 use native.Mathlib.Decide.{ℕ-discrete}
 use lib.ListN.{length, getD, set, replicate, length-set, length-replicate, getD-replicate, List·getD-eq-default}
 use lib.Seq.{getD-set-same, getD-set-other, set-out, ext-getD}
+use Rattle.base.proofs.Parts.{paste-all}
 use Rattle.base.specs.Parts.{part, back, paste}
-use Rattle.base.proofs.Lists.{length-part, getD-part, length-paste, getD-paste-in, getD-paste-out, part-paste, part-paste-other}
+use Rattle.base.proofs.Lists.{length-paste, getD-paste-out, part-paste, part-paste-other}
 use Rattle.base.proofs.Numbers.{lt-or-le}
 use Rattle.le.specs.Le.{Bytes, leAt, lePut, leBytes}
-use Rattle.le.proofs.General.{paste-all}
 use Rattle.le.proofs.Laws.{length-leBytes, length-lePut, getD-lePut-out, leAt-lePut-fits, lePut-bytes}
 use Rattle.arena.specs.Fields.{File, file, fileOf, tagOf, whichOf, nameOf, numberOf, isHead, isData, zeros, fresh}
 use Rattle.arena.proofs.Fields.{head-own, data-own}

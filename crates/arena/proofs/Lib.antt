@@ -1,4 +1,3 @@
-pub mod General
 pub mod Blocks
 pub mod Fields
 pub mod Fresh

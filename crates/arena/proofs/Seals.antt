@@ -1,9 +1,8 @@
 -- The check, and a block with its check.
-use mathlib.Core.Path.{_≡_, refl, sym, ap, ap₂, _∙_, subst}
-use mathlib.Core.Bool.{Bool, true, false}
+use mathlib.Core.Path.{_≡_, refl, sym, ap, _∙_}
 use mathlib.Core.List.{List}
-use mathlib.Core.Logic.{⊎-elim, _≢_}
-use Prim.Native.Nat.{ℕ, zero, suc, _+_, _*_, _-_, _≤_, _<_}
+use mathlib.Core.Logic.{⊎-elim}
+use Prim.Native.Nat.{ℕ, _+_, _*_, _-_, _≤_, _<_}
 use native.Mathlib.Nat.{mul-le-mul-left, mul-zero}
 use native.Mathlib.Omega.{arith}
 use lib.ListN.{length, getD, set}
@@ -14,7 +13,7 @@ use Rattle.base.proofs.Lists.{getD-paste-in}
 use Rattle.base.proofs.Numbers.{lt-or-le}
 use Rattle.le.specs.Le.{Bytes, leOf, leBytes, leAt, lePut}
 use Rattle.le.proofs.Laws.{length-leBytes, length-lePut, getD-lePut-out, leAt-lePut-fits, lePut-bytes, lePut-leAt}
-use Rattle.arena.specs.Fields.{File, fileOf, tagOf, numberOf, storedCheck, checkOf, seal, isFree, isHead, isData, zeros}
+use Rattle.arena.specs.Fields.{File, fileOf, numberOf, storedCheck, checkOf, seal, isFree, isHead, isData, zeros}
 use Rattle.arena.proofs.Fields.{Same24, number-cong, file-cong, free-cong, head-cong, data-cong}
 use Rattle.arena.proofs.Fresh.{length-zeros, getD-zeros, zeros-bytes}
 
@@ -115,8 +114,11 @@ stored-zeros : storedCheck zeros ≡ 0
 unfolding leAt leOf zeros
 stored-zeros = refl
 
+pub zeros-right : storedCheck zeros ≡ checkOf zeros
+zeros-right = stored-zeros ∙ sym check-zeros
+
 pub seal-zeros : seal zeros ≡ zeros
-seal-zeros = seal-own zeros length-zeros zeros-bytes (stored-zeros ∙ sym check-zeros)
+seal-zeros = seal-own zeros length-zeros zeros-bytes zeros-right
 
 -- course example: "Arena block with only byte 0 = 2: check 2"
 pub check-two : checkOf (set zeros 0 2) ≡ 2

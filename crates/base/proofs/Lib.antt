@@ -5,3 +5,6 @@ pub mod Counts
 pub mod Searches
 pub mod Lists
 pub mod Tests
+pub mod Parts
+pub mod Sames
+pub mod Finds

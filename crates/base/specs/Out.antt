@@ -1,6 +1,7 @@
 -- The outcome of a step: done with what it leaves, or refused with a reason's number. A refusal carries no state, so nothing is kept of it.
 use mathlib.Core.Bool.{Bool, true, false}
-use Prim.Native.Nat.{ℕ}
+use mathlib.Core.Path.{_≡_}
+use Prim.Native.Nat.{ℕ, _<_}
 
 pub data Out (A : Type 0) : Type 0 where
   done : A → Out A
@@ -40,3 +41,8 @@ kept x (refused n) = x
 pub data Ok {A : Type 0} (Q : A → Type 0) (R : ℕ → Type 0) : Out A → Type 0 where
   went : {a : A} → Q a → Ok Q R (done a)
   said : {n : ℕ} → R n → Ok Q R (refused n)
+
+-- a step of the code answers r where its definition has the outcome o: 0 where it was done, and then o is v and P holds; or o's reason
+pub data Went {A : Type 0} (o : Out A) (v : A) (P : Type 0) : ℕ → Type 0 where
+  well : o ≡ done v → P → Went o v P 0
+  ill : {r : ℕ} → 0 < r → o ≡ refused r → Went o v P r

@@ -2,26 +2,10 @@
 // A question answers 0, or the number of the reason that refuses the call.
 use base::Found;
 use mem::table_at;
+use sefs::Metadata;
 use structs::DiskINode;
-use structs::Timespec;
 use table::Handle;
 use table::Table;
-
-// What metadata tells (vfs.rs: Metadata).
-#[repr(C)]
-pub struct Metadata {
-    pub inode: u32,
-    pub size: u64,
-    pub mode: u16,
-    pub kind: u32,
-    pub blocks: u32,
-    pub atime: Timespec,
-    pub mtime: Timespec,
-    pub ctime: Timespec,
-    pub nlinks: u16,
-    pub uid: u32,
-    pub gid: u32,
-}
 
 // The answer of a call that gives nothing else.
 pub enum Answer {

@@ -1,5 +1,5 @@
 // Calls that make: format, create, link. Each decides on a view of the arena, and commits once nothing can refuse it any more.
-use base::Found;
+use base::index;
 use calls::After;
 use calls::ByHandle;
 use calls::Given;
@@ -22,11 +22,8 @@ use folders::dirent_init;
 use folders::nlinks_inc;
 use folders::put_entry;
 use folders::slots::lookup;
+use mem::fresh_meta;
 use mem::id_at;
-use mem::put_bit;
-use mem::put_has;
-use mem::put_new_map;
-use mem::put_super;
 use mem::put_table;
 use mem::rec_at;
 use nodes::Opened;
@@ -35,7 +32,6 @@ use nodes::meta::sync_meta;
 use nodes::new_node;
 use nodes::sync_row;
 use structs::DiskINode;
-use structs::SuperBlock;
 use structs::Timespec;
 use table::Handle;
 use table::Table;
@@ -59,23 +55,6 @@ fn clear_all(work: &mut [u8], n: usize) {
         overlay::free(work, k);
         k = k + 1;
     }
-}
-
-// What is in memory before the root is made: no node open, one group, bits 0 and 1 clear.
-fn fresh_meta(mem: &mut [u8]) {
-    put_table(mem, table::empty());
-    put_has(mem, true);
-    put_super(
-        mem,
-        SuperBlock {
-            magic: 797818410,
-            blocks: 1024,
-            unused: 1022,
-            groups: 1,
-        },
-    );
-    put_new_map(mem, 0);
-    put_bit(mem, 0, false);
 }
 
 fn make_meta(arena: &[u8], work: &mut [u8]) -> u8 {
@@ -153,6 +132,7 @@ pub fn format(arena: &mut [u8], time: Timespec, file: [u8; 16]) -> After {
         return refused(t, 1);
     }
     let mut mem = [0u8; 4899];
+    put_table(&mut mem, t);
     fresh_meta(&mut mem);
     let r = format_in(arena, &mut mem, time, file);
     if r != 0 {
@@ -189,13 +169,6 @@ fn create_ask(rec: DiskINode, name: &[u8], kind: u32) -> u8 {
     not_long(name)
 }
 
-fn free_name(found: Found) -> u8 {
-    match found {
-        Found::At(_) => 12,
-        Found::Nothing => 0,
-    }
-}
-
 // 12, where a slot has the name.
 fn no_slot(arena: &[u8], work: &[u8], rec: DiskINode, name: &[u8]) -> u8 {
     let mut slot = [0u8; 264];
@@ -203,8 +176,10 @@ fn no_slot(arena: &[u8], work: &[u8], rec: DiskINode, name: &[u8]) -> u8 {
     if l.reason != 0 {
         return l.reason;
     }
-    let f = l.found;
-    free_name(f)
+    if l.place < index(rec.blocks) {
+        return 12;
+    }
+    0
 }
 
 fn create_free(

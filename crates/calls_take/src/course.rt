@@ -1,5 +1,4 @@
 // move (000's move_).
-use base::Found;
 use base::index;
 use calls::After;
 use calls::ByHandle;
@@ -375,11 +374,10 @@ fn move_decide(
     if l.reason != 0 {
         return Course::Refused(l.reason);
     }
-    let f = l.found;
-    match f {
-        Found::At(k) => replace(arena, work, mem, i, j, old, name, k, u32_at(&slot, 0)),
-        Found::Nothing => move_plain(arena, work, mem, i, j, old, name),
+    if l.place < index(rec_at(&mem[..], j).blocks) {
+        return replace(arena, work, mem, i, j, old, name, l.place, u32_at(&slot, 0));
     }
+    move_plain(arena, work, mem, i, j, old, name)
 }
 
 // ---- the order of reasons: source 7, 8; 9 for either name; 10; target 7, 8; then as above

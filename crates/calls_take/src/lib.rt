@@ -20,7 +20,6 @@ use folders::slots::find_slot;
 use le::u32_at;
 use mem::dirty_at;
 use mem::id_at;
-use mem::next_row;
 use mem::put_table;
 use mem::rec_at;
 use nodes::drop_node;
@@ -162,6 +161,22 @@ fn raise_first(arena: &[u8], work: &mut [u8], mem: &[u8]) -> u8 {
     }
     let meta = [0u8; 16];
     put(arena, work, 0, &meta, 128 * (end - 1) + 112, &meta[..0])
+}
+
+// The row with the lowest id above that one: `best` is it among the rows passed, or 34.
+fn next_row(mem: &[u8], after: u32) -> Found {
+    let mut best: usize = 34;
+    let mut least: u32 = 0;
+    let mut i: usize = 0;
+    while i < 34 {
+        let id = id_at(mem, i);
+        if (after < id) & ((best == 34) | (id < least)) {
+            best = i;
+            least = id;
+        }
+        i = i + 1;
+    }
+    base::found_below(best, 34)
 }
 
 fn sync_next(arena: &[u8], work: &mut [u8], mem: &mut [u8], low: u32) -> Synced {

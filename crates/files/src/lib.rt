@@ -20,7 +20,7 @@ pub fn find_free<'a>(arena: &'a [u8], work: &'a [u8]) -> usize
     ensures { λ r. ⌜ r ≡ freeOf (view (now (arena .entry)) (now (work .entry))) ⌝ }
 {
     let n = arena.len() / 512;
-    let mut k: usize = 0;
+    let mut k = 0;
     while k < n {
         if is_free(block(arena, work, k)) {
             return k;

@@ -29,10 +29,10 @@ pub fn file_length<'a>(arena: &'a [u8], work: &'a [u8], which: u8, name: &[u8]) 
     ensures { λ r. ⌜ r ≡ lengthOf (view (now (arena .entry)) (now (work .entry))) (file which (now (name .entry))) ⌝ }
 {
     let k = find_head(arena, work, which, name);
-    if k < arena.len() / 512 {
-        return u32_at(block(arena, work, k), 20);
+    if k >= arena.len() / 512 {
+        return 0;
     }
-    0
+    u32_at(block(arena, work, k), 20)
 }
 
 // The bytes of one block of the file from p on, as many as out takes.
@@ -42,14 +42,14 @@ fn read_part<'a>(arena: &'a [u8], work: &'a [u8], which: u8, name: &[u8], p: usi
     ensures { λ _. ⌜ now (out .exit) ≡ tab (byteAt (view (now (arena .entry)) (now (work .entry))) (file which (now (name .entry)))) p (length (now (out .entry))) ⌝ }
 {
     let k = find_data(arena, work, which, name, (p / 480) as u32);
-    if k < arena.len() / 512 {
-        let s = 24 + p % 480;
-        let e = s + out.len();
-        let b = block(arena, work, k);
-        copy(out, &b[s..e]);
-    } else {
+    if k >= arena.len() / 512 {
         clear(out);
+        return;
     }
+    let s = 24 + p % 480;
+    let e = s + out.len();
+    let b = block(arena, work, k);
+    copy(out, &b[s..e]);
 }
 
 // A run that is known to lie below the length, block by block.
@@ -59,13 +59,13 @@ fn read_run<'a>(arena: &'a [u8], work: &'a [u8], which: u8, name: &[u8], pos: us
     ensures { λ _. ⌜ now (out .exit) ≡ tab (byteAt (view (now (arena .entry)) (now (work .entry))) (file which (now (name .entry)))) pos (length (now (out .entry))) ⌝ }
 {
     let total = out.len();
-    let mut done: usize = 0;
-    while done < total {
-        let p = pos + done;
-        let m = least(480 - p % 480, total - done);
-        let e = done + m;
-        read_part(arena, work, which, name, p, &mut out[done..e]);
-        done = e;
+    let mut got: usize = 0;
+    while got < total {
+        let p = pos + got;
+        let m = least(480 - p % 480, total - got);
+        let e = got + m;
+        read_part(arena, work, which, name, p, &mut out[got..e]);
+        got = e;
     }
 }
 

@@ -2,6 +2,7 @@
 pub mod slots;
 
 use base::index;
+use base::least;
 use files::store::cut;
 use files::store::put;
 use le::put_u32;
@@ -20,10 +21,15 @@ pub fn put_entry(slot: &mut [u8], id: u32, name: &[u8], kind: u32) {
     put_u32(slot, 260, kind);
 }
 
-// 264 bytes at slot k of folder i.
+// A node's file, by its name.
+fn file_of(rec: DiskINode) -> [u8; 16] {
+    rec.file
+}
+
+// 264 bytes at slot k of folder i. (The place is held below a bound, so that it does not wrap: no file is so long, and past it every store is refused alike.)
 pub fn put_slot(arena: &[u8], work: &mut [u8], mem: &[u8], i: usize, k: usize, slot: &[u8]) -> u8 {
-    let file = rec_at(mem, i).file;
-    put(arena, work, 1, &file, 264 * k, slot)
+    let file = file_of(rec_at(mem, i));
+    put(arena, work, 1, &file, 264 * least(k, 16777216), slot)
 }
 
 fn with_blocks(r: DiskINode, n: u32) -> DiskINode {
@@ -100,8 +106,11 @@ fn fill_hole(
     put_slot(arena, work, mem, i, k, slot)
 }
 
-fn shorten(arena: &[u8], work: &mut [u8], mem: &mut [u8], i: usize, last: u32) -> u8 {
-    let file = rec_at(&mem[..], i).file;
+// The file loses its last slot.
+fn shorten(arena: &[u8], work: &mut [u8], mem: &mut [u8], i: usize) -> u8 {
+    let rec = rec_at(&mem[..], i);
+    let file = file_of(rec);
+    let last = rec.blocks - 1;
     let r = cut(arena, work, 1, &file, 264 * index(last));
     if r != 0 {
         return r;
@@ -110,31 +119,35 @@ fn shorten(arena: &[u8], work: &mut [u8], mem: &mut [u8], i: usize, last: u32) -
     0
 }
 
-fn remove_last(arena: &[u8], work: &mut [u8], mem: &mut [u8], i: usize, k: usize, last: u32) -> u8 {
-    let mut slot = [0u8; 264];
-    let r = slot_bytes(
-        arena,
-        &work[..],
-        rec_at(&mem[..], i),
-        index(last),
-        &mut slot,
-    );
+// `slot` is the last one: the hole is filled with it, and the file shortened.
+fn close_hole(
+    arena: &[u8],
+    work: &mut [u8],
+    mem: &mut [u8],
+    i: usize,
+    k: usize,
+    last: usize,
+    slot: &[u8],
+) -> u8 {
+    let r = fill_hole(arena, work, &mem[..], i, k, last, slot);
     if r != 0 {
         return r;
     }
-    let r = fill_hole(arena, work, &mem[..], i, k, index(last), &slot);
-    if r != 0 {
-        return r;
-    }
-    shorten(arena, work, mem, i, last)
+    shorten(arena, work, mem, i)
 }
 
 pub fn dirent_remove(arena: &[u8], work: &mut [u8], mem: &mut [u8], i: usize, k: usize) -> u8 {
-    let total = rec_at(&mem[..], i).blocks;
-    if total == 0 {
+    let rec = rec_at(&mem[..], i);
+    if rec.blocks == 0 {
         return 19;
     }
-    remove_last(arena, work, mem, i, k, total - 1)
+    let last = index(rec.blocks - 1);
+    let mut slot = [0u8; 264];
+    let r = slot_bytes(arena, &work[..], rec, last, &mut slot);
+    if r != 0 {
+        return r;
+    }
+    close_hole(arena, work, mem, i, k, last, &slot)
 }
 
 // ---- link counts

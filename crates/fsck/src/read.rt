@@ -10,6 +10,7 @@ use mem::bit_at;
 use mem::dirty_at;
 use mem::find_row;
 use mem::id_at;
+use mem::put_flag;
 use mem::rec_at;
 use mem::super_at;
 use sound::chain::find_key;
@@ -139,6 +140,7 @@ pub fn rule3(arena: &[u8], first: &[u16], next: &[u16], mem: &mut [u8]) -> bool 
     }
     let b = super_at(&mem[..]);
     load_maps(arena, first, next, mem, index(b.groups));
+    put_flag(mem, true);
     maps::count_set(&mem[4387..4899], index(b.groups)) == b.unused
 }
 

@@ -1,19 +1,15 @@
 -- The laws of little-endian numbers, each once for every width.
-use mathlib.Core.Path.{_≡_, refl, sym, ap, ap₂, _∙_, subst}
+use mathlib.Core.Path.{_≡_, refl, sym, ap, ap₂, _∙_}
 use mathlib.Core.List.{List, [], _∷_, _++_}
-use mathlib.Core.Logic.{⊎-elim}
-use Prim.Native.Nat.{ℕ, zero, suc, _+_, _*_, _/_, _%_, _^_, _-_, _≤_, _<_, zero-le}
-use native.Mathlib.Nat.{add-zero, zero-add, suc-add, add-assoc, mul-assoc, mul-add, mul-comm, pow-zero, pow-suc, pow-succ', div-one, mod-one, one-mul, mod-lt, mod-eq-of-lt, div-div-eq-div-mul, mod-add-div, add-mul-div-left, add-mul-mod-self-left, div-eq-of-lt, div-lt-iff-lt-mul, one-le-pow, pow-le-pow-right}
-use native.Mathlib.Numerals.{add-one}
+use Prim.Native.Nat.{ℕ, zero, suc, _+_, _*_, _/_, _%_, _^_, _-_, _≤_, _<_}
+use native.Mathlib.Nat.{zero-add, suc-add, mul-assoc, mul-comm, pow-suc, pow-succ', div-one, mod-one, one-mul, mod-eq-of-lt, div-div-eq-div-mul, one-le-pow, pow-le-pow-right}
 use native.Mathlib.Omega.{arith}
-use lib.Pow.{pow-add}
 use lib.Arith.{mod-mul}
-use lib.ListN.{length, getD, take, drop, set, length-append, length-take, length-drop}
-use lib.Seq.{take-add, drop-drop, take-take, ext-getD, getD-drop, getD-take}
+use lib.ListN.{length, getD, drop, set, length-take}
+use Rattle.base.proofs.Parts.{part-join, part-part, part-one, part-all, paste-all, paste-whole}
 use Rattle.base.specs.Parts.{part, paste}
-use Rattle.base.proofs.Lists.{length-part, getD-part, length-paste, part-paste, part-paste-other, paste-paste, paste-own, getD-paste-out, set-paste}
+use Rattle.base.proofs.Lists.{length-part, length-paste, part-paste, part-paste-other, paste-paste, paste-own, getD-paste-out, set-paste}
 use Rattle.le.specs.Le.{Bytes, leOf, leBytes, leAt, lePut}
-use Rattle.le.proofs.General.{part-join, part-part, part-one, part-all, paste-all}
 
 -- ---- a list and its number
 
@@ -173,3 +169,18 @@ read-two n l s low high h e f =
 pub write-two :
     (n : ℕ) (l a b : List ℕ) (s v : ℕ) → s + n + n ≤ length l → a ≡ lePut l s n (v % 256 ^ n) → b ≡ lePut a (s + n) n (v / 256 ^ n) → b ≡ lePut l s (n + n) v
 write-two n l a b s v h e f = f ∙ ap (λ (x : List ℕ). lePut x (s + n) n (v / 256 ^ n)) e ∙ lePut-join l s n n v h
+
+-- numbers of n bytes that are equal have the same bytes
+pub leAt-same : (l m : List ℕ) (s t n : ℕ) → Bytes l → Bytes m → s + n ≤ length l → t + n ≤ length m → leAt l s n ≡ leAt m t n → part l s (s + n) ≡ part m t (t + n)
+unfolding leAt
+leAt-same l m s t n p q h k e =
+    let a : length (part l s (s + n)) ≡ n = length-part l s (s + n) (omega arith) h ∙ omega arith in
+    let b : length (part m t (t + n)) ≡ n = length-part m t (t + n) (omega arith) k ∙ omega arith in
+    sym (leBytes-leOf (part l s (s + n)) (part-all (λ x. x < 256) l (omega arith) p s (s + n)))
+    ∙ ap₂ leBytes (a ∙ sym b) e
+    ∙ leBytes-leOf (part m t (t + n)) (part-all (λ x. x < 256) m (omega arith) q t (t + n))
+
+-- a number put into a buffer of its own width
+pub lePut-whole : (d : List ℕ) (n v : ℕ) → length d ≡ n → lePut d 0 n v ≡ leBytes n v
+unfolding lePut
+lePut-whole d n v e = paste-whole d (leBytes n v) (e ∙ sym (length-leBytes n v))

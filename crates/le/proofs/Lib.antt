@@ -1,3 +1,2 @@
-pub mod General
 pub mod Laws
 pub mod Signs

@@ -1,16 +1,18 @@
 -- The laws of signed numbers as 64 bits.
-use mathlib.Core.Path.{_≡_, refl, sym, ap, _∙_}
+use mathlib.Core.Path.{_≡_, refl, ap, _∙_}
 use mathlib.Core.Bool.{true, false}
 use mathlib.Core.Logic.{⊎-elim}
-use Prim.Native.Nat.{ℕ, zero, suc, _+_, _-_, _^_, _<_, _≤_}
+use Prim.Native.Nat.{ℕ, zero, suc, _-_, _^_, _<_, _≤_}
 use native.Mathlib.Omega.{arith}
+use lib.ListN.{replicate}
 use lib.IntN.{ℤ, pos, negsuc, _-ℤ_, natAbs}
 use lib.Signed.{leZ}
 use borrow.Author.Tests.{le-ltb, lt-ltb, leb-false}
 use mir.Syntax.{w64}
-use mir.Val.{toZ, ofZ, Fits, SFits}
-use mir.ValLaws.{toZ-ofZ, ofZ-toZ, toZ-fits, ofZ-fits, toZ-pos}
+use mir.Val.{toZ, ofZ, SFits}
+use mir.ValLaws.{toZ-ofZ, ofZ-toZ, toZ-fits, ofZ-fits}
 use Rattle.base.proofs.Numbers.{lt-or-le}
+use Rattle.le.specs.Le.{leOf, leAt}
 use Rattle.le.specs.Signed.{signed, bitsOf}
 
 -- the lower half is the number itself
@@ -46,11 +48,21 @@ signed-fits x h = rw (signed-is x h) (toZ-fits w64 x (record { fits = h }))
 pub bitsOf-fits : (z : ℤ) → SFits w64 z → bitsOf z < 2 ^ 64
 bitsOf-fits z h = rw (bitsOf-is z) (ofZ-fits w64 z h .fits)
 
--- exact at -1, at 0 and at both ends
-pub at-ends :
+-- exact at -1, at 0 and at both ends of the range, both ways
+pub ends :
     (signed 18446744073709551615 ≡ negsuc 0) × ((signed 0 ≡ pos 0) × ((signed 9223372036854775807 ≡ pos 9223372036854775807) × (signed 9223372036854775808 ≡ negsuc 9223372036854775807)))
 unfolding signed
-at-ends = (refl, (refl, (refl, refl)))
+ends = (refl, (refl, (refl, refl)))
+
+pub ends-back :
+    (bitsOf (negsuc 0) ≡ 18446744073709551615) × ((bitsOf (pos 0) ≡ 0) × ((bitsOf (pos 9223372036854775807) ≡ 9223372036854775807) × (bitsOf (negsuc 9223372036854775807) ≡ 9223372036854775808)))
+unfolding bitsOf
+ends-back = (refl, (refl, (refl, refl)))
+
+-- "Eight bytes FF: -1."
+pub eight-ff : signed (leAt (replicate 8 255) 0 8) ≡ negsuc 0
+unfolding signed leAt leOf
+eight-ff = refl
 
 -- ---- as the code has it: counting from -1
 

@@ -7,10 +7,10 @@ use Prim.Native.Nat.{ℕ, zero, suc, _+_, _*_, _-_, _/_, _%_, _^_, _≤_, _<_}
 use native.Mathlib.Nat.{div-add-mod', mod-lt, mul-assoc, mul-comm, add-mul, pow-succ', div-div-eq-div-mul, mul-add-div-right, mul-add-mod-self-right, mul-le-mul-right, one-mul, mod-eq-of-lt}
 use native.Mathlib.Decide.{ℕ-discrete}
 use native.Mathlib.Omega.{arith}
-use lib.Arith.{digits-lt, digits-div, digits-mod}
+use lib.Arith.{digits-lt, digits-div}
 use lib.Pow.{pow-pos, pow-add, pow-lt, shr-lt}
 use lib.Dec.{eqb}
-use lib.ListN.{length, getD, set, length-set}
+use lib.ListN.{length, getD, length-set}
 use lib.Seq.{getD-set-same, getD-set-other}
 use Rattle.base.specs.Count.{bit, countTo}
 use Rattle.base.proofs.Numbers.{lt-or-le}

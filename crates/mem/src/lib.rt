@@ -5,80 +5,119 @@
 //   4362  the next stamp
 //   4370  1 where superblock and maps could be read, else 0
 //   4371  the superblock, 16 bytes
-//   4387  the maps of up to four groups, 128 bytes each
+//   4387  the maps of up to four groups, 128 bytes each, up to 4899
+ghost use mathlib.Core.Path.{_≡_};
+ghost use mathlib.Core.Bool.{true};
+ghost use mathlib.Core.List.{_∷_};
+ghost use Prim.Native.Nat.{_+_, _*_, _<_};
+ghost use lib.ListN.{length, getD, set, replicate};
+ghost use lib.Dec.{eqb};
+ghost use Rattle.base.specs.Count.{bit};
+ghost use Rattle.base.specs.Out.{done};
+ghost use Rattle.base.specs.Parts.{part};
+ghost use Rattle.base.specs.Search.{lowest, foundBelow};
+ghost use Rattle.maps.specs.Maps.{bitAt, withBit};
+ghost use Rattle.table.specs.Table.{rowAt, namesRow, rowOf, rowUsed, takeRow, withRow, withDirty, freeRowAt};
+ghost use Rattle.sefs.specs.Create.{freshMeta};
+ghost use Rattle.sefs.specs.Meta.{superWith, grown};
+ghost use Rattle.mem.specs.Mem.{tableIn, superIn, mapsIn, metaIn, Whole, Tabled, Mapped};
 use base::Found;
-use base::clear;
 use base::index;
-use le::put_u32;
-use le::put_u64;
-use le::u32_at;
-use le::u64_at;
 use structs::DiskINode;
+use structs::SEFS_MAGIC;
 use structs::SuperBlock;
-use structs::disk_inode_at;
-use structs::put_disk_inode;
 use structs::put_super_block;
 use structs::super_block_at;
-use table::Hold;
 use table::Row;
 use table::Table;
-
-pub const MEM: usize = 4899;
+use table_bytes::hold_in;
+use table_bytes::row_in;
 
 // ---- rows
 
-pub fn id_at(mem: &[u8], i: usize) -> u32 {
-    u32_at(mem, 117 * i)
+pub fn row_at(mem: &[u8], i: usize) -> Row
+    requires { ⌜ Whole (now mem) × (i < 34) ⌝ }
+    ensures { λ r. ⌜ r ≡ rowAt (tableIn (now (mem .entry))) i ⌝ }
+{
+    row_in(mem, 117 * i)
 }
 
-pub fn dirty_at(mem: &[u8], i: usize) -> bool {
-    mem[117 * i + 4] != 0
+pub fn id_at(mem: &[u8], i: usize) -> u32
+    requires { ⌜ Whole (now mem) × (i < 34) ⌝ }
+    ensures { λ r. ⌜ r ≡ rowAt (tableIn (now (mem .entry))) i .id ⌝ }
+{
+    row_at(mem, i).id
 }
 
-pub fn rec_at(mem: &[u8], i: usize) -> DiskINode {
-    disk_inode_at(mem, 117 * i + 5)
+pub fn dirty_at(mem: &[u8], i: usize) -> bool
+    requires { ⌜ Whole (now mem) × (i < 34) ⌝ }
+    ensures { λ r. ⌜ r ≡ rowAt (tableIn (now (mem .entry))) i .dirty ⌝ }
+{
+    row_at(mem, i).dirty
 }
 
-pub fn row_at(mem: &[u8], i: usize) -> Row {
-    let id = id_at(mem, i);
-    let dirty = dirty_at(mem, i);
-    let rec = rec_at(mem, i);
-    Row {
-        id: id,
-        dirty: dirty,
-        rec: rec,
-    }
+pub fn rec_at(mem: &[u8], i: usize) -> DiskINode
+    requires { ⌜ Whole (now mem) × (i < 34) ⌝ }
+    ensures { λ r. ⌜ r ≡ rowAt (tableIn (now (mem .entry))) i .rec ⌝ }
+{
+    let row = row_at(mem, i);
+    row.rec
 }
 
-fn byte(b: bool) -> u8 {
-    if b { 1 } else { 0 }
-}
-
-pub fn put_dirty(mem: &mut [u8], i: usize, dirty: bool) {
-    mem[117 * i + 4] = byte(dirty);
+pub fn put_row(mem: &mut [u8], i: usize, row: Row)
+    requires { ⌜ Whole (now mem) × (i < 34) ⌝ }
+    ensures { λ _. ⌜ Tabled (now (mem .entry)) (now (mem .exit)) (withRow (tableIn (now (mem .entry))) i row) ⌝ }
+{
+    table_bytes::put_row(mem, 117 * i, row);
 }
 
 // Row i with another record: any change marks it dirty.
-pub fn set_rec(mem: &mut [u8], i: usize, rec: DiskINode) {
-    put_disk_inode(mem, 117 * i + 5, rec);
-    put_dirty(mem, i, true);
+pub fn set_rec(mem: &mut [u8], i: usize, rec: DiskINode)
+    requires { ⌜ Whole (now mem) × (i < 34) ⌝ }
+    ensures { λ _. ⌜ Tabled (now (mem .entry)) (now (mem .exit)) (takeRow (tableIn (now (mem .entry))) i (rowAt (tableIn (now (mem .entry))) i .id) rec true) ⌝ }
+{
+    let id = id_at(&mem[..], i);
+    put_row(
+        mem,
+        i,
+        Row {
+            id: id,
+            dirty: true,
+            rec: rec,
+        },
+    );
 }
 
-pub fn put_row(mem: &mut [u8], i: usize, row: Row) {
-    let rec = row.rec;
-    put_u32(mem, 117 * i, row.id);
-    put_dirty(mem, i, row.dirty);
-    put_disk_inode(mem, 117 * i + 5, rec);
+pub fn put_dirty(mem: &mut [u8], i: usize, dirty: bool)
+    requires { ⌜ Whole (now mem) × (i < 34) ⌝ }
+    ensures { λ _. ⌜ Tabled (now (mem .entry)) (now (mem .exit)) (withDirty (tableIn (now (mem .entry))) i dirty) ⌝ }
+{
+    let mut row = row_at(&mem[..], i);
+    row.dirty = dirty;
+    put_row(mem, i, row);
 }
 
 // A freed row becomes all zero.
-pub fn clear_row(mem: &mut [u8], i: usize) {
-    let o = 117 * i;
-    clear(&mut mem[o..o + 117]);
+pub fn clear_row(mem: &mut [u8], i: usize)
+    requires { ⌜ Whole (now mem) × (i < 34) ⌝ }
+    ensures { λ _. ⌜ Tabled (now (mem .entry)) (now (mem .exit)) (freeRowAt (tableIn (now (mem .entry))) i) ⌝ }
+{
+    put_row(
+        mem,
+        i,
+        Row {
+            id: 0,
+            dirty: false,
+            rec: table::zero_record(),
+        },
+    );
 }
 
 // The lowest row with that id; id 0 asks for a free row.
-pub fn find_row(mem: &[u8], id: u32) -> Found {
+pub fn find_row(mem: &[u8], id: u32) -> Found
+    requires { ⌜ Whole (now mem) ⌝ }
+    ensures { λ r. ⌜ r ≡ rowOf (tableIn (now (mem .entry))) id ⌝ }
+{
     let mut i: usize = 0;
     while i < 34 {
         if id_at(mem, i) == id {
@@ -89,45 +128,21 @@ pub fn find_row(mem: &[u8], id: u32) -> Found {
     Found::Nothing
 }
 
-// The row with the lowest id above that one: `best` is it among the rows passed, or 34.
-pub fn next_row(mem: &[u8], after: u32) -> Found {
-    let mut best: usize = 34;
-    let mut least: u32 = 0;
-    let mut i: usize = 0;
-    while i < 34 {
-        let id = id_at(mem, i);
-        if (after < id) & ((best == 34) | (id < least)) {
-            best = i;
-            least = id;
-        }
-        i = i + 1;
-    }
-    base::found_below(best, 34)
-}
-
 // ---- holds
 
-pub fn hold_at(mem: &[u8], n: usize) -> Hold {
-    let o = 3978 + 12 * n;
-    Hold {
-        row: u32_at(mem, o),
-        stamp: u64_at(mem, o + 4),
-    }
-}
-
-fn put_hold(mem: &mut [u8], n: usize, h: Hold) {
-    let o = 3978 + 12 * n;
-    put_u32(mem, o, h.row);
-    put_u64(mem, o + 4, h.stamp);
-}
-
-fn names_row(mem: &[u8], n: usize, i: usize) -> bool {
-    let h = hold_at(mem, n);
+fn names_row(mem: &[u8], n: usize, i: usize) -> bool
+    requires { ⌜ Whole (now mem) × (n < 32) ⌝ }
+    ensures { λ r. ⌜ r ≡ namesRow (tableIn (now (mem .entry))) i n ⌝ }
+{
+    let h = hold_in(mem, 3978 + 12 * n);
     (h.stamp != 0) & (index(h.row) == i)
 }
 
 // Whether a live hold names row i.
-pub fn row_held(mem: &[u8], i: usize) -> bool {
+pub fn row_held(mem: &[u8], i: usize) -> bool
+    requires { ⌜ Whole (now mem) ⌝ }
+    ensures { λ r. ⌜ r ≡ rowUsed (tableIn (now (mem .entry))) i ⌝ }
+{
     let mut n: usize = 0;
     while n < 32 {
         if names_row(mem, n, i) {
@@ -140,86 +155,138 @@ pub fn row_held(mem: &[u8], i: usize) -> bool {
 
 // ---- superblock and maps
 
-pub fn has_meta(mem: &[u8]) -> bool {
+pub fn has_meta(mem: &[u8]) -> bool
+    requires { ⌜ Whole (now mem) ⌝ }
+    ensures { λ r. ⌜ r ≡ eqb (getD (now (mem .entry)) 4370 0) 1 ⌝ }
+{
     mem[4370] == 1
 }
 
-pub fn put_has(mem: &mut [u8], has: bool) {
-    mem[4370] = byte(has);
-}
-
-pub fn super_at(mem: &[u8]) -> SuperBlock {
+pub fn super_at(mem: &[u8]) -> SuperBlock
+    requires { ⌜ Whole (now mem) ⌝ }
+    ensures { λ r. ⌜ r ≡ superIn (now (mem .entry)) ⌝ }
+{
     super_block_at(mem, 4371)
 }
 
-pub fn put_super(mem: &mut [u8], sb: SuperBlock) {
-    put_super_block(mem, 4371, sb);
-}
-
-pub fn super_bytes(mem: &[u8]) -> &[u8] {
+pub fn super_bytes(mem: &[u8]) -> &[u8]
+    requires { ⌜ Whole (now mem) ⌝ }
+    ensures { λ r. ⌜ now r ≡ part (now (mem .entry)) 4371 4387 ⌝ }
+{
     &mem[4371..4387]
 }
 
-pub fn map_bytes(mem: &[u8], group: usize) -> &[u8] {
+pub fn map_bytes(mem: &[u8], group: usize) -> &[u8]
+    requires { ⌜ Whole (now mem) × (group < 4) ⌝ }
+    ensures { λ r. ⌜ now r ≡ part (now (mem .entry)) (4387 + 128 * group) (4387 + 128 * group + 128) ⌝ }
+{
     let o = 4387 + 128 * group;
     &mem[o..o + 128]
 }
 
-// The lowest set bit of the maps' groups.
-pub fn first_bit(mem: &[u8]) -> Found {
+// The lowest set bit of the groups' maps.
+pub fn first_bit(mem: &[u8]) -> Found
+    requires { ⌜ Whole (now mem) × (getD (now mem) 4370 0 ≡ 1) ⌝ }
+    ensures { λ r. ⌜ r ≡ foundBelow (lowest (bitAt (mapsIn (now (mem .entry)))) (1024 * superIn (now (mem .entry)) .groups)) (1024 * superIn (now (mem .entry)) .groups) ⌝ }
+{
     let groups = super_at(mem).groups;
     maps::lowest_set(&mem[4387..4899], index(groups))
 }
 
-pub fn bit_at(mem: &[u8], id: usize) -> bool {
+pub fn bit_at(mem: &[u8], id: usize) -> bool
+    requires { ⌜ Whole (now mem) × (id < 1024 * superIn (now mem) .groups) ⌝ }
+    requires { ⌜ getD (now mem) 4370 0 ≡ 1 ⌝ }
+    ensures { λ r. ⌜ r ≡ bitAt (mapsIn (now (mem .entry))) id ⌝ }
+{
     maps::bit_at(&mem[4387..4899], id)
 }
 
-pub fn put_bit(mem: &mut [u8], id: usize, b: bool) {
+// Bit `id` and the count of unused ids, together.
+pub fn put_bit(mem: &mut [u8], id: usize, b: bool, unused: u32)
+    requires { ⌜ Whole (now mem) × (id < 1024 * superIn (now mem) .groups) ⌝ }
+    requires { ⌜ getD (now mem) 4370 0 ≡ 1 ⌝ }
+    ensures { λ _. ⌜ Mapped (now (mem .entry)) (now (mem .exit)) (record { super = superWith (superIn (now (mem .entry))) (superIn (now (mem .entry)) .blocks) unused (superIn (now (mem .entry)) .groups); maps = withBit (mapsIn (now (mem .entry))) id b }) ⌝ }
+{
+    let mut sb = super_at(&mem[..]);
     maps::put_bit(&mut mem[4387..4899], id, b);
+    sb.unused = unused;
+    put_super_block(mem, 4371, sb);
 }
 
-// A new group's map: every bit set but that of its own block.
-pub fn put_new_map(mem: &mut [u8], group: usize) {
-    let o = 4387 + 128 * group;
+// A new group: every bit of its map set but that of its own block, and the superblock counts it.
+pub fn add_group(mem: &mut [u8])
+    requires { ⌜ Whole (now mem) × (getD (now mem) 4370 0 ≡ 1) ⌝ }
+    requires { ⌜ (superIn (now mem) .groups < 4) × ((superIn (now mem) .blocks + 1024 < 4294967296) × (superIn (now mem) .unused + 1023 < 4294967296)) ⌝ }
+    ensures { λ _. ⌜ Mapped (now (mem .entry)) (now (mem .exit)) (grown (superIn (now (mem .entry))) (mapsIn (now (mem .entry)))) ⌝ }
+{
+    let mut sb = super_at(&mem[..]);
+    let o = 4387 + 128 * index(sb.groups);
+    put_map(&mut mem[o..o + 128], 253);
+    sb.blocks = sb.blocks + 1024;
+    sb.unused = sb.unused + 1023;
+    sb.groups = sb.groups + 1;
+    put_super_block(mem, 4371, sb);
+}
+
+// A group's map: the first byte, and every bit of the others set.
+fn put_map(map: &mut [u8], first: u8)
+    requires { ⌜ length (now map) ≡ 128 ⌝ }
+    ensures { λ _. ⌜ now (map .exit) ≡ first ∷ replicate 127 255 ⌝ }
+{
     let mut i: usize = 0;
     while i < 128 {
-        mem[o + i] = 255;
+        map[i] = 255;
         i = i + 1;
     }
-    mem[o] = 253;
+    map[0] = first;
 }
 
-// ---- the whole table
+// ---- the start and the end of a call
 
-// A table's bytes, as the calls' steps and the call script have them.
-pub fn put_table(mem: &mut [u8], t: Table) {
-    let mut i: usize = 0;
-    while i < 34 {
-        let r = t.rows[i];
-        put_row(mem, i, r);
-        if i < 32 {
-            let h = t.holds[i];
-            put_hold(mem, i, h);
-        }
-        i = i + 1;
-    }
-    put_u64(mem, 4362, t.next);
+// The table's bytes; what is behind them stays.
+pub fn put_table(mem: &mut [u8], t: Table)
+    requires { ⌜ length (now mem) ≡ 4899 ⌝ }
+    ensures { λ _. ⌜ (tableIn (now (mem .exit)) ≡ t) × (part (now (mem .exit)) 4370 4899 ≡ part (now (mem .entry)) 4370 4899) ⌝ }
+{
+    table_bytes::write_table(mem, t);
 }
 
-// The table that these bytes are.
-pub fn table_at(mem: &[u8]) -> Table {
-    let mut t = table::empty();
-    let mut i: usize = 0;
-    while i < 34 {
-        let r = row_at(mem, i);
-        t.rows[i] = r;
-        if i < 32 {
-            let h = hold_at(mem, i);
-            t.holds[i] = h;
-        }
-        i = i + 1;
-    }
-    t.next = u64_at(mem, 4362);
-    t
+pub fn table_at(mem: &[u8]) -> Table
+    requires { ⌜ length (now mem) ≡ 4899 ⌝ }
+    ensures { λ r. ⌜ r ≡ tableIn (now (mem .entry)) ⌝ }
+{
+    table_bytes::read_table(mem)
+}
+
+fn mark_of(b: bool) -> u8
+    ensures { λ r. ⌜ r ≡ bit b ⌝ }
+{
+    b as u8
+}
+
+// Whether superblock and maps could be read.
+pub fn put_flag(mem: &mut [u8], b: bool)
+    requires { ⌜ length (now mem) ≡ 4899 ⌝ }
+    ensures { λ _. ⌜ now (mem .exit) ≡ set (now (mem .entry)) 4370 (bit b) ⌝ }
+{
+    mem[4370] = mark_of(b);
+}
+
+// What format starts from: one group, with the bits of the superblock's and the map's own block clear.
+pub fn fresh_meta(mem: &mut [u8])
+    requires { ⌜ length (now mem) ≡ 4899 ⌝ }
+    ensures { λ _. ⌜ (metaIn (now (mem .exit)) ≡ done freshMeta) × (tableIn (now (mem .exit)) ≡ tableIn (now (mem .entry))) × Whole (now (mem .exit)) ⌝ }
+{
+    put_flag(mem, true);
+    put_map(&mut mem[4387..4515], 252);
+    put_super_block(
+        mem,
+        4371,
+        SuperBlock {
+            magic: SEFS_MAGIC,
+            blocks: 1024,
+            unused: 1022,
+            groups: 1,
+        },
+    );
 }

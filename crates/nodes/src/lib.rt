@@ -29,23 +29,10 @@ use structs::disk_inode_at;
 use table::Row;
 
 // The row of a node that was opened, where the reason is 0.
+#[repr(C)]
 pub struct Opened {
     pub reason: u8,
     pub row: usize,
-}
-
-fn at_row(row: usize) -> Opened {
-    Opened {
-        reason: 0,
-        row: row,
-    }
-}
-
-fn unopened(reason: u8) -> Opened {
-    Opened {
-        reason: reason,
-        row: 0,
-    }
 }
 
 // A node takes the lowest free row. (There is one: an operation's own openings are two at the most.)
@@ -62,43 +49,57 @@ fn open_in(mem: &mut [u8], id: u32, rec: DiskINode, dirty: bool) -> Opened {
                     rec: rec,
                 },
             );
-            at_row(i)
+            Opened { reason: 0, row: i }
         }
-        Found::Nothing => unopened(19),
+        Found::Nothing => Opened { reason: 19, row: 0 },
     }
 }
 
 // ---- 000's get_inode
 
-// The stored record of a node without a row: it is read, its type looked at, its file looked for.
-fn load_node(arena: &[u8], work: &[u8], mem: &mut [u8], id: u32) -> Opened {
-    let meta = [0u8; 16];
-    let mut l = [0u8; 112];
-    let r = read(arena, work, 0, &meta, 128 * index(id), &mut l);
-    if r != 0 {
-        return unopened(r);
-    }
-    let rec = disk_inode_at(&l, 0);
+fn has_file<'a>(arena: &'a [u8], work: &'a [u8], name: [u8; 16]) -> bool {
+    there(arena, work, 1, &name)
+}
+
+// A record that was read: its type is looked at, its file looked for.
+fn open_read<'a>(
+    arena: &'a [u8],
+    work: &'a [u8],
+    mem: &mut [u8],
+    id: u32,
+    rec: DiskINode,
+) -> Opened {
     if rec.kind > 4 {
-        return unopened(19);
+        return Opened { reason: 19, row: 0 };
     }
     let file = rec.file;
-    if !there(arena, work, 1, &file) {
-        return unopened(19);
+    if !has_file(arena, work, file) {
+        return Opened { reason: 19, row: 0 };
     }
     open_in(mem, id, rec, false)
 }
 
-pub fn get_node(arena: &[u8], work: &[u8], mem: &mut [u8], id: u32) -> Opened {
+// The stored record of a node without a row.
+fn load_node<'a>(arena: &'a [u8], work: &'a [u8], mem: &mut [u8], id: u32) -> Opened {
+    let meta = [0u8; 16];
+    let mut l = [0u8; 112];
+    let r = read(arena, work, 0, &meta, 128 * index(id), &mut l);
+    if r != 0 {
+        return Opened { reason: r, row: 0 };
+    }
+    open_read(arena, work, mem, id, disk_inode_at(&l, 0))
+}
+
+pub fn get_node<'a>(arena: &'a [u8], work: &'a [u8], mem: &mut [u8], id: u32) -> Opened {
     if !has_meta(&mem[..]) {
-        return unopened(19);
+        return Opened { reason: 19, row: 0 };
     }
     if !is_used(&mem[..], id) {
-        return unopened(19);
+        return Opened { reason: 19, row: 0 };
     }
     let f = find_row(&mem[..], id);
     match f {
-        Found::At(i) => at_row(i),
+        Found::At(i) => Opened { reason: 0, row: i },
         Found::Nothing => load_node(arena, work, mem, id),
     }
 }
@@ -146,11 +147,11 @@ fn make_node(
     file: [u8; 16],
 ) -> Opened {
     if !is_new(&mem[..], id) {
-        return unopened(19);
+        return Opened { reason: 19, row: 0 };
     }
     let r = make(arena, work, 1, &file);
     if r != 0 {
-        return unopened(r);
+        return Opened { reason: r, row: 0 };
     }
     open_in(mem, id, new_record(kind, mode, time, file), true)
 }
@@ -166,7 +167,8 @@ pub fn new_node(
 ) -> Opened {
     let n = alloc_block(arena, work, mem);
     if n.reason != 0 {
-        return unopened(n.reason);
+        let r = n.reason;
+        return Opened { reason: r, row: 0 };
     }
     make_node(arena, work, mem, n.id, kind, mode, time, file)
 }
@@ -195,18 +197,26 @@ pub fn sync_row(arena: &[u8], work: &mut [u8], mem: &mut [u8], i: usize) -> u8 {
 
 // ---- 000's Drop of a node
 
+fn drop_file(arena: &[u8], work: &mut [u8], name: [u8; 16]) -> u8 {
+    drop(arena, work, 1, &name)
+}
+
+// The id is free: superblock and maps are stored, and the file is removed.
+fn remove_node(arena: &[u8], work: &mut [u8], mem: &[u8], i: usize) -> u8 {
+    let r = sync_meta(arena, work, mem);
+    if r != 0 {
+        return r;
+    }
+    let file = rec_at(mem, i).file;
+    drop_file(arena, work, file)
+}
+
 fn free_node(arena: &[u8], work: &mut [u8], mem: &mut [u8], i: usize) -> u8 {
-    let id = id_at(&mem[..], i);
-    let file = rec_at(&mem[..], i).file;
-    let r = free_block(mem, id);
+    let r = free_block(mem, id_at(&mem[..], i));
     if r != 0 {
         return r;
     }
-    let r = sync_meta(arena, work, &mem[..]);
-    if r != 0 {
-        return r;
-    }
-    drop(arena, work, 1, &file)
+    remove_node(arena, work, &mem[..], i)
 }
 
 fn free_unlinked(arena: &[u8], work: &mut [u8], mem: &mut [u8], i: usize) -> u8 {

@@ -4,19 +4,19 @@ use base::index;
 use files::read::read;
 use files::store::cut;
 use files::store::put;
+use mem::add_group;
 use mem::bit_at;
 use mem::first_bit;
 use mem::has_meta;
 use mem::map_bytes;
 use mem::put_bit;
-use mem::put_has;
-use mem::put_new_map;
-use mem::put_super;
+use mem::put_flag;
 use mem::super_at;
 use mem::super_bytes;
-use structs::SuperBlock;
+use structs::super_block_at;
 
 // The id that was allocated, where the reason is 0.
+#[repr(C)]
 pub struct Allocated {
     pub reason: u8,
     pub id: u32,
@@ -24,7 +24,7 @@ pub struct Allocated {
 
 // ---- reading
 
-fn read_meta(arena: &[u8], work: &[u8], pos: usize, out: &mut [u8]) -> u8 {
+fn read_meta<'a>(arena: &'a [u8], work: &'a [u8], pos: usize, out: &mut [u8]) -> u8 {
     let meta = [0u8; 16];
     read(arena, work, 0, &meta, pos, out)
 }
@@ -34,17 +34,17 @@ fn map_at(g: usize) -> usize {
     128 * (1024 * g + 1)
 }
 
-pub fn load_super(arena: &[u8], work: &[u8], mem: &mut [u8]) -> u8 {
+pub fn load_super<'a>(arena: &'a [u8], work: &'a [u8], mem: &mut [u8]) -> u8 {
     read_meta(arena, work, 0, &mut mem[4371..4387])
 }
 
-fn load_map(arena: &[u8], work: &[u8], mem: &mut [u8], g: usize) -> u8 {
+fn load_map<'a>(arena: &'a [u8], work: &'a [u8], mem: &mut [u8], g: usize) -> u8 {
     let o = 4387 + 128 * g;
     read_meta(arena, work, map_at(g), &mut mem[o..o + 128])
 }
 
 // The maps of the first n groups.
-pub fn load_maps(arena: &[u8], work: &[u8], mem: &mut [u8], n: usize) -> u8 {
+pub fn load_maps<'a>(arena: &'a [u8], work: &'a [u8], mem: &mut [u8], n: usize) -> u8 {
     let mut g: usize = 0;
     while g < n {
         let r = load_map(arena, work, mem, g);
@@ -56,12 +56,12 @@ pub fn load_maps(arena: &[u8], work: &[u8], mem: &mut [u8], n: usize) -> u8 {
     0
 }
 
-fn read_all(arena: &[u8], work: &[u8], mem: &mut [u8]) -> u8 {
+fn read_all<'a>(arena: &'a [u8], work: &'a [u8], mem: &mut [u8]) -> u8 {
     let r = load_super(arena, work, mem);
     if r != 0 {
         return r;
     }
-    let groups = super_at(&mem[..]).groups;
+    let groups = super_block_at(&mem[..], 4371).groups;
     if groups == 0 {
         return 19;
     }
@@ -72,9 +72,9 @@ fn read_all(arena: &[u8], work: &[u8], mem: &mut [u8]) -> u8 {
 }
 
 // At a call's start: whether they could be read is kept beside them, and a step that needs them sticks where they could not.
-pub fn load_meta(arena: &[u8], work: &[u8], mem: &mut [u8]) {
+pub fn load_meta<'a>(arena: &'a [u8], work: &'a [u8], mem: &mut [u8]) {
     let r = read_all(arena, work, mem);
-    put_has(mem, r == 0);
+    put_flag(mem, r == 0);
 }
 
 // ---- storing: superblock first, then the maps of all groups in rising order
@@ -123,36 +123,19 @@ pub fn is_used(mem: &[u8], id: u32) -> bool {
     !bit_at(mem, index(id))
 }
 
-fn not_allocated(reason: u8) -> Allocated {
-    Allocated {
-        reason: reason,
-        id: 0,
-    }
-}
-
-// The group that comes after b's: the file gets its length, and in memory there are its map and its blocks.
-fn grow(arena: &[u8], work: &mut [u8], mem: &mut [u8], b: SuperBlock) -> u8 {
+// The group that comes after the last: the file gets its length, and in memory there are its map and its blocks.
+fn grow(arena: &[u8], work: &mut [u8], mem: &mut [u8], groups: u32) -> u8 {
     let meta = [0u8; 16];
-    let groups = index(b.groups);
-    let r = cut(arena, work, 0, &meta, 131072 * (groups + 1));
+    let r = cut(arena, work, 0, &meta, 131072 * (index(groups) + 1));
     if r != 0 {
         return r;
     }
-    put_new_map(mem, groups);
-    put_super(
-        mem,
-        SuperBlock {
-            magic: b.magic,
-            blocks: b.blocks + 1024,
-            unused: b.unused + 1023,
-            groups: b.groups + 1,
-        },
-    );
+    add_group(mem);
     0
 }
 
 // 17 at 4 groups; an overflow sticks.
-fn add_group(arena: &[u8], work: &mut [u8], mem: &mut [u8]) -> u8 {
+fn new_group(arena: &[u8], work: &mut [u8], mem: &mut [u8]) -> u8 {
     let b = super_at(&mem[..]);
     if b.groups >= 4 {
         return 17;
@@ -163,7 +146,7 @@ fn add_group(arena: &[u8], work: &mut [u8], mem: &mut [u8]) -> u8 {
     if b.unused > 4294966272 {
         return 19;
     }
-    grow(arena, work, mem, b)
+    grow(arena, work, mem, b.groups)
 }
 
 // Only if no bit is set does a group come.
@@ -171,52 +154,54 @@ fn ensure_bit(arena: &[u8], work: &mut [u8], mem: &mut [u8]) -> u8 {
     let f = first_bit(&mem[..]);
     match f {
         Found::At(_) => 0,
-        Found::Nothing => add_group(arena, work, mem),
+        Found::Nothing => new_group(arena, work, mem),
     }
 }
 
 // Bit i is cleared, and unused falls by one; it sticks at 0.
 fn take_bit_at(mem: &mut [u8], i: usize) -> Allocated {
-    let b = super_at(&mem[..]);
-    if b.unused == 0 {
-        return not_allocated(19);
+    let unused = super_at(&mem[..]).unused;
+    if unused == 0 {
+        return Allocated { reason: 19, id: 0 };
     }
-    put_bit(mem, i, false);
-    put_super(
-        mem,
-        SuperBlock {
-            magic: b.magic,
-            blocks: b.blocks,
-            unused: b.unused - 1,
-            groups: b.groups,
-        },
-    );
+    put_bit(mem, i, false, unused - 1);
     Allocated {
         reason: 0,
         id: i as u32,
     }
 }
 
+// The lowest set bit; there is one.
 fn take_bit(mem: &mut [u8]) -> Allocated {
     let f = first_bit(&mem[..]);
     match f {
         Found::At(i) => take_bit_at(mem, i),
-        Found::Nothing => not_allocated(19),
+        Found::Nothing => Allocated { reason: 19, id: 0 },
     }
 }
 
 pub fn alloc_block(arena: &[u8], work: &mut [u8], mem: &mut [u8]) -> Allocated {
     if !has_meta(&mem[..]) {
-        return not_allocated(19);
+        return Allocated { reason: 19, id: 0 };
     }
     let r = ensure_bit(arena, work, mem);
     if r != 0 {
-        return not_allocated(r);
+        return Allocated { reason: r, id: 0 };
     }
     take_bit(mem)
 }
 
-// The bit is set, and unused rises by one. It sticks where the bit is set or lies beyond the maps, and at 2^32-1.
+// The bit of an id in use is set, and unused rises by one; it sticks at 2^32-1.
+fn set_free(mem: &mut [u8], id: u32) -> u8 {
+    let unused = super_at(&mem[..]).unused;
+    if unused == 4294967295 {
+        return 19;
+    }
+    put_bit(mem, index(id), true, unused + 1);
+    0
+}
+
+// It sticks where the bit is set or lies beyond the maps.
 pub fn free_block(mem: &mut [u8], id: u32) -> u8 {
     if !has_meta(&mem[..]) {
         return 19;
@@ -224,19 +209,5 @@ pub fn free_block(mem: &mut [u8], id: u32) -> u8 {
     if !is_used(&mem[..], id) {
         return 19;
     }
-    let b = super_at(&mem[..]);
-    if b.unused == 4294967295 {
-        return 19;
-    }
-    put_bit(mem, index(id), true);
-    put_super(
-        mem,
-        SuperBlock {
-            magic: b.magic,
-            blocks: b.blocks,
-            unused: b.unused + 1,
-            groups: b.groups,
-        },
-    );
-    0
+    set_free(mem, id)
 }

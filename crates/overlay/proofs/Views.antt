@@ -1,21 +1,25 @@
 -- The laws of the view: its blocks, a block stored, a block freed, and the view of no marks.
 use mathlib.Core.Path.{_≡_, refl, ap, _∙_, sym, subst}
-use mathlib.Core.Bool.{Bool, true, false}
+use mathlib.Core.Bool.{Bool, true, false, _&&_}
 use mathlib.Core.Logic.{_≢_, ⊎-elim}
 use mathlib.Core.List.{List, [], _∷_}
 use Prim.Native.Nat.{ℕ, zero, suc, _+_, _*_, _≤_, _<_, _-_, _/_}
+use native.Mathlib.Numerals.{add-one}
 use native.Mathlib.Omega.{arith}
 use native.Mathlib.Decide.{ℕ-discrete}
-use lib.ListN.{length, getD, take, drop, set, length-set}
+use lib.ListN.{length, getD, take, drop, set, replicate, length-set, length-replicate}
 use lib.Seq.{getD-set-same, getD-set-other}
-use lib.Dec.{eqb}
-use borrow.Author.Tests.{eq-eqb, ne-eqb}
+use lib.Dec.{eqb, ltb}
+use borrow.Author.Tests.{eq-eqb, ne-eqb, lt-ltb, le-ltb}
+use Rattle.base.proofs.Parts.{getD-zero-list}
 use Rattle.base.specs.Search.{pick}
+use Rattle.base.proofs.Numbers.{lt-or-le}
 use Rattle.arena.specs.Blocks.{blk, putBlk, blocks}
 use Rattle.arena.specs.Fields.{seal, zeros}
-use Rattle.arena.proofs.Blocks.{length-blk, length-putBlk, blk-putBlk-same, blk-putBlk-other, getD-putBlk, ext-blk}
+use Rattle.arena.proofs.Blocks.{length-blk, getD-blk, length-putBlk, blk-putBlk-same, blk-putBlk-other, getD-putBlk, ext-blk}
+use Rattle.arena.proofs.Fresh.{zeros-is}
 use Rattle.arena.proofs.Seals.{length-seal, seal-seal, seal-zeros}
-use Rattle.overlay.specs.View.{markOf, usedOf, blkOf, viewTo, view, left, stored, freed, begun, Fine}
+use Rattle.overlay.specs.View.{markOf, usedOf, blkOf, viewTo, view, committed, left, hasOwn, storedNew, stored, freed, begun, Fine}
 use Rattle.overlay.specs.Steps.{Changed}
 
 -- a change of a byte below block j leaves block j
@@ -85,6 +89,15 @@ module _ (a w : List ℕ) (F : Fine a w) where
   pub blk-view : (k : ℕ) → k < blocks a → blk (view a w) k ≡ blkOf a w k
   unfolding view
   blk-view k l = blk-viewTo (blocks a) k (omega arith) l
+
+-- one block more committed: the block writer leaves what is sealed already
+pub commit-turn : (a w : List ℕ) → Fine a w → (d : List ℕ) (n : ℕ) → n < blocks a → d ≡ viewTo a w n → committed d w n ≡ viewTo a w (n + 1)
+unfolding committed viewTo
+commit-turn a w F d n l e =
+    rw (add-one, e) (elim (ℕ-discrete (markOf w n) 0) [
+      | yes q ↦ rw (eq-eqb (markOf w n) 0 q)
+      | no ne ↦ rw (ne-eqb (markOf w n) 0 ne) (ap (putBlk (viewTo a w n) n) (F .sealed (markOf w n) (F .apart n (omega (arith, F .small)) ne) (F .low n (omega (arith, F .small)))))
+    ])
 
 -- a view whose blocks are those of another with block k replaced
 view-is : (a w u : List ℕ) (F : Fine a w) (G : Fine a u) (k : ℕ) (b : List ℕ) → k < blocks a → length b ≡ 512
@@ -169,6 +182,16 @@ module _ (a w : List ℕ) (F : Fine a w) (k : ℕ) (b : List ℕ) (lk : k < bloc
     room = omega (arith, lu, used-u, free-slot);
     low = λ i l. elim (ℕ-discrete i k) [ yes q ↦ rw (q, mark-same, used-u) (omega arith) | no ne ↦ rw (mark-other i l ne, used-u) (omega (arith, F .low i l)) ];
     apart = λ i l z. elim (ℕ-discrete i k) [ yes q ↦ rw (q, mark-same) (omega (arith, F .high)) | no ne ↦ rw (mark-other i l ne) (F .apart i l (λ y. z (mark-other i l ne ∙ y))) ];
+    own = λ i j li lj g e. elim (ℕ-discrete i k) [
+      | yes q ↦ elim (ℕ-discrete j k) [
+        | yes p ↦ q ∙ sym p
+        | no ne ↦ absurd (let z : usedOf w ≡ markOf w j = sym mark-same ∙ sym (ap (markOf u) q) ∙ e ∙ mark-other j lj ne in omega (arith, F .low j lj))
+      ]
+      | no ne ↦ elim (ℕ-discrete j k) [
+        | yes p ↦ absurd (let z : markOf w i ≡ usedOf w = sym (mark-other i li ne) ∙ e ∙ ap (markOf u) p ∙ mark-same in omega (arith, F .low i li))
+        | no nf ↦ F .own i j li lj (rw (sym (mark-other i li ne)) g) (sym (mark-other i li ne) ∙ e ∙ mark-other j lj nf)
+      ]
+    ];
     zero = blk-u-other 9 (omega arith) (omega (arith, F .high)) ∙ F .zero;
     sealed = λ j g l. elim (ℕ-discrete j (usedOf w)) [
       | yes q ↦ rw (q, blk-u-same) (seal-seal b lb)
@@ -188,14 +211,86 @@ module _ (a w : List ℕ) (F : Fine a w) (k : ℕ) (b : List ℕ) (lk : k < bloc
         | no z ↦ rw (ne-eqb (markOf w i) 0 z) (blk-u-other (markOf w i) (F .apart i l z) (λ y. omega (arith, F .low i l)))
       ])
 
-  -- a block stored is a block of the view replaced, with its check, and takes one block of the workspace
-  pub changed-stored : Changed a w (stored w k b) (putBlk (view a w) k (seal b)) 1
-  unfolding stored left
-  changed-stored = record {
+  changed-new : Changed a w (storedNew w k b) (putBlk (view a w) k (seal b)) 1
+  unfolding storedNew left
+  changed-new = record {
     is = view-is a w u F fine-u k (seal b) lk ls here other;
     fine = fine-u;
     room = omega (arith, lu, used-u);
   }
+
+-- ---- a block stored again
+module _ (a w : List ℕ) (F : Fine a w) (k : ℕ) (b : List ℕ) (lk : k < blocks a) (lb : length b ≡ 512) (has : 9 < markOf w k) where
+  at-k : k < 4096
+  at-k = omega (arith, F .small)
+
+  in-w : markOf w k < blocks w
+  in-w = omega (arith, F .low k at-k, F .room)
+
+  sealed-length : length (seal b) ≡ 512
+  sealed-length = length-seal b lb
+
+  abbrev v : List ℕ
+  v = putBlk w (markOf w k) (seal b)
+
+  same-marks : (i : ℕ) → i < 4097 → getD v i 0 ≡ getD w i 0
+  same-marks i l = getD-putBlk w (markOf w k) (seal b) in-w sealed-length i (λ g. absurd (omega arith))
+
+  length-v : length v ≡ length w
+  length-v = length-putBlk w (markOf w k) (seal b) in-w sealed-length
+
+  blk-v-same : blk v (markOf w k) ≡ seal b
+  blk-v-same = blk-putBlk-same w (markOf w k) (seal b) in-w sealed-length
+
+  blk-v-other : (j : ℕ) → j ≢ markOf w k → blk v j ≡ blk w j
+  blk-v-other j ne = blk-putBlk-other w (markOf w k) (seal b) in-w sealed-length j ne
+
+  fine-v : Fine a v
+  fine-v = record {
+    whole = F .whole;
+    small = F .small;
+    size = omega (arith, length-v, F .size);
+    few = omega (arith, length-v, F .few);
+    high = omega (arith, same-marks 4096 (omega arith), F .high);
+    room = omega (arith, length-v, same-marks 4096 (omega arith), F .room);
+    low = λ i l. rw (same-marks i (omega arith), same-marks 4096 (omega arith)) (F .low i l);
+    apart = λ i l z. rw (same-marks i (omega arith)) (F .apart i l (λ y. z (same-marks i (omega arith) ∙ y)));
+    own = λ i j li lj g e. F .own i j li lj (rw (sym (same-marks i (omega arith))) g) (sym (same-marks i (omega arith)) ∙ e ∙ same-marks j (omega arith));
+    zero = blk-v-other 9 (omega arith) ∙ F .zero;
+    sealed = λ j g l. elim (ℕ-discrete j (markOf w k)) [
+      | yes q ↦ rw (q, blk-v-same) (seal-seal b lb)
+      | no ne ↦ rw (blk-v-other j ne) (F .sealed j g (omega (arith, same-marks 4096 (omega arith))))
+    ];
+  }
+
+  here-v : blkOf a v k ≡ seal b
+  unfolding blkOf
+  here-v = rw (same-marks k (omega (arith, at-k)), ne-eqb (markOf w k) 0 (λ q. omega arith)) blk-v-same
+
+  other-v : (i : ℕ) → i < 4096 → i ≢ k → blkOf a v i ≡ blkOf a w i
+  unfolding blkOf
+  other-v i l ne =
+      rw (same-marks i (omega arith)) (elim (ℕ-discrete (markOf w i) 0) [
+        | yes q ↦ rw (eq-eqb (markOf w i) 0 q)
+        | no z ↦ rw (ne-eqb (markOf w i) 0 z) (blk-v-other (markOf w i) (λ y. ne (F .own i k l at-k (omega arith) y)))
+      ])
+
+  changed-over : Changed a w (putBlk w (markOf w k) (seal b)) (putBlk (view a w) k (seal b)) 1
+  unfolding left
+  changed-over = record {
+    is = view-is a w v F fine-v k (seal b) lk sealed-length here-v other-v;
+    fine = fine-v;
+    room = omega (arith, length-v, same-marks 4096 (omega arith));
+  }
+
+-- a block stored is a block of the view replaced, with its check, and takes at most one block of the workspace
+pub changed-stored : (a w : List ℕ) (F : Fine a w) (k : ℕ) (b : List ℕ) → k < blocks a → length b ≡ 512 → 1 ≤ left w → Changed a w (stored w k b) (putBlk (view a w) k (seal b)) 1
+unfolding stored hasOwn
+changed-stored a w F k b lk lb more =
+    ⊎-elim
+    (λ (h : 9 < markOf w k). rw (lt-ltb 9 (markOf w k) h, lt-ltb (markOf w k) (usedOf w) (F .low k (omega (arith, F .small)))) (changed-over a w F k b lk lb h))
+    (λ (g : markOf w k ≤ 9). rw (le-ltb 9 (markOf w k) g) (changed-new a w F k b lk lb more))
+    (lt-or-le 9 (markOf w k))
 
 -- ---- a block freed
 module _ (a w : List ℕ) (F : Fine a w) (k : ℕ) (lk : k < blocks a) where
@@ -230,6 +325,13 @@ module _ (a w : List ℕ) (F : Fine a w) (k : ℕ) (lk : k < blocks a) where
     room = omega (arith, len-kept, used-kept, F .room);
     low = λ i l. elim (ℕ-discrete i k) [ yes q ↦ rw (q, mark-freed, used-kept) (omega (arith, F .high)) | no ne ↦ rw (mark-kept i ne, used-kept) (F .low i l) ];
     apart = λ i l z. elim (ℕ-discrete i k) [ yes q ↦ rw (q, mark-freed) (omega arith) | no ne ↦ rw (mark-kept i ne) (F .apart i l (λ y. z (mark-kept i ne ∙ y))) ];
+    own = λ i j li lj g e. elim (ℕ-discrete i k) [
+      | yes q ↦ absurd (let z : markOf (set w k 9) i ≡ 9 = ap (markOf (set w k 9)) q ∙ mark-freed in omega arith)
+      | no ne ↦ elim (ℕ-discrete j k) [
+        | yes p ↦ absurd (let z : markOf (set w k 9) i ≡ 9 = e ∙ ap (markOf (set w k 9)) p ∙ mark-freed in omega arith)
+        | no nf ↦ F .own i j li lj (rw (sym (mark-kept i ne)) g) (sym (mark-kept i ne) ∙ e ∙ mark-kept j nf)
+      ]
+    ];
     zero = blk-kept 9 (omega arith) ∙ F .zero;
     sealed = λ j g l. rw (blk-kept j g) (F .sealed j g (omega (arith, used-kept)));
   }
@@ -286,6 +388,7 @@ module _ (a w : List ℕ) (whole : length a ≡ 512 * blocks a) (small : blocks 
     room = omega (arith, length-set w 4096 10, used-start);
     low = λ i l. rw (mark-start i l, used-start) (omega arith);
     apart = λ i l z. absurd (z (mark-start i l));
+    own = λ i j li lj g e. absurd (omega (arith, mark-start i li));
     zero = nine-start;
     sealed = λ j g l. let e : j ≡ 9 = omega (arith, used-start) in rw (e, nine-start) seal-zeros;
   }
@@ -301,3 +404,37 @@ module _ (a w : List ℕ) (whole : length a ≡ 512 * blocks a) (small : blocks 
   pub left-start : left (begun w) ≡ blocks w - 10
   unfolding begun left
   left-start = omega (arith, length-set w 4096 10, used-start)
+
+-- ---- a workspace of zeros, made ready
+
+pub record Ready (a w : List ℕ) (m : ℕ) : Type 0 where
+  pub fine : Fine a w
+  pub is : view a w ≡ a
+  pub room : left w ≡ m - 10
+
+pub ready : (a w : List ℕ) (m : ℕ) → length a ≡ 512 * blocks a → blocks a ≤ 4096 → 10 ≤ m → m ≤ 255 → w ≡ begun (replicate (512 * m) 0) → Ready a w m
+ready a w m whole small ten few e =
+    let z : List ℕ = replicate (512 * m) 0 in
+    let lz : length (replicate {A = ℕ} (512 * m) 0) ≡ 512 * m = length-replicate (512 * m) 0 in
+    let bz : blocks (replicate (512 * m) 0) ≡ m = omega arith in
+    let nine : blk (replicate (512 * m) 0) 9 ≡ zeros = zeros-is _ (length-blk z 9 (omega arith)) (λ j l. getD-blk z 9 j l ∙ getD-zero-list (512 * m) (512 * 9 + j)) in
+    let size : length (replicate {A = ℕ} (512 * m) 0) ≡ 512 * blocks (replicate (512 * m) 0) = omega arith in
+    rw e (record {
+      fine = fine-start a z whole small size (omega arith) (omega arith) (getD-zero-list (512 * m)) nine;
+      is = view-start a z whole small size (omega arith) (omega arith) (getD-zero-list (512 * m)) nine;
+      room = left-start a z whole small size (omega arith) (omega arith) (getD-zero-list (512 * m)) nine ∙ omega arith;
+    })
+
+-- ---- where a block goes
+
+pub own-is : (w : List ℕ) (k m u : ℕ) → m ≡ markOf w k → u ≡ usedOf w → (ltb 9 m && ltb m u) ≡ hasOwn w k
+unfolding hasOwn
+own-is w k m u e f = rw (e, f)
+
+pub stored-over : (w : List ℕ) (k : ℕ) (b : List ℕ) → hasOwn w k ≡ true → putBlk w (markOf w k) (seal b) ≡ stored w k b
+unfolding stored
+stored-over w k b e = rw e
+
+pub stored-new : (w : List ℕ) (k : ℕ) (b : List ℕ) → hasOwn w k ≡ false → storedNew w k b ≡ stored w k b
+unfolding stored
+stored-new w k b e = rw e

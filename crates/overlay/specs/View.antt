@@ -5,11 +5,11 @@
 --   block 9         zeros: what a freed block is
 --   block 10 on     changed blocks, each with its check
 use mathlib.Core.Path.{_≡_}
-use mathlib.Core.Bool.{Bool, true, false}
+use mathlib.Core.Bool.{Bool, true, false, _&&_}
 use mathlib.Core.List.{List}
 use Prim.Native.Nat.{ℕ, zero, suc, _+_, _*_, _-_, _≤_, _<_}
 use lib.ListN.{length, getD, set}
-use lib.Dec.{eqb}
+use lib.Dec.{eqb, ltb}
 use Rattle.base.specs.Search.{pick}
 use Rattle.arena.specs.Blocks.{blk, putBlk, blocks}
 use Rattle.arena.specs.Fields.{seal, zeros}
@@ -41,9 +41,17 @@ committed a w k = pick (eqb (markOf w k) 0) a (putBlk a k (seal (blk w (markOf w
 unfoldable pub left : List ℕ → ℕ
 left w = blocks w - usedOf w
 
--- the workspace with b, and its check, for block k
+-- block k has a block of the workspace of its own
+unfoldable pub hasOwn : List ℕ → ℕ → Bool
+hasOwn w k = ltb 9 (markOf w k) && ltb (markOf w k) (usedOf w)
+
+-- the workspace with b, and its check, in a new block for block k
+unfoldable pub storedNew : List ℕ → ℕ → List ℕ → List ℕ
+storedNew w k b = set (set (putBlk w (usedOf w) (seal b)) k (usedOf w)) 4096 (usedOf w + 1)
+
+-- the workspace with b, and its check, for block k: a block that is stored again keeps its place
 unfoldable pub stored : List ℕ → ℕ → List ℕ → List ℕ
-stored w k b = set (set (putBlk w (usedOf w) (seal b)) k (usedOf w)) 4096 (usedOf w + 1)
+stored w k b = pick (hasOwn w k) (putBlk w (markOf w k) (seal b)) (storedNew w k b)
 
 -- the workspace with block k freed
 unfoldable pub freed : List ℕ → ℕ → List ℕ
@@ -66,6 +74,8 @@ pub record Fine (a w : List ℕ) : Type 0 where
   -- a mark is 0 or names a block in use, behind the marks and the count
   pub low : (k : ℕ) → k < 4096 → markOf w k < usedOf w
   pub apart : (k : ℕ) → k < 4096 → (markOf w k ≡ 0 → ⊥) → 9 ≤ markOf w k
+  -- no two blocks of the arena have one changed block
+  pub own : (i j : ℕ) → i < 4096 → j < 4096 → 9 < markOf w i → markOf w i ≡ markOf w j → i ≡ j
   -- what marks can name has its check
   pub zero : blk w 9 ≡ zeros
   pub sealed : (m : ℕ) → 9 ≤ m → m < usedOf w → seal (blk w m) ≡ blk w m

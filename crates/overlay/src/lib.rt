@@ -2,8 +2,9 @@
 ghost use mathlib.Core.Path.{_≡_};
 ghost use Prim.Native.Nat.{ℕ, _+_, _*_, _-_, _<_, _≤_};
 ghost use lib.ListN.{length};
-ghost use Rattle.arena.specs.Blocks.{blocks};
-ghost use Rattle.overlay.specs.View.{markOf, usedOf, blkOf, view, committed, left, stored, freed, begun, Fine};
+ghost use Rattle.arena.specs.Blocks.{blocks, putBlk};
+ghost use Rattle.arena.specs.Fields.{seal};
+ghost use Rattle.overlay.specs.View.{markOf, usedOf, blkOf, view, committed, left, storedNew, stored, freed, begun, Fine};
 use arena::write_block;
 
 // A byte as an index.
@@ -35,17 +36,41 @@ pub fn block<'a>(arena: &'a [u8], work: &'a [u8], k: usize) -> &'a [u8]
     &work[p..p + 512]
 }
 
-// Block k becomes b, with its check.
-pub fn store(work: &mut [u8], k: usize, b: &[u8])
+// Block k becomes b, with its check, in a new block of the workspace.
+fn store_new(work: &mut [u8], k: usize, b: &[u8])
     requires { ⌜ (k < 4096) × (length (now b) ≡ 512) ⌝ }
     requires { ⌜ (9 < usedOf (now work)) × ((length (now work) ≡ 512 * blocks (now work)) × ((blocks (now work) ≤ 255) × (1 ≤ left (now work)))) ⌝ }
-    ensures { λ _. ⌜ now (work .exit) ≡ stored (now (work .entry)) k (now (b .entry)) ⌝ }
+    ensures { λ _. ⌜ now (work .exit) ≡ storedNew (now (work .entry)) k (now (b .entry)) ⌝ }
 {
     let m = byte(work[4096]);
     let o = 512 * m;
     write_block(&mut work[o..o + 512], b);
     work[k] = m as u8;
     work[4096] = (m + 1) as u8;
+}
+
+// Block m of the workspace becomes b, with its check.
+fn store_over(work: &mut [u8], m: usize, b: &[u8])
+    requires { ⌜ (m < blocks (now work)) × (length (now b) ≡ 512) ⌝ }
+    ensures { λ _. ⌜ now (work .exit) ≡ putBlk (now (work .entry)) m (seal (now (b .entry))) ⌝ }
+{
+    let o = 512 * m;
+    write_block(&mut work[o..o + 512], b);
+}
+
+// Block k becomes b, with its check. One that was stored before keeps its place in the workspace.
+pub fn store(work: &mut [u8], k: usize, b: &[u8])
+    requires { ⌜ (k < 4096) × (length (now b) ≡ 512) ⌝ }
+    requires { ⌜ (9 < usedOf (now work)) × ((length (now work) ≡ 512 * blocks (now work)) × ((blocks (now work) ≤ 255) × (1 ≤ left (now work)))) ⌝ }
+    ensures { λ _. ⌜ now (work .exit) ≡ stored (now (work .entry)) k (now (b .entry)) ⌝ }
+{
+    let m = byte(work[k]);
+    let u = byte(work[4096]);
+    if (9 < m) & (m < u) {
+        store_over(work, m, b);
+        return;
+    }
+    store_new(work, k, b);
 }
 
 // Block k becomes free.

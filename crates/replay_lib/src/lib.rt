@@ -10,9 +10,9 @@ mod text;
 
 use le::put_u64;
 use le::u64_at;
-use mem::put_table;
 use perform::perform;
 use shape::command_length;
+use table_bytes::write_table;
 use text::put_word;
 
 pub const DESK: usize = 4387;
@@ -22,7 +22,7 @@ const LINE: usize = 512;
 
 // At the start: 16 blocks of zeros and the empty table.
 pub fn begin(desk: &mut [u8], arena: &mut [u8]) {
-    put_table(desk, table::empty());
+    write_table(desk, table::empty());
     base::clear(&mut arena[..8192]);
     put_u64(desk, 4370, 8192);
     put_u64(desk, 4378, 0);

@@ -13,7 +13,6 @@ use calls::Answer;
 use calls::Given;
 use calls::Got;
 use calls::Listed;
-use calls::Metadata;
 use calls::Told;
 use calls_make::New;
 use fsck::Verdict;
@@ -22,10 +21,11 @@ use le::put_u64;
 use le::u16_at;
 use le::u32_at;
 use le::u64_at;
-use mem::put_table;
-use mem::table_at;
+use sefs::Metadata;
 use structs::Timespec;
 use table::Handle;
+use table_bytes::read_table;
+use table_bytes::write_table;
 
 // ---- arguments
 
@@ -188,7 +188,7 @@ fn poke(script: &[u8], at: usize, desk: &[u8], arena: &mut [u8]) {
 
 fn table_from(script: &[u8], at: usize, desk: &mut [u8]) {
     let s = at + 1;
-    put_table(desk, table_at(&script[s..s + 4370]));
+    write_table(desk, read_table(&script[s..s + 4370]));
 }
 
 // ---- calls
@@ -196,7 +196,7 @@ fn table_from(script: &[u8], at: usize, desk: &mut [u8]) {
 fn put_after(desk: &mut [u8], text: &mut [u8], w: usize, a: After) -> usize {
     let t = a.table;
     let r = a.answer;
-    put_table(desk, t);
+    write_table(desk, t);
     put_answer(text, w, r)
 }
 
@@ -212,7 +212,7 @@ fn put_fresh(desk: &mut [u8], text: &mut [u8], w: usize, a: After) -> usize {
 fn put_given(desk: &mut [u8], text: &mut [u8], w: usize, g: Given) -> usize {
     let t = g.table;
     let a = g.answer;
-    put_table(desk, t);
+    write_table(desk, t);
     put_got(text, w, a)
 }
 
@@ -239,7 +239,7 @@ fn do_open(desk: &mut [u8], arena: &[u8], text: &mut [u8], w: usize) -> usize {
 
 fn do_root(desk: &mut [u8], arena: &[u8], text: &mut [u8], w: usize) -> usize {
     let v = put_word(text, w, b"root");
-    let g = calls_read::root(arena, table_at(&desk[..]));
+    let g = calls_read::root(arena, read_table(&desk[..]));
     put_given(desk, text, v, g)
 }
 
@@ -253,7 +253,7 @@ fn do_find(
 ) -> usize {
     let v = put_word(text, w, b"find");
     let h = handle_at(script, at + 1);
-    let g = calls_read::find(arena, table_at(&desk[..]), h, name_at(script, at + 13));
+    let g = calls_read::find(arena, read_table(&desk[..]), h, name_at(script, at + 13));
     put_given(desk, text, v, g)
 }
 
@@ -277,7 +277,13 @@ fn do_create(
     let v = put_word(text, w, b"create");
     let h = handle_at(script, at + 1);
     let new = new_at(script, name_end(script, at + 13));
-    let g = calls_make::create(arena, table_at(&desk[..]), h, name_at(script, at + 13), new);
+    let g = calls_make::create(
+        arena,
+        read_table(&desk[..]),
+        h,
+        name_at(script, at + 13),
+        new,
+    );
     put_given(desk, text, v, g)
 }
 
@@ -294,7 +300,7 @@ fn do_link(
     let child = handle_at(script, name_end(script, at + 13));
     let a = calls_make::link(
         arena,
-        table_at(&desk[..]),
+        read_table(&desk[..]),
         h,
         name_at(script, at + 13),
         child,
@@ -312,7 +318,7 @@ fn do_unlink(
 ) -> usize {
     let v = put_word(text, w, b"unlink");
     let h = handle_at(script, at + 1);
-    let a = calls_take::unlink(arena, table_at(&desk[..]), h, name_at(script, at + 13));
+    let a = calls_take::unlink(arena, read_table(&desk[..]), h, name_at(script, at + 13));
     put_after(desk, text, v, a)
 }
 
@@ -330,7 +336,7 @@ fn do_move(
     let target = handle_at(script, e);
     let a = calls_take::move_(
         arena,
-        table_at(&desk[..]),
+        read_table(&desk[..]),
         h,
         name_at(script, at + 13),
         target,
@@ -349,7 +355,7 @@ fn do_metadata(
 ) -> usize {
     let v = put_word(text, w, b"metadata");
     let h = handle_at(script, at + 1);
-    let t = calls_read::metadata(arena, table_at(desk), h);
+    let t = calls_read::metadata(arena, read_table(desk), h);
     put_told(text, v, t)
 }
 
@@ -365,7 +371,7 @@ fn do_set(
     let h = handle_at(script, at + 1);
     let a = calls_read::set_metadata(
         arena,
-        table_at(&desk[..]),
+        read_table(&desk[..]),
         h,
         u16_at(script, at + 13),
         u64_at(script, at + 15),
@@ -402,7 +408,7 @@ fn do_entry(
     let n = index16(u16_at(script, at + 21));
     let a = calls_read::get_entry(
         arena,
-        table_at(desk),
+        read_table(desk),
         h,
         u64_at(script, at + 13),
         &mut out[..n],
@@ -426,7 +432,7 @@ fn do_list(
     let n = index16(u16_at(script, at + 21));
     let p = calls_read::list_at(
         arena,
-        table_at(desk),
+        read_table(desk),
         h,
         u64_at(script, at + 13),
         &mut out[..n],
@@ -440,7 +446,7 @@ fn do_list(
 
 fn do_sync(desk: &mut [u8], arena: &mut [u8], text: &mut [u8], w: usize) -> usize {
     let v = put_word(text, w, b"sync");
-    let a = calls_take::sync(arena, table_at(&desk[..]));
+    let a = calls_take::sync(arena, read_table(&desk[..]));
     put_after(desk, text, v, a)
 }
 
@@ -454,13 +460,13 @@ fn do_close(
 ) -> usize {
     let v = put_word(text, w, b"close");
     let h = handle_at(script, at + 1);
-    let a = calls_take::close(arena, table_at(&desk[..]), h);
+    let a = calls_take::close(arena, read_table(&desk[..]), h);
     put_after(desk, text, v, a)
 }
 
 fn do_check(desk: &[u8], arena: &[u8], text: &mut [u8], w: usize) -> usize {
     let v = put_word(text, w, b"check");
-    let r = fsck::check(arena, table_at(desk));
+    let r = fsck::check(arena, read_table(desk));
     put_verdict(text, v, r)
 }
 

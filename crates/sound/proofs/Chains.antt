@@ -1,9 +1,9 @@
 -- The chains lead to what a search of all blocks finds.
 use mathlib.Core.Path.{_≡_, refl, sym, ap, ap₂, _∙_, subst}
-use mathlib.Core.Bool.{Bool, true, false, cond, _&&_, _||_, not, true≢false}
+use mathlib.Core.Bool.{Bool, true, false, _&&_, not, true≢false}
 use mathlib.Core.List.{List}
 use mathlib.Core.Logic.{⊎-elim, _⊎_, inl, inr, _≢_}
-use Prim.Native.Nat.{ℕ, zero, suc, _+_, _*_, _-_, _≤_, _<_, zero-le}
+use Prim.Native.Nat.{ℕ, suc, _+_, _-_, _≤_, _<_, zero-le}
 use native.Mathlib.Nat.{eq-or-lt-of-le}
 use native.Mathlib.Omega.{arith}
 use native.Mathlib.Decide.{ℕ-discrete}
@@ -11,21 +11,20 @@ use lib.Dec.{eqb, ltb}
 use lib.ListN.{length, getD, set}
 use lib.Seq.{getD-set-same, getD-set-other}
 use borrow.Author.Tests.{eq-eqb, ne-eqb, eqb-true, lt-ltb, le-ltb, ltb-true}
+use Rattle.base.proofs.Sames.{last-one, allTo-and, and-true}
 use Rattle.base.specs.Count.{allTo}
 use Rattle.base.specs.Search.{lowest, last}
-use Rattle.base.proofs.Bools.{and-parts, true-false, true-T}
+use Rattle.base.proofs.Bools.{and-parts, true-false}
 use Rattle.base.proofs.Counts.{allTo-true, allTo-cong}
 use Rattle.base.proofs.Numbers.{lt-or-le}
-use Rattle.base.proofs.Searches.{First, lowest-first, first-is, lowest-here, Last, last-is, last-no, last-yes}
+use Rattle.base.proofs.Searches.{lowest-first, lowest-here, last-is, last-no, last-yes}
 use Rattle.arena.specs.Blocks.{blk, blocks}
-use Rattle.arena.specs.Fields.{File, file, tagOf, whichOf, nameOf, numberOf, fileOf, isFree, isHead, isData}
+use Rattle.arena.specs.Fields.{File, tagOf, numberOf, fileOf, isFree, isHead}
 use Rattle.arena.specs.Places.{headOf, dataOf}
-use Rattle.arena.proofs.Blocks.{length-blk}
-use Rattle.arena.proofs.Fields.{head-is, head-own, head-not, data-is, data-own, free-is, free-own, free-not}
+use Rattle.arena.proofs.Fields.{head-is, head-own, data-is, data-own, free-own, free-not}
 use Rattle.arena.proofs.Places.{head-first}
 use Rattle.sound.specs.Sound.{blockSound, layout, headOnce, dataOnce, within, under, soundAt, sound}
 use Rattle.sound.specs.Chain.{isKey, hashKey, hashOf, inBucket, Chains, alone}
-use Rattle.sound.proofs.General.{last-one, allTo-and, and-true, or-true}
 use Rattle.sound.proofs.Sounds.{used-sound}
 
 -- ---- keys and buckets
@@ -156,6 +155,9 @@ chains-more a first next k h C t e hl lf ln =
           (λ m. getD-set-other next k j (getD first h 0) 0 (omega arith) ∙ C .links j m u)
           (eq-or-lt-of-le (let y : j ≤ k = omega arith in y));
     }
+
+pub chains-as : (a f g n m : List ℕ) (k : ℕ) → g ≡ f → m ≡ n → Chains a f n k → Chains a g m k
+chains-as a f g n m k e d C = subst (λ (x : List ℕ). Chains a x m k) (sym e) (subst (λ (y : List ℕ). Chains a f y k) (sym d) C)
 
 -- ---- block k is the lowest with its key where none before it has it
 

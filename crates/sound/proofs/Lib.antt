@@ -1,3 +1,3 @@
-pub mod General
 pub mod Sounds
 pub mod Chains
+pub mod Seals

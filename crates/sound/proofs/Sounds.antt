@@ -1,27 +1,26 @@
 -- What `sound` says of each block, and what it takes.
 use mathlib.Core.Path.{_≡_, refl, sym, ap, ap₂, _∙_, subst}
-use mathlib.Core.Bool.{Bool, true, false, _&&_, _||_, not}
+use mathlib.Core.Bool.{true, false, not, _||_}
 use mathlib.Core.List.{List}
-use mathlib.Core.Logic.{⊎-elim, _≢_}
-use Prim.Native.Nat.{ℕ, zero, suc, _+_, _*_, _-_, _≤_, _<_}
+use mathlib.Core.Logic.{_≢_}
+use Prim.Native.Nat.{ℕ, _+_, _*_, _-_, _≤_, _<_}
 use native.Mathlib.Omega.{arith}
-use lib.Dec.{T, eqb, ltb}
-use lib.ListN.{length, getD, take, drop, length-take, length-drop}
-use borrow.Author.Tests.{eq-eqb, ne-eqb}
-use Rattle.base.specs.Count.{allTo}
-use Rattle.base.specs.Decides.{Decides, every}
+use lib.Dec.{eqb}
+use lib.ListN.{length, getD, drop, length-take, length-drop}
+use borrow.Author.Tests.{ne-eqb, lt-ltb, le-ltb}
+use Rattle.base.proofs.Sames.{decides-both, decides-unless, and-true}
+use Rattle.base.specs.Decides.{Decides}
 use Rattle.base.specs.Parts.{part}
 use Rattle.base.proofs.Bools.{T-true, true-T}
 use Rattle.base.proofs.Lists.{getD-part}
-use Rattle.base.proofs.Tests.{decides-iff, decides-eqb, decides-ltb, decides-and, decides-if, decides-all, decides-every, decides-true}
+use Rattle.base.proofs.Tests.{decides-iff, decides-eqb, decides-ltb, decides-and, decides-if, decides-all, decides-every}
 use Rattle.arena.specs.Blocks.{blk, blocks}
-use Rattle.arena.specs.Fields.{File, tagOf, whichOf, nameOf, numberOf, fileOf, isFree, checkOf, storedCheck, zeros}
+use Rattle.arena.specs.Fields.{tagOf, whichOf, numberOf, fileOf, isFree, checkOf, storedCheck, zeros}
 use Rattle.arena.specs.Places.{headOf, dataOf}
 use Rattle.arena.proofs.Blocks.{length-blk}
-use Rattle.arena.proofs.Fresh.{length-zeros, getD-zeros, zeros-is}
+use Rattle.arena.proofs.Fresh.{getD-zeros, zeros-is}
 use Rattle.arena.proofs.Seals.{zeros-right}
 use Rattle.sound.specs.Sound.{allZero, layout, blockSound, headOnce, dataOnce, within, under, soundAt, sound}
-use Rattle.sound.proofs.General.{decides-both, decides-unless, and-true}
 
 -- ---- zeros
 
@@ -172,3 +171,20 @@ free-sound b s t =
 pub used-sound : (b : List ℕ) → tagOf b ≢ 0 → blockSound b ≡ layout b
 unfolding blockSound isFree
 used-sound b n = rw (ne-eqb (tagOf b) 0 n) (and-true (layout b))
+
+-- a data block past the length, one wholly below it, and one in between, with q and n the numbers as the code has them
+module _ (b : List ℕ) (len : ℕ) {q n : ℕ} (eq : q ≡ numberOf b) (en : n ≡ len) where
+  pub within-far : n ≤ 480 * q → false ≡ within b len
+  unfolding within
+  within-far h = rw (le-ltb (480 * numberOf b) len (omega arith)) refl
+
+  pub within-full : 480 * q < n → 480 ≤ n - 480 * q → true ≡ within b len
+  unfolding within
+  within-full h g =
+      rw (lt-ltb (480 * numberOf b) len (omega arith))
+      (sym (T-true _ (decides-zeros (part b (24 + (len - 480 * numberOf b)) 504) .left (λ i l. absurd (omega (arith, length-take (504 - (24 + (len - 480 * numberOf b))) (drop (24 + (len - 480 * numberOf b)) b)))))))
+
+  pub within-tail : 480 * q < n → allZero (part b (24 + (n - 480 * q)) 504) ≡ within b len
+  unfolding within
+  within-tail h =
+      rw (lt-ltb (480 * numberOf b) len (omega arith)) (ap₂ (λ (x y : ℕ). allZero (part b (24 + (x - 480 * y)) 504)) en eq)

@@ -22,7 +22,7 @@ unfoldable pub fileHash : ℕ → List ℕ → ℕ
 fileHash w nm = leAt nm 0 4 * 433494437 + leAt nm 4 4 * 479001599 + leAt nm 8 4 * 334214459 + leAt nm 12 4 * 387420489 + w * 179424673
 
 abbrev pub bucketOf : ℕ → ℕ
-bucketOf x = x / 131072 % 4096
+bucketOf x = x / 67108864 % 4096
 
 unfoldable pub hashKey : Bool → ℕ → List ℕ → ℕ → ℕ
 hashKey true w nm q = bucketOf (fileHash w nm)

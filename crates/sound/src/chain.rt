@@ -26,7 +26,7 @@ fn wide(x: u32) -> u64
 fn bucket(x: u64) -> usize
     ensures { λ r. ⌜ (r ≡ bucketOf x) × (r < 4096) ⌝ }
 {
-    (x / 131072 % 4096) as usize
+    (x / 67108864 % 4096) as usize
 }
 
 fn file_hash(which: u8, name: &[u8]) -> u64

@@ -6,12 +6,12 @@ use Prim.Native.Nat.{ℕ, zero, suc, _+_, _-_, _≤_, _<_}
 use native.Mathlib.Omega.{arith}
 use lib.ListN.{length, getD, take, drop, take-append-drop, length-append, List·getD-append}
 use lib.Seq.{take-at, take-nil, drop-nil, drop-append-add, getD-append-add}
+use Rattle.base.proofs.Parts.{part-join, part-all}
 use Rattle.base.specs.Parts.{part, paste}
 use Rattle.base.proofs.Numbers.{lt-or-le}
 use Rattle.base.proofs.Lists.{length-part, paste-paste}
 use Rattle.le.specs.Le.{Bytes, leOf, leBytes, leAt}
-use Rattle.le.proofs.General.{part-join, part-all}
-use Rattle.le.proofs.Laws.{leBytes-leOf, length-leBytes, leBytes-bytes}
+use Rattle.le.proofs.Laws.{leBytes-leOf}
 use Rattle.structs.specs.Layout.{join}
 
 -- the sum of the widths of fields

@@ -1,22 +1,23 @@
 -- The laws of the three layouts: both round trips, lengths, that they are bytes, and that what was read fits.
-use mathlib.Core.Path.{_≡_, refl, sym, ap, ap₂, _∙_, subst}
+use mathlib.Core.Path.{_≡_, refl, sym, ap, ap₂, _∙_}
 use mathlib.Core.List.{List, [], _∷_, _++_, map}
-use Prim.Native.Nat.{ℕ, zero, suc, _+_, _-_, _^_, _≤_, _<_}
+use Prim.Native.Nat.{ℕ, _+_, _-_, _^_, _≤_, _<_}
 use native.Mathlib.Omega.{arith}
 use lib.ListN.{length, getD, take, drop, length-append}
 use lib.Seq.{take-all}
+use Rattle.base.proofs.Parts.{part-part, part-all, part-whole}
 use Rattle.base.specs.Parts.{part, paste}
 use Rattle.base.proofs.Lists.{length-part, paste-paste}
 use Rattle.le.specs.Le.{Bytes, leOf, leBytes, leAt}
 use Rattle.le.specs.Signed.{signed, bitsOf}
-use Rattle.le.proofs.General.{part-join, part-part, part-all}
 use Rattle.le.proofs.Laws.{length-leBytes, leBytes-bytes, leOf-fits, leAt-part, leAt-below}
 use Rattle.le.proofs.Signs.{signed-bitsOf, bitsOf-signed, bitsOf-fits, signed-fits}
 use Rattle.structs.specs.declared.SuperBlock.{SuperBlock}
 use Rattle.structs.specs.declared.Timespec.{Timespec}
 use Rattle.structs.specs.declared.DiskINode.{DiskINode}
 use Rattle.structs.specs.declared.DiskEntry.{DiskEntry}
-use Rattle.structs.specs.Layout.{join, superOf, superFields, superBytes, timeOf, timeFields, timeBytes, recordOf, recordFields, recordBytes, entryOf, entryFields, entryBytes, SuperFits, TimeFits, RecordFits, EntryFits}
+use Rattle.structs.specs.Layout.{join, superOf, superFields, superBytes, timeOf, timeFields, timeBytes, recordOf, recordFields, recordBytes, entryOf, entryFields, entryBytes}
+use Rattle.structs.specs.Fits.{SuperFits, TimeFits, RecordFits, EntryFits}
 use Rattle.structs.proofs.Joins.{total, field, field-of, cut, join-cut, join-split, bytes-at, length-join, bytes-append, bytes-nil}
 
 -- ---- what the code reads k bytes after a place is what stands at k of the part there
@@ -42,15 +43,12 @@ read-time l at m k r h f =
 -- ---- one field
 
 -- a number, in its own bytes
-number-back : (l : List ℕ) (s n v : ℕ) → v < 256 ^ n → part l s (s + n) ≡ leBytes n v → leAt l s n ≡ v
+pub number-back : (l : List ℕ) (s n v : ℕ) → v < 256 ^ n → part l s (s + n) ≡ leBytes n v → leAt l s n ≡ v
 unfolding leAt
 number-back l s n v h e = ap leOf e ∙ leOf-fits n v h
 
-part-whole : (l : List ℕ) (n : ℕ) → length l ≡ n → part l 0 n ≡ l
-part-whole l n e = take-all (n - 0) l (omega arith)
-
 -- a list of bytes of known length, cut into fields
-whole : (l : List ℕ) (ws : List ℕ) → length l ≡ total ws → join (cut l 0 ws) ≡ l
+pub whole : (l : List ℕ) (ws : List ℕ) → length l ≡ total ws → join (cut l 0 ws) ≡ l
 whole l ws e = join-cut l 0 ws ∙ part-whole l (0 + total ws) (omega arith)
 
 -- ---- the superblock

@@ -1,2 +1,4 @@
+pub mod Constants
 pub mod Layout
+pub mod Fits
 pub mod Verdict

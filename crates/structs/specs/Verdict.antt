@@ -4,12 +4,12 @@ use mathlib.Core.Bool.{Bool}
 use Prim.Native.Nat.{ℕ}
 use lib.Dec.{eqb}
 use Rattle.base.specs.Search.{pick}
+use Rattle.structs.specs.Constants.{typeDir}
 use Rattle.structs.specs.declared.Verdict.{Verdict}
 use Rattle.structs.specs.declared.Verdict.the-variants.{Allowed, NotDir, IsDir, IfEmpty}
 
--- "Types: 1 file, 2 folder, 3 symlink, 4 socket."
 abbrev pub isFolder : ℕ → Bool
-isFolder kind = eqb kind 2
+isFolder kind = eqb kind typeDir
 
 unfoldable pub verdictOf : ℕ → ℕ → Verdict
 verdictOf moved replaced = pick (isFolder moved) (pick (isFolder replaced) IfEmpty NotDir) (pick (isFolder replaced) IsDir Allowed)

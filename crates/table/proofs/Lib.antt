@@ -1,4 +1,3 @@
-pub mod General
 pub mod Signs
 pub mod Next
 pub mod Holds

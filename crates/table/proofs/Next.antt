@@ -1,13 +1,12 @@
 -- The row that comes next by rising id, found in one pass.
 use Prim.Native.Nat.{ℕ, _+_, _<_, _≤_}
-use mathlib.Core.Path.{_≡_, refl, sym, ap, _∙_}
+use mathlib.Core.Path.{_≡_, refl, ap, _∙_}
 use mathlib.Core.Bool.{Bool, true, false, not, _&&_, _||_}
-use mathlib.Core.Logic.{_⊎_, inl, inr, ⊎-elim}
+use mathlib.Core.Logic.{_⊎_, ⊎-elim}
 use native.Mathlib.Omega.{arith}
 use lib.Dec.{ltb, eqb}
 use borrow.Author.Count.{below-more}
 use borrow.Author.Tests.{lt-ltb, le-ltb, ltb-true, eqb-true, eq-eqb}
-use Rattle.base.specs.Count.{allTo}
 use Rattle.base.specs.Search.{lowest, foundBelow}
 use Rattle.base.proofs.Bools.{and-parts, and-both, and-false, or-cases, or-first, or-second, true-false}
 use Rattle.base.proofs.Counts.{allTo-all, allTo-false}
@@ -97,7 +96,8 @@ module _ (t : Table) (after : ℕ) where
       let b : between after (id i) (id j) ≡ true = and-both (lt-ltb _ _ a) (lt-ltb _ _ h) in
       rw (allTo-false (λ k. not (between after (id i) (id k))) 34 j l (ap not b)) (and-false (ltb after (id i)))
 
-  is-next : (i : ℕ) → after < id i → ((j : ℕ) → j < 34 → after < id j → id i ≤ id j) → isNext t after i ≡ true
+  -- an id above that one, with none between
+  pub is-next : (i : ℕ) → after < id i → ((j : ℕ) → j < 34 → after < id j → id i ≤ id j) → isNext t after i ≡ true
   unfolding isNext
   is-next i a h =
       and-both (lt-ltb _ _ a)

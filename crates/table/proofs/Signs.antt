@@ -1,5 +1,4 @@
 -- A signed number that fits is zero where its bits are.
-use Prim.Native.Nat.{ℕ}
 use native.Mathlib.Omega.{arith}
 use mathlib.Core.Path.{_≡_, refl}
 use lib.Dec.{eqb}

@@ -1,7 +1,7 @@
 -- "The table is well formed when live holds name rows in use, every used row has a hold, no id has two rows, free rows and holds are
 -- all zero, live stamps differ and are below the next, itself at least 1": as a test of any table.
 use Prim.Native.Nat.{ℕ}
-use mathlib.Core.Bool.{Bool, true, false, not, _&&_}
+use mathlib.Core.Bool.{Bool, false, not, _&&_}
 use lib.ListN.{length}
 use lib.Dec.{ltb, leb, eqb}
 use Rattle.base.specs.Count.{allTo}

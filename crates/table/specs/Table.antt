@@ -1,10 +1,9 @@
 -- The table of open nodes (document 01, "Open nodes"): what is found in it, and how it changes.
 use Prim.Native.Nat.{ℕ, _+_}
-use mathlib.Core.Bool.{Bool, true, false, not, _&&_}
+use mathlib.Core.Bool.{Bool, false, not, _&&_}
 use mathlib.Core.List.{[]}
 use lib.ListN.{getD, set, replicate}
 use lib.Dec.{ltb, eqb}
-use lib.IntN.{pos}
 use Rattle.base.specs.Count.{allTo, countTo}
 use Rattle.base.specs.Search.{lowest, pick, foundBelow}
 use Rattle.base.specs.declared.Found.{Found}

@@ -1,6 +1,6 @@
 -- "Id 0 or stamp 0 means free; a freed one becomes all zero": what all zero is, as a value and as a test.
 use Prim.Native.Nat.{ℕ}
-use mathlib.Core.Bool.{Bool, true, false, _&&_}
+use mathlib.Core.Bool.{Bool, false, _&&_}
 use mathlib.Core.List.{List}
 use lib.ListN.{length, getD, replicate}
 use lib.Dec.{eqb}

@@ -1,9 +1,9 @@
 -- What each range of lead bytes asks.
 use mathlib.Core.Path.{_≡_, refl}
-use mathlib.Core.Bool.{true, false, _&&_}
+use mathlib.Core.Bool.{true, false}
 use Prim.Native.Nat.{ℕ, _≤_, _<_}
 use native.Mathlib.Omega.{arith}
-use lib.Dec.{leb, eqb}
+use lib.Dec.{leb}
 use borrow.Author.Tests.{le-leb, lt-leb, ne-eqb}
 use Rattle.base.proofs.Bools.{and-false}
 use Rattle.utf8.specs.declared.State.the-variants.{Whole, Wants, Wrong}

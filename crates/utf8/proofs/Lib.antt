@@ -1,4 +1,3 @@
-pub mod General
 pub mod Leads
 pub mod Grammar
 pub mod Names

@@ -1,27 +1,28 @@
 -- The laws of names.
-use mathlib.Core.Path.{_≡_, refl, sym, ap, ap₂, _∙_, subst}
+use mathlib.Core.Path.{_≡_, refl, sym, ap, _∙_, subst}
 use mathlib.Core.Logic.{_⊎_, ⊎-elim}
-use mathlib.Core.Bool.{Bool, true, false, _||_, not}
+use mathlib.Core.Bool.{Bool, true, false}
 use mathlib.Core.List.{List, [], _∷_, _++_, append-nil}
-use Prim.Native.Nat.{ℕ, zero, suc, _+_, _-_, _≤_, _<_}
+use Prim.Native.Nat.{ℕ, zero, _+_, _-_, _≤_, _<_}
 use native.Mathlib.Omega.{arith}
-use lib.Dec.{T, eqb, ltb}
+use lib.Dec.{eqb, ltb}
 use lib.ListN.{length, getD, take, drop, replicate, length-append, length-replicate, length-drop, drop-of-length-le, getD-replicate, List·getD-append}
 use lib.Seq.{take-append-seam, drop-append-seam, length-take-le, getD-take, getD-append-add}
-use borrow.Author.Tests.{eq-eqb, ne-eqb, eqb-true, eqb-false, lt-ltb, le-ltb, ltb-true, ltb-false}
+use borrow.Author.Tests.{eq-eqb, ne-eqb, eqb-true, eqb-false, lt-ltb, le-ltb, ltb-false}
+use Rattle.base.proofs.Sames.{decided-yes}
 use Rattle.base.specs.Parts.{part, back}
-use Rattle.base.specs.Search.{lowest, pick}
+use Rattle.base.specs.Search.{lowest}
 use Rattle.base.specs.Decides.{Decides, same}
+use Rattle.base.proofs.Numbers.{lt-or-le}
 use Rattle.base.proofs.Searches.{lowest-here, lowest-none, lowest-le, lowest-hit, lowest-first}
 use Rattle.base.proofs.Tests.{decides-same}
-use Rattle.base.proofs.Bools.{or-second, bool-cases, true-T}
+use Rattle.base.proofs.Bools.{or-first, or-second, bool-cases, true-false, true-T}
+use Rattle.utf8.specs.declared.NameVerdict.{NameVerdict}
 use Rattle.utf8.specs.declared.NameVerdict.the-variants.{Good, Bad}
 use Rattle.utf8.specs.declared.StoredName.the-variants.{Ended, Broken}
 use Rattle.utf8.specs.Utf8.{utf8}
 use Rattle.utf8.specs.Grammar.{Octets}
-use Rattle.utf8.specs.Names.{zeroAt, hasZero, nameOf, nameVerdict, GoodName, storedName, EndedAt, asked, isNamed, nameBytes}
-use Rattle.base.proofs.Numbers.{lt-or-le}
-use Rattle.utf8.proofs.General.{decided-yes, decided-no}
+use Rattle.utf8.specs.Names.{zeroAt, hasZero, nameOf, nameVerdict, GoodName, storedName, EndedAt, asked, isNamed, isDot, isDots, isSpecial, earlyReason, longReason, nameBytes}
 use Rattle.utf8.proofs.Grammar.{utf8-decides}
 
 -- ---- the first zero
@@ -107,6 +108,26 @@ verdict-says l long v =
     (λ u. absurd (let f : Good long ≡ Bad = sym v ∙ verdict-wrong l u in let z : _≡_ {A = ℕ} 0 1 = cc in omega arith))
     (bool-cases (utf8 l)))
     (lt-or-le (zeroAt l) (length l))
+
+-- where neither reason is given, the name is good and fits a slot
+pub no-reasons : (l : List ℕ) → earlyReason (nameVerdict l) ≡ 0 → longReason (nameVerdict l) ≡ 0 → GoodName l × (length l ≤ 255)
+no-reasons l e f = go (nameVerdict l) refl e f
+  where
+    go : (v : NameVerdict) → nameVerdict l ≡ v → earlyReason v ≡ 0 → longReason v ≡ 0 → GoodName l × (length l ≤ 255)
+    go (Good true) v e f = absurd (omega arith)
+    go (Good false) v e f = let s = verdict-says l false v in (s .0, ltb-false 255 (length l) (sym (s .1)))
+    go Bad v e f = absurd (omega arith)
+
+-- a name that is not special is none of the three
+pub not-special : (l : List ℕ) → isSpecial l ≡ false → (length l ≡ 0 → ⊥) × ((l ≡ 46 ∷ [] → ⊥) × (l ≡ 46 ∷ 46 ∷ [] → ⊥))
+unfolding isSpecial isDot isDots
+not-special l e = (
+  λ z. true-false (or-first _ (eq-eqb (length l) 0 z)) e,
+  (
+    λ z. true-false (or-second (eqb (length l) 0) (or-first _ (decided-yes (decides-same l (46 ∷ [])) z))) e,
+    λ z. true-false (or-second (eqb (length l) 0) (or-second (same l (46 ∷ [])) (decided-yes (decides-same l (46 ∷ 46 ∷ [])) z))) e,
+  ),
+)
 
 -- the name in a slot is ended at k exactly where the verdict says so
 pub stored-is : (s : List ℕ) (k : ℕ) → EndedAt s k → storedName s ≡ Ended k

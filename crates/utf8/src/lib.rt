@@ -4,14 +4,14 @@ ghost use Prim.Native.Nat.{_≤_};
 ghost use lib.ListN.{length};
 ghost use Rattle.base.specs.Decides.{same};
 ghost use Rattle.utf8.specs.Names.{zeroAt, nameVerdict, earlyReason, longReason, isDot, isDots, isSpecial, storedName, isNamed, nameBytes};
-ghost use Rattle.utf8.specs.Utf8.{lead, step, tail, after, isWhole, utf8};
+ghost use Rattle.utf8.specs.Utf8.{lead, step, tail, isWhole, utf8};
 
 // Where a reader of UTF-8 stands.
 pub enum State {
     // Between two characters.
     Whole,
-    // Inside a character: the next byte is one of low..=high, and more tails come after it.
-    Wants { low: u8, high: u8, more: u8 },
+    // Inside a character: the lowest and the highest next byte, and how many tails come after it.
+    Wants(u8, u8, u8),
     // Past a byte that no character has there.
     Wrong,
 }
@@ -35,46 +35,14 @@ fn lead(b: u8) -> State
     match b {
         0x00..=0x7F => State::Whole,
         0x80..=0xC1 => State::Wrong,
-        0xC2..=0xDF => State::Wants {
-            low: 0x80,
-            high: 0xBF,
-            more: 0,
-        },
-        0xE0 => State::Wants {
-            low: 0xA0,
-            high: 0xBF,
-            more: 1,
-        },
-        0xE1..=0xEC => State::Wants {
-            low: 0x80,
-            high: 0xBF,
-            more: 1,
-        },
-        0xED => State::Wants {
-            low: 0x80,
-            high: 0x9F,
-            more: 1,
-        },
-        0xEE..=0xEF => State::Wants {
-            low: 0x80,
-            high: 0xBF,
-            more: 1,
-        },
-        0xF0 => State::Wants {
-            low: 0x90,
-            high: 0xBF,
-            more: 2,
-        },
-        0xF1..=0xF3 => State::Wants {
-            low: 0x80,
-            high: 0xBF,
-            more: 2,
-        },
-        0xF4 => State::Wants {
-            low: 0x80,
-            high: 0x8F,
-            more: 2,
-        },
+        0xC2..=0xDF => State::Wants(0x80, 0xBF, 0),
+        0xE0 => State::Wants(0xA0, 0xBF, 1),
+        0xE1..=0xEC => State::Wants(0x80, 0xBF, 1),
+        0xED => State::Wants(0x80, 0x9F, 1),
+        0xEE..=0xEF => State::Wants(0x80, 0xBF, 1),
+        0xF0 => State::Wants(0x90, 0xBF, 2),
+        0xF1..=0xF3 => State::Wants(0x80, 0xBF, 2),
+        0xF4 => State::Wants(0x80, 0x8F, 2),
         _ => State::Wrong,
     }
 }
@@ -85,7 +53,7 @@ fn step(s: State, b: u8) -> State
 {
     match s {
         State::Whole => lead(b),
-        State::Wants { low, high, more } => tail(low, high, more, b),
+        State::Wants(low, high, more) => tail(low, high, more, b),
         State::Wrong => State::Wrong,
     }
 }
@@ -103,11 +71,7 @@ fn tail(low: u8, high: u8, more: u8, b: u8) -> State
     if more == 0 {
         return State::Whole;
     }
-    State::Wants {
-        low: 0x80,
-        high: 0xBF,
-        more: more - 1,
-    }
+    State::Wants(0x80, 0xBF, more - 1)
 }
 
 fn is_whole(s: State) -> bool
@@ -115,11 +79,7 @@ fn is_whole(s: State) -> bool
 {
     match s {
         State::Whole => true,
-        State::Wants {
-            low: _,
-            high: _,
-            more: _,
-        } => false,
+        State::Wants(_, _, _) => false,
         State::Wrong => false,
     }
 }

@@ -1,5 +1,5 @@
 -- `arena::make_block`: its five stores are the definition's.
-use mathlib.Core.Path.{_≡_, ap, sym, _∙_}
+use mathlib.Core.Path.{ap, sym, _∙_}
 use native.Mathlib.Omega.{arith}
 use lib.ListN.{length, length-set, length-append, length-take, length-drop}
 use borrow.Author.Needs.{needs}

@@ -1,6 +1,5 @@
 -- `arena::same_name`: 16 bytes are the same where both halves are the same number.
-use mathlib.Core.Path.{_≡_, sym, _∙_, ap₂}
-use Prim.Native.Nat.{ℕ}
+use mathlib.Core.Path.{sym, _∙_, ap₂}
 use lib.Dec.{eqb}
 use borrow.Author.Needs.{needs}
 use Rattle.arena.proofs.Fields.{name-low, name-high}

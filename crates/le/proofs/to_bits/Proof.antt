@@ -1,5 +1,5 @@
 -- `le::to_bits`: a number from 0 on as it is; one below is 2^64 - 1 less what is missing to -1.
-use Prim.Native.Nat.{ℕ, _-_, _<_}
+use Prim.Native.Nat.{ℕ, _<_}
 use mathlib.Core.Path.{_≡_}
 use native.Mathlib.Omega.{arith}
 use lib.IntN.{pos, negsuc, _-ℤ_}

@@ -1,7 +1,7 @@
 -- `maps::put_bit_of`: the bit's old weight is taken off, and the new one put there.
 use mathlib.Core.Path.{refl, ap, _∙_}
 use Rattle.base.specs.Count.{bit}
-use Rattle.maps.specs.Maps.{putBit, bitOf}
+use Rattle.maps.specs.Maps.{putBit}
 use Rattle.maps.proofs.Bits.{Change, change}
 use Prim.Native.Nat.{_*_, _^_, _%_}
 use borrow.Author.Needs.{needs}

@@ -1,70 +1,64 @@
+-- `overlay::store`: whether the block has a place of its own, and the two cases.
+use Prim.Native.Nat.{ℕ}
+use mathlib.Core.List.{List}
+use mathlib.Core.Path.{_≡_, sym, ap, _∙_}
+use native.Mathlib.Omega.{arith}
+use lib.Dec.{ltb}
+use borrow.Author.Tests.{ltb-true}
+use Rattle.base.proofs.Bools.{and-parts}
+use Rattle.arena.specs.Blocks.{putBlk}
+use Rattle.arena.specs.Fields.{seal}
+use Rattle.overlay.specs.View.{left}
+use Rattle.overlay.proofs.Views.{own-is, stored-over, stored-new}
 use borrow.Author.Needs.{needs}
 use Rattle.overlay.proofs.store.Statement.{statement}
 use Rattle.overlay.proofs.store.Tie as tie
-use Rattle.overlay.proofs.store.Reads as reads
-use Rattle.overlay.proofs.store.Lts as lts
-use Rattle.arena.proofs.write_block.Reads as write-block-reads
-use Rattle.overlay.proofs.byte.Reads as byte-reads
 
--- src/lib.rt:44:18
 slice-read-byte : tie.Need-slice-read-byte
-slice-read-byte c = ?
+unfolding left
+slice-read-byte c = omega arith
 
--- src/lib.rt:44:9
 byte-requires : tie.Need-byte-requires
 byte-requires c κs = search needs
 
--- src/lib.rt:45:13
-mul-o : tie.Need-mul-o
-mul-o c = ?
+slice-read-byte-2 : tie.Need-slice-read-byte-2
+unfolding left
+slice-read-byte-2 c = omega arith
 
--- src/lib.rt:46:30
-add-write-block : tie.Need-add-write-block
-add-write-block c = ?
+byte-requires-2 : tie.Need-byte-requires-2
+byte-requires-2 c κs = search needs
 
--- src/lib.rt:46:17
-sub-write-block : tie.Need-sub-write-block
-sub-write-block c = search needs
+store-over-requires : tie.Need-store-over-requires
+unfolding left
+store-over-requires c κs =
+    let s = c .before .before .before .before .before .before .before in
+    let t = and-parts (ltb 9 (c .before .before .before .before .byte .result)) (ltb (c .before .before .before .before .byte .result) (c .before .before .byte2 .result)) (c .before .if1 .taken) in
+    let h = ltb-true (c .before .before .before .before .byte .result) (c .before .before .byte2 .result) (t .1) in
+    (omega (arith, c .before .before .byte2 .ensures), search needs)
 
--- src/lib.rt:46:17
-part-write-block-start : tie.Need-part-write-block-start
-part-write-block-start c = search needs
-
--- src/lib.rt:46:17
-part-write-block-end : tie.Need-part-write-block-end
-part-write-block-end c = ?
-
--- src/lib.rt:46:5
-write-block-requires : tie.Need-write-block-requires
-write-block-requires c κs = search needs
-
--- src/lib.rt:47:15
-cast-work : tie.Need-cast-work
-cast-work c = ?
-
--- src/lib.rt:47:5
-slice-write-work : tie.Need-slice-write-work
-slice-write-work c = ?
-
--- src/lib.rt:48:19
-add-work : tie.Need-add-work
-add-work c = ?
-
--- src/lib.rt:48:18
-cast-work-2 : tie.Need-cast-work-2
-cast-work-2 c = ?
-
--- src/lib.rt:48:5
-slice-write-work-2 : tie.Need-slice-write-work-2
-slice-write-work-2 c = ?
-
--- src/lib.rt:39:1
 same-length : tie.Need-same-length
 same-length c = search needs
 
--- src/lib.rt:39:1
 returns : tie.Need-returns
-returns c = ?
+returns c =
+    let t = c .before .before .before .before in
+    let A = c .before .before .before .before .before .before .before .before .before .before .before .args in
+    c .before .before .store-over .ensures
+    ∙ ap (λ (m : ℕ). putBlk (A .work .now) m (seal (A .b .now))) (t .before .before .before .byte .ensures)
+    ∙ stored-over (A .work .now) (A .k) (A .b .now) (sym (own-is (A .work .now) (A .k) _ _ (t .before .before .before .byte .ensures) (t .before .byte2 .ensures)) ∙ t .if1 .taken)
+
+store-new-requires : tie.Need-store-new-requires
+store-new-requires c κs = search needs
+
+same-length-2 : tie.Need-same-length-2
+same-length-2 c = search needs
+
+returns-2 : tie.Need-returns-2
+returns-2 c =
+    let t = c .before .before .before .before in
+    let A = c .before .before .before .before .before .before .before .before .before .before .before .args in
+    c .before .before .store-new .ensures
+    ∙ stored-new (A .work .now) (A .k) (A .b .now) (sym (own-is (A .work .now) (A .k) _ _ (t .before .before .before .byte .ensures) (t .before .byte2 .ensures)) ∙ t .if1 .left)
 
 pub store-spec : {M : Type 1} → statement M
 store-spec =
@@ -72,16 +66,11 @@ store-spec =
     (tie.spec
     slice-read-byte
     byte-requires
-    mul-o
-    add-write-block
-    sub-write-block
-    part-write-block-start
-    part-write-block-end
-    write-block-requires
-    cast-work
-    slice-write-work
-    add-work
-    cast-work-2
-    slice-write-work-2
+    slice-read-byte-2
+    byte-requires-2
+    store-over-requires
     same-length
-    returns)
+    returns
+    store-new-requires
+    same-length-2
+    returns-2)

@@ -1,6 +1,5 @@
 -- `structs::move_verdict`: the entry that is looked up means what the rule says (Verdicts), and each arm is one meaning.
 use mathlib.Core.Path.{_≡_, sym, ap, _∙_}
-use Prim.Native.Nat.{_+_, _*_, _-_}
 use lib.ListN.{getD}
 use Rattle.structs.specs.Verdict.{verdictOf}
 use Rattle.structs.proofs.Verdicts.{verdicts, meant, meant-rest, verdict-at}

@@ -5,8 +5,8 @@ use mathlib.Core.Bool.{false}
 use native.Mathlib.Omega.{arith}
 use borrow.Author.Count.{below-none, below-more}
 use borrow.Author.Tests.{eq-eqb, ne-eqb}
+use Rattle.base.proofs.Finds.{search-hit, search-none}
 use Rattle.table.specs.Table.{isHold, holdOf}
-use Rattle.table.proofs.General.{search-hit, search-none}
 use Rattle.table.proofs.hold_of.Statement.{statement}
 use Rattle.table.proofs.hold_of.Tie as tie
 

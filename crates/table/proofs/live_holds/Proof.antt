@@ -1,13 +1,13 @@
 -- `table::live_holds`: n counts the live holds that the loop passed.
-use Prim.Native.Nat.{ℕ, _<_, _≤_, _-_, _+_}
-use mathlib.Core.Path.{_≡_, refl, sym, ap, _∙_}
+use Prim.Native.Nat.{_≤_, _-_}
+use mathlib.Core.Path.{_≡_, sym, ap}
 use mathlib.Core.Bool.{not}
 use mathlib.Core.Logic.{⊎-elim}
 use native.Mathlib.Omega.{arith}
 use borrow.Author.Tests.{eq-eqb, ne-eqb}
-use Rattle.base.specs.Count.{countTo, bit}
-use Rattle.base.proofs.Counts.{countTo-more, countTo-none, countTo-le}
-use Rattle.table.proofs.General.{count-yes, count-no}
+use Rattle.base.proofs.Finds.{count-yes, count-no}
+use Rattle.base.specs.Count.{countTo}
+use Rattle.base.proofs.Counts.{countTo-none, countTo-le}
 use Rattle.table.specs.Table.{liveAt, liveHolds}
 use Rattle.table.proofs.live_holds.Statement.{statement}
 use Rattle.table.proofs.live_holds.Tie as tie

@@ -4,8 +4,8 @@ use mathlib.Core.Path.{_≡_}
 use mathlib.Core.Bool.{false}
 use native.Mathlib.Omega.{arith}
 use borrow.Author.Count.{below-none, below-more}
+use Rattle.base.proofs.Finds.{search-yes, search-no}
 use Rattle.table.specs.Table.{namesRow, rowUsed}
-use Rattle.table.proofs.General.{search-yes, search-no}
 use Rattle.table.proofs.row_used.Statement.{statement}
 use Rattle.table.proofs.row_used.Tie as tie
 

@@ -2,8 +2,8 @@
 use mathlib.Core.Path.{_≡_}
 use lib.ListN.{length}
 use borrow.Author.Tests.{eq-eqb}
+use Rattle.base.proofs.Finds.{len-of}
 use Rattle.table.specs.Formed.{wellFormed, shaped}
-use Rattle.table.proofs.General.{len-of}
 use borrow.Author.Needs.{needs}
 use Rattle.table.proofs.well_formed.Statement.{statement}
 use Rattle.table.proofs.well_formed.Tie as tie

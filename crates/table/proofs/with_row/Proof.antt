@@ -1,8 +1,8 @@
 -- `table::with_row`: past the end nothing is set.
 use native.Mathlib.Omega.{arith}
 use lib.Seq.{set-out}
-use Rattle.table.proofs.General.{len-of}
 use borrow.Author.Needs.{needs}
+use Rattle.base.proofs.Finds.{len-of}
 use Rattle.table.proofs.with_row.Statement.{statement}
 use Rattle.table.proofs.with_row.Tie as tie
 

@@ -4,7 +4,7 @@ use mathlib.Core.Path.{_≡_, sym}
 use borrow.Author.Count.{below-more}
 use native.Mathlib.Omega.{arith}
 use lib.ListN.{getD}
-use Rattle.utf8.proofs.General.{same-all, same-length, same-but}
+use Rattle.base.proofs.Sames.{same-all, same-length, same-but}
 use Rattle.utf8.proofs.equal.Statement.{statement}
 use Rattle.utf8.proofs.equal.Tie as tie
 

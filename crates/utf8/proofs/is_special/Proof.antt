@@ -1,5 +1,4 @@
 -- `utf8::is_special`: the three tests as they stand.
-use mathlib.Core.Path.{_≡_}
 use borrow.Author.Needs.{needs}
 use Rattle.utf8.specs.Names.{isSpecial}
 use Rattle.utf8.proofs.is_special.Statement.{statement}

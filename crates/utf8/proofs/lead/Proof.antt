@@ -1,5 +1,5 @@
 -- `utf8::lead`: an arm for each range, a law for each arm.
-use mathlib.Core.Path.{_≡_, sym, ap, _∙_}
+use mathlib.Core.Path.{sym, ap, _∙_}
 use native.Mathlib.Omega.{arith}
 use Rattle.utf8.specs.Utf8.{lead}
 use Rattle.utf8.proofs.Leads.{lead-00, lead-80, lead-C2, lead-E0, lead-E1, lead-ED, lead-EE, lead-F0, lead-F1, lead-F4, lead-F5}

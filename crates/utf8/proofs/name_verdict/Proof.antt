@@ -1,5 +1,5 @@
 -- `utf8::name_verdict`: a return for each case of the verdict.
-use mathlib.Core.Path.{_≡_, sym, _∙_}
+use mathlib.Core.Path.{sym, _∙_}
 use borrow.Author.Needs.{needs}
 use native.Mathlib.Omega.{arith}
 use Rattle.utf8.proofs.Names.{verdict-zero, verdict-wrong, verdict-good}

@@ -1,5 +1,5 @@
 -- `utf8::put_name`: the front becomes the name, and then the rest zeros.
-use mathlib.Core.Path.{_≡_, sym}
+use mathlib.Core.Path.{sym}
 use borrow.Author.Needs.{needs}
 use native.Mathlib.Omega.{arith}
 use lib.Seq.{length-take-le}

@@ -1,5 +1,5 @@
 -- `utf8::step`: a case for each state.
-use mathlib.Core.Path.{_≡_, sym, ap, _∙_}
+use mathlib.Core.Path.{sym, ap, _∙_}
 use borrow.Author.Needs.{needs}
 use Rattle.utf8.specs.declared.State.{State}
 use Rattle.utf8.specs.Utf8.{step}

@@ -1,8 +1,6 @@
 -- `utf8::tail`: a byte below the range, above it, and in it, where tails are left or not.
-use mathlib.Core.Path.{_≡_}
 use borrow.Author.Needs.{needs}
 use borrow.Author.Tests.{eq-eqb, ne-eqb}
-use native.Mathlib.Omega.{arith}
 use Rattle.utf8.specs.Utf8.{tail}
 use Rattle.utf8.proofs.Leads.{within-in, within-under, within-over}
 use Rattle.utf8.proofs.tail.Statement.{statement}

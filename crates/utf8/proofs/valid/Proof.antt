@@ -1,10 +1,8 @@
 -- `utf8::valid`: what is left to read, read from where the loop stands, gives what all of it gives from the start.
 use Prim.Native.Nat.{_-_, _≤_}
-use native.Mathlib.Numerals.{add-one}
 use native.Mathlib.Omega.{arith}
 use mathlib.Core.Path.{_≡_, refl, sym, ap, _∙_}
-use lib.ListN.{length, drop, drop-of-length-le}
-use lib.Seq.{drop-cons}
+use lib.ListN.{drop}
 use Rattle.utf8.specs.declared.State.the-variants.{Whole}
 use Rattle.utf8.specs.Utf8.{after, isWhole, utf8}
 use Rattle.utf8.proofs.Grammar.{after-more, after-all}

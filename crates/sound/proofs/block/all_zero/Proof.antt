@@ -1,13 +1,13 @@
 -- `sound::block::all_zero`: after i turns the bits joined are none where the first i bytes are zero.
-use mathlib.Core.Path.{_≡_, refl, ap, ap₂, _∙_, sym}
+use mathlib.Core.Path.{_≡_, refl, ap, _∙_, sym}
 use mathlib.Core.Bool.{Bool, _&&_}
-use Prim.Native.Nat.{ℕ, _+_, _-_, _≤_}
+use Prim.Native.Nat.{ℕ, _-_, _≤_}
 use native.Mathlib.Omega.{arith}
 use lib.Dec.{eqb}
 use lib.ListN.{length, getD}
+use Rattle.base.proofs.Sames.{or-zero, allTo-suc, every-allTo}
 use Rattle.base.specs.Count.{allTo}
 use Rattle.sound.specs.Sound.{allZero}
-use Rattle.sound.proofs.General.{or-zero, allTo-suc, every-allTo}
 use Rattle.sound.proofs.block.all_zero.Statement.{statement}
 use Rattle.sound.proofs.block.all_zero.Tie as tie
 

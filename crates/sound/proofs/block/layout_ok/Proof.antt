@@ -1,97 +1,108 @@
+-- `sound::block::layout_ok`: a test of the definition at each return, those before it passed.
+use mathlib.Core.Path.{sym, _∙_, ap₂}
+use lib.Dec.{eqb}
+use borrow.Author.Tests.{lt-ltb, le-ltb, not-true, not-false}
+use Rattle.sound.specs.Sound.{layout}
 use borrow.Author.Needs.{needs}
 use Rattle.sound.proofs.block.layout_ok.Statement.{statement}
 use Rattle.sound.proofs.block.layout_ok.Tie as tie
-use Rattle.sound.proofs.block.layout_ok.Reads as reads
-use Rattle.sound.proofs.block.layout_ok.Lts as lts
-use Rattle.arena.proofs.block_check.Reads as block-check-reads
-use Rattle.le.proofs.u32_at.Reads as u32-at-reads
-use Rattle.sound.proofs.block.all_zero.Reads as all-zero-reads
-use Rattle.sound.proofs.block.name_ok.Reads as name-ok-reads
-use Rattle.sound.proofs.block.payload_ok.Reads as payload-ok-reads
 
--- src/block.rt:52:8
 shared-slice-read-if1 : tie.Need-shared-slice-read-if1
 shared-slice-read-if1 c = search needs
 
--- src/block.rt:53:9
 returns : tie.Need-returns
-returns c = ?
+unfolding layout
+returns c = simp (le-ltb _ _ (c .if1 .taken))
 
--- src/block.rt:55:8
 shared-slice-read-if2 : tie.Need-shared-slice-read-if2
 shared-slice-read-if2 c = search needs
 
--- src/block.rt:56:9
 returns-2 : tie.Need-returns-2
-returns-2 c = ?
+unfolding layout
+returns-2 c =
+    let e1 = c .before .before in
+    simp (lt-ltb _ _ (e1 .if1 .left), le-ltb _ _ (c .if2 .taken))
 
--- src/block.rt:58:18
 sub-all-zero : tie.Need-sub-all-zero
 sub-all-zero c = search needs
 
--- src/block.rt:58:18
 part-all-zero-start : tie.Need-part-all-zero-start
 part-all-zero-start c = search needs
 
--- src/block.rt:58:18
 part-all-zero-end : tie.Need-part-all-zero-end
 part-all-zero-end c = search needs
 
--- src/block.rt:58:9
 all-zero-requires : tie.Need-all-zero-requires
 all-zero-requires c κs = search needs
 
--- src/block.rt:59:9
 returns-3 : tie.Need-returns-3
-returns-3 c = ?
+unfolding layout
+returns-3 c =
+    let e2 = c .before .before .before in
+    let e1 = e2 .before .before in
+    simp (lt-ltb _ _ (e1 .if1 .left), lt-ltb _ _ (e2 .if2 .left), sym (c .before .all-zero .ensures) ∙ not-true _ (c .if3 .taken))
 
--- src/block.rt:61:9
 name-ok-requires : tie.Need-name-ok-requires
 name-ok-requires c κs = search needs
 
--- src/block.rt:62:9
 returns-4 : tie.Need-returns-4
-returns-4 c = ?
+unfolding layout
+returns-4 c =
+    let e3 = c .before .before in
+    let e2 = e3 .before .before .before in
+    let e1 = e2 .before .before in
+    simp (lt-ltb _ _ (e1 .if1 .left), lt-ltb _ _ (e2 .if2 .left), sym (e3 .before .all-zero .ensures) ∙ not-false _ (e3 .if3 .left), sym (c .before .name-ok .ensures) ∙ not-true _ (c .if4 .taken))
 
--- src/block.rt:64:9
 payload-ok-requires : tie.Need-payload-ok-requires
 payload-ok-requires c κs = search needs
 
--- src/block.rt:65:9
 returns-5 : tie.Need-returns-5
-returns-5 c = ?
+unfolding layout
+returns-5 c =
+    let e4 = c .before .before in
+    let e3 = e4 .before .before in
+    let e2 = e3 .before .before .before in
+    let e1 = e2 .before .before in
+    simp (lt-ltb _ _ (e1 .if1 .left), lt-ltb _ _ (e2 .if2 .left), sym (e3 .before .all-zero .ensures) ∙ not-false _ (e3 .if3 .left), sym (e4 .before .name-ok .ensures) ∙ not-false _ (e4 .if4 .left), sym (c .before .payload-ok .ensures) ∙ not-true _ (c .if5 .taken))
 
--- src/block.rt:67:18
 sub-all-zero-2 : tie.Need-sub-all-zero-2
 sub-all-zero-2 c = search needs
 
--- src/block.rt:67:18
 part-all-zero-start-2 : tie.Need-part-all-zero-start-2
 part-all-zero-start-2 c = search needs
 
--- src/block.rt:67:18
 part-all-zero-end-2 : tie.Need-part-all-zero-end-2
 part-all-zero-end-2 c = search needs
 
--- src/block.rt:67:9
 all-zero-requires-2 : tie.Need-all-zero-requires-2
 all-zero-requires-2 c κs = search needs
 
--- src/block.rt:68:9
 returns-6 : tie.Need-returns-6
-returns-6 c = ?
+unfolding layout
+returns-6 c =
+    let e5 = c .before .before .before in
+    let e4 = e5 .before .before in
+    let e3 = e4 .before .before in
+    let e2 = e3 .before .before .before in
+    let e1 = e2 .before .before in
+    simp (lt-ltb _ _ (e1 .if1 .left), lt-ltb _ _ (e2 .if2 .left), sym (e3 .before .all-zero .ensures) ∙ not-false _ (e3 .if3 .left), sym (e4 .before .name-ok .ensures) ∙ not-false _ (e4 .if4 .left), sym (e5 .before .payload-ok .ensures) ∙ not-false _ (e5 .if5 .left), sym (c .before .all-zero2 .ensures) ∙ not-true _ (c .if6 .taken))
 
--- src/block.rt:70:5
 u32-at-requires : tie.Need-u32-at-requires
 u32-at-requires c κs = search needs
 
--- src/block.rt:70:26
 block-check-requires : tie.Need-block-check-requires
 block-check-requires c κs = search needs
 
--- src/block.rt:48:1
 returns-7 : tie.Need-returns-7
-returns-7 c = ?
+unfolding layout
+returns-7 c =
+    let e6 = c .before .before in
+    let e5 = e6 .before .before .before in
+    let e4 = e5 .before .before in
+    let e3 = e4 .before .before in
+    let e2 = e3 .before .before .before in
+    let e1 = e2 .before .before in
+    simp (lt-ltb _ _ (e1 .if1 .left), lt-ltb _ _ (e2 .if2 .left), sym (e3 .before .all-zero .ensures) ∙ not-false _ (e3 .if3 .left), sym (e4 .before .name-ok .ensures) ∙ not-false _ (e4 .if4 .left), sym (e5 .before .payload-ok .ensures) ∙ not-false _ (e5 .if5 .left), sym (e6 .before .all-zero2 .ensures) ∙ not-false _ (e6 .if6 .left)) (ap₂ eqb (c .before .u32-at .ensures) (c .block-check .ensures))
 
 pub layout-ok-spec : {M : Type 1} → statement M
 layout-ok-spec =

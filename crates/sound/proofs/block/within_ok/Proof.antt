@@ -1,63 +1,58 @@
+-- `sound::block::within_ok`: past the length, a whole block below it, or the last.
+use mathlib.Core.Path.{_∙_}
+use Rattle.sound.proofs.Sounds.{within-far, within-full, within-tail}
 use borrow.Author.Needs.{needs}
 use Rattle.sound.proofs.block.within_ok.Statement.{statement}
 use Rattle.sound.proofs.block.within_ok.Tie as tie
-use Rattle.sound.proofs.block.within_ok.Reads as reads
-use Rattle.sound.proofs.block.within_ok.Lts as lts
-use Rattle.base.proofs.index.Reads as index-reads
-use Rattle.le.proofs.u32_at.Reads as u32-at-reads
-use Rattle.sound.proofs.block.all_zero.Reads as all-zero-reads
 
--- src/block.rt:78:9
 index-requires : tie.Need-index-requires
 index-requires c κs = search needs
 
--- src/block.rt:79:28
 u32-at-requires : tie.Need-u32-at-requires
 u32-at-requires c κs = search needs
 
--- src/block.rt:79:22
 index-requires-2 : tie.Need-index-requires-2
 index-requires-2 c κs = search needs
 
--- src/block.rt:79:16
 mul-from : tie.Need-mul-from
 mul-from c = search needs
 
--- src/block.rt:81:9
 returns : tie.Need-returns
-returns c = ?
+returns c =
+    let i = c .before in
+    let s = i .before .before .before .before in
+    within-far (s .args .part .now) (s .args .len) (i .index2 .ensures ∙ i .before .u32-at .ensures) (i .before .before .index .ensures) (c .if1 .taken)
 
--- src/block.rt:83:16
 sub-left : tie.Need-sub-left
 sub-left c = search needs
 
--- src/block.rt:85:9
 returns-2 : tie.Need-returns-2
-returns-2 c = ?
+returns-2 c =
+    let i = c .before .before in
+    let s = i .before .before .before .before in
+    within-full (s .args .part .now) (s .args .len) (i .index2 .ensures ∙ i .before .u32-at .ensures) (i .before .before .index .ensures) (c .before .if1 .left) (c .if2 .taken)
 
--- src/block.rt:87:13
 add-s : tie.Need-add-s
 add-s c = search needs
 
--- src/block.rt:88:14
 sub-all-zero : tie.Need-sub-all-zero
 sub-all-zero c = search needs
 
--- src/block.rt:88:14
 part-all-zero-start : tie.Need-part-all-zero-start
 part-all-zero-start c = search needs
 
--- src/block.rt:88:14
 part-all-zero-end : tie.Need-part-all-zero-end
 part-all-zero-end c = search needs
 
--- src/block.rt:88:5
 all-zero-requires : tie.Need-all-zero-requires
 all-zero-requires c κs = search needs
 
--- src/block.rt:74:1
 returns-3 : tie.Need-returns-3
-returns-3 c = ?
+returns-3 c =
+    let e = c .before .before .before in
+    let i = e .before in
+    let s = i .before .before .before .before in
+    c .all-zero .ensures ∙ within-tail (s .args .part .now) (s .args .len) (i .index2 .ensures ∙ i .before .u32-at .ensures) (i .before .before .index .ensures) (e .if1 .left)
 
 pub within-ok-spec : {M : Type 1} → statement M
 within-ok-spec =

@@ -1,47 +1,45 @@
+-- `sound::chain::hash_key`: the two kinds of key.
+use mathlib.Core.Path.{_∙_, ap, ap₂}
+use Prim.Native.Nat.{ℕ, _+_, _*_}
 use borrow.Author.Needs.{needs}
+use Rattle.sound.specs.Chain.{hashKey, bucketOf}
 use Rattle.sound.proofs.chain.hash_key.Statement.{statement}
 use Rattle.sound.proofs.chain.hash_key.Tie as tie
-use Rattle.sound.proofs.chain.hash_key.Reads as reads
-use Rattle.sound.proofs.chain.hash_key.Lts as lts
-use Rattle.sound.proofs.chain.bucket.Reads as bucket-reads
-use Rattle.sound.proofs.chain.file_hash.Reads as file-hash-reads
-use Rattle.sound.proofs.chain.wide.Reads as wide-reads
 
--- src/chain.rt:47:9
 file-hash-requires : tie.Need-file-hash-requires
 file-hash-requires c κs = search needs
 
--- src/chain.rt:49:9
 bucket-requires : tie.Need-bucket-requires
 bucket-requires c κs = search needs
 
--- src/chain.rt:49:9
 returns : tie.Need-returns
-returns c = ?
+unfolding hashKey
+returns c =
+    let t = c .before in
+    (simp (t .if1 .taken) (c .bucket .ensures .0 ∙ ap bucketOf (t .before .file-hash .ensures .0)), c .bucket .ensures .1)
 
--- src/chain.rt:51:17
 wide-requires : tie.Need-wide-requires
 wide-requires c κs = search needs
 
--- src/chain.rt:51:17
 mul-bucket : tie.Need-mul-bucket
 mul-bucket c = search needs
 
--- src/chain.rt:51:17
 add-bucket : tie.Need-add-bucket
 add-bucket c = search needs
 
--- src/chain.rt:51:12
 add-bucket-2 : tie.Need-add-bucket-2
 add-bucket-2 c = search needs
 
--- src/chain.rt:51:5
 bucket-requires-2 : tie.Need-bucket-requires-2
 bucket-requires-2 c κs = search needs
 
--- src/chain.rt:43:1
 returns-2 : tie.Need-returns-2
-returns-2 c = ?
+unfolding hashKey
+returns-2 c =
+    let t = c .before .before in (
+      simp (t .if1 .left) (c .bucket2 .ensures .0 ∙ ap₂ (λ (f q : ℕ). bucketOf (f + (q * 331804471 + 268435399))) (t .before .file-hash .ensures .0) (c .before .wide .ensures .0)),
+      c .bucket2 .ensures .1,
+    )
 
 pub hash-key-spec : {M : Type 1} → statement M
 hash-key-spec =

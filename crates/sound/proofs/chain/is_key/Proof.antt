@@ -1,5 +1,5 @@
 -- `sound::chain::is_key`: the two kinds of key.
-use mathlib.Core.Path.{_≡_, sym, _∙_, ap}
+use mathlib.Core.Path.{sym, _∙_, ap}
 use mathlib.Core.Bool.{Bool}
 use borrow.Author.Needs.{needs}
 use Rattle.arena.specs.Fields.{file}

@@ -1,0 +1,1 @@
+// Document 01's course examples: definitions and one theorem, no code.

@@ -1,0 +1,5 @@
+pub mod Finds
+pub mod Runs
+pub mod Blocks
+pub mod Puts
+pub mod Clears

@@ -1,0 +1,75 @@
+-- `files::store::put_blocks`: one block, or two.
+use mathlib.Core.Path.{refl}
+use Prim.Native.Nat.{_+_, _-_, _/_}
+use native.Mathlib.Omega.{arith}
+use lib.ListN.{length}
+use lib.Dec.{ltb}
+use borrow.Author.Tests.{lt-ltb, le-ltb}
+use borrow.Author.Needs.{needs}
+use Rattle.base.specs.Out.{done}
+use Rattle.base.specs.Search.{pick}
+use Rattle.arena.specs.Fields.{file}
+use Rattle.overlay.proofs.Chains.{did-well, did-next, did-stop}
+use Rattle.files.specs.Store.{putBlock}
+use Rattle.files.proofs.Puts.{did-end}
+use Rattle.files.proofs.store.put_blocks.Statement.{statement}
+use Rattle.files.proofs.store.put_blocks.Tie as tie
+
+add-last : tie.Need-add-last
+add-last c = search needs
+
+sub-last : tie.Need-sub-last
+sub-last c = search needs
+
+put-block-requires : tie.Need-put-block-requires
+put-block-requires c κs = search needs
+
+same-length : tie.Need-same-length
+same-length c = search needs
+
+returns : tie.Need-returns
+returns c =
+    let s = c .before .before .before .before .before .before .before .before .before in
+    did-stop (λ d. pick (ltb (s .args .pos / 480) ((s .args .pos + length (s .args .src .now) - 1) / 480)) (putBlock d (file (s .args .which) (s .args .name .now)) (s .args .pos) (s .args .src .now) ((s .args .pos + length (s .args .src .now) - 1) / 480)) (done d)) _ 2 (c .if1 .taken) (c .before .before .before .put-block .ensures)
+
+same-length-2 : tie.Need-same-length-2
+same-length-2 c = search needs
+
+returns-2 : tie.Need-returns-2
+returns-2 c =
+    let e = c .before in
+    let s = e .before .before .before .before .before .before .before .before .before in
+    let W = did-well (e .before .before .before .put-block .ensures) (e .if1 .left) in
+    did-end (λ d. pick (ltb (s .args .pos / 480) ((s .args .pos + length (s .args .src .now) - 1) / 480)) (putBlock d (file (s .args .which) (s .args .name .now)) (s .args .pos) (s .args .src .now) ((s .args .pos + length (s .args .src .now) - 1) / 480)) (done d)) 2 W (omega arith) (rw (le-ltb _ _ (c .if2 .taken)) refl)
+
+put-block-requires-2 : tie.Need-put-block-requires-2
+put-block-requires-2 c κs =
+    let e = c .before .before in
+    let s = e .before .before .before .before .before .before .before .before .before in
+    let W = did-well (e .before .before .before .put-block .ensures) (e .if1 .left) in
+    ((W .fine, omega (arith, W .room)), (s .pre .1 .0, (s .pre .1 .1 .0, (omega arith, omega arith))))
+
+same-length-3 : tie.Need-same-length-3
+same-length-3 c = search needs
+
+returns-3 : tie.Need-returns-3
+returns-3 c =
+    let e = c .before .before .before .before .before in
+    let s = e .before .before .before .before .before .before .before .before .before in
+    let W = did-well (e .before .before .before .put-block .ensures) (e .if1 .left) in
+    did-next {n = 1} (λ d. pick (ltb (s .args .pos / 480) ((s .args .pos + length (s .args .src .now) - 1) / 480)) (putBlock d (file (s .args .which) (s .args .name .now)) (s .args .pos) (s .args .src .now) ((s .args .pos + length (s .args .src .now) - 1) / 480)) (done d)) 2 W (omega arith) (rw (lt-ltb _ _ (c .before .before .before .before .if2 .left)) (c .before .before .put-block2 .ensures))
+
+pub put-blocks-spec : {M : Type 1} → statement M
+put-blocks-spec =
+    tie.close
+    (tie.spec
+    add-last
+    sub-last
+    put-block-requires
+    same-length
+    returns
+    same-length-2
+    returns-2
+    put-block-requires-2
+    same-length-3
+    returns-3)

@@ -1,0 +1,15 @@
+pub mod Views
+pub mod Parts
+pub mod Shapes
+pub mod Steps
+pub mod Lengths
+pub mod Writes
+pub mod Claims
+pub mod Clears
+pub mod Make
+pub mod Put
+pub mod Cut
+pub mod Drop
+pub mod Reading
+pub mod Tallies
+pub mod Bounds

@@ -1,0 +1,1 @@
+// What the four stores and the read do to files: definitions and theorems alone.

@@ -1,0 +1,317 @@
+-- The laws of what a call has in memory: its table, its flag, and its superblock and maps, each by the bytes that it is.
+use mathlib.Core.Path.{_≡_, sym, ap, _∙_, subst}
+use mathlib.Core.Bool.{Bool}
+use mathlib.Core.List.{List, [], _∷_, _++_}
+use Prim.Native.Nat.{ℕ, _+_, _*_, _-_, _/_, _%_, _^_, _<_, _≤_}
+use native.Mathlib.Nat.{zero-add}
+use native.Mathlib.Decide.{ℕ-discrete}
+use native.Mathlib.Omega.{arith}
+use lib.Dec.{eqb}
+use lib.ListN.{length, getD, take, drop, set, length-set, length-drop}
+use lib.Seq.{take-all, getD-take, getD-set-same, getD-set-other, take-set-lt}
+use borrow.Author.Tests.{eq-eqb}
+use Rattle.base.proofs.Parts.{part-part, part-join, part-all}
+use Rattle.base.specs.Out.{done, refused}
+use Rattle.base.specs.Parts.{part, back, paste}
+use Rattle.base.specs.Reasons.{stuck}
+use Rattle.base.specs.Search.{pick}
+use Rattle.base.proofs.Lists.{length-part, getD-part, length-paste, getD-paste-out, part-paste-other, set-paste}
+use Rattle.le.specs.Le.{Bytes, leOf, leAt}
+use Rattle.structs.specs.Layout.{superOf, superBytes}
+use Rattle.structs.specs.Fits.{SuperFits}
+use Rattle.structs.specs.declared.SuperBlock.{SuperBlock}
+use Rattle.structs.proofs.Layouts.{length-superBytes, superOf-fits}
+use Rattle.structs.proofs.Places.{part-written, super-written}
+use Rattle.maps.specs.Maps.{bitOf, putBit, bitAt, withBit}
+use Rattle.maps.proofs.Bits.{length-withBit}
+use Rattle.table.specs.declared.Row.{Row}
+use Rattle.table.specs.declared.Table.{Table}
+use Rattle.table.specs.Zero.{zeroHold}
+use Rattle.table.specs.Table.{offRow, rowAt, holdAt, withRow}
+use Rattle.table_bytes.specs.Fits.{RowFits, TableFits}
+use Rattle.table_bytes.specs.Layout.{rowFrom, rowBytes, holdFrom, rowAtPlace, holdAtPlace, tableOf, tableBytes}
+use Rattle.table_bytes.specs.Runs.{listTo}
+use Rattle.table_bytes.proofs.Layouts.{length-rowBytes, rowFrom-rowBytes, length-fits, tableOf-tableBytes}
+use Rattle.table_bytes.proofs.Runs.{length-list, getD-list, list-is}
+use Rattle.sefs.specs.Meta.{superWith}
+use Rattle.mem.specs.Mem.{tableIn, superIn, mapsIn, metaIn, Whole, Tabled, Mapped}
+
+-- ---- lists
+
+-- a part that came back as long as it went is laid over
+pub back-paste : (a : List ℕ) (s e : ℕ) (b : List ℕ) → s + length b ≡ e → back a s e b ≡ paste a s b
+unfolding paste
+back-paste a s e b q = ap (λ (k : ℕ). back a s k b) (sym q)
+
+-- up to the end
+pub part-end : (l : List ℕ) (s e : ℕ) → length l ≡ e → s ≤ e → part l s e ≡ drop s l
+part-end l s e q h = take-all (e - s) (drop s l) (omega (arith, length-drop s l))
+
+-- a part of the front
+part-front : (l : List ℕ) (e s u : ℕ) → u ≤ e → part (part l 0 e) s u ≡ part l s u
+part-front l e s u h = part-part l 0 e s u (omega arith) ∙ (λ x. part l (zero-add s x) (zero-add u x))
+
+list-cong : {A : Type 0} (d : A) (f g : ℕ → A) (n : ℕ) → ((i : ℕ) → i < n → f i ≡ g i) → listTo f n ≡ listTo g n
+list-cong d f g n h = list-is g d (listTo f n) n (length-list f n) (λ i k. getD-list f d n i k ∙ h i k)
+
+-- ---- the table
+
+-- row i is the i-th 117 bytes
+pub row-read : (m : List ℕ) (i : ℕ) → i < 34 → rowAt (tableIn m) i ≡ rowFrom (part m (117 * i) (117 * i + 117))
+unfolding tableOf rowAtPlace
+row-read m i k = getD-list (rowAtPlace m) offRow 34 i k
+
+pub hold-read : (m : List ℕ) (i : ℕ) → i < 32 → holdAt (tableIn m) i ≡ holdFrom (part m (3978 + 12 * i) (3978 + 12 * i + 12))
+unfolding tableOf holdAtPlace
+hold-read m i k = getD-list (holdAtPlace m) zeroHold 32 i k
+
+-- tables of bytes that agree where their holds and the next stamp stand, row by row
+table-is :
+    (m : List ℕ) (t : Table) → length (t .rows) ≡ 34 → ((i : ℕ) → i < 34 → rowAt t i ≡ rowAtPlace m i) → t .holds ≡ listTo (holdAtPlace m) 32 → t .next ≡ leAt m 4362 8 → tableIn m ≡ t
+unfolding tableOf
+table-is m t e rows holds next =
+    let r : t .rows ≡ listTo (rowAtPlace m) 34 = list-is (rowAtPlace m) offRow (t .rows) 34 e rows in
+    λ x. record { rows = sym r x; holds = sym holds x; next = sym next x }
+
+holds-same : (m n : List ℕ) → part n 3978 4370 ≡ part m 3978 4370 → listTo (holdAtPlace m) 32 ≡ listTo (holdAtPlace n) 32
+unfolding holdAtPlace
+holds-same m n q =
+    list-cong zeroHold (holdAtPlace m) (holdAtPlace n) 32
+    (λ i k.
+    let a : (l : List ℕ) → part (part l 3978 4370) (12 * i) (12 * i + 12) ≡ part l (3978 + 12 * i) (3978 + (12 * i + 12)) = λ l. part-part l 3978 4370 (12 * i) (12 * i + 12) (omega arith) in
+    let e : 3978 + 12 * i + 12 ≡ 3978 + (12 * i + 12) = omega arith in
+    let b : part m (3978 + 12 * i) (3978 + (12 * i + 12)) ≡ part n (3978 + 12 * i) (3978 + (12 * i + 12)) = sym (a m) ∙ ap (λ (l : List ℕ). part l (12 * i) (12 * i + 12)) (sym q) ∙ a n in
+    ap (λ (k : ℕ). holdFrom (part m (3978 + 12 * i) k)) e ∙ ap holdFrom b ∙ ap (λ (k : ℕ). holdFrom (part n (3978 + 12 * i) k)) (sym e))
+
+next-same : (m n : List ℕ) → part n 3978 4370 ≡ part m 3978 4370 → leAt m 4362 8 ≡ leAt n 4362 8
+unfolding leAt
+next-same m n q =
+    let a : (l : List ℕ) → part (part l 3978 4370) 384 392 ≡ part l 4362 4370 = λ l. part-part l 3978 4370 384 392 (omega arith) in
+    ap leOf (sym (a m) ∙ ap (λ (l : List ℕ). part l 384 392) (sym q) ∙ a n)
+
+-- the table looks at its own bytes alone
+pub table-kept : (m n : List ℕ) → part n 0 4370 ≡ part m 0 4370 → tableIn n ≡ tableIn m
+unfolding tableOf rowAtPlace
+table-kept m n q =
+    let b : part n 3978 4370 ≡ part m 3978 4370 = sym (part-front n 4370 3978 4370 (omega arith)) ∙ ap (λ (l : List ℕ). part l 3978 4370) q ∙ part-front m 4370 3978 4370 (omega arith) in
+    table-is n (tableIn m) (length-list (rowAtPlace m) 34)
+    (λ i k.
+    row-read m i k
+    ∙ ap rowFrom
+    (sym (part-front m 4370 (117 * i) (117 * i + 117) (omega arith))
+    ∙ ap (λ (l : List ℕ). part l (117 * i) (117 * i + 117)) (sym q)
+    ∙ part-front n 4370 (117 * i) (117 * i + 117) (omega arith)))
+    (holds-same m n b)
+    (next-same m n b)
+
+-- a row that is written is in the table, and all else is as it was
+module _ (m : List ℕ) (i : ℕ) (r : Row) (long : 4370 ≤ length m) (inside : i < 34) (F : RowFits r) where
+  wide : length (rowBytes r) ≡ 117
+  wide = length-rowBytes r (F .rec .file) (F .rec .mac)
+
+  fit : 117 * i + length (rowBytes r) ≤ length m
+  fit = omega (arith, wide)
+
+  row-beside : (j : ℕ) → (j ≡ i → ⊥) → part (paste m (117 * i) (rowBytes r)) (117 * j) (117 * j + 117) ≡ part m (117 * j) (117 * j + 117)
+  row-beside j ne = part-paste-other m (117 * i) (rowBytes r) fit (117 * j) (117 * j + 117) (λ l. let q : 117 * j < 117 * i + 117 = omega (arith, wide, l) in omega arith)
+
+  pub row-put : tableIn (paste m (117 * i) (rowBytes r)) ≡ withRow (tableIn m) i r
+  unfolding tableOf rowAtPlace
+  row-put =
+      let n : List ℕ = paste m (117 * i) (rowBytes r) in
+      let b : part n 3978 4370 ≡ part m 3978 4370 = part-paste-other m (117 * i) (rowBytes r) fit 3978 4370 (λ l. absurd (omega (arith, wide))) in
+      let s : length (tableIn m .rows) ≡ 34 = length-list (rowAtPlace m) 34 in
+      table-is n (withRow (tableIn m) i r) (length-set (tableIn m .rows) i r ∙ s)
+      (λ j k.
+      elim (ℕ-discrete j i) [
+        | yes e ↦
+            rw e
+            (getD-set-same (tableIn m .rows) i r offRow (omega (arith, s))
+            ∙ sym (ap rowFrom (part-written 117 m (117 * i) (rowBytes r) wide (omega arith)) ∙ rowFrom-rowBytes r F))
+        | no ne ↦
+            getD-set-other (tableIn m .rows) i j r offRow ne ∙ row-read m j k ∙ ap rowFrom (sym (row-beside j ne))
+      ])
+      (holds-same m n b)
+      (next-same m n b)
+
+  pub row-put-rest : part (paste m (117 * i) (rowBytes r)) 4370 4899 ≡ part m 4370 4899
+  row-put-rest = part-paste-other m (117 * i) (rowBytes r) fit 4370 4899 (λ l. absurd (omega (arith, wide)))
+
+-- a table that is written is in memory
+module _ (m : List ℕ) (t : Table) (long : 4370 ≤ length m) (F : TableFits t) where
+  pub table-put : tableIn (paste m 0 (tableBytes t)) ≡ t
+  table-put =
+      let n : List ℕ = paste m 0 (tableBytes t) in
+      let a : part n 0 4370 ≡ tableBytes t = part-written 4370 m 0 (tableBytes t) (length-fits t F) (omega arith) in
+      let b : part (tableBytes t) 0 4370 ≡ tableBytes t = take-all (4370 - 0) (tableBytes t) (omega (arith, length-fits t F)) in
+      table-kept (tableBytes t) n (a ∙ sym b) ∙ tableOf-tableBytes t F
+
+  pub table-put-rest : part (paste m 0 (tableBytes t)) 4370 4899 ≡ part m 4370 4899
+  table-put-rest = part-paste-other m 0 (tableBytes t) (omega (arith, length-fits t F)) 4370 4899 (λ l. absurd (omega (arith, length-fits t F)))
+
+-- ---- flag, superblock and maps: all in the bytes from 4370 on
+
+module _ (m n : List ℕ) (a : length m ≡ 4899) (b : length n ≡ 4899) (q : part n 4370 4899 ≡ part m 4370 4899) where
+  pub flag-kept : getD n 4370 0 ≡ getD m 4370 0
+  flag-kept = sym (getD-part n 4370 4899 0 (omega arith)) ∙ ap (λ (l : List ℕ). getD l 0 0) q ∙ getD-part m 4370 4899 0 (omega arith)
+
+  rest : (s u : ℕ) → u ≤ 529 → part n (4370 + s) (4370 + u) ≡ part m (4370 + s) (4370 + u)
+  rest s u h = sym (part-part n 4370 4899 s u (omega arith)) ∙ ap (λ (l : List ℕ). part l s u) q ∙ part-part m 4370 4899 s u (omega arith)
+
+  pub super-kept : superIn n ≡ superIn m
+  unfolding superIn
+  super-kept = ap superOf (rest 1 17 (omega arith))
+
+  pub maps-kept : mapsIn n ≡ mapsIn m
+  unfolding mapsIn
+  maps-kept =
+      let d : drop 4387 n ≡ drop 4387 m = sym (part-end n 4387 4899 b (omega arith)) ∙ rest 17 529 (omega arith) ∙ part-end m 4387 4899 a (omega arith) in
+      λ x. take (4387 + 128 * super-kept x .groups - 4387) (d x)
+
+  pub meta-kept : metaIn n ≡ metaIn m
+  unfolding metaIn
+  meta-kept = λ x. pick (eqb (flag-kept x) 1) (done (record { super = super-kept x; maps = maps-kept x })) (refused stuck)
+
+  pub whole-kept : Whole m → Whole n
+  whole-kept W = record {
+    size = b;
+    some = λ h. subst (λ (s : SuperBlock). 0 < s .groups) (sym super-kept) (W .some (sym flag-kept ∙ h));
+    few = λ h. subst (λ (s : SuperBlock). s .groups ≤ 4) (sym super-kept) (W .few (sym flag-kept ∙ h));
+  }
+
+  -- the table alone was changed
+  pub tabled : (t : Table) → Whole m → tableIn n ≡ t → Tabled m n t
+  tabled t W e = record { table = e; meta = meta-kept; whole = whole-kept W }
+
+-- where the flag is set
+pub meta-is : (m : List ℕ) → getD m 4370 0 ≡ 1 → metaIn m ≡ done (record { super = superIn m; maps = mapsIn m })
+unfolding metaIn
+meta-is m e = ap (λ (b : Bool). pick b (done (record { super = superIn m; maps = mapsIn m })) (refused stuck)) (eq-eqb (getD m 4370 0) 1 e)
+
+-- a superblock that is written, after the maps: the state was m, and is d but for the superblock
+module _ (m d : List ℕ) (sb : SuperBlock) (size : length d ≡ 4899) (front : part d 0 4370 ≡ part m 0 4370) (flag : getD d 4370 0 ≡ 1) (F : SuperFits sb) (some : 0 < sb .groups) (few : sb .groups ≤ 4) where
+  fit16 : 4371 + length (superBytes sb) ≤ length d
+  fit16 = omega (arith, length-superBytes sb)
+
+  pub super-put : superIn (paste d 4371 (superBytes sb)) ≡ sb
+  unfolding superIn
+  super-put = super-written d 4371 sb F (omega arith)
+
+  maps-put : mapsIn (paste d 4371 (superBytes sb)) ≡ part d 4387 (4387 + 128 * sb .groups)
+  unfolding mapsIn
+  maps-put =
+      ap (λ (s : SuperBlock). part (paste d 4371 (superBytes sb)) 4387 (4387 + 128 * s .groups)) super-put
+      ∙ part-paste-other d 4371 (superBytes sb) fit16 4387 (4387 + 128 * sb .groups) (λ l. absurd (omega (arith, length-superBytes sb)))
+
+  pub mapped : (maps : List ℕ) → part d 4387 (4387 + 128 * sb .groups) ≡ maps → Mapped m (paste d 4371 (superBytes sb)) (record { super = sb; maps = maps })
+  mapped maps e =
+      let n : List ℕ = paste d 4371 (superBytes sb) in
+      let f : getD n 4370 0 ≡ 1 = getD-paste-out d 4371 (superBytes sb) fit16 4370 (λ l. absurd (omega arith)) ∙ flag in
+      let p : mapsIn n ≡ maps = maps-put ∙ e in
+      record {
+        table = table-kept m n (part-paste-other d 4371 (superBytes sb) fit16 0 4370 (λ l. omega arith) ∙ front);
+        meta = meta-is n f ∙ (λ x. done (record { super = super-put x; maps = p x }));
+        whole = record {
+          size = length-paste d 4371 (superBytes sb) fit16 ∙ size;
+          some = λ h. subst (λ (s : SuperBlock). 0 < s .groups) (sym super-put) some;
+          few = λ h. subst (λ (s : SuperBlock). s .groups ≤ 4) (sym super-put) few;
+        };
+      }
+
+-- ---- bits
+
+-- a bit of the groups' maps is one of all four groups' bytes
+pub bit-in : (m : List ℕ) (groups id : ℕ) → groups ≤ 4 → id < 1024 * groups → bitAt (part m 4387 4899) id ≡ bitAt (part m 4387 (4387 + 128 * groups)) id
+unfolding bitAt
+bit-in m groups id h l =
+    ap (λ (x : ℕ). bitOf x (id % 8)) (getD-part m 4387 4899 (id / 8) (omega arith) ∙ sym (getD-part m 4387 (4387 + 128 * groups) (id / 8) (omega arith)))
+
+-- a bit put in the front is put in the whole
+pub withBit-front : (l : List ℕ) (k id : ℕ) (b : Bool) → id / 8 < k → part (withBit l id b) 0 k ≡ withBit (part l 0 k) id b
+unfolding withBit
+withBit-front l k id b h =
+    take-set-lt (k - 0) l (id / 8) (putBit (getD l (id / 8) 0) (id % 8) b) (omega arith)
+    ∙ ap (λ (x : ℕ). set (part l 0 k) (id / 8) (putBit x (id % 8) b)) (sym (getD-take (k - 0) l (id / 8) 0 (omega arith)))
+
+-- ---- the steps that change superblock and maps
+
+pub super-fits : (m : List ℕ) → Bytes m → SuperFits (superIn m)
+unfolding superIn
+super-fits m h = superOf-fits (part m 4371 4387) (part-all (λ x. x < 256) m (omega arith) h 4371 4387)
+
+-- bytes laid over the maps
+module _ (m : List ℕ) (o : ℕ) (b : List ℕ) (size : length m ≡ 4899) (after : 4387 ≤ o) (fit : o + length b ≤ 4899) where
+  fits : o + length b ≤ length m
+  fits = omega arith
+
+  laid-size : length (paste m o b) ≡ 4899
+  laid-size = length-paste m o b fits ∙ size
+
+  laid-front : part (paste m o b) 0 4370 ≡ part m 0 4370
+  laid-front = part-paste-other m o b fits 0 4370 (λ l. omega arith)
+
+  laid-flag : getD (paste m o b) 4370 0 ≡ getD m 4370 0
+  laid-flag = getD-paste-out m o b fits 4370 (λ l. absurd (omega arith))
+
+-- a bit, and the count of unused ids
+pub bit-stored :
+    (m n l : List ℕ) (id unused : ℕ) (b : Bool) (r : SuperBlock) → Whole m → Bytes m → getD m 4370 0 ≡ 1 → id < 1024 * superIn m .groups → unused < 2 ^ 32 → r ≡ superIn m → l ≡ withBit (part m 4387 4899) id b
+    → n ≡ paste (back m 4387 4899 l) 4371 (superBytes (superWith r (r .blocks) unused (r .groups)))
+    → Mapped m n (record { super = superWith (superIn m) (superIn m .blocks) unused (superIn m .groups); maps = withBit (mapsIn m) id b })
+unfolding mapsIn
+bit-stored m n l id unused b r W bytes f h u er el en =
+    let g : ℕ = superIn m .groups in
+    let few : g ≤ 4 = W .few f in
+    let size : length m ≡ 4899 = W .size in
+    let p : List ℕ = part m 4387 4899 in
+    let sp : length p ≡ 512 = length-part m 4387 4899 (omega arith) (omega arith) in
+    let L : List ℕ = withBit p id b in
+    let sl : length L ≡ 512 = length-withBit p id b (omega arith) ∙ sp in
+    let F = super-fits m bytes in
+    let sb : SuperBlock = superWith (superIn m) (superIn m .blocks) unused g in
+    let d : List ℕ = paste m 4387 L in
+    let e : n ≡ paste d 4371 (superBytes sb) = en ∙ (λ x. paste (back m 4387 4899 (el x)) 4371 (superBytes (superWith (er x) (er x .blocks) unused (er x .groups)))) ∙ ap (λ (k : List ℕ). paste k 4371 (superBytes sb)) (back-paste m 4387 4899 L (omega arith)) in
+    let a : part d 4387 (4387 + 128 * g) ≡ part L 0 (128 * g) =
+    sym (part-part d 4387 4899 0 (128 * g) (omega arith)) ∙ ap (λ (k : List ℕ). part k 0 (128 * g)) (part-written 512 m 4387 L sl (omega arith)) in
+    let c : part p 0 (128 * g) ≡ part m 4387 (4387 + 128 * g) = part-part m 4387 4899 0 (128 * g) (omega arith) in
+    subst (λ (k : List ℕ). Mapped m k (record { super = sb; maps = withBit (part m 4387 (4387 + 128 * g)) id b })) (sym e)
+    (mapped m d sb (laid-size m 4387 L size (omega arith) (omega arith)) (laid-front m 4387 L size (omega arith) (omega arith)) (laid-flag m 4387 L size (omega arith) (omega arith) ∙ f)
+    (record { magic = F .magic; blocks = F .blocks; unused = u; groups = F .groups }) (W .some f) few _
+    (a ∙ withBit-front p (128 * g) id b (omega arith) ∙ ap (λ (k : List ℕ). withBit k id b) c))
+
+-- a group more, with its map
+pub group-stored :
+    (m n l map : List ℕ) (o : ℕ) (r : SuperBlock) → Whole m → Bytes m → getD m 4370 0 ≡ 1 → superIn m .groups < 4 → superIn m .blocks + 1024 < 2 ^ 32 → superIn m .unused + 1023 < 2 ^ 32 → length map ≡ 128 → r ≡ superIn m → o ≡ 4387 + 128 * superIn m .groups → l ≡ map
+    → n ≡ paste (back m o (o + 128) l) 4371 (superBytes (superWith r (r .blocks + 1024) (r .unused + 1023) (r .groups + 1)))
+    → Mapped m n (record { super = superWith (superIn m) (superIn m .blocks + 1024) (superIn m .unused + 1023) (superIn m .groups + 1); maps = mapsIn m ++ map })
+unfolding mapsIn
+group-stored m n l map o r W bytes f few hb hu sm er eo el en =
+    let g : ℕ = superIn m .groups in
+    let size : length m ≡ 4899 = W .size in
+    let F = super-fits m bytes in
+    let s : ℕ = 4387 + 128 * g in
+    let sb : SuperBlock = superWith (superIn m) (superIn m .blocks + 1024) (superIn m .unused + 1023) (g + 1) in
+    let d : List ℕ = paste m s map in
+    let e : n ≡ paste d 4371 (superBytes sb) = en ∙ (λ x. paste (back m (eo x) (eo x + 128) (el x)) 4371 (superBytes (superWith (er x) (er x .blocks + 1024) (er x .unused + 1023) (er x .groups + 1)))) ∙ ap (λ (k : List ℕ). paste k 4371 (superBytes sb)) (back-paste m s (s + 128) map (omega arith)) in
+    let w : 128 * (g + 1) ≡ 128 * g + 128 = omega arith in
+    let a : part d 4387 s ≡ part m 4387 s = part-paste-other m s map (omega arith) 4387 s (λ k. omega arith) in
+    let c : part d s (s + 128) ≡ map = part-written 128 m s map sm (omega arith) in
+    subst (λ (k : List ℕ). Mapped m k (record { super = sb; maps = part m 4387 s ++ map })) (sym e)
+    (mapped m d sb (laid-size m s map size (omega arith) (omega arith)) (laid-front m s map size (omega arith) (omega arith)) (laid-flag m s map size (omega arith) (omega arith) ∙ f)
+    (record { magic = F .magic; blocks = hb; unused = hu; groups = omega arith }) (omega arith) (omega arith) _
+    (ap (λ (k : ℕ). part d 4387 (4387 + k)) w ∙ part-join d 4387 (128 * g) 128 ∙ (λ x. a x ++ c x)))
+
+-- superblock and map of one group, and the flag
+pub one-stored :
+    (m f n l map : List ℕ) (sb : SuperBlock) → length m ≡ 4899 → SuperFits sb → sb .groups ≡ 1 → length map ≡ 128 → f ≡ set m 4370 1 → l ≡ map → n ≡ paste (back f 4387 4515 l) 4371 (superBytes sb) → Mapped m n (record { super = sb; maps = map })
+one-stored m f n l map sb size F one sm ef el en =
+    let h : List ℕ = set m 4370 1 in
+    let sh : length h ≡ 4899 = length-set m 4370 1 ∙ size in
+    let fr : part h 0 4370 ≡ part m 0 4370 = ap (λ (k : List ℕ). part k 0 4370) (set-paste m 4370 1 (omega arith)) ∙ part-paste-other m 4370 (1 ∷ []) (omega arith) 0 4370 (λ k. omega arith) in
+    let fl : getD h 4370 0 ≡ 1 = getD-set-same m 4370 1 0 (omega arith) in
+    let d : List ℕ = paste h 4387 map in
+    let e : n ≡ paste d 4371 (superBytes sb) = en ∙ (λ x. paste (back (ef x) 4387 4515 (el x)) 4371 (superBytes sb)) ∙ ap (λ (k : List ℕ). paste k 4371 (superBytes sb)) (back-paste h 4387 4515 map (omega arith)) in
+    subst (λ (k : List ℕ). Mapped m k (record { super = sb; maps = map })) (sym e)
+    (mapped m d sb (laid-size h 4387 map sh (omega arith) (omega arith)) (laid-front h 4387 map sh (omega arith) (omega arith) ∙ fr) (laid-flag h 4387 map sh (omega arith) (omega arith) ∙ fl)
+    F (omega arith) (omega arith) _
+    (ap (λ (k : ℕ). part d 4387 (4387 + 128 * k)) one ∙ part-written 128 h 4387 map sm (omega arith)))

@@ -1,0 +1,13 @@
+pub mod State
+pub mod Records
+pub mod Meta
+pub mod Nodes
+pub mod Slots
+pub mod Folders
+pub mod Ask
+pub mod Read
+pub mod Open
+pub mod Create
+pub mod Unlink
+pub mod Move
+pub mod Close

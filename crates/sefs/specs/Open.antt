@@ -1,0 +1,63 @@
+-- Calls that open: open, root, find. They change no byte of the arena.
+use mathlib.Core.Bool.{Bool, true, false, not, _&&_}
+use mathlib.Core.List.{List}
+use Prim.Native.Nat.{ℕ}
+use lib.ListN.{length}
+use lib.Dec.{eqb, ltb, leb}
+use Rattle.structs.specs.Constants.{sefsMagic}
+use Rattle.base.specs.Out.{Out, done, refused, ensure, _>>=_}
+use Rattle.base.specs.Reasons.{badArena, damaged, dirRemoved, tableFull, wrongFs}
+use Rattle.structs.specs.Layout.{superOf, entryOf}
+use Rattle.utf8.specs.Names.{isDots}
+use Rattle.table.specs.declared.Table.{Table}
+use Rattle.table.specs.declared.Handle.{Handle}
+use Rattle.table.specs.declared.Added.{Added}
+use Rattle.table.specs.Table.{emptyTable, rowAt, canHold, addHold}
+use Rattle.arena.specs.Blocks.{legal}
+use Rattle.sound.specs.Sound.{sound}
+use Rattle.files.specs.Read.{readFile}
+use Rattle.sefs.specs.State.{Fs}
+use Rattle.sefs.specs.Meta.{metaFile, loadMaps}
+use Rattle.sefs.specs.Nodes.{getNode}
+use Rattle.sefs.specs.Slots.{findSlot}
+use Rattle.sefs.specs.Ask.{admitArena, admit, byHandle, goodName, notLong, known, folder, start}
+
+-- ---- open: "18: magic, or groups not 1 to 4". The superblock is read before, the maps after
+
+unfoldable pub callOpen : List ℕ → Out Table
+callOpen a = do
+  _ ← admitArena a
+  l ← readFile a metaFile 0 16
+  _ ← ensure (eqb (superOf l .magic) sefsMagic && (ltb 0 (superOf l .groups) && ltb (superOf l .groups) 5)) wrongFs
+  m ← loadMaps a (superOf l .groups)
+  done emptyTable
+
+-- ---- a node opened with a hold of its own: "Each successful root, find or create makes its own hold with the next stamp"
+
+unfoldable pub holdNode : Fs → ℕ → Out Added
+holdNode s id = do
+  o ← getNode s id
+  done (addHold (o .state .table) (o .row))
+
+-- ---- root: 16, then the opening
+
+unfoldable pub callRoot : List ℕ → Table → Out Added
+callRoot a t = do
+  _ ← admit a t
+  _ ← ensure (canHold t) tableFull
+  holdNode (start a t) 2
+
+-- ---- find: 7, 10, 8 (only `..`), 11, 16, then the opening
+
+unfoldable pub callFind : List ℕ → Table → Handle → List ℕ → Out Added
+callFind a t h name = do
+  _ ← admit a t
+  i ← byHandle t h
+  _ ← goodName name
+  _ ← known (rowAt t i .rec)
+  _ ← folder (rowAt t i .rec)
+  _ ← notLong name
+  _ ← ensure (not (isDots name && eqb (rowAt t i .rec .nlinks) 0)) dirRemoved
+  s ← findSlot a (rowAt t i .rec) name
+  _ ← ensure (canHold t) tableFull
+  holdNode (start a t) (s .entry .id)

@@ -1,0 +1,18 @@
+-- The numbers of structs.rs that definitions speak of.
+use Prim.Native.Nat.{ℕ}
+
+abbrev pub sefsMagic : ℕ
+sefsMagic = 0x2f8d_be2a
+
+-- "Types: 1 file, 2 folder, 3 symlink, 4 socket."
+abbrev pub typeFile : ℕ
+typeFile = 1
+
+abbrev pub typeDir : ℕ
+typeDir = 2
+
+abbrev pub typeSymlink : ℕ
+typeSymlink = 3
+
+abbrev pub typeSocket : ℕ
+typeSocket = 4

@@ -1,0 +1,30 @@
+-- `table_bytes::hold_in`: field by field.
+use lib.Dec.{lit≤}
+use Rattle.structs.proofs.Layouts.{read-first, read-number}
+use Rattle.table_bytes.specs.Layout.{holdFrom}
+use borrow.Author.Needs.{needs}
+use Rattle.table_bytes.proofs.hold_in.Statement.{statement}
+use Rattle.table_bytes.proofs.hold_in.Tie as tie
+
+u32-at-requires : tie.Need-u32-at-requires
+u32-at-requires c κs = search needs
+
+add-u64-at : tie.Need-add-u64-at
+add-u64-at c = search needs
+
+u64-at-requires : tie.Need-u64-at-requires
+u64-at-requires c κs = search needs
+
+returns : tie.Need-returns
+unfolding holdFrom
+returns c =
+    let s = c .before .before .before in
+    let l = s .args .s .now in
+    let at = s .args .at in
+    λ x. record {
+      row = read-first l at 12 4 _ (lit≤ tt) (c .before .u32-at .ensures) x;
+      stamp = read-number l at 12 4 8 _ (lit≤ tt) (c .u64-at .ensures) x;
+    }
+
+pub hold-in-spec : {M : Type 1} → statement M
+hold-in-spec = tie.close (tie.spec u32-at-requires add-u64-at u64-at-requires returns)

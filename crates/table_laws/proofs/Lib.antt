@@ -1,0 +1,10 @@
+pub mod Zeros
+pub mod Rules
+pub mod Finds
+pub mod Rows
+pub mod Holds
+pub mod Keeps
+pub mod Handles
+pub mod History
+pub mod Spare
+pub mod Examples

@@ -1,0 +1,468 @@
+//! Long random sequences: each next call is drawn with a look at the open nodes and folders as they are on the Rust's side, so that
+//! most calls find something to do.
+use crate::script::{Call, Command, Handle};
+use crate::world::{Line, World};
+use rcore_fs::vfs::Timespec;
+
+/// splitmix64.
+struct Dice(u64);
+
+impl Dice {
+    fn next(&mut self) -> u64 {
+        self.0 = self.0.wrapping_add(0x9e37_79b9_7f4a_7c15);
+        let z = (self.0 ^ self.0 >> 30).wrapping_mul(0xbf58_476d_1ce4_e5b9);
+        let z = (z ^ z >> 27).wrapping_mul(0x94d0_49bb_1331_11eb);
+        z ^ z >> 31
+    }
+
+    fn below(&mut self, n: usize) -> usize {
+        (self.next() % n as u64) as usize
+    }
+
+    /// True once in n.
+    fn once(&mut self, n: usize) -> bool {
+        self.below(n) == 0
+    }
+
+    fn of<T: Clone>(&mut self, all: &[T]) -> T {
+        all[self.below(all.len())].clone()
+    }
+}
+
+/// What a sequence is like; drawn from its seed.
+struct Plan {
+    blocks: usize,
+    /// Names in use are the first so many of an endless list.
+    names: usize,
+    /// Nodes that are made first, so that the first group runs out.
+    fill: usize,
+    /// Bits of the first group that are left set by pokes before the sequence; None without pokes.
+    left: Option<usize>,
+    /// Now and then some stored bytes are changed from outside, and the calls go on from there for a while.
+    hurt: bool,
+    /// No folder goes to another folder, and no open.
+    premise: bool,
+}
+
+/// The plan for this seed: small and roomy images by turns; one in sixteen with the first group's map filled by pokes, one in sixteen
+/// hurt, and one in 64 filled by creating, if there are calls enough.
+fn plan(seed: u64, calls: usize, dice: &mut Dice) -> Plan {
+    let premise = seed % 2 == 0;
+    if seed % 64 == 63 && calls >= 2500 {
+        return Plan { blocks: 2400 + dice.below(1600), names: 60, fill: 1000 + dice.below(40), left: None, hurt: false, premise };
+    }
+    if seed % 16 == 13 {
+        return Plan { blocks: 24 + dice.below(16), names: 8, fill: 0, left: None, hurt: true, premise };
+    }
+    let blocks = match seed / 2 % 4 {
+        0 => 20 + dice.below(50),
+        1 => 128,
+        2 => 90 + dice.below(80),
+        _ => 300,
+    };
+    let left = (seed % 16 == 11).then(|| dice.below(6));
+    Plan { blocks, names: 3 + dice.below(20), fill: 0, left, hurt: false, premise }
+}
+
+pub struct Sequence {
+    world: World,
+    dice: Dice,
+    plan: Plan,
+    pub script: Vec<u8>,
+    pub lines: Vec<Line>,
+    /// How many holds to keep, for a while.
+    holds: usize,
+    made: u64,
+    closed: Vec<Handle>,
+    /// Only calls that the Rust answered go into the script.
+    answered: bool,
+}
+
+fn begin(seed: u64, calls: usize, answered: bool) -> Sequence {
+    let mut dice = Dice(seed);
+    let plan = plan(seed, calls, &mut dice);
+    let (script, lines, closed) = (vec![], vec![], vec![]);
+    Sequence { world: World::new(), dice, plan, script, lines, holds: 8, made: 0, closed, answered }
+}
+
+/// Short runs on one image after the other, as many as go into `bytes` bytes, of calls that the Rust answered.
+pub fn sample(seed: u64, bytes: usize) -> Sequence {
+    let mut s = begin(seed, 0, true);
+    for part in seed.. {
+        s.plan = plan(part, 0, &mut s.dice);
+        s.plan.blocks = s.plan.blocks.min(128);
+        s.start();
+        let until = s.lines.len() + 100;
+        while s.lines.len() < until {
+            let (script, lines) = (s.script.len(), s.lines.len());
+            s.step();
+            if s.script.len() > bytes {
+                s.script.truncate(script);
+                s.lines.truncate(lines);
+                return s;
+            }
+        }
+    }
+    s
+}
+
+pub fn sequence(seed: u64, calls: usize) -> Sequence {
+    let mut s = begin(seed, calls, false);
+    s.start();
+    while s.lines.len() < calls && s.step() {
+        if s.plan.hurt && s.dice.once(60) {
+            s.hurt();
+        }
+    }
+    s.call(Call::Sync);
+    s.call(Call::Check);
+    s
+}
+
+impl Sequence {
+    fn call(&mut self, call: Call) -> bool {
+        let line = self.world.call(&call);
+        let on = !matches!(line, Line::Lost(_));
+        if !self.answered || matches!(line, Line::Same(_)) {
+            call.write(&mut self.script);
+            self.lines.push(line);
+        }
+        on
+    }
+
+    fn outside(&mut self, command: Command) {
+        command.write(&mut self.script);
+        self.world.outside(&command);
+    }
+
+    fn start(&mut self) {
+        self.outside(Command::Zeros(512 * self.plan.blocks));
+        let (time, file) = (self.time(), self.file());
+        self.call(Call::Format(time, file));
+        if let Some(left) = self.plan.left {
+            self.fill_map(left);
+        }
+        self.call(Call::Root);
+        for _ in 0..self.plan.fill {
+            self.fill();
+        }
+    }
+
+    /// Clears the first map but for its last bits, as if the group were in use, and opens the image so made.
+    fn fill_map(&mut self, left: usize) {
+        let data = |b: &[u8]| b[0] == 2 && b[1] == 0 && b[20..24] == [0; 4];
+        let k = self.world.arena().chunks(512).position(data).unwrap();
+        self.change(k, |payload| {
+            payload[8..12].copy_from_slice(&(left as u32).to_le_bytes());
+            payload[128..256].fill(0);
+            (1024 - left..1024).for_each(|id| payload[128 + id / 8] |= 1 << (id % 8));
+        });
+        self.call(Call::Open);
+    }
+
+    /// Changes the payload of block k by pokes, its check with it.
+    fn change(&mut self, k: usize, edit: impl FnOnce(&mut [u8])) {
+        let old = self.world.arena()[512 * k..512 * (k + 1)].to_vec();
+        let mut new = old.clone();
+        edit(&mut new[24..504]);
+        let check: u32 = new[..508].iter().zip(1u32..).map(|(b, i)| i * *b as u32).sum();
+        new[508..].copy_from_slice(&check.to_le_bytes());
+        for i in (0..512).filter(|i| old[*i] != new[*i]) {
+            self.outside(Command::Poke(512 * k + i, new[i]));
+        }
+    }
+
+    /// Some fields of what is stored get other values, and the image is opened and called for a while; then all is as before or fresh.
+    fn hurt(&mut self) {
+        for h in self.world.table.handles() {
+            if !self.dice.once(30) {
+                self.call(Call::Close(h));
+            }
+        }
+        self.call(Call::Sync);
+        let before = self.world.arena();
+        for _ in 0..1 + self.dice.below(3) {
+            let datas: Vec<usize> = (0..before.len() / 512).filter(|k| before[512 * k] == 2).collect();
+            let k = self.dice.of(&datas);
+            let (at, bytes) = if before[512 * k + 1] == 0 { self.meta_field() } else { self.slot_field() };
+            let number = |k: usize| u32::from_le_bytes(before[512 * k + 20..512 * k + 24].try_into().unwrap()) as usize;
+            let is_head = |h: &usize| before[512 * h] == 1 && before[512 * h + 1..512 * h + 20] == before[512 * k + 1..512 * k + 20];
+            let length = (0..before.len() / 512).find(is_head).map_or(0, number);
+            let own = 480 * number(k)..length.min(480 * number(k) + 480);
+            // A field of the file, as far as it lies in this block.
+            self.change(k, |payload| {
+                let here = (at..at + bytes.len()).zip(&bytes).filter(|(p, _)| own.contains(p));
+                here.for_each(|(p, b)| payload[p - own.start] = *b);
+            });
+        }
+        self.call(Call::Open);
+        self.call(Call::Root);
+        for _ in 0..30 {
+            self.step();
+        }
+        if self.dice.once(4) {
+            self.outside(Command::Arena(before));
+            self.call(Call::Open);
+        } else {
+            let (time, file) = (self.time(), self.file());
+            self.call(Call::Format(time, file));
+        }
+        self.call(Call::Root);
+    }
+
+    fn odd(&mut self) -> u32 {
+        let all = [0, 1, 2, 3, 4, 5, 6, 7, 255, 1023, 1024, 1025, 65535, u32::MAX];
+        self.dice.of(&all)
+    }
+
+    /// A field of the superblock, the first map or one of the first records.
+    fn meta_field(&mut self) -> (usize, Vec<u8>) {
+        let number = self.odd().to_le_bytes().to_vec();
+        let record = 128 * (2 + self.dice.below(9));
+        match self.dice.below(12) {
+            0 => (4 * self.dice.below(4), number),
+            1 => (128 + self.dice.below(2), vec![self.dice.next() as u8]),
+            2 | 3 => (record + 8, number),
+            4 | 5 => (record + 14, number[..2].to_vec()),
+            6 | 7 => (record + 16, number),
+            8 => (record + 80 + self.dice.below(16), vec![self.dice.next() as u8]),
+            9 => (record + 14, vec![0, 0]),
+            10 => (record + 14, vec![255, 255]),
+            _ => (record + self.dice.below(112), vec![self.dice.next() as u8]),
+        }
+    }
+
+    /// A field of one of the first slots.
+    fn slot_field(&mut self) -> (usize, Vec<u8>) {
+        let number = self.odd().to_le_bytes().to_vec();
+        let slot = 264 * self.dice.below(6);
+        match self.dice.below(6) {
+            0 | 1 => (slot, number),
+            2 => (slot + 260, number),
+            3 => (slot + 4 + self.dice.below(6), vec![self.dice.of(&[0, b'.', b'a', b'0', 255, 0xc3])]),
+            4 => (slot + 4, self.listed()),
+            _ => (slot + self.dice.below(264), vec![self.dice.next() as u8]),
+        }
+    }
+
+    /// One more node, mostly in the folder made last.
+    fn fill(&mut self) {
+        let live = self.world.table.handles();
+        let folders: Vec<Handle> = live.iter().copied().filter(|h| self.is_folder(*h)).collect();
+        let h = if self.dice.once(4) { self.dice.of(&folders) } else { *folders.last().unwrap() };
+        let kind = if folders.len() < 8 && self.dice.once(60) { 2 } else { self.dice.of(&[1, 1, 3, 4]) };
+        let name = format!("node {}", self.made).into_bytes();
+        let (time, file) = (self.time(), self.file());
+        self.call(Call::Create(h, name, kind, 420, time, file));
+        if kind != 2 {
+            let last = self.world.table.handles().into_iter().find(|h| !live.contains(h));
+            last.map(|h| self.call(Call::Close(h)));
+        }
+    }
+
+    fn step(&mut self) -> bool {
+        if self.dice.once(60) {
+            self.holds = self.dice.of(&[1, 4, 8, 16, 30, 99]);
+        }
+        let call = self.draw();
+        if let Call::Close(h) = &call {
+            self.closed.push(*h);
+        }
+        self.call(call)
+    }
+
+    fn draw(&mut self) -> Call {
+        let live = self.world.table.handles();
+        if live.is_empty() {
+            return Call::Root;
+        }
+        if live.len() > self.holds && !self.dice.once(3) {
+            return Call::Close(self.dice.of(&live));
+        }
+        if !live.iter().any(|h| self.is_folder(*h)) && !self.dice.once(3) {
+            return Call::Root;
+        }
+        if self.world.free_blocks() < 4 && self.dice.once(2) {
+            return self.unlink();
+        }
+        match self.dice.below(1000) {
+            0..=19 => Call::Root,
+            20..=189 => self.find(),
+            190..=399 => self.create(),
+            400..=479 => self.link(),
+            480..=629 => self.unlink(),
+            630..=799 => self.moving(),
+            800..=829 => Call::Metadata(self.any()),
+            830..=869 => self.set(),
+            870..=894 => self.entry(),
+            895..=924 => self.list(),
+            925..=939 => Call::Sync,
+            940..=987 => Call::Close(self.any()),
+            988..=997 => Call::Check,
+            998 if !self.plan.premise => Call::Open,
+            _ => Call::Metadata(self.any()),
+        }
+    }
+
+    fn is_folder(&self, h: Handle) -> bool {
+        self.world.table.row(h).is_some_and(|row| row.kind() == 2)
+    }
+
+    /// A live hold; now and then one that is not.
+    fn any(&mut self) -> Handle {
+        let h = self.dice.of(&self.world.table.handles());
+        match self.dice.below(400) {
+            0 => Handle { hold: h.hold, stamp: h.stamp + 1 },
+            1 => Handle { hold: h.hold, stamp: 0 },
+            2 => Handle { hold: 32 + h.hold, stamp: h.stamp },
+            3..=5 if !self.closed.is_empty() => self.dice.of(&self.closed),
+            _ => h,
+        }
+    }
+
+    fn folder(&mut self) -> Handle {
+        let live = self.world.table.handles();
+        let folders: Vec<Handle> = live.iter().copied().filter(|h| self.is_folder(*h)).collect();
+        if folders.is_empty() || self.dice.once(40) {
+            return self.any();
+        }
+        self.dice.of(&folders)
+    }
+
+    /// A name of a folder's slots, once in `new` one from the list of names, and rarely one that is special.
+    fn name(&mut self, h: Handle, new: usize) -> Vec<u8> {
+        let later: Vec<Vec<u8>> = self.world.slots(h).into_iter().skip(2).map(|s| s.name).collect();
+        if self.dice.once(25) {
+            return self.special();
+        }
+        if later.is_empty() || self.dice.once(new) {
+            return self.listed();
+        }
+        self.dice.of(&later)
+    }
+
+    fn listed(&mut self) -> Vec<u8> {
+        let starts = ["a", "B", "é", "glyph ", "山", "𝔘", "x/y", "\u{7f}"];
+        match self.dice.below(self.plan.names) {
+            0 if self.dice.once(4) => vec![b'l'; 255],
+            n => format!("{}{}", starts[n % 8], n / 8).into_bytes(),
+        }
+    }
+
+    fn special(&mut self) -> Vec<u8> {
+        let long = |n: usize, with: &str| with.repeat(n / with.len()).into_bytes();
+        let all: [Vec<u8>; 16] = [
+            b".".into(),
+            b"..".into(),
+            b"".into(),
+            b"...".into(),
+            long(255, "€"),
+            long(256, "𝔘"),
+            long(256, "w"),
+            long(1024, "ab"),
+            b"zero\0inside".into(),
+            b"\0".into(),
+            b"\xff".into(),
+            b"cut \xe2\x82".into(),
+            b"\xc0\xaf".into(),
+            b"\xed\xa0\x80".into(),
+            b"\xf4\x90\x80\x80".into(),
+            b"/".into(),
+        ];
+        // The dots are worth more turns than the rest.
+        match self.dice.below(5) {
+            0..=2 => all[self.dice.below(3)].clone(),
+            _ => self.dice.of(&all),
+        }
+    }
+
+    fn time(&mut self) -> Timespec {
+        let ends = [0, 1, -1, i64::MIN, i64::MAX, 1_763_200_000, -2_208_988_800];
+        match self.dice.once(3) {
+            true => Timespec { sec: self.dice.next() as i64, nsec: self.dice.next() as i64 },
+            false => Timespec { sec: self.dice.of(&ends), nsec: self.dice.of(&ends) },
+        }
+    }
+
+    /// A new file name, which now and then is one that is there.
+    fn file(&mut self) -> [u8; 16] {
+        let live = self.world.table.handles();
+        if !live.is_empty() && self.dice.once(70) {
+            let h = self.dice.of(&live);
+            return self.world.table.row(h).unwrap().file();
+        }
+        self.made += 1;
+        let mut file = [0; 16];
+        file[..8].copy_from_slice(&self.dice.next().to_le_bytes());
+        file[8..].copy_from_slice(&self.made.to_le_bytes());
+        file
+    }
+
+    fn find(&mut self) -> Call {
+        let h = self.folder();
+        match self.dice.below(8) {
+            0 => Call::Find(h, b"..".into()),
+            1 => Call::Find(h, self.dice.of(&[b".".to_vec(), vec![]])),
+            _ => Call::Find(h, self.name(h, 5)),
+        }
+    }
+
+    fn create(&mut self) -> Call {
+        let h = self.folder();
+        let kind = self.dice.of(&[1, 1, 1, 1, 2, 2, 2, 2, 3, 4]);
+        let kind = if self.dice.once(80) { self.dice.of(&[0, 5, u32::MAX]) } else { kind };
+        let name = if self.dice.once(30) { self.name(h, 3) } else { self.listed() };
+        Call::Create(h, name, kind, self.dice.next() as u16, self.time(), self.file())
+    }
+
+    fn link(&mut self) -> Call {
+        let h = self.folder();
+        let live = self.world.table.handles();
+        let others: Vec<Handle> = live.iter().copied().filter(|h| !self.is_folder(*h)).collect();
+        let node = if others.is_empty() || self.dice.once(20) { self.any() } else { self.dice.of(&others) };
+        let name = if self.dice.once(15) { self.name(h, 3) } else { self.listed() };
+        Call::Link(h, name, node)
+    }
+
+    fn unlink(&mut self) -> Call {
+        let h = self.folder();
+        Call::Unlink(h, self.name(h, 8))
+    }
+
+    fn moving(&mut self) -> Call {
+        let h = self.folder();
+        let target = if self.dice.once(3) { h } else { self.folder() };
+        let old = self.name(h, 12);
+        let new = self.name(target, 2);
+        let call = Call::Move(h, old.clone(), target, new.clone());
+        match self.plan.premise && self.world.moves_folder(&call) {
+            true => Call::Move(h, old, h, new),
+            false => call,
+        }
+    }
+
+    fn set(&mut self) -> Call {
+        let big = [0, 1, 1000, u32::MAX as u64, 1 << 32, u64::MAX];
+        let (uid, gid) = (self.dice.of(&big), self.dice.of(&big));
+        let times = [self.time(), self.time(), self.time()];
+        Call::Set(self.any(), self.dice.next() as u16, uid, gid, times)
+    }
+
+    fn place(&mut self, h: Handle) -> (u64, u16) {
+        let slots = self.world.slots(h).len();
+        let at = if self.dice.once(20) { self.dice.of(&[u64::MAX, 1 << 32]) } else { self.dice.below(slots + 2) as u64 };
+        (at, self.dice.of(&[8192, 8192, 264, 528, 263, 0, 1000, 2640]))
+    }
+
+    fn entry(&mut self) -> Call {
+        let h = self.folder();
+        let (at, room) = self.place(h);
+        Call::Entry(h, at, room)
+    }
+
+    fn list(&mut self) -> Call {
+        let h = self.folder();
+        let (at, room) = self.place(h);
+        Call::List(h, at, room)
+    }
+}

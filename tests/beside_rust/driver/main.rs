@@ -1,0 +1,101 @@
+//! The Rust beside the port: `driver run` reads a call script and prints for each call what the Rust says of it; `driver gen SEED CALLS
+//! FILE` writes a script of its own to the file and prints the same of it; `driver sample SEED BYTES FILE` keeps only calls that the
+//! Rust answered; `driver raw` prints what the Rust itself does, no rule asked.
+//!
+//! A sum that is not known is a dash.
+//!
+//!     = LINE          the Rust's answer and the sums: the port prints this line
+//!     ~RULE LINE      left out by that rule; document 01's answer
+//!     ?RULE NAME SUMS left out by that rule; no answer is said, but a refusal keeps these sums
+//!     ! TEXT          the Rust broke off where no rule foresaw it; the run ends
+mod device;
+mod gen;
+mod script;
+mod table;
+mod world;
+
+use script::{Command, Next, Script};
+use std::io::{Read, Write};
+use world::{shown, Line, World};
+
+fn input() -> std::io::Result<Vec<u8>> {
+    let mut bytes = vec![];
+    std::io::stdin().read_to_end(&mut bytes)?;
+    Ok(bytes)
+}
+
+fn run(out: &mut impl Write) -> std::io::Result<()> {
+    let bytes = input()?;
+    let mut script = Script(&bytes);
+    let mut world = World::new();
+    loop {
+        match script.next() {
+            Next::End => return Ok(()),
+            Next::Bad => return writeln!(out, "= bad script"),
+            Next::Do(Command::Call(call)) => {
+                let line = world.call(&call);
+                writeln!(out, "{}", shown(&line))?;
+                if let Line::Lost(_) = line {
+                    return Ok(());
+                }
+            }
+            Next::Do(command) => world.outside(&command),
+        }
+    }
+}
+
+/// Prints as it goes: a forked trial has words of its own to say.
+fn raw() -> std::io::Result<()> {
+    std::panic::set_hook(Box::new(|panic| {
+        let text = panic.payload();
+        let text = text.downcast_ref::<String>().map(|s| s.as_str()).or(text.downcast_ref::<&str>().copied());
+        print!(" (panic: {})", text.unwrap_or("?"));
+        let _ = std::io::stdout().flush();
+    }));
+    let bytes = input()?;
+    let mut script = Script(&bytes);
+    let mut world = World::new();
+    while let Next::Do(command) = script.next() {
+        match command {
+            Command::Call(call) => println!("{}", world.raw(&call)),
+            outside => world.outside(&outside),
+        }
+    }
+    Ok(())
+}
+
+fn gen(out: &mut impl Write, made: gen::Sequence, file: &str) -> std::io::Result<()> {
+    std::fs::write(file, &made.script)?;
+    made.lines.iter().try_for_each(|line| writeln!(out, "{}", shown(line)))
+}
+
+fn number(word: &str) -> u64 {
+    word.parse().unwrap_or_else(|_| {
+        eprintln!("driver: {word} is no number");
+        std::process::exit(2)
+    })
+}
+
+fn main() -> std::io::Result<()> {
+    std::panic::set_hook(Box::new(|_| ()));
+    let words: Vec<String> = std::env::args().skip(1).collect();
+    let words: Vec<&str> = words.iter().map(|w| w.as_str()).collect();
+    let mut out = std::io::BufWriter::new(std::io::stdout().lock());
+    match words[..] {
+        ["run"] => run(&mut out)?,
+        ["raw"] => {
+            drop(out);
+            raw()?;
+            std::process::exit(0)
+        }
+        ["gen", seed, calls, file] => gen(&mut out, gen::sequence(number(seed), number(calls) as usize), file)?,
+        ["sample", seed, bytes, file] => gen(&mut out, gen::sample(number(seed), number(bytes) as usize), file)?,
+        _ => {
+            eprintln!("driver run < SCRIPT\ndriver raw < SCRIPT\ndriver gen SEED CALLS FILE\ndriver sample SEED BYTES FILE");
+            std::process::exit(2)
+        }
+    }
+    out.flush()?;
+    // The image is left as it is: nothing is dropped.
+    std::process::exit(0)
+}

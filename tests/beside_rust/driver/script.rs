@@ -1,0 +1,276 @@
+//! Call scripts as REPLAY.md lays them out, read and written.
+use rcore_fs::vfs::Timespec;
+
+#[derive(Clone, Copy, PartialEq, Debug)]
+pub struct Handle {
+    pub hold: u32,
+    pub stamp: u64,
+}
+
+pub type FileName = [u8; 16];
+
+pub enum Command {
+    Arena(Vec<u8>),
+    Zeros(usize),
+    Poke(usize, u8),
+    Table(Vec<u8>),
+    Call(Call),
+}
+
+#[derive(Debug)]
+pub enum Call {
+    Format(Timespec, FileName),
+    Open,
+    Root,
+    Find(Handle, Vec<u8>),
+    Create(Handle, Vec<u8>, u32, u16, Timespec, FileName),
+    Link(Handle, Vec<u8>, Handle),
+    Unlink(Handle, Vec<u8>),
+    Move(Handle, Vec<u8>, Handle, Vec<u8>),
+    Metadata(Handle),
+    Set(Handle, u16, u64, u64, [Timespec; 3]),
+    Entry(Handle, u64, u16),
+    List(Handle, u64, u16),
+    Sync,
+    Close(Handle),
+    Check,
+}
+
+pub const NAMES: [&str; 15] = [
+    "format", "open", "root", "find", "create", "link", "unlink", "move", "metadata", "set", "entry", "list", "sync", "close", "check",
+];
+
+impl Call {
+    /// The command's byte is 16 more.
+    pub fn number(&self) -> usize {
+        match self {
+            Call::Format(..) => 0,
+            Call::Open => 1,
+            Call::Root => 2,
+            Call::Find(..) => 3,
+            Call::Create(..) => 4,
+            Call::Link(..) => 5,
+            Call::Unlink(..) => 6,
+            Call::Move(..) => 7,
+            Call::Metadata(_) => 8,
+            Call::Set(..) => 9,
+            Call::Entry(..) => 10,
+            Call::List(..) => 11,
+            Call::Sync => 12,
+            Call::Close(_) => 13,
+            Call::Check => 14,
+        }
+    }
+
+    pub fn name(&self) -> &'static str {
+        NAMES[self.number()]
+    }
+
+    pub fn handles(&self) -> Vec<Handle> {
+        match self {
+            Call::Find(h, _) | Call::Create(h, ..) | Call::Unlink(h, _) => vec![*h],
+            Call::Link(h, _, g) | Call::Move(h, _, g, _) => vec![*h, *g],
+            Call::Metadata(h) | Call::Set(h, ..) | Call::Entry(h, ..) | Call::List(h, ..) | Call::Close(h) => vec![*h],
+            _ => vec![],
+        }
+    }
+
+    pub fn names(&self) -> Vec<&[u8]> {
+        match self {
+            Call::Find(_, n) | Call::Create(_, n, ..) | Call::Link(_, n, _) | Call::Unlink(_, n) => vec![n],
+            Call::Move(_, n, _, m) => vec![n, m],
+            _ => vec![],
+        }
+    }
+
+    pub fn write(&self, out: &mut Vec<u8>) {
+        out.push(self.number() as u8 + 16);
+        match self {
+            Call::Format(time, file) => {
+                put_time(out, time);
+                out.extend(file);
+            }
+            Call::Find(h, name) | Call::Unlink(h, name) => {
+                put_handle(out, h);
+                put_name(out, name);
+            }
+            Call::Create(h, name, kind, mode, time, file) => {
+                put_handle(out, h);
+                put_name(out, name);
+                out.extend(kind.to_le_bytes());
+                out.extend(mode.to_le_bytes());
+                put_time(out, time);
+                out.extend(file);
+            }
+            Call::Link(h, name, node) => {
+                put_handle(out, h);
+                put_name(out, name);
+                put_handle(out, node);
+            }
+            Call::Move(h, old, target, new) => {
+                put_handle(out, h);
+                put_name(out, old);
+                put_handle(out, target);
+                put_name(out, new);
+            }
+            Call::Metadata(h) | Call::Close(h) => put_handle(out, h),
+            Call::Set(h, mode, uid, gid, times) => {
+                put_handle(out, h);
+                out.extend(mode.to_le_bytes());
+                out.extend(uid.to_le_bytes());
+                out.extend(gid.to_le_bytes());
+                times.iter().for_each(|t| put_time(out, t));
+            }
+            Call::Entry(h, at, room) | Call::List(h, at, room) => {
+                put_handle(out, h);
+                out.extend(at.to_le_bytes());
+                out.extend(room.to_le_bytes());
+            }
+            Call::Open | Call::Root | Call::Sync | Call::Check => (),
+        }
+    }
+}
+
+impl Command {
+    pub fn write(&self, out: &mut Vec<u8>) {
+        match self {
+            Command::Arena(bytes) => {
+                out.push(1);
+                out.extend((bytes.len() as u32).to_le_bytes());
+                out.extend(bytes);
+            }
+            Command::Zeros(length) => {
+                out.push(2);
+                out.extend((*length as u32).to_le_bytes());
+            }
+            Command::Poke(place, value) => {
+                out.push(3);
+                out.extend((*place as u32).to_le_bytes());
+                out.push(*value);
+            }
+            Command::Table(bytes) => {
+                out.push(4);
+                out.extend(bytes);
+            }
+            Command::Call(call) => call.write(out),
+        }
+    }
+}
+
+fn put_handle(out: &mut Vec<u8>, h: &Handle) {
+    out.extend(h.hold.to_le_bytes());
+    out.extend(h.stamp.to_le_bytes());
+}
+
+fn put_name(out: &mut Vec<u8>, name: &[u8]) {
+    out.extend((name.len() as u16).to_le_bytes());
+    out.extend(name);
+}
+
+fn put_time(out: &mut Vec<u8>, t: &Timespec) {
+    out.extend(t.sec.to_le_bytes());
+    out.extend(t.nsec.to_le_bytes());
+}
+
+/// A script still to be read.
+pub struct Script<'a>(pub &'a [u8]);
+
+pub enum Next {
+    Do(Command),
+    End,
+    Bad,
+}
+
+impl Script<'_> {
+    pub fn next(&mut self) -> Next {
+        match self.bytes(1) {
+            None | Some([0]) => Next::End,
+            Some([byte, ..]) => {
+                let byte = *byte;
+                self.command(byte).map_or(Next::Bad, Next::Do)
+            }
+            Some([]) => Next::Bad,
+        }
+    }
+
+    fn command(&mut self, byte: u8) -> Option<Command> {
+        Some(match byte {
+            1 => {
+                let length = self.arena_length()?;
+                Command::Arena(self.bytes(length)?.to_vec())
+            }
+            2 => Command::Zeros(self.arena_length()?),
+            3 => Command::Poke(self.u32()? as usize, self.bytes(1)?[0]),
+            4 => Command::Table(self.bytes(4370)?.to_vec()),
+            _ => Command::Call(self.call(byte)?),
+        })
+    }
+
+    fn call(&mut self, byte: u8) -> Option<Call> {
+        Some(match byte {
+            16 => Call::Format(self.time()?, self.array()?),
+            17 => Call::Open,
+            18 => Call::Root,
+            19 => Call::Find(self.handle()?, self.name()?),
+            20 => Call::Create(self.handle()?, self.name()?, self.u32()?, self.u16()?, self.time()?, self.array()?),
+            21 => Call::Link(self.handle()?, self.name()?, self.handle()?),
+            22 => Call::Unlink(self.handle()?, self.name()?),
+            23 => Call::Move(self.handle()?, self.name()?, self.handle()?, self.name()?),
+            24 => Call::Metadata(self.handle()?),
+            25 => Call::Set(self.handle()?, self.u16()?, self.u64()?, self.u64()?, [self.time()?, self.time()?, self.time()?]),
+            26 => Call::Entry(self.handle()?, self.u64()?, self.room()?),
+            27 => Call::List(self.handle()?, self.u64()?, self.room()?),
+            28 => Call::Sync,
+            29 => Call::Close(self.handle()?),
+            30 => Call::Check,
+            _ => return None,
+        })
+    }
+
+    fn bytes(&mut self, n: usize) -> Option<&[u8]> {
+        let (taken, rest) = self.0.split_at_checked(n)?;
+        self.0 = rest;
+        Some(taken)
+    }
+
+    fn array<const N: usize>(&mut self) -> Option<[u8; N]> {
+        self.bytes(N).map(|b| b.try_into().unwrap())
+    }
+
+    fn u16(&mut self) -> Option<u16> {
+        self.array().map(u16::from_le_bytes)
+    }
+
+    fn u32(&mut self) -> Option<u32> {
+        self.array().map(u32::from_le_bytes)
+    }
+
+    fn u64(&mut self) -> Option<u64> {
+        self.array().map(u64::from_le_bytes)
+    }
+
+    fn i64(&mut self) -> Option<i64> {
+        self.array().map(i64::from_le_bytes)
+    }
+
+    fn arena_length(&mut self) -> Option<usize> {
+        self.u32().map(|n| n as usize).filter(|n| *n <= 2_097_664)
+    }
+
+    fn room(&mut self) -> Option<u16> {
+        self.u16().filter(|n| *n <= 8192)
+    }
+
+    fn handle(&mut self) -> Option<Handle> {
+        Some(Handle { hold: self.u32()?, stamp: self.u64()? })
+    }
+
+    fn name(&mut self) -> Option<Vec<u8>> {
+        let n = self.u16().filter(|n| *n <= 1024)?;
+        self.bytes(n as usize).map(|b| b.to_vec())
+    }
+
+    fn time(&mut self) -> Option<Timespec> {
+        Some(Timespec { sec: self.i64()?, nsec: self.i64()? })
+    }
+}

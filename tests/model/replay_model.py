@@ -1,0 +1,915 @@
+#!/usr/bin/env python3
+"""An independent model of document 01's calls, for tests: a call script in, the lines a right port prints out.
+
+Written from document 01 and the readings of it in docs/DECISIONS.md, on top of arena_model.py; it shares nothing with crates/. A call works on a copy of
+the arena and the table, and raises Refused at the first thing that can't be done; the copy is kept only if nothing was raised.
+    replay_model.py < SCRIPT
+"""
+import functools
+import struct
+import sys
+
+from arena_model import BLOCK, META, PAYLOAD, Arena, Refused, legal, number_at, sound, sum_of
+
+SLOT = 264
+RECORD = 112
+ROWS = 34
+HOLDS = 32
+GROUP = 1024
+MAGIC = 0x2F8DBE2A
+PRIME = 4_294_967_291
+FOLDER = 2
+OUTPUT = 8192
+TABLE_BYTES = 4370
+
+
+def u32(data, at):
+    return int.from_bytes(data[at:at + 4], "little")
+
+
+def utf8(name):
+    try:
+        name.decode()
+        return True
+    except UnicodeDecodeError:
+        return False
+
+
+# ---------------------------------------------------------------- records, slots, tables
+
+class Record:
+    """The 112 bytes of a record, by name."""
+    LAYOUT = struct.Struct("<QIHHIIII6q16s16s")
+    FIELDS = ("size", "type", "mode", "links", "blocks", "uid", "gid", "pad", "times", "file", "mac")
+    __slots__ = FIELDS
+
+    @classmethod
+    def read(cls, data):
+        r = cls()
+        parts = cls.LAYOUT.unpack(data)
+        (r.size, r.type, r.mode, r.links, r.blocks, r.uid, r.gid, r.pad) = parts[:8]
+        r.times, r.file, r.mac = parts[8:14], parts[14], parts[15]
+        return r
+
+    def bytes(self):
+        return self.LAYOUT.pack(self.size, self.type, self.mode, self.links, self.blocks, self.uid, self.gid, self.pad, *self.times,
+                                self.file, self.mac)
+
+    def copy(self):
+        r = Record()
+        for f in self.FIELDS:
+            setattr(r, f, getattr(self, f))
+        return r
+
+
+def new_record(kind, mode, time, file):
+    return Record.read(Record.LAYOUT.pack(0, kind, mode, 0, 0, 0, 0, 0, *time, *time, *time, file, bytes(16)))
+
+
+def kind_of(record):
+    """A metadata read: the type, or stuck where there is none."""
+    if not 1 <= record.type <= 4:
+        raise Refused(19)
+    return record.type
+
+
+def is_folder(record):
+    """A look at the type alone: only a type above 4 sticks."""
+    if record.type > 4:
+        raise Refused(19)
+    return record.type == FOLDER
+
+
+class Row:
+    __slots__ = ("id", "dirty", "rec")
+
+    def __init__(self, id, dirty, rec):
+        self.id, self.dirty, self.rec = id, dirty, rec
+
+    def copy(self):
+        return Row(self.id, self.dirty, self.rec.copy())
+
+    def bytes(self):
+        return struct.pack("<IB", self.id, self.dirty) + self.rec.bytes()
+
+
+FREE_ROW = bytes(117)
+
+
+@functools.lru_cache(4096)
+def carry(data):
+    """REPLAY.md's sum of some bytes, and the power by which an earlier sum is carried over them."""
+    return sum_of(data), pow(257, len(data), PRIME)
+
+
+def total(parts):
+    h = 0
+    for part in parts:
+        s, p = carry(part)
+        h = (h * p + s) % PRIME
+    return h
+
+
+class Table:
+    """A well-formed table: None where a row or hold is free."""
+
+    def __init__(self):
+        self.rows, self.holds, self.next = [None] * ROWS, [None] * HOLDS, 1
+
+    def copy(self):
+        t = Table()
+        t.rows = [row and row.copy() for row in self.rows]
+        t.holds, t.next = list(self.holds), self.next
+        return t
+
+    def parts(self):
+        yield from (row.bytes() if row else FREE_ROW for row in self.rows)
+        yield from (struct.pack("<IQ", *hold) if hold else bytes(12) for hold in self.holds)
+        yield struct.pack("<Q", self.next)
+
+    def row_of(self, id):
+        return next((row for row in self.rows if row and row.id == id), None)
+
+    def held(self, row):
+        return any(hold and self.rows[hold[0]] is row for hold in self.holds)
+
+    def full(self):
+        return None not in self.holds or self.next == 2 ** 64 - 1
+
+    def hold(self, row):
+        """The lowest free hold with the next stamp."""
+        at, stamp = self.holds.index(None), self.next
+        self.holds[at] = (self.rows.index(row), stamp)
+        self.next += 1
+        return at, stamp
+
+    @staticmethod
+    def read(data):
+        """The table in these bytes, or None where it is not well formed."""
+        t = Table()
+        for k in range(ROWS):
+            part = data[117 * k:117 * k + 117]
+            if u32(part, 0):
+                t.rows[k] = Row(u32(part, 0), int(part[4] != 0), Record.read(part[5:]))
+            elif any(part):
+                return None
+        for k in range(HOLDS):
+            row, stamp = struct.unpack_from("<IQ", data, 117 * ROWS + 12 * k)
+            if stamp:
+                if row >= ROWS or t.rows[row] is None:
+                    return None
+                t.holds[k] = (row, stamp)
+            elif row:
+                return None
+        t.next = int.from_bytes(data[-8:], "little")
+        ids = [row.id for row in t.rows if row]
+        stamps = [hold[1] for hold in t.holds if hold]
+        named = {hold[0] for hold in t.holds if hold}
+        ok = (len(set(ids)) == len(ids) and len(set(stamps)) == len(stamps) and len(named) == len(ids)
+              and t.next >= 1 and all(stamp < t.next for stamp in stamps))
+        return t if ok else None
+
+
+# ---------------------------------------------------------------- the arena's files, found faster
+
+class Blocks(list):
+    """The blocks, with the places of heads, data and free blocks kept beside them."""
+
+    def __init__(self, blocks):
+        super().__init__(blocks)
+        self.at, self.free = {}, set()
+        for k, b in enumerate(self):
+            self.enter(k, b)
+
+    def copy(self):
+        b = Blocks(())
+        b.extend(self)
+        b.at, b.free = dict(self.at), set(self.free)
+        return b
+
+    @staticmethod
+    def key(b):
+        return b[0], (b[1], b[4:20]), number_at(b) if b[0] == 2 else None
+
+    def enter(self, k, b):
+        if b[0]:
+            self.at[self.key(b)] = k
+        else:
+            self.free.add(k)
+
+    def __setitem__(self, k, b):
+        old = self[k]
+        if old[0]:
+            del self.at[self.key(old)]
+        else:
+            self.free.discard(k)
+        super().__setitem__(k, b)
+        self.enter(k, b)
+
+
+class Files(Arena):
+    """arena_model's files on such blocks: the same answers without a walk over the arena for each byte."""
+
+    def __init__(self, blocks):
+        self.blocks = blocks
+
+    def place(self, tag, file, number=None):
+        return self.blocks.at.get((tag, file, number))
+
+    def free(self):
+        return sorted(self.blocks.free)
+
+    def read(self, file, pos, n):
+        if pos + n > self.length(file):
+            raise Refused(19)
+        first = pos // PAYLOAD
+        run = b"".join(self.payload(file, q) for q in range(first, (pos + n - 1) // PAYLOAD + 1))
+        return run[pos - first * PAYLOAD:][:n]
+
+    def drop(self, file):
+        super().drop(file)
+        self.blocks = Blocks(self.blocks)
+
+
+# ---------------------------------------------------------------- one call on a copy
+
+class Step:
+    """What one call works on."""
+
+    def __init__(self, files, table):
+        self.start = files
+        self.files = Files(files.blocks.copy())
+        self.table = table.copy()
+        self.loaded = None
+
+    # superblock and maps: the values at the call's start, changed in memory
+
+    def fs(self):
+        if self.loaded is None:
+            magic, blocks, unused, groups = struct.unpack("<4I", self.start.read(META, 0, 16))
+            if not 1 <= groups <= 4:
+                raise Refused(19)
+            maps = bytearray(b"".join(self.start.read(META, 128 * (GROUP * g + 1), 128) for g in range(groups)))
+            self.loaded = [magic, blocks, unused, maps]
+        return self.loaded
+
+    def store_fs(self):
+        magic, blocks, unused, maps = self.fs()
+        groups = len(maps) // 128
+        self.files.put(META, 0, struct.pack("<4I", magic, blocks, unused, groups))
+        for g in range(groups):
+            self.files.put(META, 128 * (GROUP * g + 1), bytes(maps[128 * g:128 * g + 128]))
+
+    def alloc(self):
+        fs = self.fs()
+        maps = fs[3]
+        byte = next((k for k, b in enumerate(maps) if b), None)
+        if byte is None:
+            groups = len(maps) // 128 + 1
+            if groups > 4:
+                raise Refused(17)
+            fs[1] += GROUP
+            fs[2] += GROUP - 1
+            if max(fs[1], fs[2]) >= 2 ** 32:
+                raise Refused(19)
+            self.files.cut(META, 128 * GROUP * groups)
+            maps += bytes([0xFD]) + b"\xff" * 127
+            byte = 128 * (groups - 1)
+        bit = (maps[byte] & -maps[byte]).bit_length() - 1
+        maps[byte] &= ~(1 << bit)
+        if fs[2] == 0:
+            raise Refused(19)
+        fs[2] -= 1
+        id = 8 * byte + bit
+        if id == 0 or self.table.row_of(id):
+            raise Refused(19)
+        return id
+
+    def used(self, id):
+        maps = self.fs()[3]
+        return id // 8 < len(maps) and not maps[id // 8] >> id % 8 & 1
+
+    def free_id(self, id):
+        if not self.used(id):
+            raise Refused(19)
+        fs = self.fs()
+        fs[3][id // 8] |= 1 << id % 8
+        fs[2] += 1
+        if fs[2] >= 2 ** 32:
+            raise Refused(19)
+
+    # nodes
+
+    def add_row(self, row):
+        self.table.rows[self.table.rows.index(None)] = row
+        return row
+
+    def open_node(self, id):
+        """The row of this id; a row without a hold where it had none."""
+        if not self.used(id) or id == 0:
+            raise Refused(19)
+        row = self.table.row_of(id)
+        if row:
+            return row
+        rec = Record.read(self.files.read(META, 128 * id, RECORD))
+        is_folder(rec)
+        self.files.length((1, rec.file))
+        return self.add_row(Row(id, 0, rec))
+
+    def store(self, row):
+        if row.dirty:
+            self.files.put(META, 128 * row.id, row.rec.bytes())
+            row.dirty = 0
+
+    def release(self, row):
+        """The last user of a row goes, unless it is held: stored, and at links 0 freed with its file."""
+        if row not in self.table.rows or self.table.held(row):
+            return
+        self.store(row)
+        if row.rec.links == 0:
+            self.free_id(row.id)
+            self.store_fs()
+            self.files.drop((1, row.rec.file))
+        self.table.rows[self.table.rows.index(row)] = None
+
+    def links(self, row, by):
+        row.rec.links += by
+        row.dirty = 1
+        if row.rec.links < 0:
+            raise Refused(19)
+        if row.rec.links > 65535:
+            raise Refused(15)
+
+    # folders
+
+    def slot(self, row, k):
+        """Slot k as it is stored; a type above 4 sticks."""
+        data = self.files.read((1, row.rec.file), SLOT * k, SLOT)
+        if u32(data, 260) > 4:
+            raise Refused(19)
+        return data
+
+    def named_slot(self, row, k):
+        """Slot k and its name, which must be ended and UTF-8."""
+        data = self.slot(row, k)
+        name, end, _ = data[4:260].partition(b"\0")
+        if not end or not utf8(name):
+            raise Refused(19)
+        return data, name
+
+    def lookup(self, row, name):
+        """The first slot of that name and its place, or None."""
+        for k in range(row.rec.blocks):
+            data, have = self.named_slot(row, k)
+            if have == (name or b"."):
+                return data, k
+        return None
+
+    def put_slot(self, row, k, id, name, kind):
+        self.files.put((1, row.rec.file), SLOT * k, struct.pack("<I256sI", id, name, kind))
+
+    def append(self, row, id, name, kind):
+        self.put_slot(row, row.rec.blocks, id, name, kind)
+        row.rec.blocks += 1
+        row.dirty = 1
+
+    def remove(self, row, k):
+        last = row.rec.blocks - 1
+        if last < 0:
+            raise Refused(19)
+        data = self.slot(row, last)
+        if k != last:
+            self.files.put((1, row.rec.file), SLOT * k, data)
+        self.files.cut((1, row.rec.file), SLOT * last)
+        row.rec.blocks = last
+        row.dirty = 1
+
+    def remove_node(self, folder, child, k):
+        self.remove(folder, k)
+        self.links(child, -1)
+        if child.rec.type == FOLDER:
+            self.links(child, -1)
+            self.links(folder, -1)
+        self.release(child)
+
+    def handle(self, h):
+        hold, stamp = h
+        if hold >= HOLDS or not self.table.holds[hold] or self.table.holds[hold][1] != stamp:
+            raise Refused(4)
+        return self.table.rows[self.table.holds[hold][0]]
+
+
+def need(ok, reason):
+    if not ok:
+        raise Refused(reason)
+
+
+def good_names(*names):
+    need(all(0 not in n and utf8(n) for n in names), 5)
+
+
+DOTS = (b".", b"..", b"")
+
+
+def folder_to_change(row):
+    need(kind_of(row.rec) == FOLDER, 7)
+    need(row.rec.links > 0, 8)
+
+
+def do_root(s):
+    need(not s.table.full(), 16)
+    return s.table.hold(s.open_node(2))
+
+
+def do_find(s, h, name):
+    row = s.handle(h)
+    good_names(name)
+    need(kind_of(row.rec) == FOLDER, 7)
+    need(len(name) <= 255, 10)
+    need(not (name == b".." and row.rec.links == 0), 8)
+    found = s.lookup(row, name)
+    need(found, 11)
+    need(not s.table.full(), 16)
+    return s.table.hold(s.open_node(u32(found[0], 0)))
+
+
+def do_create(s, h, name, kind, mode, time, file):
+    row = s.handle(h)
+    good_names(name)
+    need(1 <= kind <= 4, 6)
+    folder_to_change(row)
+    need(len(name) <= 255, 10)
+    need(not s.lookup(row, name), 12)
+    need(s.files.place(1, (1, file)) is None, 14)
+    need(kind != FOLDER or row.rec.links < 65535, 15)
+    need(not s.table.full(), 16)
+    node = Row(s.alloc(), 1, new_record(kind, mode, time, file))
+    s.files.make((1, file))
+    s.add_row(node)
+    if kind == FOLDER:
+        node.rec.blocks = 2
+        s.put_slot(node, 0, node.id, b".", FOLDER)
+        s.put_slot(node, 1, row.id, b"..", FOLDER)
+    s.append(row, node.id, name, kind)
+    s.links(node, 1)
+    if kind == FOLDER:
+        s.links(node, 1)
+        s.links(row, 1)
+    s.store_fs()
+    s.store(node)
+    s.store(row)
+    return s.table.hold(node)
+
+
+def do_link(s, h, name, other):
+    row, child = s.handle(h), s.handle(other)
+    good_names(name)
+    folder_to_change(row)
+    need(len(name) <= 255, 10)
+    need(not s.lookup(row, name), 12)
+    need(kind_of(child.rec) != FOLDER, 9)
+    need(child.rec.links < 65535, 15)
+    s.append(row, child.id, name, child.rec.type)
+    s.links(child, 1)
+    s.store(child)
+    s.store(row)
+    return ()
+
+
+def do_unlink(s, h, name):
+    row = s.handle(h)
+    good_names(name)
+    folder_to_change(row)
+    need(name not in DOTS, 9)
+    need(len(name) <= 255, 10)
+    found = s.lookup(row, name)
+    need(found, 11)
+    child = s.open_node(u32(found[0], 0))
+    if is_folder(child.rec):
+        need(child.rec.blocks >= 2, 19)
+        need(child.rec.blocks == 2, 13)
+    s.remove_node(row, child, found[1])
+    s.store(row)
+    return ()
+
+
+def replaced_by(s, row, old, taken):
+    """The node to be replaced, where the new name is there; None where both names are one node's."""
+    found = s.lookup(row, old)
+    need(found, 11)
+    replaced = s.open_node(u32(taken[0], 0))
+    moved = s.open_node(u32(found[0], 0))
+    kinds = kind_of(moved.rec) == FOLDER, kind_of(replaced.rec) == FOLDER
+    if moved is replaced:
+        return None
+    need(kinds != (True, False), 7)
+    need(kinds != (False, True), 9)
+    if kinds == (True, True):
+        need(replaced.rec.blocks <= 2, 13)
+        for k in range(replaced.rec.blocks):
+            s.named_slot(replaced, k)
+    s.release(moved)
+    return replaced
+
+
+def do_move(s, h, old, to, new):
+    row, target = s.handle(h), s.handle(to)
+    good_names(old, new)
+    folder_to_change(row)
+    need(old not in DOTS and new not in DOTS, 9)
+    need(len(old) <= 255 and len(new) <= 255, 10)
+    folder_to_change(target)
+    taken = s.lookup(target, new)
+    replaced = None
+    if taken:
+        replaced = replaced_by(s, row, old, taken)
+        if replaced is None:
+            raise Unchanged
+    found = s.lookup(row, old)
+    need(found, 11)
+    (data, k), id = found, u32(found[0], 0)
+    if row is target:
+        s.put_slot(row, k, id, new, u32(data, 260))
+        if replaced:
+            s.remove_node(row, replaced, taken[1])
+        s.store(row)
+        return ()
+    s.append(target, id, new, u32(data, 260))
+    s.remove(row, k)
+    if replaced:
+        s.remove_node(target, replaced, taken[1])
+    moved = s.open_node(id)
+    if is_folder(moved.rec):
+        s.links(row, -1)
+        s.links(target, 1)
+    s.store(row)
+    s.store(target)
+    s.release(moved)
+    return ()
+
+
+class Unchanged(Exception):
+    """Done, and nothing is kept."""
+
+
+def do_metadata(s, h):
+    row = s.handle(h)
+    r = row.rec
+    kind = kind_of(r)
+    size = r.blocks if kind == FOLDER else r.size
+    return (row.id, size, r.mode, kind, r.blocks, *r.times, r.links, r.uid, r.gid)
+
+
+def do_set(s, h, mode, uid, gid, *times):
+    row = s.handle(h)
+    r = row.rec
+    r.mode, r.uid, r.gid, r.times = mode, uid % 2 ** 32, gid % 2 ** 32, times[0] + times[1] + times[2]
+    row.dirty = 1
+    return ()
+
+
+def do_sync(s):
+    for row in sorted(filter(None, s.table.rows), key=lambda row: row.id):
+        s.store(row)
+    return ()
+
+
+def do_close(s, h):
+    row = s.handle(h)
+    s.table.holds[h[0]] = None
+    s.release(row)
+    return ()
+
+
+def entry_slots(s, h, at, room):
+    row = s.handle(h)
+    need(is_folder(row.rec), 7)
+    need(at < row.rec.blocks, 11)
+    need(room >= SLOT, 20)
+    return s.named_slot(row, at)[0]
+
+
+def list_slots(s, h, at, room):
+    row = s.handle(h)
+    need(is_folder(row.rec), 7)
+    left = max(0, row.rec.blocks - at)
+    need(left == 0 or room >= SLOT, 20)
+    out = b""
+    for k in range(at, at + min(left, room // SLOT)):
+        data = s.named_slot(row, k)[0]
+        need(u32(data, 260) != 0, 19)
+        out += data
+    return out
+
+
+# ---------------------------------------------------------------- the checker
+
+def verdict(model):
+    """The lowest failing rule, or the line's words of a pass."""
+    if not model.is_sound():
+        return "fail rule 1"
+    if model.table is None:
+        return "fail rule 2"
+    try:
+        return "pass nodes %d unused %d free %d" % Checker(model.files, model.table).counts()
+    except Refused as failed:
+        return f"fail rule {failed.reason}"
+
+
+class Checker:
+    def __init__(self, files, table):
+        self.files, self.table = files, table
+
+    def stored(self, id):
+        return self.files.read(META, 128 * id, RECORD)
+
+    def counts(self):
+        self.superblock()
+        self.bits()
+        self.records()
+        self.slots = {id: self.folder(id) for id in self.folders()}
+        self.link_counts()
+        for id in self.folders():
+            if self.recs[id].links:
+                self.climb(id)
+        return len(self.nodes), self.unused, len(self.files.free())
+
+    def superblock(self):
+        try:
+            magic, blocks, self.unused, groups = struct.unpack("<4I", self.files.read(META, 0, 16))
+            need(magic == MAGIC and 1 <= groups <= 4 and blocks == GROUP * groups, 3)
+            need(self.files.length(META) == 128 * GROUP * groups, 3)
+            maps = b"".join(self.files.read(META, 128 * (GROUP * g + 1), 128) for g in range(groups))
+        except Refused:
+            raise Refused(3)
+        self.clear = [id for id in range(GROUP * groups) if not maps[id // 8] >> id % 8 & 1]
+        need(self.unused == GROUP * groups - len(self.clear), 3)
+        self.kept = {0} | {GROUP * g + 1 for g in range(groups)}
+
+    def bits(self):
+        need(self.kept | {2} <= set(self.clear), 4)
+        self.nodes = [id for id in self.clear if id not in self.kept]
+        for row in filter(None, self.table.rows):
+            need(row.id in self.nodes, 4)
+            need(row.dirty or row.rec.bytes() == self.stored(row.id), 4)
+
+    def records(self):
+        rows = {row.id: row.rec for row in self.table.rows if row}
+        self.recs = {id: rows.get(id) or Record.read(self.stored(id)) for id in self.nodes}
+        need(all(1 <= r.type <= 4 for r in self.recs.values()), 5)
+        names = {r.file for r in self.recs.values()}
+        there = {file[1] for tag, file, _ in self.files.blocks.at if tag == 1 and file[0] == 1}
+        need(len(names) == len(self.nodes) and names == there, 5)
+        need(self.recs[2].type == FOLDER, 5)
+
+    def folders(self):
+        return [id for id in self.nodes if self.recs[id].type == FOLDER]
+
+    def folder(self, id):
+        r = self.recs[id]
+        need(r.blocks >= 2 and self.files.length((1, r.file)) == SLOT * r.blocks, 6)
+        slots = []
+        for k in range(r.blocks):
+            data = self.files.read((1, r.file), SLOT * k, SLOT)
+            name, end, _ = data[4:260].partition(b"\0")
+            need(end, 6)
+            slots.append((u32(data, 0), name, u32(data, 260)))
+        need(slots[0] == (id, b".", FOLDER) and slots[1][1:] == (b"..", FOLDER), 6)
+        for node, name, kind in slots[2:]:
+            need(utf8(name) and name not in DOTS, 6)
+            need(node in self.recs and self.recs[node].type == kind, 6)
+        need(len({name for _, name, _ in slots[2:]}) == len(slots) - 2, 6)
+        return slots
+
+    def link_counts(self):
+        self.named = {id: [] for id in self.nodes}
+        for folder, slots in self.slots.items():
+            for node, _, _ in slots[2:]:
+                self.named[node].append(folder)
+        opened = {row.id for row in self.table.rows if row}
+        for id in self.nodes:
+            r, times = self.recs[id], len(self.named[id])
+            if r.type != FOLDER:
+                need(r.links == times and (times or id in opened), 7)
+                continue
+            below = sum(kind == FOLDER for _, _, kind in self.slots[id][2:])
+            linked = r.links == 2 + below and times == (id != 2)
+            removed = id != 2 and id in opened and r.links == 0 and times == 0 and r.blocks == 2
+            need(linked or removed, 7)
+
+    def climb(self, id):
+        above = self.slots[id][1][0]
+        need(above == (2 if id == 2 else self.named[id][0]), 8)
+        seen = set()
+        while id != 2:
+            need(id in self.slots and id not in seen, 8)
+            seen.add(id)
+            id = self.slots[id][1][0]
+
+
+# ---------------------------------------------------------------- scripts
+
+NAMES = ("format", "open", "root", "find", "create", "link", "unlink", "move", "metadata", "set", "entry", "list", "sync", "close", "check")
+DOES = {"root": do_root, "find": do_find, "create": do_create, "link": do_link, "unlink": do_unlink, "move": do_move,
+        "metadata": do_metadata, "set": do_set, "sync": do_sync, "close": do_close}
+SHAPES = {"format": "tf", "open": "", "root": "", "find": "hn", "create": "hn42tf", "link": "hnh", "unlink": "hn", "move": "hnhn",
+          "metadata": "h", "set": "h288ttt", "entry": "h8o", "list": "h8o", "sync": "", "close": "h", "check": ""}
+
+
+class BadScript(Exception):
+    pass
+
+
+class Script:
+    def __init__(self, data):
+        self.data, self.at = data, 0
+
+    def bytes(self, n):
+        if self.at + n > len(self.data):
+            raise BadScript
+        self.at += n
+        return self.data[self.at - n:self.at]
+
+    def number(self, n, limit=None):
+        value = int.from_bytes(self.bytes(n), "little")
+        if limit is not None and value > limit:
+            raise BadScript
+        return value
+
+    def item(self, shape):
+        if shape in "248":
+            return self.number(int(shape))
+        if shape == "o":
+            return self.number(2, OUTPUT)
+        if shape == "h":
+            return self.number(4), self.number(8)
+        if shape == "n":
+            return self.bytes(self.number(2, 1024))
+        if shape == "t":
+            return struct.unpack("<2q", self.bytes(16))
+        return self.bytes(16)
+
+    def commands(self):
+        """Each command as its name and what follows."""
+        while self.at < len(self.data):
+            byte = self.number(1)
+            if byte == 0:
+                return
+            if byte == 1:
+                yield "arena", (self.bytes(self.number(4, 2_097_664)),)
+            elif byte == 2:
+                yield "arena", (bytes(self.number(4, 2_097_664)),)
+            elif byte == 3:
+                yield "poke", (self.number(4), self.number(1))
+            elif byte == 4:
+                yield "table", (self.bytes(TABLE_BYTES),)
+            elif 16 <= byte <= 30:
+                name = NAMES[byte - 16]
+                yield name, tuple(self.item(shape) for shape in SHAPES[name])
+            else:
+                raise BadScript
+
+
+class Model:
+    def __init__(self):
+        self.set_arena(bytes(16 * BLOCK))
+        self.set_table(b"".join(Table().parts()))
+
+    # the state: bytes where they are not sound or well formed, files and rows where they are
+
+    def set_arena(self, data):
+        self.raw, self.files, self.judged = data, None, False
+
+    def is_sound(self):
+        if not self.judged:
+            self.judged = True
+            if legal(self.raw) and sound(self.raw):
+                self.files = Files(Blocks(self.cut(self.raw)))
+        return self.files is not None
+
+    @staticmethod
+    def cut(data):
+        return [data[k:k + BLOCK] for k in range(0, len(data), BLOCK)]
+
+    def arena_bytes(self):
+        return self.files.bytes() if self.files else self.raw
+
+    def poke(self, place, value):
+        data = self.arena_bytes()
+        if place < len(data):
+            self.set_arena(data[:place] + bytes([value]) + data[place + 1:])
+
+    def set_table(self, data):
+        data = bytearray(data)
+        for k in range(ROWS):
+            data[117 * k + 4] = int(data[117 * k + 4] != 0)
+        self.raw_table, self.table = bytes(data), Table.read(bytes(data))
+
+    def table_bytes(self):
+        return b"".join(self.table.parts()) if self.table else self.raw_table
+
+    def keep(self, step):
+        self.files, self.table = step.files, step.table
+
+    def sums(self):
+        arena = self.files.blocks if self.files else self.cut(self.raw)
+        return "a %d t %d" % (total(arena), total(self.table.parts() if self.table else [self.raw_table]))
+
+    # calls
+
+    def enter(self):
+        need(legal(self.raw) if not self.files else True, 1)
+        need(self.is_sound(), 2)
+        need(self.table, 3)
+        return Step(self.files, self.table)
+
+    def run(self, name, args):
+        """The line of one call."""
+        if name == "check":
+            return f"check {verdict(self)} {self.sums()}"
+        middle, values = "", ()
+        try:
+            if name in ("format", "open"):
+                getattr(self, name)(*args)
+            elif name in ("entry", "list"):
+                out, values, middle = self.output(name, *args)
+                if isinstance(out, int):
+                    raise Refused(out)
+            else:
+                values = self.change(DOES[name], args)
+            answer = " ".join(["ok", *map(str, values)])
+        except Refused as refusal:
+            answer = f"no {refusal.reason}"
+        return f"{name} {answer}{middle} {self.sums()}"
+
+    def change(self, does, args):
+        step = self.enter()
+        try:
+            values = does(step, *args)
+        except Unchanged:
+            return ()
+        self.keep(step)
+        return values
+
+    def output(self, name, h, at, room):
+        try:
+            slots = (entry_slots if name == "entry" else list_slots)(self.enter(), h, at, room)
+            out, count = slots, len(slots) // SLOT
+        except Refused as refusal:
+            slots, out, count = b"", refusal.reason, 0
+        middle = f" o {sum_of(slots.ljust(OUTPUT, bytes([238])))}"
+        if name == "list":
+            return out, (count,), f"{middle} p {at + count}"
+        return out, (), middle
+
+    def format(self, time, file):
+        size = len(self.arena_bytes())
+        need(size % BLOCK == 0 and 16 <= size // BLOCK <= 4096, 1)
+        step = Step(Files(Blocks([bytes(BLOCK)] * (size // BLOCK))), Table())
+        root = Row(2, 1, new_record(FOLDER, 493, time, file))
+        root.rec.links, root.rec.blocks = 2, 2
+        step.files.make(META)
+        step.files.cut(META, 128 * GROUP)
+        step.files.make((1, file))
+        step.put_slot(root, 0, 2, b".", FOLDER)
+        step.put_slot(root, 1, 2, b"..", FOLDER)
+        step.loaded = [MAGIC, GROUP, GROUP - 3, bytearray(b"\xf8" + b"\xff" * 127)]
+        step.store_fs()
+        step.store(root)
+        self.judged = True
+        self.keep(step)
+
+    def open(self):
+        if not self.files:
+            need(legal(self.raw), 1)
+        need(self.is_sound(), 2)
+        step = Step(self.files, Table())
+        magic, _, _, groups = struct.unpack("<4I", step.files.read(META, 0, 16))
+        need(magic == MAGIC and 1 <= groups <= 4, 18)
+        step.fs()
+        self.table = step.table
+
+
+def lines(data, model=None):
+    """Everything a right port prints for a script."""
+    model = model or Model()
+    if len(data) > 1_048_576:
+        yield "bad script"
+        return
+    try:
+        for name, args in Script(data).commands():
+            if name == "arena":
+                model.set_arena(*args)
+            elif name == "poke":
+                model.poke(*args)
+            elif name == "table":
+                model.set_table(*args)
+            else:
+                yield model.run(name, args)
+    except BadScript:
+        yield "bad script"
+
+
+if __name__ == "__main__":
+    for line in lines(sys.stdin.buffer.read()):
+        print(line)
