@@ -3,39 +3,92 @@
 usage: fuzz.py REPLAYER FIRST_SEED COUNT [CALLS]    says each script whose lines differ, and keeps it as fuzz-SEED.script
 """
 
-import functools
 import random
 import struct
 import subprocess
 import sys
 
-import arena_model
-import calls_model
-from arena_model import META, made, number_at, sealed
-from calls_model import Player, Store, Table
+from arena_model import META, made, number_at, sealed, sound
+from replay_model import Model, Table, lines
 
-# the model asks these of the same bytes again and again
-calls_model.sound = sound = functools.lru_cache(64)(arena_model.sound)
-cached = functools.lru_cache(256)(arena_model.sum_of)
-calls_model.sum_of = lambda data: cached(bytes(data))
+EMPTY = b"".join(Table().parts())
 
 NAMES = [b"a", b"b", b"c", b"d", b"e", b"f", b"g", b"h", b"x" * 255, "é€𐍈".encode()]
 ODD = [b"", b".", b"..", b"y" * 256, b"a\0b", b"\xc0\x80", b"\xed\xa0\x80", b"\xf4\x90\x80\x80", b"\xff", b"..."]
 U32 = [0, 1, 2, 3, 4, 5, 6, 7, 9, 1023, 1024, 1025, 1026, 2049, 5000, 2 ** 31, 2 ** 32 - 1024, 2 ** 32 - 1023, 2 ** 32 - 1]
+KINDS = [0, 1, 2, 2, 3, 4, 5, 2 ** 32 - 1]
+LINKS = [0, 0, 1, 2, 3, 65534, 65535]
+SLOTS = [0, 1, 2, 2, 3, 4, 5, 16268813, 16268814, 2 ** 32 - 1]
+SIZES = [0, 15, 16, 200, 264, 480, 528, 792, 131072, 131073, 262144, 300000, 2 ** 32 - 1]
 U64 = [0, 1, 2 ** 32 - 1, 2 ** 32, 2 ** 63, 2 ** 64 - 1]
+
+
+class Image:
+    """Where an arena's files stand, for damage."""
+
+    def __init__(self, arena):
+        self.blocks = [arena[k:k + 512] for k in range(0, len(arena), 512)]
+        self.heads, self.data = {}, {}
+        for k, b in enumerate(self.blocks):
+            file = (b[1], bytes(b[4:20]))
+            if b[0] == 1:
+                self.heads[file] = k
+            elif b[0] == 2:
+                self.data[(file, number_at(b))] = k
+
+    def length(self, file):
+        return number_at(self.blocks[self.heads[file]])
+
+    def read(self, file, pos, n):
+        places = [self.data.get((file, q)) for q in range(pos // 480, (pos + n - 1) // 480 + 1)]
+        run = b"".join(bytes(480) if k is None else self.blocks[k][24:504] for k in places)
+        return run[pos % 480:][:n]
+
+    def put(self, file, pos, data):
+        """In the blocks that are there."""
+        for i, b in enumerate(data):
+            k = self.data.get((file, (pos + i) // 480))
+            if k is not None:
+                block = bytearray(self.blocks[k])
+                block[24 + (pos + i) % 480] = b
+                self.blocks[k] = sealed(block)
+
+    def bytes(self):
+        return b"".join(self.blocks)
+
+
+class Desk:
+    """A table's bytes, for damage: each row's place, and its record's."""
+
+    def __init__(self, table):
+        self.data = bytearray(table)
+
+    def number(self, at, n):
+        return int.from_bytes(self.data[at:at + n], "little")
+
+    def set(self, at, form, value):
+        struct.pack_into(form, self.data, at, value)
+
+    def rows(self):
+        return [117 * i for i in range(34) if self.number(117 * i, 4)]
+
+    def holds(self):
+        """Hold, stamp and the row's place of each live hold."""
+        at = [(n, 3978 + 12 * n) for n in range(32)]
+        return [(n, self.number(p + 4, 8), 117 * self.number(p, 4)) for n, p in at if self.number(p + 4, 8) and self.number(p, 4) < 34]
 
 
 class Fuzz:
     def __init__(self, seed):
         self.r = random.Random(seed)
-        self.p = Player()
+        self.model = Model()
         self.script, self.lines = b"", []
         # some scripts damage in few ways, so that the later rules and reasons are met too
         self.ways = self.r.sample(range(10), self.pick(1, 2, 4, 10))
 
     def do(self, command):
         self.script += command
-        self.lines += self.p.play(command)
+        self.lines += lines(command, self.model)
 
     def pick(self, *of):
         return self.r.choice(of)
@@ -47,26 +100,24 @@ class Fuzz:
 
     def handle(self, folder=False):
         """A live handle, and where a folder is asked for mostly one of a folder; seldom one that is not live."""
-        t = Table(self.p.table)
-        live = [(n, s) for n, (_, s) in enumerate(t.holds) if s]
+        t = Desk(self.model.table_bytes())
+        live = t.holds()
         if folder and self.chance(0.93):
-            live = [(n, s) for n, s in live if t.holds[n][0] < 34 and t.rows[t.holds[n][0]].kind == 2] or live
+            live = [h for h in live if t.number(h[2] + 13, 4) == 2] or live
         if live and not self.chance(0.02):
-            n, s = self.r.choice(live)
+            n, stamp, self.asked = self.r.choice(live)
         else:
-            n, s = self.pick(0, 1, 31, 32, 2 ** 32 - 1), self.pick(0, 1, 2, 3, 2 ** 64 - 1)
-        self.asked = n
-        return struct.pack("<IQ", n, s)
+            n, stamp, self.asked = self.pick(0, 1, 31, 32, 2 ** 32 - 1), self.pick(0, 1, 2, 3, 2 ** 64 - 1), None
+        return struct.pack("<IQ", n, stamp)
 
     def there(self):
         """The names in the folder that was asked for last."""
-        try:
-            t, store = Table(self.p.table), Store(self.p.arena)
-            r = t.rows[t.holds[self.asked][0]]
-            slots = [store.read(r.file, 264 * k, 264)[4:260] for k in range(2, min(r.blocks, 60))]
-            return [n[:n.find(0)] for n in slots if 0 < n.find(0)]
-        except Exception:
+        if self.asked is None:
             return []
+        t, image = Desk(self.model.table_bytes()), Image(self.model.arena_bytes())
+        file = (1, bytes(t.data[self.asked + 85:self.asked + 101]))
+        slots = [image.read(file, 264 * k, 264)[4:260] for k in range(2, min(t.number(self.asked + 21, 4), 60))]
+        return [n[:n.find(0)] for n in slots if n.find(0) > 0]
 
     def name(self, there=0.5):
         n = self.r.choice(ODD) if self.chance(0.04) else self.r.choice(NAMES)
@@ -115,90 +166,82 @@ class Fuzz:
 
     # ---- damage
 
-    def put(self, blocks, store, file, pos, data):
-        """Bytes of a file that has the block already."""
-        for i, b in enumerate(data):
-            k = store.data.get((file, (pos + i) // 480))
-            if k is not None:
-                block = bytearray(blocks[k])
-                block[24 + (pos + i) % 480] = b
-                blocks[k] = sealed(block)
-
-    def record_at(self, blocks, store, base):
+    def record_at(self, image, base):
         field = self.pick("kind", "links", "blocks", "file", "size")
         if field == "file":
-            self.put(blocks, store, META, base + 80, self.file())
+            image.put(META, base + 80, self.file())
         elif field == "kind":
-            self.put(blocks, store, META, base + 8, struct.pack("<I", self.pick(0, 1, 2, 2, 3, 4, 5, 2 ** 32 - 1)))
+            image.put(META, base + 8, struct.pack("<I", self.pick(*KINDS)))
         elif field == "links":
-            self.put(blocks, store, META, base + 14, struct.pack("<H", self.pick(0, 0, 1, 2, 3, 65534, 65535)))
+            image.put(META, base + 14, struct.pack("<H", self.pick(*LINKS)))
         elif field == "blocks":
-            self.put(blocks, store, META, base + 16, struct.pack("<I", self.pick(0, 1, 2, 2, 3, 4, 5, 16268813, 16268814, 2 ** 32 - 1)))
+            image.put(META, base + 16, struct.pack("<I", self.pick(*SLOTS)))
         else:
-            self.put(blocks, store, META, base, struct.pack("<Q", self.pick(*U64)))
+            image.put(META, base, struct.pack("<Q", self.pick(*U64)))
+
+    def slot_at(self, image, f, base):
+        where = self.pick("id", "kind", "name", "end", "bad")
+        if where == "id":
+            image.put(f, base, struct.pack("<I", self.pick(*U32[:12], *U32)))
+        elif where == "kind":
+            image.put(f, base + 260, struct.pack("<I", self.pick(0, 1, 2, 3, 4, 5)))
+        elif where == "name":
+            image.put(f, base + 4, self.r.choice(NAMES[:8]) + b"\0")
+        elif where == "bad":
+            image.put(f, base + 4, b"\xff")
+        else:
+            image.put(f, base + 4, b"z" * 256)
+
+    def rename(self, image, f):
+        g = self.file()
+        for k, b in enumerate(image.blocks):
+            if b[0] and (b[1], bytes(b[4:20])) == f:
+                image.blocks[k] = sealed(b[:1] + bytes([1]) + b[2:4] + g + b[20:]) if self.chance(0.97) else bytes(512)
 
     def damaged(self):
-        store = Store(self.p.arena)
-        blocks = list(store.blocks)
-        files = list(store.heads)
-        folders = [f for f in files if f[0] == 1 and store.length(f) >= 264]
+        image = Image(self.model.arena_bytes())
+        files = list(image.heads)
+        folders = [f for f in files if f[0] == 1 and image.length(f) >= 264]
         what = self.r.choice(self.ways)
         if what == 0:
-            self.put(blocks, store, META, self.pick(4, 8, 8, 12), struct.pack("<I", self.pick(*U32)))
+            image.put(META, self.pick(4, 8, 8, 12), struct.pack("<I", self.pick(*U32)))
         elif what == 1:
-            i = self.pick(0, 1, 2, 3, 4, 5, 6, 7, 8, 9)
-            self.put(blocks, store, META, 128 + i // 8, bytes([self.r.randrange(256)]))
+            image.put(META, 128 + self.pick(0, 0, 0, 1), bytes([self.r.randrange(256)]))
         elif what == 2:
-            self.put(blocks, store, META, 128, bytes(128))
+            image.put(META, 128, bytes(128))
         elif what in (3, 4):
-            self.record_at(blocks, store, 128 * self.r.randrange(2, 9))
+            self.record_at(image, 128 * self.r.randrange(2, 9))
         elif what in (5, 6) and folders:
             f = self.r.choice(folders)
-            base = 264 * self.r.randrange(store.length(f) // 264)
-            where = self.pick("id", "kind", "name", "end", "bad")
-            if where == "id":
-                self.put(blocks, store, f, base, struct.pack("<I", self.pick(*U32[:12], *U32)))
-            elif where == "kind":
-                self.put(blocks, store, f, base + 260, struct.pack("<I", self.pick(0, 1, 2, 3, 4, 5)))
-            elif where == "name":
-                self.put(blocks, store, f, base + 4, self.r.choice(NAMES[:8]) + b"\0")
-            elif where == "bad":
-                self.put(blocks, store, f, base + 4, b"\xff")
-            else:
-                self.put(blocks, store, f, base + 4, b"z" * 256)
+            self.slot_at(image, f, 264 * self.r.randrange(image.length(f) // 264))
         elif what == 7 and files:
             f = self.r.choice(files)
-            size = self.pick(0, 15, 16, 200, 264, 480, 528, 792, 131072, 131073, 262144, 300000, 2 ** 32 - 1)
-            blocks[store.heads[f]] = made(1, f, size)
+            image.blocks[image.heads[f]] = made(1, f, self.pick(*SIZES))
         elif what == 8:
-            k = self.r.randrange(len(blocks))
-            if blocks[k][0] == 2 or self.chance(0.3):
-                blocks[k] = bytes(512)
-        elif files:
-            f, g = self.r.choice(files), (1, self.file())
-            for k, b in enumerate(blocks):
-                if b[0] and (b[1], bytes(b[4:20])) == f:
-                    blocks[k] = sealed(b[:1] + bytes([1]) + b[2:4] + g[1] + b[20:]) if self.chance(0.97) else bytes(512)
-        return b"".join(blocks)
+            k = self.r.randrange(len(image.blocks))
+            if image.blocks[k][0] == 2 or self.chance(0.3):
+                image.blocks[k] = bytes(512)
+        elif what == 9 and files:
+            self.rename(image, self.r.choice(files))
+        return image.bytes()
 
     def damaged_table(self):
-        t = Table(self.p.table)
-        used = [r for r in t.rows if r.id]
+        t = Desk(self.model.table_bytes())
         what = self.r.randrange(6)
         if what == 0:
-            t.next = self.pick(2 ** 64 - 1, 2 ** 64 - 2, 2 ** 64 - 3)
-        elif used:
-            r = self.r.choice(used)
+            t.set(4362, "<Q", self.pick(2 ** 64 - 1, 2 ** 64 - 2, 2 ** 64 - 3))
+        elif t.rows():
+            at = self.r.choice(t.rows())
             if what == 1:
-                r.id = self.pick(1, 2, 3, 4, 5, 6, 1025, 1500, 33_554_430, 2 ** 32 - 1)
+                t.set(at, "<I", self.pick(1, 2, 3, 4, 5, 6, 1025, 1500, 33_554_430, 2 ** 32 - 1))
             elif what == 2:
-                r.rec[80:96] = self.file()
+                t.data[at + 85:at + 101] = self.file()
             else:
-                dirty = r.dirty
-                f = self.pick("kind", "links", "links", "blocks")
-                r.change(f, self.pick(*{"kind": (0, 1, 2, 2, 3, 4, 5, 2 ** 32 - 1), "links": (0, 0, 1, 2, 3, 65534, 65535), "blocks": (0, 1, 2, 3, 4, 16268813, 16268814, 2 ** 32 - 1)}[f]))
-                r.dirty = self.chance(0.5) or dirty
-        return t
+                place, form, of = self.pick((13, "<I", KINDS), (19, "<H", LINKS), (19, "<H", LINKS), (21, "<I", SLOTS))
+                t.set(at + place, form, self.pick(*of))
+                if self.chance(0.5):
+                    t.data[at + 4] = 1
+        return bytes(t.data)
 
     def damage(self):
         if self.chance(0.6):
@@ -207,11 +250,11 @@ class Fuzz:
                 self.do(b"\x01" + struct.pack("<I", len(a)) + a)
         else:
             t = self.damaged_table()
-            if t.formed() or self.chance(0.02):
-                self.do(b"\x04" + t.bytes())
+            if Table.read(t) or self.chance(0.02):
+                self.do(b"\x04" + t)
 
     def grow(self, n):
-        self.do(b"\x02" + struct.pack("<I", 512 * n) + b"\x04" + calls_model.EMPTY + b"\x10" + self.time() + self.file() + b"\x12" * self.pick(1, 2, 3))
+        self.do(b"\x02" + struct.pack("<I", 512 * n) + b"\x04" + EMPTY + b"\x10" + self.time() + self.file() + b"\x12" * self.pick(1, 2, 3))
         for _ in range(self.r.randrange(5, 25)):
             self.do(self.call())
 
