@@ -20,8 +20,11 @@ pub const DESK: usize = 4387;
 // Room for the longest line.
 const LINE: usize = 512;
 
-// At the start: 16 blocks of zeros and the empty table.
+// At the start: 16 blocks of zeros and the empty table. Buffers that are too small stay as they are.
 pub fn begin(desk: &mut [u8], arena: &mut [u8]) {
+    if (desk.len() != DESK) | (arena.len() < 8192) {
+        return;
+    }
     write_table(desk, table::empty());
     base::clear(&mut arena[..8192]);
     put_u64(desk, 4370, 8192);
@@ -56,8 +59,15 @@ fn step(
     perform(script, at, desk, arena, text, w)
 }
 
-// Runs the script on until it ends or the text may not take another line, and answers how much text there is.
-pub fn run(script: &[u8], desk: &mut [u8], arena: &mut [u8], text: &mut [u8]) -> usize {
+// A desk of its length, whose arena is in the one that is lent.
+fn fits(desk: &[u8], limit: usize) -> bool {
+    if desk.len() != DESK {
+        return false;
+    }
+    u64_at(desk, 4370) <= (limit as u64)
+}
+
+fn run_on(script: &[u8], desk: &mut [u8], arena: &mut [u8], text: &mut [u8]) -> usize {
     let mut w: usize = 0;
     while (desk[4386] == 0) & (w + LINE <= text.len()) {
         let at = u64_at(&desk[..], 4378) as usize;
@@ -70,7 +80,18 @@ pub fn run(script: &[u8], desk: &mut [u8], arena: &mut [u8], text: &mut [u8]) ->
     w
 }
 
+// Runs the script on until it ends or the text may not take another line, and answers how much text there is.
+pub fn run(script: &[u8], desk: &mut [u8], arena: &mut [u8], text: &mut [u8]) -> usize {
+    if !fits(&desk[..], arena.len()) {
+        return 0;
+    }
+    run_on(script, desk, arena, text)
+}
+
 pub fn ended(desk: &[u8]) -> bool {
+    if desk.len() != DESK {
+        return true;
+    }
     desk[4386] != 0
 }
 
