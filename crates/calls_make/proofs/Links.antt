@@ -87,13 +87,13 @@ module _ (a : List ℕ) (r : DiskINode) (name : List ℕ) {k : ℕ} {P : Type 0}
 
 -- ---- the folder and the name
 
-asks-good : (name : List ℕ) → Asks (goodName name)
+pub asks-good : (name : List ℕ) → Asks (goodName name)
 asks-good name = asks-ensure (eqb (earlyReason (nameVerdict name)) 0) 5 (omega arith)
 
 asks-known : (r : DiskINode) → Asks (known r)
 asks-known r = asks-ensure (ltb 0 (r .kind) && leb (r .kind) 4) 19 (omega arith)
 
-long : (name : List ℕ) (x : ℕ) → x ≡ answer (notLong name) → Went (notLong name) tt (length name ≤ 255) x
+pub long : (name : List ℕ) (x : ℕ) → x ≡ answer (notLong name) → Went (notLong name) tt (length name ≤ 255) x
 long name x e = go (leb (length name) 255) refl e
   where
     go : (b : Bool) → leb (length name) 255 ≡ b → x ≡ answer (ensure b 10) → Went (ensure b 10) tt (length name ≤ 255) x

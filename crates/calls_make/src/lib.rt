@@ -1,8 +1,9 @@
 // Calls that make: link. It decides on a view of the arena, and commits once nothing can refuse it any more.
 ghost use mathlib.Core.Path.{_≡_};
-ghost use mathlib.Core.Bool.{true};
+ghost use mathlib.Core.Bool.{true, _&&_};
 ghost use Prim.Native.Nat.{_<_, _≤_};
 ghost use lib.ListN.{length};
+ghost use lib.Dec.{ltb, leb};
 ghost use Rattle.base.specs.Out.{Went};
 ghost use Rattle.arena.specs.Blocks.{legal};
 ghost use Rattle.overlay.specs.View.{view, left, Fine};
@@ -10,8 +11,12 @@ ghost use Rattle.overlay.proofs.Views.{Ready as Empty};
 ghost use Rattle.sefs.specs.Ask.{start};
 ghost use Rattle.sefs.specs.Nodes.{idAt};
 ghost use Rattle.sefs.specs.Folders.{entry, direntAppend};
-ghost use Rattle.sefs.specs.Create.{callLink};
-ghost use Rattle.mem.specs.Mem.{tableIn};
+ghost use mathlib.Core.List.{List};
+ghost use Prim.Native.Nat.{ℕ};
+ghost use Rattle.sefs.specs.Create.{callLink, named};
+ghost use Rattle.sefs.specs.Create.{birth as bornOf, nameFolder};
+ghost use Rattle.calls_make.specs.Create.{createAsk, createSync, createRest};
+ghost use Rattle.mem.specs.Mem.{tableIn, Whole};
 ghost use Rattle.mem.specs.State.{fsOf, Ready, Stepped};
 ghost use Rattle.calls_make.specs.Ends.{ending, Ended, Returned};
 ghost use Rattle.calls_make.specs.Link.{linkAsk, noSlot, linkChild, syncTwo, linkMoves, linkWork};
@@ -26,6 +31,7 @@ use calls::not_long;
 use calls::refused;
 use calls::settle;
 use folders::dirent_append;
+use folders::dirent_init;
 use folders::nlinks_inc;
 use folders::put_entry;
 use folders::slots::lookup;
@@ -33,6 +39,7 @@ use mem::id_at;
 use mem::put_table;
 use mem::rec_at;
 use nodes::meta::load_meta;
+use nodes::meta::sync_meta;
 use nodes::sync_row;
 use structs::DiskINode;
 use table::Handle;
@@ -189,4 +196,107 @@ pub fn link(arena: &mut [u8], t: Table, h: Handle, name: &[u8], child: Handle) -
         return refused(t, r);
     }
     link_rows(arena, t, b.row, name, c.row)
+}
+
+// ---- create: 5, 6, 7, 8, 10, 12, 14, 15, 16, then the steps
+
+fn good_kind(kind: u32) -> bool
+    ensures { λ r. ⌜ r ≡ (ltb 0 kind && leb kind 4) ⌝ }
+{
+    (0 < kind) & (kind <= 4)
+}
+
+fn create_ask(rec: DiskINode, name: &[u8], kind: u32) -> u8
+    ensures { λ r. ⌜ Went (createAsk rec (now (name .entry)) kind) tt (length (now (name .entry)) ≤ 255) r ⌝ }
+{
+    let r = good_name(name);
+    if r != 0 {
+        return r;
+    }
+    if !good_kind(kind) {
+        return 6;
+    }
+    let r = live_folder(rec);
+    if r != 0 {
+        return r;
+    }
+    not_long(name)
+}
+
+// A folder is born with its two slots.
+fn birth(arena: &[u8], work: &mut [u8], mem: &mut [u8], i: usize, c: usize, kind: u32) -> u8
+    requires { ⌜ Ready (now arena) (now work) (now mem) × ((6 ≤ left (now work)) × ((i < 34) × (c < 34))) ⌝ }
+    ensures { λ r. ⌜ Stepped (bornOf (fsOf (now (arena .entry)) (now (work .entry)) (now (mem .entry))) i c kind) (now (arena .entry)) (now (work .entry)) (now (work .exit)) (now (mem .exit)) 6 r ⌝ }
+{
+    if kind == 2 {
+        let parent = id_at(&mem[..], i);
+        return dirent_init(arena, work, mem, c, parent);
+    }
+    0
+}
+
+// A new folder is named by its own `.` too, and its parent by its `..`.
+fn name_folder(mem: &mut [u8], i: usize, c: usize) -> u8
+    requires { ⌜ Whole (now mem) × ((i < 34) × (c < 34)) ⌝ }
+    ensures { λ r. ⌜ ((a w : List ℕ) → Went (nameFolder (fsOf a w (now (mem .entry))) i c) (fsOf a w (now (mem .exit))) (Whole (now (mem .exit))) r) ⌝ }
+{
+    let r = nlinks_inc(mem, c);
+    if r != 0 {
+        return r;
+    }
+    nlinks_inc(mem, i)
+}
+
+fn name_node(mem: &mut [u8], i: usize, c: usize, kind: u32) -> u8
+    requires { ⌜ Whole (now mem) × ((i < 34) × (c < 34)) ⌝ }
+    ensures { λ r. ⌜ ((a w : List ℕ) → Went (named (fsOf a w (now (mem .entry))) i c kind) (fsOf a w (now (mem .exit))) (Whole (now (mem .exit))) r) ⌝ }
+{
+    let r = nlinks_inc(mem, c);
+    if r != 0 {
+        return r;
+    }
+    if kind == 2 {
+        return name_folder(mem, i, c);
+    }
+    0
+}
+
+// Superblock and maps, the node's record, the folder's record.
+fn create_sync(arena: &[u8], work: &mut [u8], mem: &mut [u8], i: usize, c: usize) -> u8
+    requires { ⌜ Ready (now arena) (now work) (now mem) × ((21 ≤ left (now work)) × ((i < 34) × (c < 34))) ⌝ }
+    ensures { λ r. ⌜ Stepped (createSync (fsOf (now (arena .entry)) (now (work .entry)) (now (mem .entry))) i c) (now (arena .entry)) (now (work .entry)) (now (work .exit)) (now (mem .exit)) 21 r ⌝ }
+{
+    let r = sync_meta(arena, work, &mem[..]);
+    if r != 0 {
+        return r;
+    }
+    sync_two(arena, work, mem, i, c)
+}
+
+// What comes after the node is made: slots, link counts, stores.
+fn create_rest(
+    arena: &[u8],
+    work: &mut [u8],
+    mem: &mut [u8],
+    i: usize,
+    c: usize,
+    name: &[u8],
+    kind: u32,
+) -> u8
+    requires { ⌜ Ready (now arena) (now work) (now mem) × ((30 ≤ left (now work)) × ((i < 34) × ((c < 34) × (length (now name) ≤ 255)))) ⌝ }
+    ensures { λ r. ⌜ Stepped (createRest (fsOf (now (arena .entry)) (now (work .entry)) (now (mem .entry))) i c (now (name .entry)) kind) (now (arena .entry)) (now (work .entry)) (now (work .exit)) (now (mem .exit)) 30 r ⌝ }
+{
+    let r = birth(arena, work, mem, i, c, kind);
+    if r != 0 {
+        return r;
+    }
+    let r = append_named(arena, work, mem, i, c, name, kind);
+    if r != 0 {
+        return r;
+    }
+    let r = name_node(mem, i, c, kind);
+    if r != 0 {
+        return r;
+    }
+    create_sync(arena, work, mem, i, c)
 }
