@@ -1,5 +1,5 @@
 // Calls that look at a node: metadata, set metadata, get entry and the listing. They change no byte of the arena.
-pub mod slots;
+mod slots;
 
 ghost use mathlib.Core.Path.{_≡_};
 ghost use mathlib.Core.Bool.{true};
