@@ -15,7 +15,7 @@ use Rattle.sefs.specs.Ask.{admit, byHandle, start}
 use Rattle.sefs.specs.Create.{after}
 use Rattle.sefs.specs.Close.{closeSteps, callClose}
 use Rattle.calls.specs.Asked.{reached}
-use Rattle.calls_close.specs.Ends.{ending}
+use Rattle.calls_steps.specs.Ends.{ending}
 
 -- the first questions, and the rest
 close-is : (a : List ℕ) (t : Table) (h : Handle) → callClose a t h ≡ bind (reached a t h) (λ i. ending (closeSteps (start a (closeHold t (h .hold) .table)) (closeHold t (h .hold) .last) i))

@@ -9,7 +9,7 @@ ghost use Rattle.sefs.specs.Ask.{start};
 ghost use Rattle.sefs.specs.Nodes.{dropNode};
 ghost use Rattle.sefs.specs.Close.{closeSteps, callClose};
 ghost use Rattle.mem.specs.Mem.{tableIn};
-ghost use Rattle.calls_close.specs.Ends.{ending, Ended, Returned};
+ghost use Rattle.calls_steps.specs.Ends.{ending, Ended, Returned};
 use calls::After;
 use calls::done;
 use calls::reach;

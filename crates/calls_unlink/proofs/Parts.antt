@@ -23,16 +23,10 @@ use Rattle.sefs.specs.Unlink.{notFull}
 use Rattle.mem.specs.Mem.{tableIn}
 use Rattle.mem.specs.State.{fsOf, Stepped}
 use Rattle.calls.proofs.Asks.{Asks, asks-ensure, asks-then, asks-live, asked-done, asked-not, answer-stop, answer-next}
-use Rattle.utf8.specs.Names.{nameVerdict, earlyReason, isSpecial}
+use Rattle.calls_steps.proofs.Steps.{asks-good, asks-special, rec-of}
 use Rattle.calls_unlink.specs.Steps.{nameAsks, unlinkAsks, removeNode, removeId, removeName, unlinkIn}
 
 -- ---- questions
-
-asks-good : (name : List ℕ) → Asks (goodName name)
-asks-good name = asks-ensure (eqb (earlyReason (nameVerdict name)) 0) 5 (omega arith)
-
-asks-special : (name : List ℕ) → Asks (notSpecial name)
-asks-special name = asks-ensure (not (isSpecial name)) 9 (omega arith)
 
 asks-name : (name : List ℕ) → Asks (nameAsks name)
 unfolding nameAsks
@@ -96,11 +90,6 @@ module _ (r : DiskINode) where
 
 -- ---- steps
 
--- the record that memory has is the state's
-rec-fs : (a w m : List ℕ) (c : ℕ) → rowAt (tableIn m) c .rec ≡ recAt (fsOf a w m) c
-unfolding fsOf
-rec-fs a w m c = refl
-
 -- the removal, then the folder's record
 module _ (s : Fs) (i c k : ℕ) (a w u m : List ℕ) (r : ℕ) (g : Stepped (direntNodeRemove s i c k) a w u m 23 r) where
   pub node-stop : (r ≡ 0 → ⊥) → Stepped (removeNode s i c k) a w u m 26 r
@@ -121,7 +110,7 @@ module _ (s : Fs) (i id k : ℕ) (a w m : List ℕ) (c r : ℕ) {P : Type 0} (g 
 
   module _ (z : r ≡ 0) (x : DiskINode) (e : x ≡ rowAt (tableIn m) c .rec) (q : ℕ) (f : q ≡ answer (notFull x)) where
     full-fs : q ≡ answer (notFull (recAt (fsOf a w m) c))
-    full-fs = f ∙ ap (λ (y : DiskINode). answer (notFull y)) (e ∙ rec-fs a w m c)
+    full-fs = f ∙ ap (λ (y : DiskINode). answer (notFull y)) (rec-of a w m c x e)
 
     pub id-full : (v : Fs) {Q : Type 0} → (q ≡ 0 → ⊥) → Went (removeId s i id k) v Q q
     unfolding removeId
@@ -152,7 +141,7 @@ module _ (a w m : List ℕ) (i : ℕ) (name l : List ℕ) (k r : ℕ) {P : Type 
 -- the questions, then the steps
 module _ (a w m : List ℕ) (i : ℕ) (name : List ℕ) (r : ℕ) (x : DiskINode) (d : x ≡ rowAt (tableIn m) i .rec) (f : r ≡ answer (unlinkAsks x name)) where
   asks-fs : r ≡ answer (unlinkAsks (recAt (fsOf a w m) i) name)
-  asks-fs = f ∙ ap (λ (y : DiskINode). answer (unlinkAsks y name)) (d ∙ rec-fs a w m i)
+  asks-fs = f ∙ ap (λ (y : DiskINode). answer (unlinkAsks y name)) (rec-of a w m i x d)
 
   pub unlink-stop : (v : Fs) {Q : Type 0} → (r ≡ 0 → ⊥) → Went (unlinkIn (fsOf a w m) i name) v Q r
   unfolding unlinkIn

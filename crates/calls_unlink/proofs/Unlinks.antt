@@ -1,16 +1,9 @@
 -- The call unlink, in its parts.
 use mathlib.Core.Path.{_≡_, refl, sym, _∙_}
-use mathlib.Core.Bool.{true}
 use mathlib.Core.List.{List}
 use Prim.Native.Nat.{ℕ}
-use native.Mathlib.Omega.{arith}
-use lib.ListN.{replicate}
 use Rattle.base.specs.Out.{Out, done, refused, bind, Went}
 use Rattle.base.proofs.Outs.{went-is, went-not, bind-assoc}
-use Rattle.arena.specs.Blocks.{legal}
-use Rattle.arena.proofs.Blocks.{legal-is}
-use Rattle.overlay.specs.View.{begun}
-use Rattle.overlay.proofs.Views.{Ready, ready}
 use Rattle.table.specs.declared.Table.{Table}
 use Rattle.table.specs.declared.Handle.{Handle}
 use Rattle.sefs.specs.State.{Fs}
@@ -21,17 +14,9 @@ use Rattle.sefs.specs.Ask.{admit, byHandle, goodName, notLong, notSpecial, live
 use Rattle.sefs.specs.Create.{After, after}
 use Rattle.sefs.specs.Unlink.{notFull, unlinkSteps, callUnlink}
 use Rattle.calls.specs.Asked.{reached}
-use Rattle.calls_close.specs.Ends.{ending}
+use Rattle.calls_steps.specs.Ends.{ending}
+use Rattle.calls_steps.proofs.Ends.{bind-same}
 use Rattle.calls_unlink.specs.Steps.{nameAsks, unlinkAsks, removeNode, removeId, removeName, unlinkIn}
-
--- steps that go on alike
-bind-same : {A B : Type 0} (m : Out A) {f g : A → Out B} → ((x : A) → f x ≡ g x) → bind m f ≡ bind m g
-bind-same (done x) h = h x
-bind-same (refused n) h = refl
-
--- a workspace of 36 blocks of zeros, made ready: 26 are left for stores
-pub started : (a w : List ℕ) → legal a ≡ true → w ≡ begun (replicate 18432 0) → Ready a w 36
-started a w l e = ready a w 36 (legal-is a l .whole) (legal-is a l .most) (omega arith) (omega arith) e
 
 -- the questions first
 asks-is : (g l s n : Out Unit) (o : Out Fs) (r : Out After) → r ≡ ending o
@@ -49,7 +34,7 @@ node-is s i c k = sym (bind-assoc (direntNodeRemove s i c k) (λ d. syncRow d i)
 id-is : (s : Fs) (i id k : ℕ) → bind (getNode s id) (λ o. bind (notFull (recAt (o .state) (o .row))) (λ _. unlinkSteps (o .state) i (o .row) k)) ≡ ending (removeId s i id k)
 unfolding removeId
 id-is s i id k =
-    bind-same (getNode s id) (λ o. bind-same (notFull (recAt (o .state) (o .row))) (λ _. node-is (o .state) i (o .row) k)
+    bind-same (getNode s id) _ _ (λ o. bind-same (notFull (recAt (o .state) (o .row))) _ _ (λ _. node-is (o .state) i (o .row) k)
     ∙ sym (bind-assoc (notFull (recAt (o .state) (o .row))) (λ _. removeNode (o .state) i (o .row) k) (λ d. done (after d))))
     ∙ sym (bind-assoc (getNode s id) (λ o. bind (notFull (recAt (o .state) (o .row))) (λ _. removeNode (o .state) i (o .row) k)) (λ d. done (after d)))
 
@@ -57,7 +42,7 @@ name-is : (s : Fs) (i : ℕ) (name : List ℕ)
     → bind (findSlot (s .arena) (recAt s i) name) (λ f. bind (getNode s (f .entry .id)) (λ o. bind (notFull (recAt (o .state) (o .row))) (λ _. unlinkSteps (o .state) i (o .row) (f .place)))) ≡ ending (removeName s i name)
 unfolding removeName
 name-is s i name =
-    bind-same (findSlot (s .arena) (recAt s i) name) (λ f. id-is s i (f .entry .id) (f .place))
+    bind-same (findSlot (s .arena) (recAt s i) name) _ _ (λ f. id-is s i (f .entry .id) (f .place))
     ∙ sym (bind-assoc (findSlot (s .arena) (recAt s i) name) (λ f. removeId s i (f .entry .id) (f .place)) (λ d. done (after d)))
 
 row-is : (a : List ℕ) (t : Table) (i : ℕ) (name : List ℕ)
@@ -68,7 +53,7 @@ row-is a t i name = asks-is (goodName name) (liveFolder (recAt (start a t) i)) (
 unlink-is : (a : List ℕ) (t : Table) (h : Handle) (name : List ℕ) → callUnlink a t h name ≡ bind (reached a t h) (λ i. ending (unlinkIn (start a t) i name))
 unfolding callUnlink reached
 unlink-is a t h name =
-    bind-same (admit a t) (λ _. bind-same (byHandle t h) (λ i. row-is a t i name))
+    bind-same (admit a t) _ _ (λ _. bind-same (byHandle t h) _ _ (λ i. row-is a t i name))
     ∙ sym (bind-assoc (admit a t) (λ _. byHandle t h) (λ i. ending (unlinkIn (start a t) i name)))
 
 module _ (a : List ℕ) (t : Table) (h : Handle) (name : List ℕ) {i n : ℕ} {P : Type 0} (g : Went (reached a t h) i P n) where

@@ -11,7 +11,7 @@ ghost use Rattle.sefs.specs.Ask.{start};
 ghost use Rattle.sefs.specs.Unlink.{notFull, callUnlink};
 ghost use Rattle.mem.specs.Mem.{tableIn};
 ghost use Rattle.mem.specs.State.{fsOf, Ready, Stepped};
-ghost use Rattle.calls_close.specs.Ends.{ending, Ended, Returned};
+ghost use Rattle.calls_steps.specs.Ends.{ending, Ended, Returned};
 ghost use Rattle.calls_unlink.specs.Steps.{nameAsks, unlinkAsks, removeNode, removeId, removeName, unlinkIn};
 use calls::After;
 use calls::good_name;

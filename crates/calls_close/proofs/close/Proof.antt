@@ -1,7 +1,7 @@
 -- `calls_close::close`: by the first questions.
 use mathlib.Core.Path.{refl}
 use Rattle.base.proofs.Outs.{went-has}
-use Rattle.calls_close.proofs.Ends.{returned-is, returned-refused}
+use Rattle.calls_steps.proofs.Ends.{returned-is, returned-refused}
 use Rattle.calls_close.proofs.Closes.{close-not, close-at}
 use borrow.Author.Needs.{needs}
 use Rattle.calls_close.proofs.close.Statement.{statement}

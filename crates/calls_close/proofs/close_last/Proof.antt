@@ -1,8 +1,9 @@
 -- `calls_close::close_last`: memory has the table u, and the workspace is ready.
+use native.Mathlib.Omega.{arith}
 use Rattle.sefs.specs.Ask.{start}
 use Rattle.sefs.specs.Nodes.{dropNode}
-use Rattle.calls_close.specs.Ends.{ending}
-use Rattle.calls_close.proofs.Ends.{started, returned-table}
+use Rattle.calls_steps.specs.Ends.{ending}
+use Rattle.calls_steps.proofs.Ends.{started, returned-table}
 use borrow.Author.Needs.{needs}
 use Rattle.calls_close.proofs.close_last.Statement.{statement}
 use Rattle.calls_close.proofs.close_last.Tie as tie
@@ -28,7 +29,7 @@ slice-aggregate-drop-in-2 c = search needs
 drop-in-requires : tie.Need-drop-in-requires
 drop-in-requires c κs =
     let s = c .before .before .before .before .before .before .before .before .before .before in
-    (started _ _ (s .pre .0) (c .before .before .before .before .begin .ensures), (search needs, s .pre .1))
+    (started _ _ 28 (s .pre .0) (omega arith) (omega arith) (c .before .before .before .before .begin .ensures), (search needs, s .pre .1))
 
 slice-aggregate-settle : tie.Need-slice-aggregate-settle
 slice-aggregate-settle c = search needs

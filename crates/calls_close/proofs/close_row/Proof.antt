@@ -1,6 +1,6 @@
 -- `calls_close::close_row`: by whether the hold was its row's last.
 use mathlib.Core.Path.{refl}
-use Rattle.calls_close.proofs.Ends.{returned-is, returned-done}
+use Rattle.calls_steps.proofs.Ends.{returned-is, returned-done}
 use Rattle.calls_close.proofs.Closes.{steps-last, steps-kept}
 use borrow.Author.Needs.{needs}
 use Rattle.calls_close.proofs.close_row.Statement.{statement}

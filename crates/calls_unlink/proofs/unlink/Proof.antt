@@ -1,7 +1,7 @@
 -- `calls_unlink::unlink`: by the first questions.
 use mathlib.Core.Path.{refl}
 use Rattle.base.proofs.Outs.{went-has}
-use Rattle.calls_close.proofs.Ends.{returned-is, returned-refused}
+use Rattle.calls_steps.proofs.Ends.{returned-is, returned-refused}
 use Rattle.calls_unlink.proofs.Unlinks.{unlink-not, unlink-row}
 use borrow.Author.Needs.{needs}
 use Rattle.calls_unlink.proofs.unlink.Statement.{statement}

@@ -2,7 +2,7 @@
 use mathlib.Core.Path.{refl}
 use Rattle.base.proofs.Outs.{went-has}
 use Rattle.calls_unlink.specs.Steps.{unlinkIn}
-use Rattle.calls_close.proofs.Ends.{fs-start, ended-not, ended-done}
+use Rattle.calls_steps.proofs.Ends.{fs-start, ended-not, ended-done}
 use borrow.Author.Needs.{needs}
 use Rattle.calls_unlink.proofs.unlink_in.Statement.{statement}
 use Rattle.calls_unlink.proofs.unlink_in.Tie as tie

@@ -1,9 +1,9 @@
 -- `calls_unlink::unlink_row`: memory has the table, and the workspace is ready.
+use native.Mathlib.Omega.{arith}
 use Rattle.sefs.specs.Ask.{start}
 use Rattle.calls_unlink.specs.Steps.{unlinkIn}
-use Rattle.calls_close.specs.Ends.{ending}
-use Rattle.calls_close.proofs.Ends.{returned-table}
-use Rattle.calls_unlink.proofs.Unlinks.{started}
+use Rattle.calls_steps.specs.Ends.{ending}
+use Rattle.calls_steps.proofs.Ends.{started, returned-table}
 use borrow.Author.Needs.{needs}
 use Rattle.calls_unlink.proofs.unlink_row.Statement.{statement}
 use Rattle.calls_unlink.proofs.unlink_row.Tie as tie
@@ -29,7 +29,7 @@ slice-aggregate-unlink-in-2 c = search needs
 unlink-in-requires : tie.Need-unlink-in-requires
 unlink-in-requires c κs =
     let s = c .before .before .before .before .before .before .before .before .before .before .before in
-    (started _ _ (s .pre .0) (c .before .before .before .before .begin .ensures), (search needs, s .pre .1))
+    (started _ _ 36 (s .pre .0) (omega arith) (omega arith) (c .before .before .before .before .begin .ensures), (search needs, s .pre .1))
 
 slice-aggregate-settle : tie.Need-slice-aggregate-settle
 slice-aggregate-settle c = search needs

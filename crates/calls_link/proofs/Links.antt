@@ -1,0 +1,153 @@
+-- The call link, in its parts.
+use mathlib.Core.Path.{_≡_, refl, sym, _∙_, ap, subst}
+use mathlib.Core.Bool.{Bool, true, false, not, _&&_}
+use mathlib.Core.List.{List}
+use Prim.Native.Nat.{ℕ, _+_, _*_, _-_, _≤_, _<_}
+use native.Mathlib.Omega.{arith}
+use lib.ListN.{length, getD, replicate}
+use lib.Dec.{eqb, ltb, leb}
+use borrow.Author.Tests.{lt-ltb, le-ltb, lt-leb, le-leb, leb-true, eq-eqb, ne-eqb}
+use Rattle.base.specs.Out.{Out, done, refused, bind, ensure, answer, Went, well, ill}
+use Rattle.base.specs.Search.{foundBelow}
+use Rattle.base.proofs.Outs.{went-is, went-has, went-not, went-stop, went-next, above-zero, bind-assoc}
+use Rattle.base.proofs.Searches.{found-at, found-nothing}
+use Rattle.base.proofs.Parts.{getD-zero-list}
+use Rattle.structs.specs.Verdict.{isFolder}
+use Rattle.structs.specs.declared.DiskINode.{DiskINode}
+use Rattle.structs.specs.declared.DiskEntry.{DiskEntry}
+use Rattle.structs.specs.Layout.{entryOf, entryBytes}
+use Rattle.structs.specs.Fits.{EntryFits}
+use Rattle.structs.proofs.Layouts.{entryOf-entryBytes}
+use Rattle.structs.proofs.Joins.{bytes-append}
+use Rattle.le.specs.Le.{Bytes}
+use Rattle.folders.proofs.States.{stepped-next}
+use Rattle.mem.specs.Mem.{tableIn, Whole}
+use Rattle.overlay.specs.View.{view}
+use Rattle.table.specs.Table.{rowAt}
+use Rattle.utf8.specs.Names.{nameVerdict, earlyReason, nameBytes}
+use Rattle.utf8.proofs.Names.{length-nameBytes}
+use Rattle.table.specs.declared.Table.{Table}
+use Rattle.table.specs.declared.Handle.{Handle}
+use Rattle.sefs.specs.State.{Fs}
+use Rattle.sefs.specs.Nodes.{recAt, idAt, syncRow}
+use Rattle.sefs.specs.Slots.{lookTo, lookup}
+use Rattle.sefs.specs.Folders.{entry, direntAppend, nlinksInc}
+use Rattle.sefs.specs.Ask.{admit, byHandle, goodName, notLong, known, liveFolder, orExists, start}
+use Rattle.sefs.specs.Create.{After, linkSteps, callLink}
+use Rattle.mem.specs.State.{fsOf, Ready, Still, Stepped}
+use Rattle.folders.proofs.Lookups.{lookup-is}
+use Rattle.calls.proofs.Asks.{Asks, asks-ensure, asks-then, asks-live, asked-not, asked-done, asked-went, answer-stop, answer-next}
+use Rattle.calls_steps.specs.Ends.{ending}
+use Rattle.calls_link.specs.Link.{linkAsk, linkChild, linkMoves, linkWork}
+use Rattle.calls_steps.specs.Steps.{noSlot, syncTwo}
+use Rattle.calls_steps.proofs.Ends.{ending-bind, ending-both, bind-same}
+use Rattle.calls_steps.proofs.Steps.{asks-good, asks-known, long}
+
+-- ---- the call is its questions and its steps
+
+moves-is : (s : Fs) (i : ℕ) (name : List ℕ) (c : ℕ) → linkSteps s i name c ≡ ending (linkMoves s i name c)
+unfolding linkSteps linkMoves syncTwo
+moves-is s i name c =
+    ending-bind (direntAppend s i (entry (idAt s c) name (recAt s c .kind))) (λ s. bind (nlinksInc s c) (λ s. bind (syncRow s c) (λ s. syncRow s i))) _ (λ s.
+    ending-bind (nlinksInc s c) (λ s. bind (syncRow s c) (λ s. syncRow s i)) _ (λ s.
+    ending-bind (syncRow s c) (λ s. syncRow s i) _ (λ s. refl)))
+
+work-is : (s : Fs) (i : ℕ) (name : List ℕ) (c : ℕ) → bind (goodName name) (λ _. bind (liveFolder (recAt s i)) (λ _. bind (notLong name) (λ _. bind (lookup (s .arena) (recAt s i) name) (λ f. bind (orExists f) (λ _. bind (known (recAt s c)) (λ _. bind (ensure (not (isFolder (recAt s c .kind))) 9) (λ _. bind (ensure (ltb (recAt s c .nlinks) 65535) 15) (λ _. linkSteps s i name c)))))))) ≡ ending (linkWork s i name c)
+unfolding linkWork linkAsk noSlot linkChild
+work-is s i name c =
+    let d = linkChild (recAt s c) in
+    ending-both (goodName name) (λ _. bind (liveFolder (recAt s i)) (λ _. notLong name)) (λ _. bind (noSlot (s .arena) (recAt s i) name) (λ _. bind d (λ _. linkMoves s i name c))) _ (λ _.
+    ending-both (liveFolder (recAt s i)) (λ _. notLong name) (λ _. bind (noSlot (s .arena) (recAt s i) name) (λ _. bind d (λ _. linkMoves s i name c))) _ (λ _.
+    ending-bind (notLong name) (λ _. bind (noSlot (s .arena) (recAt s i) name) (λ _. bind d (λ _. linkMoves s i name c))) _ (λ _.
+    ending-both (lookup (s .arena) (recAt s i) name) orExists (λ _. bind d (λ _. linkMoves s i name c)) _ (λ f.
+    ending-bind (orExists f) (λ _. bind d (λ _. linkMoves s i name c)) _ (λ _.
+    ending-both (known (recAt s c)) (λ _. bind (ensure (not (isFolder (recAt s c .kind))) 9) (λ _. ensure (ltb (recAt s c .nlinks) 65535) 15)) (λ _. linkMoves s i name c) _ (λ _.
+    ending-both (ensure (not (isFolder (recAt s c .kind))) 9) (λ _. ensure (ltb (recAt s c .nlinks) 65535) 15) (λ _. linkMoves s i name c) _ (λ _.
+    ending-bind (ensure (ltb (recAt s c .nlinks) 65535) 15) (λ _. linkMoves s i name c) _ (λ _. moves-is s i name c))))))))
+
+pub link-is : (a : List ℕ) (t : Table) (h : Handle) (name : List ℕ) (child : Handle) → callLink a t h name child ≡ bind (admit a t) (λ _. bind (byHandle t h) (λ i. bind (byHandle t child) (λ c. ending (linkWork (start a t) i name c))))
+unfolding callLink
+link-is a t h name child =
+    bind-same (admit a t) _ _ (λ _.
+    bind-same (byHandle t h) _ _ (λ i.
+    bind-same (byHandle t child) _ _ (λ c. work-is (start a t) i name c)))
+
+-- ---- the folder and the name
+
+module _ (r : DiskINode) (name : List ℕ) {m : ℕ} (e : m ≡ answer (goodName name)) where
+  pub ask-name : (m ≡ 0 → ⊥) → Went (linkAsk r name) tt (length name ≤ 255) m
+  unfolding linkAsk
+  ask-name z = went-stop _ tt z (asked-went (goodName name) (asks-good name) m e)
+
+  module _ {n : ℕ} (z : m ≡ 0) (f : n ≡ answer (liveFolder r)) where
+    pub ask-live : (n ≡ 0 → ⊥) → Went (linkAsk r name) tt (length name ≤ 255) n
+    unfolding linkAsk
+    ask-live y = went-next _ (asked-done (goodName name) (asks-good name) m e z) (went-stop _ tt y (asked-went (liveFolder r) (asks-live r) n f))
+
+    pub ask-long : {x : ℕ} → n ≡ 0 → x ≡ answer (notLong name) → Went (linkAsk r name) tt (length name ≤ 255) x
+    unfolding linkAsk
+    ask-long y d = went-next _ (asked-done (goodName name) (asks-good name) m e z) (went-next _ (asked-done (liveFolder r) (asks-live r) n f y) (long name _ d))
+
+-- ---- the child
+
+module _ (r : DiskINode) {n : ℕ} (e : n ≡ answer (known r)) where
+  pub child-stop : (n ≡ 0 → ⊥) → Went (linkChild r) tt Unit n
+  unfolding linkChild
+  child-stop z = went-stop _ tt z (asked-went (known r) (asks-known r) n e)
+
+  is-known : n ≡ 0 → known r ≡ done tt
+  is-known z = asked-done (known r) (asks-known r) n e z
+
+  pub child-folder : n ≡ 0 → r .kind ≡ 2 → Went (linkChild r) tt Unit 9
+  unfolding linkChild
+  child-folder z k = ill {r = 9} (omega arith) (rw (is-known z, eq-eqb (r .kind) 2 k))
+
+  pub child-full : n ≡ 0 → (r .kind ≡ 2 → ⊥) → 65535 ≤ r .nlinks → Went (linkChild r) tt Unit 15
+  unfolding linkChild
+  child-full z k l = ill {r = 15} (omega arith) (rw (is-known z, ne-eqb (r .kind) 2 k, le-ltb (r .nlinks) 65535 l))
+
+  pub child-fine : n ≡ 0 → (r .kind ≡ 2 → ⊥) → r .nlinks < 65535 → Went (linkChild r) tt Unit 0
+  unfolding linkChild
+  child-fine z k l = well (rw (is-known z, ne-eqb (r .kind) 2 k, lt-ltb (r .nlinks) 65535 l)) tt
+
+-- ---- the steps
+
+module _ {a w u n : List ℕ} {r : ℕ} (m name : List ℕ) (i c : ℕ) (rec : DiskINode) (k : rec ≡ recAt (fsOf a w m) c) (g : Stepped (direntAppend (fsOf a w m) i (entry (idAt (fsOf a w m) c) name (rec .kind))) a w u n 3 r) where
+  slotted : Stepped (direntAppend (fsOf a w m) i (entry (idAt (fsOf a w m) c) name (recAt (fsOf a w m) c .kind))) a w u n 3 r
+  slotted = subst (λ (x : DiskINode). Stepped (direntAppend (fsOf a w m) i (entry (idAt (fsOf a w m) c) name (x .kind))) a w u n 3 r) k g
+
+  pub moves-stop : (t l : List ℕ) → (r ≡ 0 → ⊥) → Stepped (linkMoves (fsOf a w m) i name c) a w t l 9 r
+  unfolding linkMoves
+  moves-stop t l z = went-stop _ _ z slotted
+
+  module _ {x : ℕ} (p : List ℕ) (h : Went (nlinksInc (fsOf a u n) c) (fsOf a u p) (Whole p) x) (z : r ≡ 0) where
+    pub moves-inc : (t l : List ℕ) → (x ≡ 0 → ⊥) → Stepped (linkMoves (fsOf a w m) i name c) a w t l 9 x
+    unfolding linkMoves
+    moves-inc t l y = went-next _ (went-is slotted z) (went-stop _ _ y h)
+
+    pub moves-done : {t l : List ℕ} {q : ℕ} → x ≡ 0 → Stepped (syncTwo (fsOf a u p) i c) a u t l 6 q → Stepped (linkMoves (fsOf a w m) i name c) a w t l 9 q
+    unfolding linkMoves
+    moves-done y d = stepped-next (λ s. bind (nlinksInc s c) (λ s. syncTwo s i c)) 3 9 (went-is slotted z) (went-has g z) (went-next _ (went-is h y) d) (omega arith)
+
+-- ---- the questions and the steps
+
+module _ (s : Fs) (i c : ℕ) (name : List ℕ) (rec : DiskINode) (k : rec ≡ recAt s i) {P : Type 0} {x : ℕ} (g : Went (linkAsk rec name) tt P x) where
+  pub work-ask : (v : Fs) (Q : Type 0) → (x ≡ 0 → ⊥) → Went (linkWork s i name c) v Q x
+  unfolding linkWork
+  work-ask v Q z = ill (above-zero _ z) (rw (← k, went-not g z))
+
+  module _ {y : ℕ} (z : x ≡ 0) (d : List ℕ) (b : d ≡ s .arena) (h : Went (noSlot d rec name) tt Unit y) where
+    pub work-slot : (v : Fs) (Q : Type 0) → (y ≡ 0 → ⊥) → Went (linkWork s i name c) v Q y
+    unfolding linkWork
+    work-slot v Q o = ill (above-zero _ o) (rw (← k, went-is g z, ← b, went-not h o))
+
+    module _ {w : ℕ} (child : DiskINode) (q : child ≡ recAt s c) (o : y ≡ 0) (f : Went (linkChild child) tt Unit w) where
+      pub work-child : (v : Fs) (Q : Type 0) → (w ≡ 0 → ⊥) → Went (linkWork s i name c) v Q w
+      unfolding linkWork
+      work-child v Q j = ill (above-zero _ j) (rw (← k, went-is g z, ← b, went-is h o, ← q, went-not f j))
+
+      pub work-moves : {v : Fs} {Q : Type 0} {r : ℕ} → w ≡ 0 → Went (linkMoves s i name c) v Q r → Went (linkWork s i name c) v Q r
+      unfolding linkWork
+      work-moves {v} {Q} {r} j m =
+          let e : linkWork s i name c ≡ linkMoves s i name c = rw (← k, went-is g z, ← b, went-is h o, ← q, went-is f j) in
+          subst (λ (u : Out Fs). Went u v Q r) (sym e) m

@@ -1,0 +1,43 @@
+-- The parts of the call link, as the code's functions have them.
+use mathlib.Core.Bool.{not}
+use mathlib.Core.List.{List}
+use Prim.Native.Nat.{ℕ}
+use lib.Dec.{ltb}
+use Rattle.structs.specs.Verdict.{isFolder}
+use Rattle.structs.specs.declared.DiskINode.{DiskINode}
+use Rattle.base.specs.Out.{Out, done, refused, ensure, _>>=_}
+use Rattle.base.specs.Reasons.{isDir, tooManyLinks}
+use Rattle.sefs.specs.State.{Fs}
+use Rattle.sefs.specs.Nodes.{recAt, idAt}
+use Rattle.sefs.specs.Folders.{entry, direntAppend, nlinksInc}
+use Rattle.sefs.specs.Ask.{goodName, notLong, known, liveFolder}
+use Rattle.calls_steps.specs.Steps.{noSlot, syncTwo}
+
+-- 5, 7, 8, 10: of the folder's record, and of the name
+unfoldable pub linkAsk : DiskINode → List ℕ → Out Unit
+linkAsk r name = do
+  _ ← goodName name
+  _ ← liveFolder r
+  notLong name
+
+-- 9 where the child is a folder, 15
+unfoldable pub linkChild : DiskINode → Out Unit
+linkChild r = do
+  _ ← known r
+  _ ← ensure (not (isFolder (r .kind))) isDir
+  ensure (ltb (r .nlinks) 65535) tooManyLinks
+
+-- the slot, the child's count, the records
+unfoldable pub linkMoves : Fs → ℕ → List ℕ → ℕ → Out Fs
+linkMoves s i name c = do
+  s ← direntAppend s i (entry (idAt s c) name (recAt s c .kind))
+  s ← nlinksInc s c
+  syncTwo s i c
+
+-- what is asked once the handles are known, and the steps
+unfoldable pub linkWork : Fs → ℕ → List ℕ → ℕ → Out Fs
+linkWork s i name c = do
+  _ ← linkAsk (recAt s i) name
+  _ ← noSlot (s .arena) (recAt s i) name
+  _ ← linkChild (recAt s c)
+  linkMoves s i name c

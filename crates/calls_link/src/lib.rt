@@ -1,0 +1,142 @@
+// The call link. It decides on a view of the arena, and commits once nothing can refuse it any more.
+ghost use mathlib.Core.Path.{_≡_};
+ghost use mathlib.Core.Bool.{true};
+ghost use Prim.Native.Nat.{_<_, _≤_};
+ghost use lib.ListN.{length};
+ghost use Rattle.base.specs.Out.{Went};
+ghost use Rattle.arena.specs.Blocks.{legal};
+ghost use Rattle.overlay.specs.View.{left};
+ghost use Rattle.overlay.proofs.Views.{Ready as Empty};
+ghost use Rattle.sefs.specs.Ask.{start};
+ghost use Rattle.sefs.specs.Create.{callLink};
+ghost use Rattle.mem.specs.Mem.{tableIn};
+ghost use Rattle.mem.specs.State.{fsOf, Ready, Stepped};
+ghost use Rattle.calls_steps.specs.Ends.{ending, Ended, Returned};
+ghost use Rattle.calls_link.specs.Link.{linkAsk, linkChild, linkMoves, linkWork};
+use calls::After;
+use calls::admit_two;
+use calls::by_handle;
+use calls::good_name;
+use calls::known;
+use calls::live_folder;
+use calls::not_long;
+use calls::refused;
+use calls::settle;
+use calls_steps::append_named;
+use calls_steps::no_slot;
+use calls_steps::sync_two;
+use folders::nlinks_inc;
+use mem::put_table;
+use mem::rec_at;
+use nodes::meta::load_meta;
+use structs::DiskINode;
+use table::Handle;
+use table::Table;
+use table::well_formed;
+
+// ---- link: 5, 7, 8, 10, 12, 9 (child a folder), 15, then the steps: slot, child's record, folder's record
+
+fn link_ask(rec: DiskINode, name: &[u8]) -> u8
+    ensures { λ r. ⌜ Went (linkAsk rec (now (name .entry))) tt (length (now (name .entry)) ≤ 255) r ⌝ }
+{
+    let r = good_name(name);
+    if r != 0 {
+        return r;
+    }
+    let r = live_folder(rec);
+    if r != 0 {
+        return r;
+    }
+    not_long(name)
+}
+
+fn link_child(rec: DiskINode) -> u8
+    ensures { λ r. ⌜ Went (linkChild rec) tt Unit r ⌝ }
+{
+    let r = known(rec);
+    if r != 0 {
+        return r;
+    }
+    if rec.kind == 2 {
+        return 9;
+    }
+    if rec.nlinks < 65535 {
+        return 0;
+    }
+    15
+}
+
+fn link_moves(arena: &[u8], work: &mut [u8], mem: &mut [u8], i: usize, name: &[u8], c: usize) -> u8
+    requires { ⌜ Ready (now arena) (now work) (now mem) × ((9 ≤ left (now work)) × ((i < 34) × ((c < 34) × (length (now name) ≤ 255)))) ⌝ }
+    ensures { λ r. ⌜ Stepped (linkMoves (fsOf (now (arena .entry)) (now (work .entry)) (now (mem .entry))) i (now (name .entry)) c) (now (arena .entry)) (now (work .entry)) (now (work .exit)) (now (mem .exit)) 9 r ⌝ }
+{
+    let kind = rec_at(&mem[..], c).kind;
+    let r = append_named(arena, work, mem, i, c, name, kind);
+    if r != 0 {
+        return r;
+    }
+    let r = nlinks_inc(mem, c);
+    if r != 0 {
+        return r;
+    }
+    sync_two(arena, work, mem, i, c)
+}
+
+fn link_work(arena: &[u8], work: &mut [u8], mem: &mut [u8], i: usize, name: &[u8], c: usize) -> u8
+    requires { ⌜ Ready (now arena) (now work) (now mem) × ((9 ≤ left (now work)) × ((i < 34) × (c < 34))) ⌝ }
+    ensures { λ r. ⌜ Stepped (linkWork (fsOf (now (arena .entry)) (now (work .entry)) (now (mem .entry))) i (now (name .entry)) c) (now (arena .entry)) (now (work .entry)) (now (work .exit)) (now (mem .exit)) 9 r ⌝ }
+{
+    let rec = rec_at(&mem[..], i);
+    let r = link_ask(rec, name);
+    if r != 0 {
+        return r;
+    }
+    let r = no_slot(arena, &work[..], rec, name);
+    if r != 0 {
+        return r;
+    }
+    let r = link_child(rec_at(&mem[..], c));
+    if r != 0 {
+        return r;
+    }
+    link_moves(arena, work, mem, i, name, c)
+}
+
+// The workspace has no block yet, and memory has the table.
+fn link_in(arena: &mut [u8], work: &mut [u8], mem: &mut [u8], i: usize, name: &[u8], c: usize) -> u8
+    requires { ⌜ Empty (now arena) (now work) 19 × ((length (now mem) ≡ 4899) × ((i < 34) × (c < 34))) ⌝ }
+    ensures { λ r. ⌜ Ended (ending (linkWork (start (now (arena .entry)) (tableIn (now (mem .entry)))) i (now (name .entry)) c)) (now (arena .entry)) (now (arena .exit)) (tableIn (now (mem .exit))) r ⌝ }
+{
+    load_meta(&arena[..], &work[..], mem);
+    let r = link_work(&arena[..], work, mem, i, name, c);
+    if r != 0 {
+        return r;
+    }
+    overlay::commit(arena, &work[..]);
+    0
+}
+
+// Memory and workspace are made.
+fn link_rows(arena: &mut [u8], t: Table, i: usize, name: &[u8], c: usize) -> After
+    requires { ⌜ (legal (now arena) ≡ true) × ((i < 34) × (c < 34)) ⌝ }
+    ensures { λ r. ⌜ Returned t (ending (linkWork (start (now (arena .entry)) t) i (now (name .entry)) c)) (now (arena .entry)) (now (arena .exit)) r ⌝ }
+{
+    let mut mem = [0u8; 4899];
+    let mut work = [0u8; 9728];
+    put_table(&mut mem, t);
+    overlay::begin(&mut work);
+    let r = link_in(arena, &mut work, &mut mem, i, name, c);
+    settle(t, &mem, r)
+}
+
+pub fn link(arena: &mut [u8], t: Table, h: Handle, name: &[u8], child: Handle) -> After
+    ensures { λ r. ⌜ Returned t (callLink (now (arena .entry)) t h (now (name .entry)) child) (now (arena .entry)) (now (arena .exit)) r ⌝ }
+{
+    let b = by_handle(t, h);
+    let c = by_handle(t, child);
+    let r = admit_two(&arena[..], well_formed(t), b, c);
+    if r != 0 {
+        return refused(t, r);
+    }
+    link_rows(arena, t, b.row, name, c.row)
+}

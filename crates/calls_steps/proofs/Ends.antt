@@ -1,0 +1,123 @@
+-- How a call begins and ends: from its handles to its steps, and from its steps' answer to what it returns.
+use mathlib.Core.Path.{_≡_, refl, sym, _∙_, ap}
+use mathlib.Core.Bool.{Bool, true, false}
+use mathlib.Core.List.{List}
+use Prim.Native.Nat.{ℕ, zero, suc, _+_, _*_, _-_, _≤_, _<_}
+use native.Mathlib.Omega.{arith}
+use lib.ListN.{length, replicate}
+use Rattle.base.specs.Out.{Out, done, refused, bind, answer, Went, well, ill, said}
+use Rattle.base.proofs.Outs.{went-is, went-has, went-not, above-zero}
+use Rattle.arena.specs.Blocks.{blocks, legal}
+use Rattle.arena.proofs.Blocks.{legal-is}
+use Rattle.overlay.specs.View.{view, left, Fine, begun}
+use Rattle.overlay.proofs.Views.{ready}
+use Rattle.overlay.proofs.Views as views
+use Rattle.table.specs.declared.Table.{Table}
+use Rattle.table.specs.declared.Handle.{Handle}
+use Rattle.table.specs.Formed.{wellFormed}
+use Rattle.sefs.specs.State.{Fs}
+use Rattle.sefs.specs.Meta.{loadMeta}
+use Rattle.sefs.specs.Ask.{start, admit, byHandle}
+use Rattle.sefs.specs.Create.{After, after}
+use Rattle.mem.specs.Mem.{tableIn, metaIn, Whole}
+use Rattle.mem.specs.State.{fsOf, Ready, Still, Stepped}
+use Rattle.calls.specs.declared.After as answered
+use Rattle.calls.specs.Answers.{doneWith, refusedWith, afterOf}
+use Rattle.calls.specs.Asked.{admitIf, firstOf}
+use Rattle.calls.proofs.Answers.{after-done, after-refused}
+use Rattle.calls.proofs.Asks.{Asks, asks-admitIf, admit-is, admitted-legal}
+use Rattle.calls_steps.specs.Ends.{arenaAfter, afterAs, ending, Ended, went, stuck, Returned}
+
+-- ---- the start
+
+-- a workspace of m blocks of zeros, made ready
+pub started : (a w : List ℕ) (m : ℕ) → legal a ≡ true → 10 ≤ m → m ≤ 255 → w ≡ begun (replicate (512 * m) 0) → views.Ready a w m
+started a w m l h k e = ready a w m (legal-is a l .whole) (legal-is a l .most) h k e
+
+-- memory and workspace at a call's start are its state
+pub fs-start : (a w m n : List ℕ) (k : ℕ) → views.Ready a w k → metaIn n ≡ loadMeta (view a w) → tableIn n ≡ tableIn m → fsOf a w n ≡ start a (tableIn m)
+unfolding fsOf
+fs-start a w m n k R e q = rw (e, q, R .is)
+
+-- ---- two handles
+
+-- the reason that the first questions and two handles give
+abbrev pub twoOf : List ℕ → Bool → ℕ → ℕ → ℕ
+twoOf a formed b c = firstOf (firstOf (answer (admitIf a formed)) b) c
+
+-- they did not refuse
+pub two-admits : (a : List ℕ) (formed : Bool) (b c r : ℕ) → r ≡ twoOf a formed b c → r ≡ 0 → (admitIf a formed ≡ done tt) × ((b ≡ 0) × (c ≡ 0))
+two-admits a formed b c r e z = go (admitIf a formed) (asks-admitIf a formed) b e
+  where
+    go : (o : Out Unit) → Asks o → (b : ℕ) → r ≡ firstOf (firstOf (answer o) b) c → (o ≡ done tt) × ((b ≡ 0) × (c ≡ 0))
+    go (done u) s zero e = (refl, (refl, sym e ∙ z))
+    go (done u) s (suc b) e = absurd (omega arith)
+    go (refused zero) (said l) b e = absurd (omega arith)
+    go (refused (suc n)) (said l) b e = absurd (omega arith)
+
+pub two-legal : (a : List ℕ) (formed : Bool) (b c r : ℕ) → r ≡ twoOf a formed b c → r ≡ 0 → legal a ≡ true
+two-legal a formed b c r e z = admitted-legal a formed tt (two-admits a formed b c r e z .0)
+
+module _ {A : Type 0} (a : List ℕ) (t : Table) (formed : Bool) (h g : Handle) (f : ℕ → ℕ → Out A) {b c i j r : ℕ} {P Q : Type 0} (k : formed ≡ wellFormed t) (p : Went (byHandle t h) i P b) (q : Went (byHandle t g) j Q c) (e : r ≡ twoOf a formed b c) where
+  admits : admit a t ≡ admitIf a formed
+  admits = admit-is a t ∙ ap (admitIf a) (sym k)
+
+  pub two-next : r ≡ 0 → bind (admit a t) (λ _. bind (byHandle t h) (λ i. bind (byHandle t g) (f i))) ≡ f i j
+  two-next z = let k = two-admits a formed b c r e z in rw (admits, k .0, went-is p (k .1 .0), went-is q (k .1 .1))
+
+  pub two-stop : (r ≡ 0 → ⊥) → bind (admit a t) (λ _. bind (byHandle t h) (λ i. bind (byHandle t g) (f i))) ≡ refused r
+  two-stop z = rw admits (go (admitIf a formed) (asks-admitIf a formed) p q e)
+    where
+      go : {b c : ℕ} (o : Out Unit) → Asks o → Went (byHandle t h) i P b → Went (byHandle t g) j Q c → r ≡ firstOf (firstOf (answer o) b) c → bind o (λ _. bind (byHandle t h) (λ i. bind (byHandle t g) (f i))) ≡ refused r
+      go (done u) s (well x _) (well y _) e = absurd (z e)
+      go (done u) s (well x _) (ill {r = n} l y) e = rw (x, y, e)
+      go (done u) s (ill {r = zero} l x) y e = absurd (omega arith)
+      go (done u) s (ill {r = suc n} l x) y e = rw (x, e)
+      go (refused zero) (said l) x y e = absurd (omega arith)
+      go (refused (suc n)) (said l) x y e = rw e
+
+-- ---- the end
+
+-- what ends a chain ends its last step
+pub ending-bind : {A : Type 0} (m : Out A) (f : A → Out Fs) (g : A → Out After) → ((x : A) → g x ≡ ending (f x)) → bind m g ≡ ending (bind m f)
+ending-bind (done x) f g h = h x
+ending-bind (refused n) f g h = refl
+
+pub ending-both : {A B : Type 0} (m : Out A) (f : A → Out B) (k : B → Out Fs) (g : A → Out After) → ((x : A) → g x ≡ ending (bind (f x) k)) → bind m g ≡ ending (bind (bind m f) k)
+ending-both (done x) f k g h = h x
+ending-both (refused n) f k g h = refl
+
+-- chains that go on alike are alike
+pub bind-same : {A B : Type 0} (m : Out A) (f g : A → Out B) → ((x : A) → f x ≡ g x) → bind m f ≡ bind m g
+bind-same (done x) f g h = h x
+bind-same (refused n) f g h = refl
+
+-- steps from the state z that were refused: nothing was written
+pub ended-not : (f : Fs → Out Fs) {x z v : Fs} {P : Type 0} {r : ℕ} (a b : List ℕ) (u : Table) → x ≡ z → Went (f x) v P r → (r ≡ 0 → ⊥) → b ≡ a → Ended (ending (f z)) a b u r
+ended-not f a b u q g n e = rw (← q) (stuck (above-zero _ n) (rw (went-not g n)) e)
+
+-- steps that were done: what they left was written
+pub ended-done : (f : Fs → Out Fs) {x z : Fs} {P : Type 0} {r : ℕ} (a b w n : List ℕ) → x ≡ z → Went (f x) (fsOf a w n) P r → r ≡ 0 → b ≡ view a w → Ended (ending (f z)) a b (tableIn n) 0
+unfolding fsOf
+ended-done f a b w n q g z e = rw (← q) (went (rw (went-is g z, e)))
+
+-- what the call returns, by the number that its steps answered
+pub returned-ended : (t : Table) {o : Out After} {a b : List ℕ} {u : Table} {n : ℕ} {r : answered.After} → Ended o a b u n → r ≡ afterOf t u n → Returned t o a b r
+returned-ended t {u = u} (went e) q = record { answer = q ∙ sym (after-done t u 0 refl) ∙ rw e; arena = rw e }
+returned-ended t {u = u} (stuck {r = n} l e k) q = record { answer = q ∙ sym (after-refused t u n (λ z. omega arith)) ∙ rw e; arena = k ∙ rw e }
+
+-- the same, where the table that memory was given is known by another name
+pub returned-table : (f : Table → Out After) (t : Table) {x y : Table} {a b : List ℕ} {u : Table} {n : ℕ} {r : answered.After} → x ≡ y → Ended (f x) a b u n → r ≡ afterOf t u n → Returned t (f y) a b r
+returned-table f t q g e = rw (← q) (returned-ended t g e)
+
+-- an outcome by another name
+pub returned-is : (t : Table) {o p : Out After} {a b : List ℕ} {r : answered.After} → o ≡ p → Returned t p a b r → Returned t o a b r
+returned-is t e g = rw e g
+
+-- a call that is refused before its steps
+pub returned-refused : (t : Table) {o : Out After} {a b : List ℕ} {n : ℕ} {r : answered.After} → o ≡ refused n → b ≡ a → r ≡ refusedWith t n → Returned t o a b r
+returned-refused t e k q = record { answer = q ∙ rw e; arena = k ∙ rw e }
+
+-- one that is done, and writes nothing
+pub returned-done : (t u : Table) {o : Out After} {a b : List ℕ} {r : answered.After} → o ≡ done (record { arena = a; table = u }) → b ≡ a → r ≡ doneWith u → Returned t o a b r
+returned-done t u e k q = record { answer = q ∙ rw e; arena = k ∙ rw e }
