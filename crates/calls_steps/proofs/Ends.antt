@@ -121,3 +121,8 @@ returned-refused t e k q = record { answer = q ∙ rw e; arena = k ∙ rw e }
 -- one that is done, and writes nothing
 pub returned-done : (t u : Table) {o : Out After} {a b : List ℕ} {r : answered.After} → o ≡ done (record { arena = a; table = u }) → b ≡ a → r ≡ doneWith u → Returned t o a b r
 returned-done t u e k q = record { answer = q ∙ rw e; arena = k ∙ rw e }
+
+-- ---- two results that satisfy a contract are the same
+
+pub returned-one : (t : Table) (o : Out After) {a b c : List ℕ} {r s : answered.After} → Returned t o a b r → Returned t o a c s → (r ≡ s) × (b ≡ c)
+returned-one t o p q = (p .answer ∙ sym (q .answer), p .arena ∙ sym (q .arena))
