@@ -1,5 +1,6 @@
 -- How a call that makes a hold ends: from its steps' answer to what it returns.
 use mathlib.Core.Path.{_≡_, refl, sym, _∙_}
+use mathlib.Core.Bool.{Bool}
 use mathlib.Core.List.{List}
 use Prim.Native.Nat.{ℕ, _<_}
 use native.Mathlib.Omega.{arith}
@@ -16,7 +17,7 @@ use Rattle.mem.specs.State.{fsOf}
 use Rattle.calls.specs.declared.Given as answered
 use Rattle.calls.specs.Answers.{notGiven, givenOf}
 use Rattle.calls.proofs.Answers.{given-held, given-refused}
-use Rattle.calls_create.specs.Held.{arenaHeld, heldAs, holding, EndedHeld, held, stuck, ReturnedHeld}
+use Rattle.calls_create.specs.Held.{holding, EndedHeld, held, stuck, ReturnedHeld}
 
 -- what ends a chain ends its last step
 pub holding-bind : {A : Type 0} (m : Out A) (f : A → Out Opened) (g : A → Out Given) → ((x : A) → g x ≡ holding (f x)) → bind m g ≡ holding (bind m f)
@@ -46,9 +47,9 @@ returned-ended : (t : Table) {o : Out Given} {a b : List ℕ} {u : Table} {row n
 returned-ended t {u = u} {row = row} (held l e) q = record { answer = q ∙ sym (given-held t (addHold u row) 0 refl) ∙ rw e; arena = rw e }
 returned-ended t {u = u} {row = row} (stuck {r = n} l e k) q = record { answer = q ∙ sym (given-refused t (addHold u row) n (λ z. omega arith)) ∙ rw e; arena = k ∙ rw e }
 
--- the same, where the table that memory was given is known by another name
-pub returned-table : (f : Table → Out Given) (t : Table) {x y : Table} {a b : List ℕ} {u : Table} {row n : ℕ} {r : answered.Given} → x ≡ y → EndedHeld (f x) a b u row n → r ≡ givenOf t (addHold u row) n → ReturnedHeld t (f y) a b r
-returned-table f t q g e = rw (← q) (returned-ended t g e)
+-- the same, where the table that memory was given and the room in it are known by other names
+pub returned-table : (f : Table → Bool → Out Given) (t : Table) {x y : Table} {c d : Bool} {a b : List ℕ} {u : Table} {row n : ℕ} {r : answered.Given} → x ≡ y → c ≡ d → EndedHeld (f x c) a b u row n → r ≡ givenOf t (addHold u row) n → ReturnedHeld t (f y d) a b r
+returned-table f t q k g e = rw (← q, ← k) (returned-ended t g e)
 
 -- an outcome by another name
 pub returned-is : (t : Table) {o p : Out Given} {a b : List ℕ} {r : answered.Given} → o ≡ p → ReturnedHeld t p a b r → ReturnedHeld t o a b r

@@ -6,7 +6,7 @@ use lib.Dec.{eqb, ltb, leb}
 use Rattle.structs.specs.Verdict.{isFolder}
 use Rattle.structs.specs.declared.DiskINode.{DiskINode}
 use Rattle.structs.specs.declared.Timespec.{Timespec}
-use Rattle.base.specs.Out.{Out, done, refused, ensure, _>>=_}
+use Rattle.base.specs.Out.{Out, done, ensure, _>>=_}
 use Rattle.base.specs.Reasons.{invalidParam, fileTaken, tooManyLinks, tableFull}
 use Rattle.arena.specs.Fields.{file}
 use Rattle.files.specs.Read.{there}

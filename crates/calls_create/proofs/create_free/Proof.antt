@@ -1,42 +1,44 @@
+-- `calls_create::create_free`: question after question.
+use borrow.Author.Tests.{not-true, not-false}
+use Rattle.overlay.specs.View.{view}
+use Rattle.calls_create.proofs.Creates.{free-slot, free-taken, free-links, free-full, free-done}
 use borrow.Author.Needs.{needs}
 use Rattle.calls_create.proofs.create_free.Statement.{statement}
 use Rattle.calls_create.proofs.create_free.Tie as tie
-use Rattle.calls_create.proofs.create_free.Reads as reads
-use Rattle.calls_create.proofs.create_free.Lts as lts
-use Rattle.calls_steps.proofs.no_slot.Reads as no-slot-reads
-use Rattle.files.proofs.read.there.Reads as there-reads
 
--- src/lib.rt:93:9
 no-slot-requires : tie.Need-no-slot-requires
 no-slot-requires c κs = search needs
 
--- src/lib.rt:95:9
 returns : tie.Need-returns
-returns c = ?
+returns c =
+    let s = c .before .before .before .before .before in
+    free-slot (view (s .args .arena .now) (s .args .work .now)) (s .args .rec) (s .args .name .now) (s .args .kind) (s .args .t6) (s .args .room) (c .before .no-slot .ensures) (c .if1 .taken)
 
--- src/lib.rt:97:30
 slice-aggregate-there : tie.Need-slice-aggregate-there
 slice-aggregate-there c = search needs
 
--- src/lib.rt:97:8
 there-requires : tie.Need-there-requires
 there-requires c κs = search needs
 
--- src/lib.rt:98:9
 returns-2 : tie.Need-returns-2
-returns-2 c = ?
+returns-2 c =
+    let s = c .before .before .before .before .before .before .before .before in
+    free-taken (view (s .args .arena .now) (s .args .work .now)) (s .args .rec) (s .args .name .now) (s .args .kind) (s .args .t6) (s .args .room) (c .before .before .before .before .no-slot .ensures) (c .before .before .before .if1 .left) _ (c .before .there .ensures) (c .if2 .taken)
 
--- src/lib.rt:101:9
 returns-3 : tie.Need-returns-3
-returns-3 c = ?
+returns-3 c =
+    let s = c .before .before .before .before .before .before .before .before .before .before in
+    free-links (view (s .args .arena .now) (s .args .work .now)) (s .args .rec) (s .args .name .now) (s .args .kind) (s .args .t6) (s .args .room) (c .before .before .before .before .before .before .no-slot .ensures) (c .before .before .before .before .before .if1 .left) _ (c .before .before .before .there .ensures) (c .before .before .if2 .left) (c .if3 .taken)
 
--- src/lib.rt:104:9
 returns-4 : tie.Need-returns-4
-returns-4 c = ?
+returns-4 c =
+    let s = c .before .before .before .before .before .before .before .before .before .before .before in
+    free-full (view (s .args .arena .now) (s .args .work .now)) (s .args .rec) (s .args .name .now) (s .args .kind) (s .args .t6) (s .args .room) (c .before .before .before .before .before .before .before .no-slot .ensures) (c .before .before .before .before .before .before .if1 .left) _ (c .before .before .before .before .there .ensures) (c .before .before .before .if2 .left) (c .before .if3 .left) (not-true _ (c .if4 .taken))
 
--- src/lib.rt:81:1
 returns-5 : tie.Need-returns-5
-returns-5 c = ?
+returns-5 c =
+    let s = c .before .before .before .before .before .before .before .before .before .before .before in
+    free-done (view (s .args .arena .now) (s .args .work .now)) (s .args .rec) (s .args .name .now) (s .args .kind) (s .args .t6) (s .args .room) (c .before .before .before .before .before .before .before .no-slot .ensures) (c .before .before .before .before .before .before .if1 .left) _ (c .before .before .before .before .there .ensures) (c .before .before .before .if2 .left) (c .before .if3 .left) (not-false _ (c .if4 .left))
 
 pub create-free-spec : {M : Type 1} → statement M
 create-free-spec =

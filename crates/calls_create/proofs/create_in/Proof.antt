@@ -1,55 +1,52 @@
+-- `calls_create::create_in`: the state is that of the call's start; what the steps left is written where they were done.
+use mathlib.Core.Path.{refl}
+use Rattle.base.proofs.Outs.{went-has}
+use Rattle.calls_steps.proofs.Ends.{fs-start}
+use Rattle.calls_create.specs.Create.{createWork}
+use Rattle.calls_create.proofs.Held.{held-not, held-done}
 use borrow.Author.Needs.{needs}
 use Rattle.calls_create.proofs.create_in.Statement.{statement}
 use Rattle.calls_create.proofs.create_in.Tie as tie
-use Rattle.calls_create.proofs.create_in.Reads as reads
-use Rattle.calls_create.proofs.create_in.Lts as lts
-use Rattle.calls_create.proofs.create_work.Reads as create-work-reads
-use Rattle.nodes.proofs.meta.load_meta.Reads as load-meta-reads
-use Rattle.overlay.proofs.commit.Reads as commit-reads
 
--- src/lib.rt:252:5
 load-meta-requires : tie.Need-load-meta-requires
 load-meta-requires c κs = search needs
 
--- src/lib.rt:253:9
 create-work-requires : tie.Need-create-work-requires
 create-work-requires c κs = search needs
 
--- src/lib.rt:255:9
 same-length : tie.Need-same-length
 same-length c = search needs
 
--- src/lib.rt:255:9
 same-length-2 : tie.Need-same-length-2
 same-length-2 c = search needs
 
--- src/lib.rt:255:9
 same-length-3 : tie.Need-same-length-3
 same-length-3 c = search needs
 
--- src/lib.rt:255:9
 returns : tie.Need-returns
-returns c = ?
+returns c =
+    let s = c .before .before .before .before .before .before .before .before .before .before .before .before .before .before .before .before .before .before .before .before in
+    let l = c .before .before .before .before .before .before .before .before .before .before .before .before in
+    held-not (λ x. createWork x (s .args .i) (s .args .name .now) (s .args .new .kind) (s .args .new .mode) (s .args .new .time) (s .args .new .file) (s .args .room)) _ _ _ _ (fs-start _ _ _ _ 43 (s .pre .0) (l .load-meta .ensures .0) (l .load-meta .ensures .1 .0)) (c .before .before .before .before .before .before .create-work .ensures) (c .if1 .taken) refl
 
--- src/lib.rt:257:5
 commit-requires : tie.Need-commit-requires
-commit-requires c κs = ?
+commit-requires c κs =
+    went-has (c .before .before .before .before .before .before .before .before .create-work .ensures) (c .before .before .if1 .left) .0 .fine
 
--- src/lib.rt:240:1
 same-length-4 : tie.Need-same-length-4
 same-length-4 c = search needs
 
--- src/lib.rt:240:1
 same-length-5 : tie.Need-same-length-5
 same-length-5 c = search needs
 
--- src/lib.rt:240:1
 same-length-6 : tie.Need-same-length-6
 same-length-6 c = search needs
 
--- src/lib.rt:240:1
 returns-2 : tie.Need-returns-2
-returns-2 c = ?
+returns-2 c =
+    let s = c .before .before .before .before .before .before .before .before .before .before .before .before .before .before .before .before .before .before .before .before .before .before .before .before .before in
+    let l = c .before .before .before .before .before .before .before .before .before .before .before .before .before .before .before .before .before in
+    held-done (λ x. createWork x (s .args .i) (s .args .name .now) (s .args .new .kind) (s .args .new .mode) (s .args .new .time) (s .args .new .file) (s .args .room)) _ _ _ _ _ (fs-start _ _ _ _ 43 (s .pre .0) (l .load-meta .ensures .0) (l .load-meta .ensures .1 .0)) (c .before .before .before .before .before .before .before .before .before .before .before .create-work .ensures) (c .before .before .before .before .before .if1 .left) (c .before .before .commit .ensures)
 
 pub create-in-spec : {M : Type 1} → statement M
 create-in-spec =

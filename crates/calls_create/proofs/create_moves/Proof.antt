@@ -1,42 +1,42 @@
+-- `calls_create::create_moves`: the node, then what comes after it is made.
+use native.Mathlib.Omega.{arith}
+use Rattle.base.proofs.Outs.{went-has}
+use Rattle.folders.proofs.States.{still-ready}
+use Rattle.calls_create.proofs.Creates.{moves-stop, moves-done}
 use borrow.Author.Needs.{needs}
 use Rattle.calls_create.proofs.create_moves.Statement.{statement}
 use Rattle.calls_create.proofs.create_moves.Tie as tie
-use Rattle.calls_create.proofs.create_moves.Reads as reads
-use Rattle.calls_create.proofs.create_moves.Lts as lts
-use Rattle.calls_create.proofs.create_rest.Reads as create-rest-reads
-use Rattle.nodes.proofs.new_node.Reads as new-node-reads
 
--- src/lib.rt:203:9
 new-node-requires : tie.Need-new-node-requires
 new-node-requires c κs = search needs
 
--- src/lib.rt:205:9
 same-length : tie.Need-same-length
 same-length c = search needs
 
--- src/lib.rt:205:9
 same-length-2 : tie.Need-same-length-2
 same-length-2 c = search needs
 
--- src/lib.rt:205:9
 returns : tie.Need-returns
-returns c = ?
+returns c =
+    let s = c .before .before .before .before .before .before .before .before .before .before .before .before .before .before .before in
+    moves-stop _ _ (s .args .i) (s .args .new .kind) (s .args .new .mode) (s .args .new .time) (s .args .new .file) (c .before .before .before .before .before .before .new-node .ensures) _ _ (c .if1 .taken)
 
--- src/lib.rt:207:9
 create-rest-requires : tie.Need-create-rest-requires
-create-rest-requires c κs = ?
+create-rest-requires c κs =
+    let s = c .before .before .before .before .before .before .before .before .before .before .before .before .before .before .before .before .before in
+    let g = went-has (c .before .before .before .before .before .before .before .before .new-node .ensures) (c .before .before .if1 .left) in
+    (still-ready (g .0), (omega (arith, g .0 .room, s .pre .1 .0), (s .pre .1 .1 .0, (g .1, s .pre .1 .1 .1))))
 
--- src/lib.rt:190:1
 same-length-3 : tie.Need-same-length-3
 same-length-3 c = search needs
 
--- src/lib.rt:190:1
 same-length-4 : tie.Need-same-length-4
 same-length-4 c = search needs
 
--- src/lib.rt:190:1
 returns-2 : tie.Need-returns-2
-returns-2 c = ?
+returns-2 c =
+    let s = c .before .before .before .before .before .before .before .before .before .before .before .before .before .before .before .before .before .before .before .before .before .before in
+    moves-done _ _ (s .args .i) (s .args .new .kind) (s .args .new .mode) (s .args .new .time) (s .args .new .file) (c .before .before .before .before .before .before .before .before .before .before .before .before .before .new-node .ensures) (c .before .before .before .before .before .before .before .if1 .left) (c .before .before .before .before .create-rest .ensures)
 
 pub create-moves-spec : {M : Type 1} → statement M
 create-moves-spec =
