@@ -1,0 +1,38 @@
+-- How a call that changes the arena and makes a hold ends, by the outcome that its definition gives.
+use mathlib.Core.Path.{_≡_}
+use mathlib.Core.List.{List}
+use Prim.Native.Nat.{ℕ, _<_}
+use Rattle.base.specs.Out.{Out, done, refused, bind}
+use Rattle.table.specs.declared.Table.{Table}
+use Rattle.table.specs.declared.Added.{Added}
+use Rattle.table.specs.Table.{addHold}
+use Rattle.sefs.specs.Nodes.{Opened}
+use Rattle.sefs.specs.Create.{Given, given}
+use Rattle.calls.specs.declared.Given as answered
+use Rattle.calls.specs.Answers.{heldWith, notGiven}
+
+-- "A refusal returns its number only; arena, table .. keep their bytes"
+abbrev pub arenaHeld : List ℕ → Out Given → List ℕ
+arenaHeld a (done x) = x .arena
+arenaHeld a (refused n) = a
+
+abbrev pub heldAs : Table → Out Given → answered.Given
+heldAs t (done x) = heldWith (record { table = x .table; handle = x .handle })
+heldAs t (refused n) = notGiven t n
+
+-- what is left once the steps are done: the hold on the row that they opened
+abbrev pub holding : Out Opened → Out Given
+holding o = bind o (λ x. done (given (x .state) (addHold (x .state .table) (x .row))))
+
+abbrev pub leaving : List ℕ → Added → Given
+leaving b x = record { arena = b; table = x .table; handle = x .handle }
+
+-- the steps, that their definition sends to o, answer r: the arena was a and is b, memory has the table u, and `row` is the node's
+pub data EndedHeld (o : Out Given) (a b : List ℕ) (u : Table) (row : ℕ) : ℕ → Type 0 where
+  held : row < 34 → o ≡ done (leaving b (addHold u row)) → EndedHeld o a b u row 0
+  stuck : {r : ℕ} → 0 < r → o ≡ refused r → b ≡ a → EndedHeld o a b u row r
+
+-- the call, that its definition sends to o, returns r: t is the table that it was given, the arena was a and is b
+pub record ReturnedHeld (t : Table) (o : Out Given) (a b : List ℕ) (r : answered.Given) : Type 0 where
+  pub answer : r ≡ heldAs t o
+  pub arena : b ≡ arenaHeld a o

@@ -1,0 +1,297 @@
+// The call create. It decides on a view of the arena, and commits once nothing can refuse it any more.
+ghost use mathlib.Core.Path.{_≡_};
+ghost use mathlib.Core.Bool.{true, _&&_};
+ghost use mathlib.Core.List.{List};
+ghost use Prim.Native.Nat.{ℕ, _<_, _≤_};
+ghost use lib.ListN.{length};
+ghost use lib.Dec.{ltb, leb};
+ghost use Rattle.base.specs.Out.{Went};
+ghost use Rattle.arena.specs.Blocks.{legal};
+ghost use Rattle.overlay.specs.View.{view, left, Fine};
+ghost use Rattle.overlay.proofs.Views.{Ready as Empty};
+ghost use Rattle.table.specs.Table.{canHold};
+ghost use Rattle.sefs.specs.Ask.{start};
+ghost use Rattle.sefs.specs.Nodes.{opened as openedAs};
+ghost use Rattle.sefs.specs.Create.{birth as bornOf, nameFolder, named, callCreate};
+ghost use Rattle.mem.specs.Mem.{tableIn, Whole};
+ghost use Rattle.mem.specs.State.{fsOf, Ready, Still, Stepped};
+ghost use Rattle.calls_create.specs.Create.{createAsk, createFree, createSync, createRest, createMoves, createWork};
+ghost use Rattle.calls_create.specs.Held.{holding, EndedHeld, ReturnedHeld};
+use calls::Given;
+use calls::good_name;
+use calls::live_folder;
+use calls::not_given;
+use calls::not_long;
+use calls::reach;
+use calls::settle_held;
+use calls_steps::append_named;
+use calls_steps::no_slot;
+use calls_steps::sync_two;
+use files::read::there;
+use folders::dirent_init;
+use folders::nlinks_inc;
+use mem::id_at;
+use mem::put_table;
+use mem::rec_at;
+use nodes::Opened;
+use nodes::meta::load_meta;
+use nodes::meta::sync_meta;
+use nodes::new_node;
+use structs::DiskINode;
+use structs::Timespec;
+use table::Handle;
+use table::Table;
+use table::can_hold;
+
+// What a new node is to be.
+#[repr(C)]
+pub struct New {
+    pub kind: u32,
+    pub mode: u16,
+    pub time: Timespec,
+    pub file: [u8; 16],
+}
+
+// ---- 5, 6, 7, 8, 10, 12, 14, 15, 16
+
+fn good_kind(kind: u32) -> bool
+    ensures { λ r. ⌜ r ≡ (ltb 0 kind && leb kind 4) ⌝ }
+{
+    (0 < kind) & (kind <= 4)
+}
+
+fn create_ask(rec: DiskINode, name: &[u8], kind: u32) -> u8
+    ensures { λ r. ⌜ Went (createAsk rec (now (name .entry)) kind) tt (length (now (name .entry)) ≤ 255) r ⌝ }
+{
+    let r = good_name(name);
+    if r != 0 {
+        return r;
+    }
+    if !good_kind(kind) {
+        return 6;
+    }
+    let r = live_folder(rec);
+    if r != 0 {
+        return r;
+    }
+    not_long(name)
+}
+
+// `room`: whether the table can hold one more.
+fn create_free<'a>(
+    arena: &'a [u8],
+    work: &'a [u8],
+    rec: DiskINode,
+    name: &[u8],
+    kind: u32,
+    file: [u8; 16],
+    room: bool,
+) -> u8
+    requires { ⌜ Fine (now arena) (now work) ⌝ }
+    ensures { λ r. ⌜ Went (createFree (view (now (arena .entry)) (now (work .entry))) rec (now (name .entry)) kind file room) tt Unit r ⌝ }
+{
+    let r = no_slot(arena, work, rec, name);
+    if r != 0 {
+        return r;
+    }
+    if there(arena, work, 1, &file) {
+        return 14;
+    }
+    if (kind == 2) & (rec.nlinks == 65535) {
+        return 15;
+    }
+    if !room {
+        return 16;
+    }
+    0
+}
+
+// ---- the steps
+
+// A folder is born with its two slots.
+fn birth(arena: &[u8], work: &mut [u8], mem: &mut [u8], i: usize, c: usize, kind: u32) -> u8
+    requires { ⌜ Ready (now arena) (now work) (now mem) × ((6 ≤ left (now work)) × ((i < 34) × (c < 34))) ⌝ }
+    ensures { λ r. ⌜ Stepped (bornOf (fsOf (now (arena .entry)) (now (work .entry)) (now (mem .entry))) i c kind) (now (arena .entry)) (now (work .entry)) (now (work .exit)) (now (mem .exit)) 6 r ⌝ }
+{
+    if kind == 2 {
+        let parent = id_at(&mem[..], i);
+        return dirent_init(arena, work, mem, c, parent);
+    }
+    0
+}
+
+// A new folder is named by its own `.` too, and its parent by its `..`.
+fn name_folder(mem: &mut [u8], i: usize, c: usize) -> u8
+    requires { ⌜ Whole (now mem) × ((i < 34) × (c < 34)) ⌝ }
+    ensures { λ r. ⌜ ((a w : List ℕ) → Went (nameFolder (fsOf a w (now (mem .entry))) i c) (fsOf a w (now (mem .exit))) (Whole (now (mem .exit))) r) ⌝ }
+{
+    let r = nlinks_inc(mem, c);
+    if r != 0 {
+        return r;
+    }
+    nlinks_inc(mem, i)
+}
+
+fn name_node(mem: &mut [u8], i: usize, c: usize, kind: u32) -> u8
+    requires { ⌜ Whole (now mem) × ((i < 34) × (c < 34)) ⌝ }
+    ensures { λ r. ⌜ ((a w : List ℕ) → Went (named (fsOf a w (now (mem .entry))) i c kind) (fsOf a w (now (mem .exit))) (Whole (now (mem .exit))) r) ⌝ }
+{
+    let r = nlinks_inc(mem, c);
+    if r != 0 {
+        return r;
+    }
+    if kind == 2 {
+        return name_folder(mem, i, c);
+    }
+    0
+}
+
+// Superblock and maps, the node's record, the folder's record.
+fn create_sync(arena: &[u8], work: &mut [u8], mem: &mut [u8], i: usize, c: usize) -> u8
+    requires { ⌜ Ready (now arena) (now work) (now mem) × ((21 ≤ left (now work)) × ((i < 34) × (c < 34))) ⌝ }
+    ensures { λ r. ⌜ Stepped (createSync (fsOf (now (arena .entry)) (now (work .entry)) (now (mem .entry))) i c) (now (arena .entry)) (now (work .entry)) (now (work .exit)) (now (mem .exit)) 21 r ⌝ }
+{
+    let r = sync_meta(arena, work, &mem[..]);
+    if r != 0 {
+        return r;
+    }
+    sync_two(arena, work, mem, i, c)
+}
+
+// What comes after the node is made: slots, link counts, stores.
+fn create_rest(
+    arena: &[u8],
+    work: &mut [u8],
+    mem: &mut [u8],
+    i: usize,
+    c: usize,
+    name: &[u8],
+    kind: u32,
+) -> u8
+    requires { ⌜ Ready (now arena) (now work) (now mem) × ((30 ≤ left (now work)) × ((i < 34) × ((c < 34) × (length (now name) ≤ 255)))) ⌝ }
+    ensures { λ r. ⌜ Stepped (createRest (fsOf (now (arena .entry)) (now (work .entry)) (now (mem .entry))) i c (now (name .entry)) kind) (now (arena .entry)) (now (work .entry)) (now (work .exit)) (now (mem .exit)) 30 r ⌝ }
+{
+    let r = birth(arena, work, mem, i, c, kind);
+    if r != 0 {
+        return r;
+    }
+    let r = append_named(arena, work, mem, i, c, name, kind);
+    if r != 0 {
+        return r;
+    }
+    let r = name_node(mem, i, c, kind);
+    if r != 0 {
+        return r;
+    }
+    create_sync(arena, work, mem, i, c)
+}
+
+// A node is made, then named.
+fn create_moves(
+    arena: &[u8],
+    work: &mut [u8],
+    mem: &mut [u8],
+    i: usize,
+    name: &[u8],
+    new: New,
+) -> Opened
+    requires { ⌜ Ready (now arena) (now work) (now mem) × ((33 ≤ left (now work)) × ((i < 34) × (length (now name) ≤ 255))) ⌝ }
+    ensures { λ r. ⌜ Went (createMoves (fsOf (now (arena .entry)) (now (work .entry)) (now (mem .entry))) i (now (name .entry)) (new .kind) (new .mode) (new .time) (new .file)) (openedAs (fsOf (now (arena .entry)) (now (work .exit)) (now (mem .exit))) (r .row)) (Still (now (arena .entry)) (now (work .entry)) (now (work .exit)) (now (mem .exit)) 33 × (r .row < 34)) (r .reason) ⌝ }
+{
+    let time = new.time;
+    let file = new.file;
+    let o = new_node(arena, work, mem, new.kind, new.mode, time, file);
+    if o.reason != 0 {
+        return o;
+    }
+    let r = create_rest(arena, work, mem, i, o.row, name, new.kind);
+    Opened {
+        reason: r,
+        row: o.row,
+    }
+}
+
+fn create_work(
+    arena: &[u8],
+    work: &mut [u8],
+    mem: &mut [u8],
+    i: usize,
+    name: &[u8],
+    new: New,
+    room: bool,
+) -> Opened
+    requires { ⌜ Ready (now arena) (now work) (now mem) × ((33 ≤ left (now work)) × (i < 34)) ⌝ }
+    ensures { λ r. ⌜ Went (createWork (fsOf (now (arena .entry)) (now (work .entry)) (now (mem .entry))) i (now (name .entry)) (new .kind) (new .mode) (new .time) (new .file) room) (openedAs (fsOf (now (arena .entry)) (now (work .exit)) (now (mem .exit))) (r .row)) (Still (now (arena .entry)) (now (work .entry)) (now (work .exit)) (now (mem .exit)) 33 × (r .row < 34)) (r .reason) ⌝ }
+{
+    let rec = rec_at(&mem[..], i);
+    let r = create_ask(rec, name, new.kind);
+    if r != 0 {
+        return Opened { reason: r, row: 0 };
+    }
+    let file = new.file;
+    let r = create_free(arena, &work[..], rec, name, new.kind, file, room);
+    if r != 0 {
+        return Opened { reason: r, row: 0 };
+    }
+    create_moves(arena, work, mem, i, name, new)
+}
+
+// The workspace has no block yet, and memory has the table.
+fn create_in(
+    arena: &mut [u8],
+    work: &mut [u8],
+    mem: &mut [u8],
+    i: usize,
+    name: &[u8],
+    new: New,
+    room: bool,
+) -> Opened
+    requires { ⌜ Empty (now arena) (now work) 43 × ((length (now mem) ≡ 4899) × (i < 34)) ⌝ }
+    ensures { λ r. ⌜ EndedHeld (holding (createWork (start (now (arena .entry)) (tableIn (now (mem .entry)))) i (now (name .entry)) (new .kind) (new .mode) (new .time) (new .file) room)) (now (arena .entry)) (now (arena .exit)) (tableIn (now (mem .exit))) (r .row) (r .reason) ⌝ }
+{
+    load_meta(&arena[..], &work[..], mem);
+    let o = create_work(&arena[..], work, mem, i, name, new, room);
+    if o.reason != 0 {
+        return o;
+    }
+    overlay::commit(arena, &work[..]);
+    o
+}
+
+// The workspace is made, and is gone once the steps are decided.
+fn create_begin(
+    arena: &mut [u8],
+    mem: &mut [u8],
+    i: usize,
+    name: &[u8],
+    new: New,
+    room: bool,
+) -> Opened
+    requires { ⌜ (legal (now arena) ≡ true) × ((length (now mem) ≡ 4899) × (i < 34)) ⌝ }
+    ensures { λ r. ⌜ EndedHeld (holding (createWork (start (now (arena .entry)) (tableIn (now (mem .entry)))) i (now (name .entry)) (new .kind) (new .mode) (new .time) (new .file) room)) (now (arena .entry)) (now (arena .exit)) (tableIn (now (mem .exit))) (r .row) (r .reason) ⌝ }
+{
+    let mut work = [0u8; 22016];
+    overlay::begin(&mut work);
+    create_in(arena, &mut work, mem, i, name, new, room)
+}
+
+// Memory is made.
+fn create_rows(arena: &mut [u8], t: Table, i: usize, name: &[u8], new: New) -> Given
+    requires { ⌜ (legal (now arena) ≡ true) × (i < 34) ⌝ }
+    ensures { λ r. ⌜ ReturnedHeld t (holding (createWork (start (now (arena .entry)) t) i (now (name .entry)) (new .kind) (new .mode) (new .time) (new .file) (canHold t))) (now (arena .entry)) (now (arena .exit)) r ⌝ }
+{
+    let mut mem = [0u8; 4899];
+    put_table(&mut mem, t);
+    let o = create_begin(arena, &mut mem, i, name, new, can_hold(t));
+    settle_held(t, &mem, o.reason, o.row)
+}
+
+pub fn create(arena: &mut [u8], t: Table, h: Handle, name: &[u8], new: New) -> Given
+    ensures { λ r. ⌜ ReturnedHeld t (callCreate (now (arena .entry)) t h (now (name .entry)) (new .kind) (new .mode) (new .time) (new .file)) (now (arena .entry)) (now (arena .exit)) r ⌝ }
+{
+    let b = reach(&arena[..], t, h);
+    if b.reason != 0 {
+        return not_given(t, b.reason);
+    }
+    create_rows(arena, t, b.row, name, new)
+}
