@@ -129,7 +129,7 @@ steps-is z time name =
     e ∙ sym (bind-assoc (makeFile z metaFile) (λ a. cutFile a metaFile 131072) k)
 
 module _ (a name : List ℕ) (time : Timespec) where
-  -- 1
+  -- reason 1: the length is not 16 to 4,096 whole blocks
   pub format-stop : legal a ≡ false → formatted (callFormat a time name) ≡ refused 1
   unfolding callFormat
   format-stop e = rw e

@@ -111,7 +111,7 @@ fn format_work(arena: &[u8], work: &mut [u8], mem: &mut [u8], time: Timespec, fi
     fill_root(arena, work, mem, o.row)
 }
 
-// The workspace has no block yet, and memory has what format starts from.
+// The workspace has no block yet. The steps start from what memory has, on an arena of zeros.
 fn format_in(
     arena: &mut [u8],
     work: &mut [u8],
