@@ -1,0 +1,3 @@
+pub mod Clears
+pub mod Formats
+pub mod Ones
