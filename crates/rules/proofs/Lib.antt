@@ -1,0 +1,5 @@
+pub mod General
+pub mod Metadata
+pub mod Files
+pub mod Folders
+pub mod Links
