@@ -3,3 +3,4 @@ pub mod Metadata
 pub mod Files
 pub mod Folders
 pub mod Links
+pub mod Climbs
