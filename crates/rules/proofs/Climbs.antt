@@ -1,26 +1,24 @@
 -- Rule 8: its test decides it, in an image that the earlier rules allow. The rule says that climbing reaches node 2, the test that it does in as
 -- many steps as there are ids: by rule 7 a way up leads through folders with links, and the shortest one through no folder twice.
 use mathlib.Core.Path.{_≡_, refl, sym, ap, subst, _∙_}
-use mathlib.Core.Bool.{Bool, true, false, not, _&&_, _||_}
+use mathlib.Core.Bool.{Bool, true}
 use mathlib.Core.List.{List}
 use mathlib.Core.Logic.{_≢_, ⊎-elim}
-use Prim.Native.Nat.{ℕ, zero, suc, _+_, _*_, _-_, _≤_, _<_}
+use Prim.Native.Nat.{ℕ, zero, suc, _+_, _-_, _≤_, _<_}
 use native.Mathlib.Nat.{add-zero, add-suc}
 use native.Mathlib.Omega.{arith}
-use native.Mathlib.Decide.{ℕ-discrete}
-use lib.Dec.{T, eqb, ltb, leb}
+use lib.Dec.{eqb, ltb}
 use borrow.Author.Tests.{eq-eqb, eqb-true, eqb-false, lt-ltb, le-leb, leb-true}
 use Rattle.base.specs.Decides.{Decides}
-use Rattle.base.specs.Search.{pick, lowest}
-use Rattle.base.proofs.Bools.{and-both, true-T}
+use Rattle.base.specs.Search.{lowest}
+use Rattle.base.proofs.Bools.{and-both}
 use Rattle.base.proofs.Counts.{pigeon}
 use Rattle.base.proofs.Numbers.{lt-or-le}
-use Rattle.base.proofs.Sames.{decided-yes}
 use Rattle.base.proofs.Searches.{lowest-first, lowest-hit, lowest-at-most}
-use Rattle.base.proofs.Tests.{decides-true, decides-iff, decides-eqb, decides-leb, decides-and, decides-if, decides-all}
+use Rattle.base.proofs.Tests.{decides-true, decides-iff, decides-eqb, decides-and, decides-if, decides-all}
 use Rattle.structs.specs.declared.DiskINode.{DiskINode}
 use Rattle.table.specs.declared.Table.{Table}
-use Rattle.rules.specs.Image.{superIn, mapsIn, idsIn, isNode, recOf, isFolderAt, slotIn, laterSlot, laterSlots, namesIn, parentOf, climb}
+use Rattle.rules.specs.Image.{idsIn, isNode, recOf, isFolderAt, slotIn, laterSlot, laterSlots, namesIn, parentOf, climb}
 use Rattle.rules.specs.Rules.{Rule3, Rule4, Rule5, Rule7, Rule8}
 use Rattle.rules.specs.Tests.{test8, parentAllowed, reachesRoot, treeAllowed}
 use Rattle.rules.proofs.General.{decides-ne, decides-pick, decides-count}
@@ -54,9 +52,9 @@ decides-names a r id =
     (decides-count (λ j. eqb (laterSlot a r j .id) id) (λ j. laterSlot a r j .id ≡ id) (laterSlots r) (λ j. decides-eqb (laterSlot a r j .id) id))
 
 -- a folder with links
-pub record Living (a : List ℕ) (t : Table) (id : ℕ) : Type 0 where
-  pub folder : isFolderAt a t id ≡ true
-  pub links : recOf a t id .nlinks ≢ 0
+record Living (a : List ℕ) (t : Table) (id : ℕ) : Type 0 where
+  folder : isFolderAt a t id ≡ true
+  links : recOf a t id .nlinks ≢ 0
 
 module _ (a : List ℕ) (t : Table) (r7 : Rule7 a t) where
   -- a folder that names another has more than 2 slots, so it is not a removed one
@@ -148,7 +146,7 @@ module _ (a : List ℕ) (t : Table) where
       decides-iff
       (λ p.
       let tree : (id : ℕ) → isFolderAt a t id ≡ true → recOf a t id .nlinks ≢ 0 → Parent id × (reachesRoot a t id ≡ true) =
-          λ id f n. p id (folder-below a t id f) (f, n)
+      λ id f n. p id (folder-below a t id f) (f, n)
       in
       record {
         root = λ n. tree 2 (root-folder a t r3 r4 r5) n .0 .0 refl;

@@ -1,12 +1,12 @@
 -- Rule 5: its test decides it.
-use mathlib.Core.Path.{_≡_, refl, sym, ap, subst, _∙_}
-use mathlib.Core.Bool.{Bool, true, false, not, _&&_, _||_}
+use mathlib.Core.Path.{_≡_, refl, sym, ap, _∙_}
+use mathlib.Core.Bool.{true}
 use mathlib.Core.List.{List}
 use Prim.Native.Nat.{ℕ, _≤_, _<_}
 use native.Mathlib.Omega.{arith}
-use lib.Dec.{T, eqb, ltb}
+use lib.Dec.{ltb}
 use borrow.Author.Tests.{ltb-true}
-use Rattle.base.specs.Decides.{Decides, same}
+use Rattle.base.specs.Decides.{Decides}
 use Rattle.base.specs.Search.{lowest}
 use Rattle.base.proofs.Bools.{and-parts, true-T}
 use Rattle.base.proofs.Sames.{decided-yes}

@@ -1,18 +1,17 @@
 -- Rule 6: its test decides it.
-use mathlib.Core.Path.{_≡_, refl, sym, ap, subst, _∙_}
-use mathlib.Core.Bool.{Bool, true, false, not, _&&_, _||_, true≢false}
+use mathlib.Core.Path.{_≡_, refl, sym, ap, subst}
+use mathlib.Core.Bool.{Bool, true, false, not, _&&_, _||_}
 use mathlib.Core.List.{List, [], _∷_}
-use mathlib.Core.Logic.{_≢_, _⊎_, inl, inr, ⊎-elim}
-use Prim.Native.Nat.{ℕ, suc, _+_, _*_, _-_, _≤_, _<_}
+use mathlib.Core.Logic.{_≢_, inl, inr}
+use Prim.Native.Nat.{ℕ, _+_, _*_, _-_, _≤_, _<_}
 use native.Mathlib.Omega.{arith}
-use lib.Dec.{T, eqb}
+use lib.Dec.{T}
 use lib.ListN.{length}
-use Rattle.base.specs.Decides.{Decides, same}
+use Rattle.base.specs.Decides.{Decides}
 use Rattle.base.specs.Search.{pick}
 use Rattle.base.proofs.Bools.{and-parts}
 use Rattle.base.proofs.Tests.{decides-true, decides-iff, decides-eqb, decides-leb, decides-and, decides-not, decides-if, decides-all, decides-same}
 use Rattle.structs.specs.Constants.{typeDir}
-use Rattle.structs.specs.Verdict.{isFolder}
 use Rattle.structs.specs.declared.DiskINode.{DiskINode}
 use Rattle.structs.specs.declared.DiskEntry.{DiskEntry}
 use Rattle.utf8.specs.Utf8.{utf8}

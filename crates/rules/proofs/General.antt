@@ -1,5 +1,5 @@
 -- Tests that decide statements: the forms that the rules need beside those of base. And the first test of a list that fails.
-use mathlib.Core.Path.{_≡_, refl, sym, _∙_}
+use mathlib.Core.Path.{_≡_, refl, sym}
 use mathlib.Core.Bool.{Bool, true, false, not, _||_, true≢false}
 use mathlib.Core.List.{List, [], _∷_}
 use mathlib.Core.Logic.{_≢_, _⊎_, inl, inr}
@@ -7,13 +7,12 @@ use Prim.Native.Nat.{ℕ, zero, suc, _+_, _<_}
 use native.Mathlib.Omega.{arith}
 use lib.Dec.{T, eqb, ltb}
 use lib.ListN.{length, getD}
-use borrow.Author.Tests.{eq-eqb, eqb-true, lt-ltb, ltb-true}
 use Rattle.base.specs.Count.{countTo}
 use Rattle.base.specs.Decides.{Decides, firstFail}
 use Rattle.base.specs.Search.{pick, lowest}
-use Rattle.base.proofs.Bools.{true-T, T-true}
+use Rattle.base.proofs.Bools.{true-T}
 use Rattle.base.proofs.Sames.{decided-no, decided-yes}
-use Rattle.base.proofs.Searches.{lowest-first, lowest-here, lowest-none, lowest-hit, lowest-at-most, countTo-found}
+use Rattle.base.proofs.Searches.{lowest-none, lowest-hit, lowest-at-most, countTo-found}
 use Rattle.base.proofs.Finds.{countTo-some}
 use Rattle.base.proofs.Tests.{decides-iff, decides-eqb, decides-ltb, decides-not}
 

@@ -4,3 +4,4 @@ pub mod Files
 pub mod Folders
 pub mod Links
 pub mod Climbs
+pub mod Check

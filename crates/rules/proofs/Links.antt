@@ -1,19 +1,16 @@
 -- Rule 7: its test decides it.
-use mathlib.Core.Path.{_≡_, refl, sym, ap, _∙_}
-use mathlib.Core.Bool.{Bool, true, false, not, _&&_, _||_}
+use mathlib.Core.Path.{_≡_, refl}
+use mathlib.Core.Bool.{Bool, true, false, not, _||_}
 use mathlib.Core.List.{List}
 use mathlib.Core.Logic.{_≢_, _⊎_}
-use Prim.Native.Nat.{ℕ, _+_, _<_}
-use native.Mathlib.Omega.{arith}
-use lib.Dec.{T, eqb}
+use Prim.Native.Nat.{ℕ, _+_}
+use lib.Dec.{eqb}
 use Rattle.base.specs.Decides.{Decides}
 use Rattle.base.specs.Search.{pick}
 use Rattle.base.proofs.Bools.{and-both, and-parts, true-false}
 use Rattle.base.proofs.Sames.{test-fails}
 use Rattle.base.proofs.Tests.{decides-true, decides-iff, decides-eqb, decides-and, decides-if, decides-all}
-use Rattle.structs.specs.Constants.{typeDir}
 use Rattle.structs.specs.Verdict.{isFolder}
-use Rattle.structs.specs.declared.DiskINode.{DiskINode}
 use Rattle.table.specs.declared.Table.{Table}
 use Rattle.rules.specs.Image.{idsIn, isNode, recOf, isOpen, isFolderAt, named, subfolders}
 use Rattle.rules.specs.Rules.{Linked, Removed, Rule7}

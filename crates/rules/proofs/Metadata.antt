@@ -1,11 +1,10 @@
 -- Rules 1 to 4: a test decides each.
-use mathlib.Core.Path.{_≡_, sym, _∙_}
-use mathlib.Core.Bool.{Bool, true, false, not, _&&_, _||_}
+use mathlib.Core.Path.{_≡_}
+use mathlib.Core.Bool.{Bool, true, false, not, _||_}
 use mathlib.Core.List.{List}
 use mathlib.Core.Logic.{_≢_}
-use Prim.Native.Nat.{ℕ, _+_, _*_, _<_}
-use lib.Dec.{T}
-use Rattle.base.specs.Decides.{Decides, same}
+use Prim.Native.Nat.{ℕ, _+_, _*_}
+use Rattle.base.specs.Decides.{Decides}
 use Rattle.base.proofs.Bools.{true-false}
 use Rattle.base.proofs.Sames.{decides-unless, test-fails}
 use Rattle.base.proofs.Tests.{decides-true, decides-iff, decides-eqb, decides-leb, decides-and, decides-all, decides-same}

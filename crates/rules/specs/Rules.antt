@@ -4,6 +4,7 @@ use mathlib.Core.Logic.{_≢_, _⊎_}
 use mathlib.Core.Bool.{true, false}
 use mathlib.Core.List.{List, [], _∷_}
 use Prim.Native.Nat.{ℕ, _+_, _*_, _<_, _≤_}
+use lib.ListN.{getD}
 use Rattle.structs.specs.Constants.{sefsMagic, typeDir}
 use Rattle.structs.specs.Layout.{recordBytes}
 use Rattle.structs.specs.declared.DiskEntry.{DiskEntry}
@@ -120,3 +121,7 @@ pub record Allowed (a : List ℕ) (t : Table) : Type 0 where
   pub rule6 : Rule6 a t
   pub rule7 : Rule7 a t
   pub rule8 : Rule8 a t
+
+-- the rules by number; another number says nothing
+unfoldable pub RuleAt : ℕ → List ℕ → Table → Type 0
+RuleAt r a t = getD (Unit ∷ Rule1 a ∷ Rule2 t ∷ Rule3 a ∷ Rule4 a t ∷ Rule5 a t ∷ Rule6 a t ∷ Rule7 a t ∷ Rule8 a t ∷ []) r Unit
