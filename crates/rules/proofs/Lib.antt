@@ -1,0 +1,7 @@
+pub mod General
+pub mod Metadata
+pub mod Files
+pub mod Folders
+pub mod Links
+pub mod Climbs
+pub mod Check
