@@ -1,9 +1,9 @@
 -- What an image is: an arena a, and a table t of open nodes. The words in which the checker's rules are said.
-use mathlib.Core.Bool.{Bool, true, false, not, _&&_}
-use mathlib.Core.List.{List, [], _∷_, _++_}
+use mathlib.Core.Bool.{Bool, not, _&&_}
+use mathlib.Core.List.{List, [], _++_}
 use Prim.Native.Nat.{ℕ, zero, suc, _+_, _*_, _-_, _%_}
 use lib.Dec.{eqb, ltb}
-use Rattle.base.specs.Count.{sumTo, countTo, bit}
+use Rattle.base.specs.Count.{sumTo, countTo}
 use Rattle.base.specs.Parts.{tab}
 use Rattle.base.specs.Search.{pick}
 use Rattle.base.specs.declared.Found.{Found}

@@ -1,12 +1,12 @@
 -- The rules as tests, and the check: the lowest rule that fails, or 0.
-use mathlib.Core.Bool.{Bool, true, false, not, _&&_, _||_}
+use mathlib.Core.Bool.{Bool, not, _&&_, _||_}
 use mathlib.Core.List.{List, [], _∷_}
-use Prim.Native.Nat.{ℕ, zero, suc, _+_, _*_, _-_}
+use Prim.Native.Nat.{ℕ, suc, _+_, _*_}
 use lib.Dec.{eqb, ltb, leb}
-use Rattle.base.specs.Count.{allTo, countTo}
+use Rattle.base.specs.Count.{allTo}
 use Rattle.base.specs.Decides.{same, firstFail}
 use Rattle.base.specs.Search.{pick, lowest}
-use Rattle.structs.specs.Constants.{sefsMagic, typeDir}
+use Rattle.structs.specs.Constants.{sefsMagic}
 use Rattle.structs.specs.Layout.{recordBytes}
 use Rattle.structs.specs.Verdict.{isFolder}
 use Rattle.structs.specs.declared.DiskINode.{DiskINode}
