@@ -1,2 +1,3 @@
 pub mod Ones
+pub mod Rooms
 pub mod Syncs

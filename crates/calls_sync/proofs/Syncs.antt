@@ -2,29 +2,53 @@
 use mathlib.Core.Path.{_≡_, refl, sym, _∙_, ap}
 use mathlib.Core.Bool.{Bool, true, false, _&&_, _||_}
 use mathlib.Core.List.{List}
-use Prim.Native.Nat.{ℕ, zero, suc, _+_, _*_, _-_, _<_, _≤_}
+use Prim.Native.Nat.{ℕ, zero, suc, _+_, _-_, _/_, _%_, _<_, _≤_}
 use native.Mathlib.Omega.{arith}
-use lib.Dec.{eqb, ltb}
+use lib.Dec.{eqb, ltb, leb}
+use borrow.Author.Tests.{ltb-true}
+use Rattle.base.specs.Out.{Out, done, refused, bind, answer, Went, well, ill}
 use Rattle.base.specs.Search.{foundBelow}
-use Rattle.base.specs.declared.Found.the-variants.{At, Nothing}
-use Rattle.base.specs.Out.{done, refused, bind, answer, well, ill}
-use Rattle.base.proofs.Outs.{above-zero, went-is, went-has, went-not}
+use Rattle.base.proofs.Bools.{and-parts}
+use Rattle.base.proofs.Finds.{search-at}
+use Rattle.base.proofs.Outs.{above-zero, bind-is-done, went-is, went-has}
 use Rattle.base.proofs.Searches.{found-at, found-nothing}
 use Rattle.table.specs.declared.Table.{Table}
-use Rattle.table.specs.Table.{rowAt, nextRow}
+use Rattle.table.specs.Table.{rowAt, isNext, nextRow}
 use Rattle.table.specs.Formed.{wellFormed}
 use Rattle.table.proofs.Next.{Best, best-take, best-keep}
+use Rattle.arena.specs.Blocks.{legal}
+use Rattle.arena.specs.Places.{freeCount}
+use Rattle.overlay.specs.View.{view, Fine}
+use Rattle.overlay.proofs.Views.{Ready as Empty, length-view}
 use Rattle.sefs.specs.State.{Fs}
+use Rattle.sefs.specs.Meta.{loadMeta}
 use Rattle.sefs.specs.Nodes.{idAt, syncRow}
 use Rattle.sefs.specs.Ask.{start}
 use Rattle.sefs.specs.Close.{syncFrom, callSync}
-use Rattle.overlay.specs.View.{left}
-use Rattle.mem.specs.Mem.{tableIn}
-use Rattle.mem.specs.State.{fsOf, Ready, Stepped}
+use Rattle.mem.specs.Mem.{tableIn, metaIn, Whole}
+use Rattle.mem.specs.State.{fsOf, Stepped}
+use Rattle.calls.specs.declared.After.{After}
+use Rattle.calls.specs.Answers.{doneWith}
 use Rattle.calls.specs.Asked.{admitIf}
 use Rattle.calls.proofs.Asks.{asks-admitIf, asked-not, asked-done, admit-is, admitted-legal}
-use Rattle.calls_steps.specs.Ends.{ending}
-use Rattle.arena.specs.Blocks.{legal}
+use Rattle.calls_steps.specs.Ends.{ending, Returned}
+use Rattle.calls_sync.specs.Sync.{stateOf, Decided, can, cannot, Does, Counted, Left}
+
+-- ---- answers
+
+-- another answer than 0: it is the reason
+decided-not : {A : Type 0} {o : Out A} {P : A → Type 0} {r : ℕ} → Decided o P r → (r ≡ 0 → ⊥) → o ≡ refused r
+decided-not (can e p) z = absurd (z refl)
+decided-not (cannot l e) z = e
+
+decided-has : {A : Type 0} {o : Out A} {P : A → Type 0} {r : ℕ} → Decided o P r → r ≡ 0 → (x : A) × (o ≡ done x) × P x
+decided-has (can {x = x} e p) z = (x, e, p)
+decided-has (cannot l e) z = absurd (omega arith)
+
+-- a step that its definition does is answered with 0
+went-does : {A : Type 0} {o : Out A} {v : A} {P : Type 0} {r : ℕ} → Went o v P r → (s : A) → o ≡ done s → r ≡ 0
+went-does (well e p) s d = refl
+went-does (ill l e) s d = absurd (let z : _≡_ {A = ℕ} 0 1 = cc in omega arith)
 
 -- ---- the next row
 
@@ -35,6 +59,13 @@ module _ (f : ℕ → ℕ) (after n best least id : ℕ) (q : id ≡ f n) (b : B
 
   pub id-passed : (ltb after id && (eqb best 34 || ltb id least)) ≡ false → (k m : ℕ) → k ≡ best → m ≡ least → Best f after (n + 1) k m
   id-passed e k m x y = best-keep f after n best least b (rw q at e) k m x y
+
+-- its id lies above
+next-above : (t : Table) (low i : ℕ) → foundBelow i 34 ≡ nextRow t low → i < 34 → low < rowAt t i .id
+unfolding nextRow isNext
+next-above t low i e l =
+    let s = search-at (isNext t low) 34 i (sym e ∙ found-at i 34 l) in
+    ltb-true _ _ (and-parts (ltb low (rowAt t i .id)) _ (s .1) .0)
 
 -- ---- the rows by rising id
 
@@ -55,49 +86,130 @@ unfolding syncFrom
 from-end s low zero l = refl
 from-end s low (suc n) l = absurd (omega arith)
 
--- the rows that are left, `more` at the most, have ids above `low`: w and m were workspace and memory at the start, and are v and l
-pub record Turn (a w m v l : List ℕ) (low more : ℕ) : Type 0 where
-  pub same : syncFrom (fsOf a w m) 0 34 ≡ syncFrom (fsOf a v l) low more
-  pub ready : Ready a v l
-  pub most : more ≤ 34
-  pub room : left w ≤ left v + 3 * (34 - more)
+-- what the state s needs is what d, with the memory l, needs for the rows with ids above `low`, `more` at the most
+pub record Turn (s : Fs) (d l : List ℕ) (low more : ℕ) : Type 0 where
+  pub same : syncFrom s 0 34 ≡ syncFrom (stateOf d l) low more
+  pub whole : Whole l
 
-module _ {a w m v l : List ℕ} {low more : ℕ} (T : Turn a w m v l low more) where
-  -- what is known where the rows are stored
-  turn-done : syncFrom (fsOf a v l) low more ≡ done (fsOf a v l) → Stepped (syncFrom (fsOf a w m) 0 34) a w v l 102 0
-  turn-done e = well (T .same ∙ e) (record { fine = T .ready .fine; whole = T .ready .whole; room = omega (arith, T .room) })
-
-  pub turn-end : more ≤ 0 → Stepped (syncFrom (fsOf a w m) 0 34) a w v l 102 0
-  turn-end z = turn-done (from-end (fsOf a v l) low more z)
+module _ {s : Fs} {d l : List ℕ} {low more : ℕ} (T : Turn s d l low more) where
+  pub turn-end : more ≤ 0 → syncFrom s 0 34 ≡ done (stateOf d l)
+  turn-end z = T .same ∙ from-end (stateOf d l) low more z
 
   module _ (i : ℕ) (e : foundBelow i 34 ≡ nextRow (tableIn l) low) where
-    found : foundBelow i 34 ≡ nextRow (fsOf a v l .table) low
-    unfolding fsOf
+    found : foundBelow i 34 ≡ nextRow (stateOf d l .table) low
+    unfolding stateOf
     found = e
 
-    pub turn-none : 34 ≤ i → Stepped (syncFrom (fsOf a w m) 0 34) a w v l 102 0
-    turn-none h = turn-done (from-none (fsOf a v l) low i found more h)
+    pub turn-none : 34 ≤ i → syncFrom s 0 34 ≡ done (stateOf d l)
+    turn-none h = T .same ∙ from-none (stateOf d l) low i found more h
 
-    -- row i is stored next
-    turn-row : i < 34 → 0 < more → syncFrom (fsOf a w m) 0 34 ≡ bind (syncRow (fsOf a v l) i) (λ d. syncFrom d (idAt (fsOf a v l) i) (more - 1))
-    turn-row h k =
-        let q : more ≡ suc (more - 1) = omega arith in
-        T .same ∙ ap (syncFrom (fsOf a v l) low) q ∙ from-row (fsOf a v l) low i found (more - 1) h
+    module _ (h : i < 34) (k : 0 < more) where
+      -- row i comes next
+      turn-row : syncFrom s 0 34 ≡ bind (syncRow (stateOf d l) i) (λ x. syncFrom x (idAt (stateOf d l) i) (more - 1))
+      turn-row =
+          let q : more ≡ suc (more - 1) = omega arith in
+          T .same ∙ ap (syncFrom (stateOf d l) low) q ∙ from-row (stateOf d l) low i found (more - 1) h
 
-    module _ {u n : List ℕ} {r : ℕ} (h : i < 34) (k : 0 < more) (g : Stepped (syncRow (fsOf a v l) i) a v u n 3 r) where
-      pub turn-stop : (x y : List ℕ) → (r ≡ 0 → ⊥) → Stepped (syncFrom (fsOf a w m) 0 34) a w x y 102 r
-      turn-stop x y z = ill (above-zero r z) (turn-row h k ∙ rw (went-not g z))
+      pub turn-stop : (r : ℕ) → syncRow (stateOf d l) i ≡ refused r → syncFrom s 0 34 ≡ refused r
+      turn-stop r g = turn-row ∙ rw g
 
-      pub turn-next : (id : ℕ) → id ≡ rowAt (tableIn l) i .id → r ≡ 0 → Turn a w m u n id (more - 1)
-      unfolding fsOf
-      turn-next id q z =
-          let s = went-has g z in
+      pub turn-next : (c n : List ℕ) (id : ℕ) → syncRow (stateOf d l) i ≡ done (stateOf c n) → Whole n → id ≡ rowAt (tableIn l) i .id → Turn s c n id (more - 1)
+      unfolding stateOf
+      turn-next c n id g w q = record { same = turn-row ∙ rw (g, q); whole = w }
+
+      -- where all can be done, row i can be stored
+      pub turn-does : Does (syncFrom s 0 34) → Does (syncRow (stateOf d l) i)
+      turn-does p =
+          let b = bind-is-done (syncRow (stateOf d l) i) (λ x. syncFrom x (idAt (stateOf d l) i) (more - 1)) (p .0) (sym turn-row ∙ p .1) in
+          (b .0, b .1)
+
+-- ---- whether they can be stored
+
+-- the arena is only counted on: `arena` is what it would be
+pub record Trying (a : List ℕ) (s : Fs) (l : List ℕ) (low more from free : ℕ) : Type 0 where
+  pub arena : List ℕ
+  pub turn : Turn s arena l low more
+  pub counted : Counted a arena low from free
+
+pub try-start : (a m : List ℕ) (free : ℕ) → Whole m → free ≡ freeCount a → Trying a (stateOf a m) m 0 34 0 free
+try-start a m free w e = record {
+  arena = a;
+  turn = record { same = refl; whole = w };
+  counted = record { head = refl; room = sym e; rest = λ q _. refl; last = λ q z. absurd (omega arith); near = omega arith };
+}
+
+module _ {a : List ℕ} {s : Fs} {l : List ℕ} {low more from free : ℕ} (T : Trying a s l low more from free) where
+  pub try-end : more ≤ 0 → Decided (syncFrom s 0 34) (λ _. Unit) 0
+  try-end z = can (turn-end (T .turn) z) tt
+
+  module _ (i : ℕ) (e : foundBelow i 34 ≡ nextRow (tableIn l) low) where
+    pub try-none : 34 ≤ i → Decided (syncFrom s 0 34) (λ _. Unit) 0
+    try-none h = can (turn-none (T .turn) i e h) tt
+
+    module _ (n : List ℕ) (k m r : ℕ) (h : i < 34) (p : 0 < more)
+        (g : (d : List ℕ) (low : ℕ) → Counted a d low from free → low < rowAt (tableIn l) i .id → Decided (syncRow (stateOf d l) i) (Left a n (rowAt (tableIn l) i .id) k m) r) where
+      decided : Decided (syncRow (stateOf (T .arena) l) i) (Left a n (rowAt (tableIn l) i .id) k m) r
+      decided = g (T .arena) low (T .counted) (next-above (tableIn l) low i e h)
+
+      pub try-stop : (r ≡ 0 → ⊥) → Decided (syncFrom s 0 34) (λ _. Unit) r
+      try-stop z = cannot (above-zero r z) (turn-stop (T .turn) i e h p r (decided-not decided z))
+
+      pub try-next : (id : ℕ) → id ≡ rowAt (tableIn l) i .id → r ≡ 0 → Trying a s n id (more - 1) k m
+      try-next id q z =
+          let f = decided-has decided z in
+          let c = f .2 in
           record {
-            same = turn-row h k ∙ rw (went-is g z, q);
-            ready = record { fine = s .fine; whole = s .whole };
-            most = omega (arith, T .most);
-            room = omega (arith, T .room, s .room, T .most);
+            arena = c .arena;
+            turn = turn-next (T .turn) i e h p (c .arena) n id (f .1 ∙ ap done (c .is)) (c .whole) q;
+            counted = rw q (c .counted);
           }
+
+-- ---- a row is stored
+
+fs-view : (a u n : List ℕ) → fsOf a u n ≡ stateOf (view a u) n
+unfolding fsOf stateOf
+fs-view a u n = refl
+
+-- the length decides
+legal-view : (a u : List ℕ) → Fine a u → legal (view a u) ≡ legal a
+unfolding legal
+legal-view a u F = ap (λ (n : ℕ). eqb (n % 512) 0 && (leb 16 (n / 512) && leb (n / 512) 4096)) (length-view a u F)
+
+module _ (m : List ℕ) (i : ℕ) {a w u n : List ℕ} {r : ℕ} (E : Empty a w 13) (g : Stepped (syncRow (fsOf a w m) i) a w u n 3 r) (p : Does (syncRow (stateOf a m) i)) where
+  fs-is : fsOf a w m ≡ stateOf a m
+  unfolding fsOf stateOf
+  fs-is = λ x. record { arena = E .is x; table = tableIn m; meta = metaIn m }
+
+  -- it was
+  zero-is : r ≡ 0
+  zero-is = went-does g (p .0) (ap (λ (s : Fs). syncRow s i) fs-is ∙ p .1)
+
+  pub stored-fine : Fine a u
+  stored-fine = went-has g zero-is .fine
+
+  pub stored-is : (b : List ℕ) → b ≡ view a u → legal a ≡ true → (syncRow (stateOf a m) i ≡ done (stateOf b n)) × ((legal b ≡ true) × Whole n)
+  stored-is b e l = rw e (ap (λ (s : Fs). syncRow s i) (sym fs-is) ∙ went-is g zero-is ∙ left-is, (legal-view a u stored-fine ∙ l, went-has g zero-is .whole))
+    where
+      left-is : done (fsOf a u n) ≡ done (stateOf (view a u) n)
+      left-is = ap done (fs-view a u n)
+
+-- ---- the start and the end
+
+pub load-is : (a w l n : List ℕ) (t : Table) → Empty a w 10 → tableIn l ≡ t → metaIn n ≡ loadMeta (view a w) → tableIn n ≡ tableIn l → stateOf a n ≡ start a t
+unfolding stateOf
+load-is a w l n t E e q k = rw (q, k ∙ e, E .is)
+
+pub decided-start : {s z : Fs} {P : Fs → Type 0} {r : ℕ} → s ≡ z → Decided (syncFrom s 0 34) P r → Decided (syncFrom z 0 34) P r
+decided-start e g = rw (← e) g
+
+pub does-start : {s z : Fs} → s ≡ z → Does (syncFrom z 0 34) → Does (syncFrom s 0 34)
+does-start e g = rw e g
+
+pub returned-stored : (t : Table) (a b m n : List ℕ) (r : After) → stateOf a m ≡ start a t → syncFrom (stateOf a m) 0 34 ≡ done (stateOf b n) → r ≡ doneWith (tableIn n) → Returned t (ending (syncFrom (start a t) 0 34)) a b r
+unfolding stateOf
+returned-stored t a b m n r e g q =
+    let k : syncFrom (start a t) 0 34 ≡ done (stateOf b n) = sym (ap (λ (s : Fs). syncFrom s 0 34) e) ∙ g in
+    record { answer = q ∙ rw k; arena = rw k }
 
 -- ---- the first questions, and the rest
 
@@ -117,3 +229,10 @@ module _ (a : List ℕ) (t : Table) (formed : Bool) (k : formed ≡ wellFormed t
 
   pub sync-legal : r ≡ 0 → legal a ≡ true
   sync-legal z = admitted-legal a formed tt (admitted z)
+
+  module _ {x : ℕ} (z : r ≡ 0) (g : Decided (syncFrom (start a t) 0 34) (λ _. Unit) x) where
+    pub sync-cannot : (x ≡ 0 → ⊥) → callSync a t ≡ refused x
+    sync-cannot n = sync-goes z ∙ rw (decided-not g n)
+
+    pub sync-can : x ≡ 0 → Does (syncFrom (start a t) 0 34)
+    sync-can n = let f = decided-has g n in (f .0, f .1)

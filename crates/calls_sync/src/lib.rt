@@ -1,24 +1,37 @@
-// The call sync: dirty rows are stored by rising id, as 000's map of open nodes is ordered.
+// The call sync: dirty rows are stored by rising id, as 000's map of open nodes is ordered. First the blocks are counted that the records
+// would need, without a store; once nothing can refuse the call any more, each record is stored and committed by itself, so that a
+// workspace for one record is enough.
 ghost use mathlib.Core.Path.{_≡_};
 ghost use mathlib.Core.Bool.{true};
-ghost use Prim.Native.Nat.{_<_, _≤_};
+ghost use mathlib.Core.List.{List};
+ghost use Prim.Native.Nat.{ℕ, _+_, _*_, _<_, _≤_};
 ghost use lib.ListN.{length};
+ghost use Rattle.base.specs.Count.{bit};
+ghost use Rattle.base.specs.Out.{done as doneAs};
 ghost use Rattle.base.specs.Search.{foundBelow};
 ghost use Rattle.arena.specs.Blocks.{legal};
-ghost use Rattle.overlay.specs.View.{left};
 ghost use Rattle.overlay.proofs.Views.{Ready as Empty};
-ghost use Rattle.table.specs.Table.{nextRow};
+ghost use Rattle.files.specs.Store.{putFile};
+ghost use Rattle.table.specs.Table.{rowAt, nextRow};
 ghost use Rattle.sefs.specs.Ask.{start};
+ghost use Rattle.sefs.specs.Meta.{metaFile};
+ghost use Rattle.sefs.specs.Nodes.{syncRow};
 ghost use Rattle.sefs.specs.Close.{syncFrom, callSync};
 ghost use Rattle.mem.specs.Mem.{tableIn, Whole};
-ghost use Rattle.mem.specs.State.{fsOf, Ready, Stepped};
-ghost use Rattle.calls_steps.specs.Ends.{ending, Ended, Returned};
+ghost use Rattle.calls_steps.specs.Ends.{ending, Returned};
+ghost use Rattle.calls_sync.specs.Sync.{stateOf, Decided, Does, isLacking, needed, Counted, Left};
+use base::index;
 use calls::After;
 use calls::admit;
+use calls::done;
 use calls::refused;
-use calls::settle;
+use files::find_data;
+use files::read::there;
+use mem::dirty_at;
 use mem::id_at;
+use mem::put_dirty;
 use mem::put_table;
+use mem::table_at;
 use nodes::meta::load_meta;
 use nodes::sync_row;
 use table::Table;
@@ -43,11 +56,111 @@ fn next_row(mem: &[u8], after: u32) -> usize
     best
 }
 
-// `more`: how many rows there still can be with an id above `low`.
-fn sync_rows(arena: &[u8], work: &mut [u8], mem: &mut [u8]) -> u8
-    requires { ⌜ Ready (now arena) (now work) (now mem) × (102 ≤ left (now work)) ⌝ }
-    ensures { λ r. ⌜ Stepped (syncFrom (fsOf (now (arena .entry)) (now (work .entry)) (now (mem .entry))) 0 34) (now (arena .entry)) (now (work .entry)) (now (work .exit)) (now (mem .exit)) 102 r ⌝ }
+// ---- whether all can be stored
+
+// What the records so far would leave: no block of the metadata file below `from` has to be made any more, and so many blocks are free.
+struct Room {
+    reason: u8,
+    from: usize,
+    free: usize,
+}
+
+// 1 where block q of the metadata file would have to be made.
+fn lacks<'a>(arena: &'a [u8], work: &'a [u8], from: usize, q: usize) -> usize
+    requires { ⌜ Empty (now arena) (now work) 10 × (q < 4294967296) ⌝ }
+    ensures { λ r. ⌜ r ≡ bit (isLacking (now (arena .entry)) from q) ⌝ }
 {
+    if q < from {
+        return 0;
+    }
+    let meta = [0u8; 16];
+    if find_data(arena, work, 0, &meta, q as u32) < arena.len() / 512 {
+        return 0;
+    }
+    1
+}
+
+// How many blocks would have to be made for a record at `pos`: it touches one or two.
+fn needs<'a>(arena: &'a [u8], work: &'a [u8], from: usize, pos: usize) -> usize
+    requires { ⌜ Empty (now arena) (now work) 10 × (pos + 112 ≤ 4294967295) ⌝ }
+    ensures { λ r. ⌜ r ≡ needed (now (arena .entry)) from pos ⌝ }
+{
+    let first = pos / 480;
+    let last = (pos + 111) / 480;
+    let n = lacks(arena, work, from, first);
+    if first == last {
+        return n;
+    }
+    n + lacks(arena, work, from, last)
+}
+
+// Whether the record of that id can be stored after the others.
+fn room_for<'a>(arena: &'a [u8], work: &'a [u8], id: u32, from: usize, free: usize) -> Room
+    requires { ⌜ Empty (now arena) (now work) 10 ⌝ }
+    ensures { λ r. ⌜ ((d src : List ℕ) (low : ℕ) → Counted (now (arena .entry)) d low from free → low < id → length src ≡ 112 → Decided (putFile d metaFile (128 * id) src) (λ e. Counted (now (arena .entry)) e id (r .from) (r .free)) (r .reason)) ⌝ }
+{
+    let meta = [0u8; 16];
+    if !there(arena, work, 0, &meta) {
+        return Room {
+            reason: 19,
+            from: 0,
+            free: 0,
+        };
+    }
+    let pos = 128 * index(id);
+    if pos + 112 > 4294967295 {
+        return Room {
+            reason: 17,
+            from: 0,
+            free: 0,
+        };
+    }
+    let n = needs(arena, work, from, pos);
+    if n > free {
+        return Room {
+            reason: 17,
+            from: 0,
+            free: 0,
+        };
+    }
+    Room {
+        reason: 0,
+        from: (pos + 111) / 480 + 1,
+        free: free - n,
+    }
+}
+
+// Row i's turn. Memory is what it would be afterwards.
+fn try_row<'a>(
+    arena: &'a [u8],
+    work: &'a [u8],
+    mem: &mut [u8],
+    i: usize,
+    from: usize,
+    free: usize,
+) -> Room
+    requires { ⌜ Empty (now arena) (now work) 10 × (Whole (now mem) × (i < 34)) ⌝ }
+    ensures { λ r. ⌜ ((d : List ℕ) (low : ℕ) → Counted (now (arena .entry)) d low from free → low < rowAt (tableIn (now (mem .entry))) i .id → Decided (syncRow (stateOf d (now (mem .entry))) i) (Left (now (arena .entry)) (now (mem .exit)) (rowAt (tableIn (now (mem .entry))) i .id) (r .from) (r .free)) (r .reason)) ⌝ }
+{
+    if !dirty_at(&mem[..], i) {
+        return Room {
+            reason: 0,
+            from: from,
+            free: free,
+        };
+    }
+    let r = room_for(arena, work, id_at(&mem[..], i), from, free);
+    put_dirty(mem, i, false);
+    r
+}
+
+// Every row's turn, by rising id. `more`: how many rows there still can be with an id above `low`.
+fn try_rows<'a>(arena: &'a [u8], work: &'a [u8], mem: &mut [u8]) -> u8
+    requires { ⌜ Empty (now arena) (now work) 10 × Whole (now mem) ⌝ }
+    ensures { λ r. ⌜ Decided (syncFrom (stateOf (now (arena .entry)) (now (mem .entry))) 0 34) (λ _. Unit) r ⌝ }
+{
+    let mut from: usize = 0;
+    let mut free = arena::free_count(arena);
     let mut low: u32 = 0;
     let mut more: usize = 34;
     while 0 < more {
@@ -56,40 +169,83 @@ fn sync_rows(arena: &[u8], work: &mut [u8], mem: &mut [u8]) -> u8
             return 0;
         }
         low = id_at(&mem[..], i);
-        let r = sync_row(arena, work, mem, i);
-        if r != 0 {
-            return r;
+        let k = try_row(arena, work, mem, i, from, free);
+        if k.reason != 0 {
+            return k.reason;
         }
+        from = k.from;
+        free = k.free;
         more = more - 1;
     }
     0
 }
 
-// The workspace has no block yet, and memory has the table.
-fn sync_in(arena: &mut [u8], work: &mut [u8], mem: &mut [u8]) -> u8
-    requires { ⌜ Empty (now arena) (now work) 112 × (length (now mem) ≡ 4899) ⌝ }
-    ensures { λ r. ⌜ Ended (ending (syncFrom (start (now (arena .entry)) (tableIn (now (mem .entry)))) 0 34)) (now (arena .entry)) (now (arena .exit)) (tableIn (now (mem .exit))) r ⌝ }
+// Memory at the call's start.
+fn load(arena: &[u8], mem: &mut [u8], t: Table)
+    requires { ⌜ (legal (now arena) ≡ true) × (length (now mem) ≡ 4899) ⌝ }
+    ensures { λ _. ⌜ (stateOf (now (arena .entry)) (now (mem .exit)) ≡ start (now (arena .entry)) t) × Whole (now (mem .exit)) ⌝ }
 {
-    load_meta(&arena[..], &work[..], mem);
-    let r = sync_rows(&arena[..], work, mem);
-    if r != 0 {
-        return r;
-    }
-    overlay::commit(arena, &work[..]);
-    0
+    let mut work = [0u8; 5120];
+    overlay::begin(&mut work);
+    put_table(mem, t);
+    load_meta(arena, &work, mem);
 }
 
-// Memory and workspace are made.
-fn sync_all(arena: &mut [u8], t: Table) -> After
+// 0 where every dirty row can be stored, else the reason that refuses the call.
+fn decide(arena: &[u8], t: Table) -> u8
     requires { ⌜ legal (now arena) ≡ true ⌝ }
+    ensures { λ r. ⌜ Decided (syncFrom (start (now (arena .entry)) t) 0 34) (λ _. Unit) r ⌝ }
+{
+    let mut mem = [0u8; 4899];
+    let mut work = [0u8; 5120];
+    load(arena, &mut mem, t);
+    overlay::begin(&mut work);
+    try_rows(arena, &work, &mut mem)
+}
+
+// ---- the stores
+
+// Row i is stored, which nothing refuses.
+fn store_one(arena: &mut [u8], mem: &mut [u8], i: usize)
+    requires { ⌜ (legal (now arena) ≡ true) × (Whole (now mem) × (i < 34)) ⌝ }
+    requires { ⌜ Does (syncRow (stateOf (now arena) (now mem)) i) ⌝ }
+    ensures { λ _. ⌜ (syncRow (stateOf (now (arena .entry)) (now (mem .entry))) i ≡ doneAs (stateOf (now (arena .exit)) (now (mem .exit)))) × ((legal (now (arena .exit)) ≡ true) × Whole (now (mem .exit))) ⌝ }
+{
+    let mut work = [0u8; 6656];
+    overlay::begin(&mut work);
+    sync_row(&arena[..], &mut work, mem, i);
+    overlay::commit(arena, &work);
+}
+
+// Every row is, by rising id.
+fn store_rows(arena: &mut [u8], mem: &mut [u8])
+    requires { ⌜ (legal (now arena) ≡ true) × Whole (now mem) ⌝ }
+    requires { ⌜ Does (syncFrom (stateOf (now arena) (now mem)) 0 34) ⌝ }
+    ensures { λ _. ⌜ syncFrom (stateOf (now (arena .entry)) (now (mem .entry))) 0 34 ≡ doneAs (stateOf (now (arena .exit)) (now (mem .exit))) ⌝ }
+{
+    let mut low: u32 = 0;
+    let mut more: usize = 34;
+    while 0 < more {
+        let i = next_row(&mem[..], low);
+        if i >= 34 {
+            return;
+        }
+        low = id_at(&mem[..], i);
+        store_one(arena, mem, i);
+        more = more - 1;
+    }
+}
+
+// The call's end, once it is decided: the rows are stored, and none is dirty any more.
+fn store_all(arena: &mut [u8], t: Table) -> After
+    requires { ⌜ legal (now arena) ≡ true ⌝ }
+    requires { ⌜ Does (syncFrom (start (now arena) t) 0 34) ⌝ }
     ensures { λ r. ⌜ Returned t (ending (syncFrom (start (now (arena .entry)) t) 0 34)) (now (arena .entry)) (now (arena .exit)) r ⌝ }
 {
     let mut mem = [0u8; 4899];
-    let mut work = [0u8; 57344];
-    put_table(&mut mem, t);
-    overlay::begin(&mut work);
-    let r = sync_in(arena, &mut work, &mut mem);
-    settle(t, &mem, r)
+    load(&arena[..], &mut mem, t);
+    store_rows(arena, &mut mem);
+    done(table_at(&mem))
 }
 
 pub fn sync(arena: &mut [u8], t: Table) -> After
@@ -99,5 +255,9 @@ pub fn sync(arena: &mut [u8], t: Table) -> After
     if r != 0 {
         return refused(t, r);
     }
-    sync_all(arena, t)
+    let r = decide(&arena[..], t);
+    if r != 0 {
+        return refused(t, r);
+    }
+    store_all(arena, t)
 }
