@@ -24,7 +24,8 @@ struct Moved {
 
 // The listing, with the place's fields by value.
 fn list_on(arena: &[u8], t: Table, h: Handle, next: u64, out: &mut [u8]) -> Moved
-    ensures { λ r. ⌜ (r ≡ movedAs next (callListing (now (arena .entry)) t h next (length (now (out .entry))))) × (now (out .exit) ≡ laid (now (out .entry)) (callListing (now (arena .entry)) t h next (length (now (out .entry))))) ⌝ }
+    ensures { λ r. ⌜ r ≡ movedAs next (callListing (now (arena .entry)) t h next (length (now (out .entry)))) ⌝ }
+    ensures { λ _. ⌜ now (out .exit) ≡ laid (now (out .entry)) (callListing (now (arena .entry)) t h next (length (now (out .entry)))) ⌝ }
 {
     let l = list_from(arena, t, h, next, out);
     match l {
@@ -41,7 +42,9 @@ fn list_on(arena: &[u8], t: Table, h: Handle, next: u64, out: &mut [u8]) -> Move
 
 // The slots from the place on, as stored. The place is taken apart, and only its next slot changes.
 pub fn list(arena: &[u8], t: Table, place: &mut Place, out: &mut [u8]) -> Listed
-    ensures { λ r. ⌜ (r ≡ listedOf (listAt (now (arena .entry)) t (now (place .entry)) (length (now (out .entry))))) × ((now (place .exit) ≡ placeAfter (now (place .entry)) (listAt (now (arena .entry)) t (now (place .entry)) (length (now (out .entry))))) × (now (out .exit) ≡ laid (now (out .entry)) (listAt (now (arena .entry)) t (now (place .entry)) (length (now (out .entry)))))) ⌝ }
+    ensures { λ r. ⌜ r ≡ listedOf (listAt (now (arena .entry)) t (now (place .entry)) (length (now (out .entry)))) ⌝ }
+    ensures { λ _. ⌜ now (place .exit) ≡ placeAfter (now (place .entry)) (listAt (now (arena .entry)) t (now (place .entry)) (length (now (out .entry)))) ⌝ }
+    ensures { λ _. ⌜ now (out .exit) ≡ laid (now (out .entry)) (listAt (now (arena .entry)) t (now (place .entry)) (length (now (out .entry)))) ⌝ }
 {
     let h = place.handle;
     let m = list_on(arena, t, h, place.next, out);
