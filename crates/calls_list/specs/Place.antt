@@ -1,0 +1,26 @@
+-- The listing by a place: "the call moves it on by the slots written", and a refusal leaves it.
+use mathlib.Core.List.{List}
+use Prim.Native.Nat.{ℕ, _+_, _/_}
+use lib.ListN.{length}
+use Rattle.base.specs.Out.{Out, done, refused}
+use Rattle.table.specs.declared.Table.{Table}
+use Rattle.sefs.specs.Read.{callListing}
+use Rattle.calls.specs.Answers.{listedOf}
+use Rattle.calls_list.specs.declared.Place.{Place}
+use Rattle.calls_list.specs.declared.Moved.{Moved}
+
+-- what is written for a place at the start of an output of `room` bytes
+abbrev pub listAt : List ℕ → Table → Place → ℕ → Out (List ℕ)
+listAt a t p room = callListing a t (p .handle) (p .next) room
+
+-- a slot is 264 bytes
+abbrev pub nextAfter : ℕ → Out (List ℕ) → ℕ
+nextAfter next (done l) = next + length l / 264
+nextAfter next (refused n) = next
+
+abbrev pub placeAfter : Place → Out (List ℕ) → Place
+placeAfter p o = record { handle = p .handle; next = nextAfter (p .next) o }
+
+-- the same by value: the answer, and the slot that comes next
+abbrev pub movedAs : ℕ → Out (List ℕ) → Moved
+movedAs next o = record { answer = listedOf o; next = nextAfter next o }
