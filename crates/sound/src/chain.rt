@@ -125,6 +125,26 @@ pub fn add_block(arena: &[u8], first: &mut [u16], next: &mut [u16], k: usize) ->
     true
 }
 
+// One more than the number of the block that has that key, or 0. The chains are those of all blocks.
+pub fn find(
+    arena: &[u8],
+    first: &[u16],
+    next: &[u16],
+    head: bool,
+    which: u8,
+    name: &[u8],
+    number: u32,
+) -> usize
+    requires { ⌜ (length (now name) ≡ 16) × ((blocks (now arena) ≤ 4096) × ((length (now first) ≡ 4096) × (length (now next) ≡ 4096))) ⌝ }
+    requires { ⌜ Chains (now arena) (now first) (now next) (blocks (now arena)) ⌝ }
+    ensures { λ r. ⌜ (r ≡ last (λ j. isKey head (file which (now (name .entry))) number (blk (now (arena .entry)) j)) (blocks (now (arena .entry)))) × (r ≤ blocks (now (arena .entry))) ⌝ }
+{
+    let n = arena.len() / 512;
+    let h = hash_key(head, which, name, number);
+    let start = index16(first[h]);
+    find_key(arena, next, n, start, head, which, name, number)
+}
+
 // Block k, where it is a data block, under its head.
 pub fn under_at(arena: &[u8], first: &[u16], next: &[u16], k: usize) -> bool
     requires { ⌜ (k < blocks (now arena)) × ((blocks (now arena) ≤ 4096) × ((length (now first) ≡ 4096) × (length (now next) ≡ 4096))) ⌝ }
@@ -132,7 +152,6 @@ pub fn under_at(arena: &[u8], first: &[u16], next: &[u16], k: usize) -> bool
     requires { ⌜ allTo (alone (now arena)) (blocks (now arena)) ≡ true ⌝ }
     ensures { λ r. ⌜ r ≡ under (now (arena .entry)) k ⌝ }
 {
-    let n = arena.len() / 512;
     let o = 512 * k;
     let part = &arena[o..o + 512];
     if part[0] != 2 {
@@ -140,9 +159,7 @@ pub fn under_at(arena: &[u8], first: &[u16], next: &[u16], k: usize) -> bool
     }
     let which = part[1];
     let name = &part[4..20];
-    let h = hash_key(true, which, name, 0);
-    let start = index16(first[h]);
-    let c = find_key(arena, next, n, start, true, which, name, 0);
+    let c = find(arena, first, next, true, which, name, 0);
     if c == 0 {
         return false;
     }

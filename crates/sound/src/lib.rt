@@ -1,7 +1,7 @@
 // Whether an arena is sound, in time that grows with its length: one pass joins each block to the chain of its hash and looks for its
 // key there, and one looks for the head of each data block.
 mod block;
-mod chain;
+pub mod chain;
 
 ghost use mathlib.Core.Path.{_≡_};
 ghost use mathlib.Core.Bool.{true};
@@ -50,10 +50,12 @@ fn all_under(arena: &[u8], first: &[u16], next: &[u16]) -> bool
     true
 }
 
-fn sound_in(arena: &[u8], first: &mut [u16], next: &mut [u16]) -> bool
+// Whether the arena is sound; where it is, the chains of all blocks are left in `first` and `next`.
+pub fn sound_in(arena: &[u8], first: &mut [u16], next: &mut [u16]) -> bool
     requires { ⌜ (blocks (now arena) ≤ 4096) × ((length (now first) ≡ 4096) × (length (now next) ≡ 4096)) ⌝ }
     requires { ⌜ ((h : ℕ) → h < 4096 → getD (now first) h 0 ≡ 0) ⌝ }
     ensures { λ r. ⌜ r ≡ soundArena (now (arena .entry)) ⌝ }
+    ensures { λ r. ⌜ (r ≡ true → Chains (now (arena .entry)) (now (first .exit)) (now (next .exit)) (blocks (now (arena .entry)))) ⌝ }
 {
     if !all_alone(arena, first, next) {
         return false;

@@ -1,6 +1,6 @@
 -- `sound::sound_in`: the two passes are the definition.
 use mathlib.Core.Path.{sym, _∙_, ap}
-use mathlib.Core.Bool.{Bool, _&&_}
+use mathlib.Core.Bool.{Bool, _&&_, true≢false}
 use borrow.Author.Needs.{needs}
 use borrow.Author.Tests.{not-true, not-false}
 use Rattle.base.specs.Count.{allTo}
@@ -23,7 +23,7 @@ returns : tie.Need-returns
 returns c =
     let r = c .before .before .before .before .before in
     let a = r .before .before .before .before .before .before .args .arena .now in
-    sym (sound-is a ∙ ap (λ (t : Bool). t && allTo (under a) (blocks a)) (sym (r .all-alone .ensures .0) ∙ not-true _ (c .if1 .taken)))
+    (sym (sound-is a ∙ ap (λ (t : Bool). t && allTo (under a) (blocks a)) (sym (r .all-alone .ensures .0) ∙ not-true _ (c .if1 .taken))), λ e. absurd (true≢false (sym e)))
 
 all-under-requires : tie.Need-all-under-requires
 all-under-requires c κs =
@@ -44,7 +44,7 @@ returns-2 c =
     let e = c .before .before .before in
     let r = e .before .before .before .before .before in
     let a = r .before .before .before .before .before .before .args .arena .now in
-    c .all-under .ensures ∙ sym (sound-is a ∙ ap (λ (t : Bool). t && allTo (under a) (blocks a)) (sym (r .all-alone .ensures .0) ∙ not-false _ (e .if1 .left)))
+    (c .all-under .ensures ∙ sym (sound-is a ∙ ap (λ (t : Bool). t && allTo (under a) (blocks a)) (sym (r .all-alone .ensures .0) ∙ not-false _ (e .if1 .left))), λ _. r .all-alone .ensures .1 (not-false _ (e .if1 .left)))
 
 pub sound-in-spec : {M : Type 1} → statement M
 sound-in-spec =

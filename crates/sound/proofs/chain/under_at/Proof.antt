@@ -1,14 +1,12 @@
 -- `sound::chain::under_at`: the head that the chain leads to is the head of the file, since no other head of it is sound.
 use mathlib.Core.Path.{_≡_, sym, _∙_, ap}
-use Prim.Native.Nat.{ℕ, _-_, _<_}
+use Prim.Native.Nat.{_-_, _<_}
 use native.Mathlib.Omega.{arith}
 use lib.ListN.{length-take, length-drop}
-use Rattle.base.specs.Search.{last}
 use Rattle.arena.specs.Blocks.{blk, blocks}
 use Rattle.arena.specs.Fields.{fileOf}
 use Rattle.arena.specs.Places.{headOf}
 use Rattle.sound.specs.Sound.{within}
-use Rattle.sound.specs.Chain.{inBucket}
 use Rattle.sound.proofs.Chains.{found-head, no-head, under-not, under-none, under-found}
 use borrow.Author.Needs.{needs}
 use Rattle.sound.proofs.chain.under_at.Statement.{statement}
@@ -50,36 +48,19 @@ part-name-start c = search needs
 part-name-end : tie.Need-part-name-end
 part-name-end c = search needs
 
-hash-key-requires : tie.Need-hash-key-requires
-hash-key-requires c κs = search needs
-
-mul-index16 : tie.Need-mul-index16
-mul-index16 c = search needs
-
-shared-slice-read-index16 : tie.Need-shared-slice-read-index16
-shared-slice-read-index16 c = search needs
-
-index16-requires : tie.Need-index16-requires
-index16-requires c κs = search needs
-
-find-key-requires : tie.Need-find-key-requires
-find-key-requires c κs =
-    let h = c .before .before in
-    let s = h .before .before .before .before .before .before .before .before .before in
-    let a = s .args .arena .now in
-    let C = s .pre .1 .0 in (
-      (simp (length-take, length-drop) (omega (arith, s .pre .0 .0)), (omega arith, omega (arith, s .pre .0))),
-      (C .links, c .index16 .ensures ∙ C .starts (h .hash-key .result) (h .hash-key .ensures .1) ∙ ap (λ (x : ℕ). last (inBucket a x) (blocks a)) (h .hash-key .ensures .0)),
-    )
+find-requires : tie.Need-find-requires
+find-requires c κs =
+    let s = c .before .before .before .before .before .before .before .before in
+    (((simp (length-take, length-drop) (omega (arith, s .pre .0 .0))), s .pre .0 .1), s .pre .1 .0)
 
 returns-2 : tie.Need-returns-2
 unfolding blk
 returns-2 c =
     let f = c .before in
-    let e1 = f .before .before .before .before .before .before in
+    let e1 = f .before .before .before in
     let s = e1 .before .before .before .before .before .before in
     let a = s .args .arena .now in
-    sym (under-none a (s .args .k) (e1 .if1 .left) (no-head a (s .pre .1 .1) (fileOf (blk a (s .args .k))) (f .find-key .result) (f .find-key .ensures) (c .if2 .taken)))
+    sym (under-none a (s .args .k) (e1 .if1 .left) (no-head a (s .pre .1 .1) (fileOf (blk a (s .args .k))) (f .find .result) (f .find .ensures .0) (c .if2 .taken)))
 
 sub-p : tie.Need-sub-p
 sub-p c = search needs
@@ -87,15 +68,15 @@ sub-p c = search needs
 -- the head that was found is the head
 head-at : (c : tie.Else2) →
     let f = c .before in
-    let s = f .before .before .before .before .before .before .before .before .before .before .before .before in
+    let s = f .before .before .before .before .before .before .before .before .before in
     let a = s .args .arena .now in
-    (headOf a (fileOf (blk a (s .args .k))) ≡ f .find-key .result - 1) × (f .find-key .result - 1 < blocks a)
+    (headOf a (fileOf (blk a (s .args .k))) ≡ f .find .result - 1) × (f .find .result - 1 < blocks a)
 unfolding blk
 head-at c =
     let f = c .before in
-    let s = f .before .before .before .before .before .before .before .before .before .before .before .before in
+    let s = f .before .before .before .before .before .before .before .before .before in
     let a = s .args .arena .now in
-    found-head a (s .pre .1 .1) (fileOf (blk a (s .args .k))) (f .find-key .result) (f .find-key .ensures) (omega (arith, c .if2 .left))
+    found-head a (s .pre .1 .1) (fileOf (blk a (s .args .k))) (f .find .result) (f .find .ensures .0) (omega (arith, c .if2 .left))
 
 mul-p : tie.Need-mul-p
 mul-p c = omega (arith, head-at c .1)
@@ -123,11 +104,11 @@ unfolding blk
 returns-3 c =
     let e2 = c .before .before .before in
     let f = e2 .before in
-    let e1 = f .before .before .before .before .before .before in
+    let e1 = f .before .before .before in
     let s = e1 .before .before .before .before .before .before in
     let a = s .args .arena .now in
     c .within-ok .ensures ∙ ap (within (blk a (s .args .k))) (c .before .u32-at .ensures)
-    ∙ sym (under-found a (s .args .k) (f .find-key .result - 1) (e1 .if1 .left) (head-at e2 .0) (head-at e2 .1))
+    ∙ sym (under-found a (s .args .k) (f .find .result - 1) (e1 .if1 .left) (head-at e2 .0) (head-at e2 .1))
 
 pub under-at-spec : {M : Type 1} → statement M
 under-at-spec =
@@ -144,11 +125,7 @@ under-at-spec =
     sub-name
     part-name-start
     part-name-end
-    hash-key-requires
-    mul-index16
-    shared-slice-read-index16
-    index16-requires
-    find-key-requires
+    find-requires
     returns-2
     sub-p
     mul-p
