@@ -1,0 +1,4 @@
+pub mod Files
+pub mod Nodes
+pub mod Loads
+pub mod Rows

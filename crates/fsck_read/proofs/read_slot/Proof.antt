@@ -1,0 +1,25 @@
+-- `fsck_read::read_slot`: a run of the node's file.
+use mathlib.Core.Path.{ap, _∙_}
+use Prim.Native.Nat.{_*_}
+use Rattle.sefs.specs.Nodes.{nodeFile}
+use Rattle.rules.specs.Image.{run}
+use borrow.Author.Needs.{needs}
+use Rattle.fsck_read.proofs.read_slot.Statement.{statement}
+use Rattle.fsck_read.proofs.read_slot.Tie as tie
+
+mul-read-run : tie.Need-mul-read-run
+mul-read-run c = search needs
+
+read-run-requires : tie.Need-read-run-requires
+read-run-requires c κs = search needs
+
+same-length : tie.Need-same-length
+same-length c = search needs
+
+returns : tie.Need-returns
+returns c =
+    let s = c .before .before .before .before .before .before .before .before .before .before in
+    c .before .before .read-run .ensures ∙ ap (run (s .args .arena .now) (nodeFile (s .args .rec)) (264 * s .args .k)) (s .pre .1 .1)
+
+pub read-slot-spec : {M : Type 1} → statement M
+read-slot-spec = tie.close (tie.spec mul-read-run read-run-requires same-length returns)
