@@ -88,6 +88,9 @@ module _ (a : List ℕ) (ok : sound a ≡ true) (f : File) (p n c : ℕ) (fits :
 
 -- ---- a run, in one part or two
 
+pub run-long : (a : List ℕ) (f : File) (pos n k : ℕ) (l : List ℕ) → n ≡ k → l ≡ run a f pos n → l ≡ run a f pos k
+run-long a f pos n k l e q = q ∙ ap (run a f pos) e
+
 module _ (a : List ℕ) (f : File) (pos : ℕ) (out : List ℕ) (m : ℕ) where
   first : (l : List ℕ) → m ≤ length out → l ≡ run a f pos m → Stored (length out) (λ j. byteAt a f (pos + j)) (back out 0 m l) m
   first l h q =

@@ -4,7 +4,6 @@ use mathlib.Core.Bool.{Bool, true, false, _&&_}
 use mathlib.Core.List.{List, [], _∷_, _++_}
 use mathlib.Core.Logic.{⊎-elim}
 use Prim.Native.Nat.{ℕ, suc, _+_, _*_, _-_, _≤_, _<_}
-use native.Mathlib.Nat.{zero-add}
 use native.Mathlib.Numerals.{add-one}
 use native.Mathlib.Omega.{arith}
 use lib.Dec.{eqb, leb}
@@ -13,7 +12,7 @@ use lib.Seq.{getD-set-same}
 use borrow.Author.Tests.{eq-eqb, ne-eqb, eqb-true, le-leb, lt-leb, leb-true}
 use Rattle.base.specs.Parts.{part, back, paste}
 use Rattle.base.specs.Search.{pick}
-use Rattle.base.proofs.Bools.{bool-cases, true-false, and-parts, same-bool}
+use Rattle.base.proofs.Bools.{bool-cases, and-parts, same-bool}
 use Rattle.base.proofs.Counts.{countTo-cong}
 use Rattle.base.proofs.Lists.{length-part, length-tab, length-paste, getD-paste-out, part-paste-other, set-paste}
 use Rattle.base.proofs.Parts.{part-part, part-join, back-paste}
@@ -169,17 +168,21 @@ module _ (a : List ℕ) (n : ℕ) (is : n ≡ pick (there a metaFile) (suc (leng
       groups-are : g ≡ superIn a .groups
       groups-are = g-is ∙ ap (λ (x : SuperBlock). x .groups) b-is
 
-      pub three-of : Of a p
+      super-maps : Of a p
       unfolding memory.mapsIn mapsIn
-      three-of = record {
+      super-maps = record {
         super = P .super ∙ b-is;
         maps = ap (λ (x : ℕ). part p 4387 (4387 + 128 * x)) (ap (λ (x : SuperBlock). x .groups) (P .super) ∙ sym g-is) ∙ maps-are ∙ ap (mapsTo a) groups-are;
       }
 
-      pub three-table : tableIn p ≡ tableIn m
-      three-table =
+      table : tableIn p ≡ tableIn m
+      table =
           let z : (x : List ℕ) → part (part x 0 4387) 0 4370 ≡ part x 0 4370 = λ x. part-part x 0 4387 0 4370 (omega arith) in
           table-kept m p (P .front ∙ sym (z d) ∙ ap (λ (x : List ℕ). part x 0 4370) (M .front) ∙ z m)
+
+      -- what later rules are given
+      pub three-given : (Loaded p × Of a p) × (tableIn p ≡ tableIn m)
+      three-given = ((P .loaded, super-maps), table)
 
       pub three-count : (k r : ℕ) → superFine b (n - 1) ≡ true → r ≡ g → k ≡ setBits (part p 4387 4899) (1024 * r) → eqb k (b .unused) ≡ test3 a
       unfolding setBits mapsIn

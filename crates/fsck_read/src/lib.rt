@@ -1,13 +1,10 @@
 // What the checker reads: files of a sound arena, by way of the chains that `sound` left; superblock, maps and records (rules 3 and 4).
 ghost use mathlib.Core.Path.{_≡_};
-ghost use mathlib.Core.Bool.{true};
-ghost use Prim.Native.Nat.{_+_, _*_, _<_, _≤_, _%_};
-ghost use lib.ListN.{length};
-ghost use Rattle.base.specs.Count.{bit};
-ghost use mathlib.Core.Bool.{_||_};
+ghost use mathlib.Core.Bool.{true, _||_};
 ghost use mathlib.Core.List.{List};
-ghost use Prim.Native.Nat.{ℕ, suc};
-ghost use Rattle.base.specs.Count.{allTo};
+ghost use Prim.Native.Nat.{ℕ, suc, _+_, _*_, _<_, _≤_, _%_};
+ghost use lib.ListN.{length};
+ghost use Rattle.base.specs.Count.{bit, allTo};
 ghost use Rattle.base.specs.Decides.{same};
 ghost use Rattle.base.specs.Search.{pick};
 ghost use Rattle.structs.specs.Layout.{recordOf, recordBytes};

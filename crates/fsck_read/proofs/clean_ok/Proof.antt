@@ -1,10 +1,8 @@
 -- `fsck_read::clean_ok`: the row's bytes in memory against the bytes that are stored.
 use mathlib.Core.Path.{refl, sym, _∙_}
-use Prim.Native.Nat.{ℕ, _+_, _*_}
+use Prim.Native.Nat.{_+_, _*_}
 use native.Mathlib.Omega.{arith}
 use lib.ListN.{replicate}
-use Rattle.table.specs.Table.{rowAt}
-use Rattle.mem.specs.Mem.{tableIn}
 use Rattle.fsck_read.proofs.Rows.{clean-dirty, clean-same}
 use borrow.Author.Needs.{needs}
 use Rattle.fsck_read.proofs.clean_ok.Statement.{statement}

@@ -1,6 +1,6 @@
 -- `fsck_read::load_maps`: group after group.
 use mathlib.Core.Path.{_≡_, refl, sym, _∙_, subst}
-use Prim.Native.Nat.{ℕ, _+_, _*_, _≤_, _-_}
+use Prim.Native.Nat.{_+_, _*_, _≤_, _-_}
 use native.Mathlib.Omega.{arith}
 use Rattle.fsck_read.specs.Given.{Mapped}
 use Rattle.fsck_read.proofs.Loads.{mapped-none, mapped-more}

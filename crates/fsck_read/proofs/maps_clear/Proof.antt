@@ -1,12 +1,12 @@
 -- `fsck_read::maps_clear`: group after group.
-use mathlib.Core.Path.{_≡_, refl, sym, ap, _∙_}
+use mathlib.Core.Path.{_≡_, sym, ap, _∙_}
 use mathlib.Core.Bool.{true, not}
-use Prim.Native.Nat.{_+_, _*_, _/_, _≤_, _<_, _-_}
+use Prim.Native.Nat.{_+_, _*_, _/_, _≤_, _-_}
 use native.Mathlib.Omega.{arith}
 use Rattle.base.specs.Count.{allTo}
 use Rattle.base.proofs.Counts.{allTo-more}
 use Rattle.maps.specs.Maps.{bitAt}
-use Rattle.mem.specs.Mem.{superIn, mapsIn}
+use Rattle.mem.specs.Mem.{mapsIn}
 use Rattle.fsck_read.proofs.Rows.{clear-none, clear-not, clear-all}
 use borrow.Author.Needs.{needs}
 use Rattle.fsck_read.proofs.maps_clear.Statement.{statement}

@@ -1,8 +1,8 @@
 -- `fsck_read::read_slot`: a run of the node's file.
-use mathlib.Core.Path.{ap, _∙_}
 use Prim.Native.Nat.{_*_}
+use lib.ListN.{length}
 use Rattle.sefs.specs.Nodes.{nodeFile}
-use Rattle.rules.specs.Image.{run}
+use Rattle.fsck_read.proofs.Files.{run-long}
 use borrow.Author.Needs.{needs}
 use Rattle.fsck_read.proofs.read_slot.Statement.{statement}
 use Rattle.fsck_read.proofs.read_slot.Tie as tie
@@ -19,7 +19,7 @@ same-length c = search needs
 returns : tie.Need-returns
 returns c =
     let s = c .before .before .before .before .before .before .before .before .before .before in
-    c .before .before .read-run .ensures ∙ ap (run (s .args .arena .now) (nodeFile (s .args .rec)) (264 * s .args .k)) (s .pre .1 .1)
+    run-long (s .args .arena .now) (nodeFile (s .args .rec)) (264 * s .args .k) (length (s .args .slot .now)) 264 _ (s .pre .1 .1) (c .before .before .read-run .ensures)
 
 pub read-slot-spec : {M : Type 1} → statement M
 read-slot-spec = tie.close (tie.spec mul-read-run read-run-requires same-length returns)

@@ -1,6 +1,5 @@
 -- `fsck_read::read_super`: 16 bytes of the metadata file.
 use mathlib.Core.Path.{refl, _∙_}
-use Prim.Native.Nat.{ℕ}
 use lib.ListN.{replicate}
 use Rattle.fsck_read.proofs.Nodes.{super-read}
 use borrow.Author.Needs.{needs}

@@ -6,7 +6,7 @@ use native.Mathlib.Omega.{arith}
 use borrow.Author.Tests.{not-true, not-false}
 use borrow.Author.Needs.{needs}
 use Rattle.base.proofs.Lists.{length-part}
-use Rattle.fsck_read.proofs.Loads.{super-says, three-short, three-super, three-count, three-of, three-table}
+use Rattle.fsck_read.proofs.Loads.{super-says, three-short, three-super, three-count, three-given}
 use Rattle.fsck_read.proofs.rule3.Statement.{statement}
 use Rattle.fsck_read.proofs.rule3.Tie as tie
 
@@ -84,10 +84,7 @@ returns-3 c =
     let M = p .before .before .before .before .load-maps .ensures in
     let k = c .before in (
       three-count (s .args .arena .now) (n .length-of .result) (n .length-of .ensures) (b .read-super .result) (b .read-super .ensures) (q .index .result) (q .index .ensures) (s .args .mem .now) _ _ M (p .put-super .ensures) few (k .count-set .result) (k .before .index2 .result) f (k .before .index2 .ensures ∙ sym (q .index .ensures)) (k .count-set .ensures),
-      λ _. (
-        (p .put-super .ensures .loaded, three-of (s .args .arena .now) (n .length-of .result) (n .length-of .ensures) (b .read-super .result) (b .read-super .ensures) (q .index .result) (q .index .ensures) (s .args .mem .now) _ _ M (p .put-super .ensures) few),
-        three-table (s .args .arena .now) (n .length-of .result) (n .length-of .ensures) (b .read-super .result) (b .read-super .ensures) (q .index .result) (q .index .ensures) (s .args .mem .now) _ _ M (p .put-super .ensures) few,
-      ),
+      λ _. three-given (s .args .arena .now) (n .length-of .result) (n .length-of .ensures) (b .read-super .result) (b .read-super .ensures) (q .index .result) (q .index .ensures) (s .args .mem .now) _ _ M (p .put-super .ensures) few,
     )
 
 pub rule3-spec : {M : Type 1} → statement M

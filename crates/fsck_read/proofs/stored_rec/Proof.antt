@@ -1,6 +1,5 @@
 -- `fsck_read::stored_rec`: 112 bytes of the metadata file.
 use mathlib.Core.Path.{refl, _∙_}
-use Prim.Native.Nat.{ℕ}
 use lib.ListN.{replicate}
 use Rattle.fsck_read.proofs.Nodes.{stored-read}
 use borrow.Author.Needs.{needs}

@@ -1,6 +1,5 @@
 -- `fsck_read::super_ok`: the definition, test by test.
 use Rattle.fsck_read.proofs.Loads.{super-magic, super-none, super-many, super-rest}
-use native.Mathlib.Omega.{arith}
 use borrow.Author.Needs.{needs}
 use Rattle.fsck_read.proofs.super_ok.Statement.{statement}
 use Rattle.fsck_read.proofs.super_ok.Tie as tie
