@@ -1,25 +1,23 @@
 // The check call: pass with three counts, or the lowest failing rule of document 01. It never refuses. The chains of `sound` lead to a
 // file's head and to its blocks, so that no rule searches all blocks.
-mod climb;
-mod links;
-mod names;
-mod read;
-mod slots;
-
 ghost use mathlib.Core.Path.{_≡_};
+ghost use mathlib.Core.Bool.{true};
 ghost use Prim.Native.Nat.{ℕ, _≤_, _<_};
 ghost use lib.ListN.{length, getD};
-ghost use Rattle.arena.specs.Blocks.{blocks};
-ghost use Rattle.fsck.specs.Given.{Led, Loaded};
-use climb::rule8;
-use links::rule7;
+ghost use Rattle.arena.specs.Blocks.{blocks, legal};
+ghost use Rattle.mem.specs.Mem.{tableIn};
+ghost use Rattle.rules.specs.Tests.{test3, test4, test5, test6};
+ghost use Rattle.fsck_read.specs.Given.{Led, Loaded, Of};
+ghost use Rattle.fsck.specs.Verdicts.{passOf, verdictOf, linksVerdict, filesVerdict, metaVerdict};
+use fsck_climb::rule8;
+use fsck_links::rule7;
+use fsck_names::rule5;
+use fsck_read::count_nodes;
+use fsck_read::rule3;
+use fsck_read::rule4;
+use fsck_slots::rule6;
 use mem::put_table;
 use mem::super_at;
-use names::rule5;
-use read::count_nodes;
-use read::rule3;
-use read::rule4;
-use slots::rule6;
 use table::Table;
 
 pub enum Verdict {
@@ -29,7 +27,8 @@ pub enum Verdict {
 
 fn pass(arena: &[u8], mem: &[u8]) -> Verdict
     requires { ⌜ blocks (now arena) ≤ 4096 ⌝ }
-    requires { ⌜ Loaded (now mem) ⌝ }
+    requires { ⌜ Loaded (now mem) × Of (now arena) (now mem) ⌝ }
+    ensures { λ r. ⌜ r ≡ passOf (now (arena .entry)) ⌝ }
 {
     let nodes = count_nodes(mem);
     let unused = super_at(mem).unused;
@@ -43,7 +42,10 @@ fn pass(arena: &[u8], mem: &[u8]) -> Verdict
 
 fn judge_links(arena: &[u8], first: &[u16], next: &[u16], mem: &[u8]) -> Verdict
     requires { ⌜ Led (now arena) (now first) (now next) ⌝ }
-    requires { ⌜ Loaded (now mem) ⌝ }
+    requires { ⌜ Loaded (now mem) × Of (now arena) (now mem) ⌝ }
+    requires { ⌜ (test3 (now arena) ≡ true) × (test4 (now arena) (tableIn (now mem)) ≡ true) ⌝ }
+    requires { ⌜ (test5 (now arena) (tableIn (now mem)) ≡ true) × (test6 (now arena) (tableIn (now mem)) ≡ true) ⌝ }
+    ensures { λ r. ⌜ r ≡ linksVerdict (now (arena .entry)) (tableIn (now (mem .entry))) ⌝ }
 {
     if !rule7(arena, first, next, mem) {
         return Verdict::Fail(7);
@@ -56,7 +58,9 @@ fn judge_links(arena: &[u8], first: &[u16], next: &[u16], mem: &[u8]) -> Verdict
 
 fn judge_files(arena: &[u8], first: &[u16], next: &[u16], mem: &[u8]) -> Verdict
     requires { ⌜ Led (now arena) (now first) (now next) ⌝ }
-    requires { ⌜ Loaded (now mem) ⌝ }
+    requires { ⌜ Loaded (now mem) × Of (now arena) (now mem) ⌝ }
+    requires { ⌜ (test3 (now arena) ≡ true) × (test4 (now arena) (tableIn (now mem)) ≡ true) ⌝ }
+    ensures { λ r. ⌜ r ≡ filesVerdict (now (arena .entry)) (tableIn (now (mem .entry))) ⌝ }
 {
     if !rule5(arena, first, next, mem) {
         return Verdict::Fail(5);
@@ -70,6 +74,7 @@ fn judge_files(arena: &[u8], first: &[u16], next: &[u16], mem: &[u8]) -> Verdict
 fn judge_meta(arena: &[u8], first: &[u16], next: &[u16], mem: &mut [u8]) -> Verdict
     requires { ⌜ Led (now arena) (now first) (now next) ⌝ }
     requires { ⌜ length (now mem) ≡ 4899 ⌝ }
+    ensures { λ r. ⌜ r ≡ metaVerdict (now (arena .entry)) (tableIn (now (mem .entry))) ⌝ }
 {
     if !rule3(arena, first, next, mem) {
         return Verdict::Fail(3);
@@ -80,9 +85,19 @@ fn judge_meta(arena: &[u8], first: &[u16], next: &[u16], mem: &mut [u8]) -> Verd
     judge_files(arena, first, next, &mem[..])
 }
 
+fn judge_table(arena: &[u8], first: &[u16], next: &[u16], t: Table) -> Verdict
+    requires { ⌜ Led (now arena) (now first) (now next) ⌝ }
+    ensures { λ r. ⌜ r ≡ metaVerdict (now (arena .entry)) t ⌝ }
+{
+    let mut mem = [0u8; 4899];
+    put_table(&mut mem, t);
+    judge_meta(arena, first, next, &mut mem)
+}
+
 fn check_in(arena: &[u8], first: &mut [u16], next: &mut [u16], t: Table) -> Verdict
-    requires { ⌜ (blocks (now arena) ≤ 4096) × ((length (now first) ≡ 4096) × (length (now next) ≡ 4096)) ⌝ }
+    requires { ⌜ (legal (now arena) ≡ true) × ((length (now first) ≡ 4096) × (length (now next) ≡ 4096)) ⌝ }
     requires { ⌜ ((h : ℕ) → h < 4096 → getD (now first) h 0 ≡ 0) ⌝ }
+    ensures { λ r. ⌜ r ≡ verdictOf (now (arena .entry)) t ⌝ }
 {
     if !sound::sound_in(arena, first, next) {
         return Verdict::Fail(1);
@@ -90,12 +105,12 @@ fn check_in(arena: &[u8], first: &mut [u16], next: &mut [u16], t: Table) -> Verd
     if !table::well_formed(t) {
         return Verdict::Fail(2);
     }
-    let mut mem = [0u8; 4899];
-    put_table(&mut mem, t);
-    judge_meta(arena, &first[..], &next[..], &mut mem)
+    judge_table(arena, &first[..], &next[..], t)
 }
 
-pub fn check(arena: &[u8], t: Table) -> Verdict {
+pub fn check(arena: &[u8], t: Table) -> Verdict
+    ensures { λ r. ⌜ r ≡ verdictOf (now (arena .entry)) t ⌝ }
+{
     if !arena::legal(arena) {
         return Verdict::Fail(1);
     }
