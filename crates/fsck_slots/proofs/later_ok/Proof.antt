@@ -1,95 +1,90 @@
+-- `fsck_slots::later_ok`: the definition, test by test; where all pass, one more hash is kept.
+use mathlib.Core.Path.{sym, ap, _∙_}
+use mathlib.Core.Bool.{true≢false}
+use borrow.Author.Tests.{not-true, not-false}
+use Rattle.mem.specs.Mem.{tableIn}
+use Rattle.fsck_slots.specs.Hash.{hashName}
+use Rattle.fsck_slots.proofs.Names.{hashed-more}
+use Rattle.fsck_slots.proofs.Slots.{later-plain, later-node, later-seen, later-new}
 use borrow.Author.Needs.{needs}
 use Rattle.fsck_slots.proofs.later_ok.Statement.{statement}
 use Rattle.fsck_slots.proofs.later_ok.Tie as tie
-use Rattle.fsck_slots.proofs.later_ok.Reads as reads
-use Rattle.fsck_slots.proofs.later_ok.Lts as lts
-use Rattle.fsck_read.proofs.read_slot.Reads as read-slot-reads
-use Rattle.fsck_slots.proofs.hash_name.Reads as hash-name-reads
-use Rattle.fsck_slots.proofs.in_slots.Reads as in-slots-reads
-use Rattle.fsck_slots.proofs.keep_hash.Reads as keep-hash-reads
-use Rattle.fsck_slots.proofs.name_of.Reads as name-of-reads
-use Rattle.fsck_slots.proofs.names_node.Reads as names-node-reads
-use Rattle.fsck_slots.proofs.plain_name.Reads as plain-name-reads
 
--- src/lib.rt:209:40
 add-read-slot : tie.Need-add-read-slot
 add-read-slot c = search needs
 
--- src/lib.rt:209:47
 slice-aggregate-read-slot : tie.Need-slice-aggregate-read-slot
 slice-aggregate-read-slot c = search needs
 
--- src/lib.rt:209:5
 read-slot-requires : tie.Need-read-slot-requires
 read-slot-requires c κs = search needs
 
--- src/lib.rt:210:20
 slice-aggregate-plain-name : tie.Need-slice-aggregate-plain-name
 slice-aggregate-plain-name c = search needs
 
--- src/lib.rt:210:9
 plain-name-requires : tie.Need-plain-name-requires
 plain-name-requires c κs = search needs
 
--- src/lib.rt:211:9
 returns : tie.Need-returns
-returns c = ?
+returns c =
+    let s = c .before .before .before .before .before .before .before .before .before .before .before in
+    (later-plain (s .args .arena .now) (tableIn (s .args .mem .now)) (s .args .rec) (s .args .j) _ (c .before .before .before .before .read-slot .ensures) (c .before .plain-name .result) (c .before .plain-name .ensures) (not-true _ (c .if1 .taken)), λ e. absurd (true≢false (sym e)))
 
--- src/lib.rt:213:45
 slice-aggregate-names-node : tie.Need-slice-aggregate-names-node
 slice-aggregate-names-node c = search needs
 
--- src/lib.rt:213:9
 names-node-requires : tie.Need-names-node-requires
 names-node-requires c κs = search needs
 
--- src/lib.rt:214:9
 returns-2 : tie.Need-returns-2
-returns-2 c = ?
+returns-2 c =
+    let s = c .before .before .before .before .before .before .before .before .before .before .before .before .before .before in
+    (later-node (s .args .arena .now) (tableIn (s .args .mem .now)) (s .args .rec) (s .args .j) _ (c .before .before .before .before .before .before .before .read-slot .ensures) (c .before .before .before .before .plain-name .result) (c .before .before .before .before .plain-name .ensures) (not-false _ (c .before .before .before .if1 .left))
+    (c .before .names-node .result) (c .before .names-node .ensures) (not-true _ (c .if2 .taken)), λ e. absurd (true≢false (sym e)))
 
--- src/lib.rt:216:31
 slice-aggregate-name-of : tie.Need-slice-aggregate-name-of
 slice-aggregate-name-of c = search needs
 
--- src/lib.rt:216:23
 name-of-requires : tie.Need-name-of-requires
 name-of-requires c κs = search needs
 
--- src/lib.rt:216:9
 hash-name-requires : tie.Need-hash-name-requires
 hash-name-requires c κs = search needs
 
--- src/lib.rt:217:53
 slice-aggregate-name-of-2 : tie.Need-slice-aggregate-name-of-2
 slice-aggregate-name-of-2 c = search needs
 
--- src/lib.rt:217:45
 name-of-requires-2 : tie.Need-name-of-requires-2
 name-of-requires-2 c κs = search needs
 
--- src/lib.rt:217:8
 in-slots-requires : tie.Need-in-slots-requires
-in-slots-requires c κs = ?
+in-slots-requires c κs =
+    let s = c .before .before .before .before .before .before .before .before .before .before .before .before .before .before .before .before .before .before .before .before in
+    (s .pre .0, (s .pre .1 .1 .0, (c .before .before .before .hash-name .ensures ∙ ap hashName (c .before .before .before .before .name-of .ensures ∙ sym (c .before .name-of2 .ensures)), s .pre .1 .1 .1)))
 
--- src/lib.rt:218:9
 same-length : tie.Need-same-length
 same-length c = search needs
 
--- src/lib.rt:218:9
 returns-3 : tie.Need-returns-3
-returns-3 c = ?
+returns-3 c =
+    let s = c .before .before .before .before .before .before .before .before .before .before .before .before .before .before .before .before .before .before .before .before .before .before in
+    (later-seen (s .args .arena .now) (tableIn (s .args .mem .now)) (s .args .rec) (s .args .j) _ (c .before .before .before .before .before .before .before .before .before .before .before .before .before .before .before .read-slot .ensures) (c .before .before .before .before .before .before .before .before .before .before .before .before .plain-name .result) (c .before .before .before .before .before .before .before .before .before .before .before .before .plain-name .ensures) (not-false _ (c .before .before .before .before .before .before .before .before .before .before .before .if1 .left))
+    (c .before .before .before .before .before .before .before .before .before .names-node .result) (c .before .before .before .before .before .before .before .before .before .names-node .ensures) (not-false _ (c .before .before .before .before .before .before .before .before .if2 .left)) _ (c .before .before .before .name-of2 .ensures) (c .before .in-slots .result) (c .before .in-slots .ensures) (c .if3 .taken), λ e. absurd (true≢false (sym e)))
 
--- src/lib.rt:220:5
 keep-hash-requires : tie.Need-keep-hash-requires
-keep-hash-requires c κs = ?
+keep-hash-requires c κs =
+    let s = c .before .before .before .before .before .before .before .before .before .before .before .before .before .before .before .before .before .before .before .before .before .before .before in
+    s .pre .1 .1 .1 .size
 
--- src/lib.rt:193:1
 same-length-2 : tie.Need-same-length-2
 same-length-2 c = search needs
 
--- src/lib.rt:193:1
 returns-4 : tie.Need-returns-4
-returns-4 c = ?
+returns-4 c =
+    let s = c .before .before .before .before .before .before .before .before .before .before .before .before .before .before .before .before .before .before .before .before .before .before .before .before .before .before in
+    (later-new (s .args .arena .now) (tableIn (s .args .mem .now)) (s .args .rec) (s .args .j) _ (c .before .before .before .before .before .before .before .before .before .before .before .before .before .before .before .before .before .before .before .read-slot .ensures) (c .before .before .before .before .before .before .before .before .before .before .before .before .before .before .before .before .plain-name .result) (c .before .before .before .before .before .before .before .before .before .before .before .before .before .before .before .before .plain-name .ensures) (not-false _ (c .before .before .before .before .before .before .before .before .before .before .before .before .before .before .before .if1 .left))
+    (c .before .before .before .before .before .before .before .before .before .before .before .before .before .names-node .result) (c .before .before .before .before .before .before .before .before .before .before .before .before .before .names-node .ensures) (not-false _ (c .before .before .before .before .before .before .before .before .before .before .before .before .if2 .left)) _ (c .before .before .before .before .before .before .before .name-of2 .ensures) (c .before .before .before .before .before .in-slots .result) (c .before .before .before .before .before .in-slots .ensures) (c .before .before .before .before .if3 .left),
+    λ _. hashed-more (s .args .arena .now) (s .args .rec) (s .args .hashes .now) (s .args .j) (c .before .before .before .before .before .before .before .before .before .hash-name .result) _ _ (c .before .before .keep-hash .last .0) (s .pre .1 .1 .1) (c .before .before .before .before .before .before .before .before .before .before .before .before .before .before .before .before .before .before .before .read-slot .ensures) (c .before .before .before .before .before .before .before .before .before .before .name-of .ensures) (c .before .before .before .before .before .before .before .before .before .hash-name .ensures) (c .before .before .keep-hash .ensures))
 
 pub later-ok-spec : {M : Type 1} → statement M
 later-ok-spec =

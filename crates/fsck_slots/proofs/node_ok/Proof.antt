@@ -1,35 +1,35 @@
+-- `fsck_slots::node_ok`: the definition, test by test.
+use mathlib.Core.Path.{sym, _∙_}
+use borrow.Author.Tests.{not-true, not-false}
+use Rattle.mem.specs.Mem.{tableIn}
+use Rattle.fsck_slots.proofs.Slots.{id-not, id-other, id-folder}
 use borrow.Author.Needs.{needs}
 use Rattle.fsck_slots.proofs.node_ok.Statement.{statement}
 use Rattle.fsck_slots.proofs.node_ok.Tie as tie
-use Rattle.fsck_slots.proofs.node_ok.Reads as reads
-use Rattle.fsck_slots.proofs.node_ok.Lts as lts
-use Rattle.fsck_read.proofs.is_node.Reads as is-node-reads
-use Rattle.fsck_read.proofs.rec_of.Reads as rec-of-reads
-use Rattle.fsck_slots.proofs.folder_ok.Reads as folder-ok-reads
 
--- src/lib.rt:309:9
 is-node-requires : tie.Need-is-node-requires
 is-node-requires c κs = search needs
 
--- src/lib.rt:310:9
 returns : tie.Need-returns
-returns c = ?
+returns c =
+    let s = c .before .before .before .before .before .before in
+    id-not (s .args .arena .now) (tableIn (s .args .mem .now)) (s .args .id) (sym (not-true _ (c .if1 .taken)) ∙ c .before .is-node .ensures .1 (s .args .arena .now) (s .pre .1 .0 .1))
 
--- src/lib.rt:312:9
 rec-of-requires : tie.Need-rec-of-requires
 rec-of-requires c κs = search needs
 
--- src/lib.rt:314:9
 returns-2 : tie.Need-returns-2
-returns-2 c = ?
+returns-2 c =
+    let s = c .before .before .before .before .before .before .before .before .before in
+    id-other (s .args .arena .now) (tableIn (s .args .mem .now)) (s .args .id) (c .before .before .rec-of .result) (sym (not-false _ (c .before .before .before .if1 .left)) ∙ c .before .before .before .before .is-node .ensures .1 (s .args .arena .now) (s .pre .1 .0 .1)) (c .before .before .rec-of .ensures) (c .if2 .taken)
 
--- src/lib.rt:316:5
 folder-ok-requires : tie.Need-folder-ok-requires
 folder-ok-requires c κs = search needs
 
--- src/lib.rt:304:1
 returns-3 : tie.Need-returns-3
-returns-3 c = ?
+returns-3 c =
+    let s = c .before .before .before .before .before .before .before .before .before .before in
+    id-folder (s .args .arena .now) (tableIn (s .args .mem .now)) (s .args .id) (c .before .before .before .rec-of .result) (c .folder-ok .result) (sym (not-false _ (c .before .before .before .before .if1 .left)) ∙ c .before .before .before .before .before .is-node .ensures .1 (s .args .arena .now) (s .pre .1 .0 .1)) (c .before .before .before .rec-of .ensures) (c .before .if2 .left) (c .folder-ok .ensures)
 
 pub node-ok-spec : {M : Type 1} → statement M
 node-ok-spec =
