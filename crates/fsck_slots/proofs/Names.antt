@@ -80,9 +80,9 @@ module _ (a : List ℕ) (r : DiskINode) (hs : List ℕ) where
     each = λ i u v. ⊎-elim
         (λ (y : ltb i j ≡ true). let w = ltb-true i j y in getD-set-other hs j i h 0 (λ z. absurd (omega (arith, z, w))) ∙ H .each i w v)
         (λ (y : ltb i j ≡ false).
-          let z : j ≡ i = omega (arith, ltb-false i j y) in
-          subst (λ (x : ℕ). getD (set hs j h) x 0 ≡ hashName (nameOf (laterSlot a r x .name))) z
-          (getD-set-same hs j h 0 (omega (arith, z, H .size)) ∙ g ∙ ap hashName (f ∙ ap (λ (x : DiskEntry). nameOf (x .name)) (slot-later a r j l e))))
+        let z : j ≡ i = omega (arith, ltb-false i j y) in
+        subst (λ (x : ℕ). getD (set hs j h) x 0 ≡ hashName (nameOf (laterSlot a r x .name))) z
+        (getD-set-same hs j h 0 (omega (arith, z, H .size)) ∙ g ∙ ap hashName (f ∙ ap (λ (x : DiskEntry). nameOf (x .name)) (slot-later a r j l e))))
         (bool-cases (ltb i j));
   })
 

@@ -15,13 +15,13 @@ ghost use Rattle.rules.specs.Tests.{dotAllowed, dotsAllowed, folderAllowed, tes
 ghost use Rattle.fsck_read.specs.Given.{Led, Loaded, Of};
 ghost use Rattle.fsck_slots.specs.Hash.{hashName, Hashed};
 ghost use Rattle.fsck_slots.specs.Slots.{plainName, namesNode, bears, slotAllowed, startAllowed, idAllowed};
+use base::index;
+use base::wide;
 use fsck_read::ids;
 use fsck_read::is_node;
 use fsck_read::length_of;
 use fsck_read::read_slot;
 use fsck_read::rec_of;
-use base::index;
-use base::wide;
 use le::u32_at;
 use structs::DiskINode;
 use utf8::StoredName;

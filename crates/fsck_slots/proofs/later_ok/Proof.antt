@@ -38,9 +38,11 @@ names-node-requires c κs = search needs
 
 returns-2 : tie.Need-returns-2
 returns-2 c =
-    let s = c .before .before .before .before .before .before .before .before .before .before .before .before .before .before in
-    (later-node (s .args .arena .now) (tableIn (s .args .mem .now)) (s .args .rec) (s .args .j) _ (c .before .before .before .before .before .before .before .read-slot .ensures) (c .before .before .before .before .plain-name .result) (c .before .before .before .before .plain-name .ensures) (not-false _ (c .before .before .before .if1 .left))
-    (c .before .names-node .result) (c .before .names-node .ensures) (not-true _ (c .if2 .taken)), λ e. absurd (true≢false (sym e)))
+    let s = c .before .before .before .before .before .before .before .before .before .before .before .before .before .before in (
+      later-node (s .args .arena .now) (tableIn (s .args .mem .now)) (s .args .rec) (s .args .j) _ (c .before .before .before .before .before .before .before .read-slot .ensures) (c .before .before .before .before .plain-name .result) (c .before .before .before .before .plain-name .ensures) (not-false _ (c .before .before .before .if1 .left))
+          (c .before .names-node .result) (c .before .names-node .ensures) (not-true _ (c .if2 .taken)),
+      λ e. absurd (true≢false (sym e)),
+    )
 
 slice-aggregate-name-of : tie.Need-slice-aggregate-name-of
 slice-aggregate-name-of c = search needs
@@ -67,9 +69,11 @@ same-length c = search needs
 
 returns-3 : tie.Need-returns-3
 returns-3 c =
-    let s = c .before .before .before .before .before .before .before .before .before .before .before .before .before .before .before .before .before .before .before .before .before .before in
-    (later-seen (s .args .arena .now) (tableIn (s .args .mem .now)) (s .args .rec) (s .args .j) _ (c .before .before .before .before .before .before .before .before .before .before .before .before .before .before .before .read-slot .ensures) (c .before .before .before .before .before .before .before .before .before .before .before .before .plain-name .result) (c .before .before .before .before .before .before .before .before .before .before .before .before .plain-name .ensures) (not-false _ (c .before .before .before .before .before .before .before .before .before .before .before .if1 .left))
-    (c .before .before .before .before .before .before .before .before .before .names-node .result) (c .before .before .before .before .before .before .before .before .before .names-node .ensures) (not-false _ (c .before .before .before .before .before .before .before .before .if2 .left)) _ (c .before .before .before .name-of2 .ensures) (c .before .in-slots .result) (c .before .in-slots .ensures) (c .if3 .taken), λ e. absurd (true≢false (sym e)))
+    let s = c .before .before .before .before .before .before .before .before .before .before .before .before .before .before .before .before .before .before .before .before .before .before in (
+      later-seen (s .args .arena .now) (tableIn (s .args .mem .now)) (s .args .rec) (s .args .j) _ (c .before .before .before .before .before .before .before .before .before .before .before .before .before .before .before .read-slot .ensures) (c .before .before .before .before .before .before .before .before .before .before .before .before .plain-name .result) (c .before .before .before .before .before .before .before .before .before .before .before .before .plain-name .ensures) (not-false _ (c .before .before .before .before .before .before .before .before .before .before .before .if1 .left))
+          (c .before .before .before .before .before .before .before .before .before .names-node .result) (c .before .before .before .before .before .before .before .before .before .names-node .ensures) (not-false _ (c .before .before .before .before .before .before .before .before .if2 .left)) _ (c .before .before .before .name-of2 .ensures) (c .before .in-slots .result) (c .before .in-slots .ensures) (c .if3 .taken),
+      λ e. absurd (true≢false (sym e)),
+    )
 
 keep-hash-requires : tie.Need-keep-hash-requires
 keep-hash-requires c κs =
@@ -81,10 +85,11 @@ same-length-2 c = search needs
 
 returns-4 : tie.Need-returns-4
 returns-4 c =
-    let s = c .before .before .before .before .before .before .before .before .before .before .before .before .before .before .before .before .before .before .before .before .before .before .before .before .before .before in
-    (later-new (s .args .arena .now) (tableIn (s .args .mem .now)) (s .args .rec) (s .args .j) _ (c .before .before .before .before .before .before .before .before .before .before .before .before .before .before .before .before .before .before .before .read-slot .ensures) (c .before .before .before .before .before .before .before .before .before .before .before .before .before .before .before .before .plain-name .result) (c .before .before .before .before .before .before .before .before .before .before .before .before .before .before .before .before .plain-name .ensures) (not-false _ (c .before .before .before .before .before .before .before .before .before .before .before .before .before .before .before .if1 .left))
-    (c .before .before .before .before .before .before .before .before .before .before .before .before .before .names-node .result) (c .before .before .before .before .before .before .before .before .before .before .before .before .before .names-node .ensures) (not-false _ (c .before .before .before .before .before .before .before .before .before .before .before .before .if2 .left)) _ (c .before .before .before .before .before .before .before .name-of2 .ensures) (c .before .before .before .before .before .in-slots .result) (c .before .before .before .before .before .in-slots .ensures) (c .before .before .before .before .if3 .left),
-    λ _. hashed-more (s .args .arena .now) (s .args .rec) (s .args .hashes .now) (s .args .j) (c .before .before .before .before .before .before .before .before .before .hash-name .result) _ _ (c .before .before .keep-hash .last .0) (s .pre .1 .1 .1) (c .before .before .before .before .before .before .before .before .before .before .before .before .before .before .before .before .before .before .before .read-slot .ensures) (c .before .before .before .before .before .before .before .before .before .before .name-of .ensures) (c .before .before .before .before .before .before .before .before .before .hash-name .ensures) (c .before .before .keep-hash .ensures))
+    let s = c .before .before .before .before .before .before .before .before .before .before .before .before .before .before .before .before .before .before .before .before .before .before .before .before .before .before in (
+      later-new (s .args .arena .now) (tableIn (s .args .mem .now)) (s .args .rec) (s .args .j) _ (c .before .before .before .before .before .before .before .before .before .before .before .before .before .before .before .before .before .before .before .read-slot .ensures) (c .before .before .before .before .before .before .before .before .before .before .before .before .before .before .before .before .plain-name .result) (c .before .before .before .before .before .before .before .before .before .before .before .before .before .before .before .before .plain-name .ensures) (not-false _ (c .before .before .before .before .before .before .before .before .before .before .before .before .before .before .before .if1 .left))
+          (c .before .before .before .before .before .before .before .before .before .before .before .before .before .names-node .result) (c .before .before .before .before .before .before .before .before .before .before .before .before .before .names-node .ensures) (not-false _ (c .before .before .before .before .before .before .before .before .before .before .before .before .if2 .left)) _ (c .before .before .before .before .before .before .before .name-of2 .ensures) (c .before .before .before .before .before .in-slots .result) (c .before .before .before .before .before .in-slots .ensures) (c .before .before .before .before .if3 .left),
+      λ _. hashed-more (s .args .arena .now) (s .args .rec) (s .args .hashes .now) (s .args .j) (c .before .before .before .before .before .before .before .before .before .hash-name .result) _ _ (c .before .before .keep-hash .last .0) (s .pre .1 .1 .1) (c .before .before .before .before .before .before .before .before .before .before .before .before .before .before .before .before .before .before .before .read-slot .ensures) (c .before .before .before .before .before .before .before .before .before .before .name-of .ensures) (c .before .before .before .before .before .before .before .before .before .hash-name .ensures) (c .before .before .keep-hash .ensures),
+    )
 
 pub later-ok-spec : {M : Type 1} → statement M
 later-ok-spec =
