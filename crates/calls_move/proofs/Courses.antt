@@ -1,7 +1,7 @@
 -- Courses: from the steps' answers, and to what the call returns.
 use mathlib.Core.Path.{_≡_, refl, sym, _∙_, ap}
 use mathlib.Core.List.{List}
-use Prim.Native.Nat.{ℕ, _<_}
+use Prim.Native.Nat.{ℕ}
 use native.Mathlib.Omega.{arith}
 use borrow.Author.Tests.{eq-eqb, ne-eqb}
 use Rattle.base.specs.Out.{Out, done, refused, bind, Went, well, ill}

@@ -1,12 +1,10 @@
 -- From the questions to the steps: what the code's ways out show of a move.
-use mathlib.Core.Path.{_≡_, refl, sym, _∙_, ap, subst}
+use mathlib.Core.Path.{_≡_, sym, _∙_, ap, subst}
 use mathlib.Core.List.{List}
 use Prim.Native.Nat.{ℕ, _≤_, _<_}
-use lib.ListN.{length}
-use lib.Dec.{eqb}
 use borrow.Author.Tests.{eq-eqb, ne-eqb}
 use Rattle.base.specs.Out.{Out, done, bind, Went, well, ill}
-use Rattle.base.specs.Search.{pick, foundBelow}
+use Rattle.base.specs.Search.{foundBelow}
 use Rattle.base.proofs.Outs.{went-is, went-has, went-next, went-stop, went-weaken}
 use Rattle.base.proofs.Searches.{found-at, found-nothing}
 use Rattle.le.specs.Le.{leAt}
@@ -16,12 +14,11 @@ use Rattle.overlay.specs.View.{view}
 use Rattle.table.specs.Table.{rowAt}
 use Rattle.sefs.specs.Nodes.{recAt, opened, getNode}
 use Rattle.sefs.specs.Slots.{slotAt, lookTo, lookup, findSlot}
-use Rattle.sefs.specs.Create.{After, after}
+use Rattle.sefs.specs.Create.{After}
 use Rattle.sefs.specs.Move.{replace, moveTo}
 use Rattle.mem.specs.Mem.{tableIn, Whole}
 use Rattle.mem.specs.State.{fsOf, Stepped}
 use Rattle.folders.proofs.Lookups.{lookup-is}
-use Rattle.calls_steps.specs.Ends.{ending}
 use Rattle.calls_steps.proofs.Steps.{rec-of}
 use Rattle.calls_move.specs.declared.Course.{Course}
 use Rattle.calls_move.specs.declared.Course.the-variants.{Same, Refused}

@@ -1,5 +1,5 @@
 -- The call move, in its parts.
-use mathlib.Core.Path.{_≡_, refl, sym, _∙_}
+use mathlib.Core.Path.{_≡_, refl, _∙_}
 use mathlib.Core.Bool.{Bool, true, false}
 use mathlib.Core.List.{List}
 use Prim.Native.Nat.{ℕ}
@@ -12,17 +12,17 @@ use Rattle.table.specs.declared.Table.{Table}
 use Rattle.table.specs.declared.Handle.{Handle}
 use Rattle.sefs.specs.State.{Fs}
 use Rattle.sefs.specs.Nodes.{recAt, idAt, getNode, syncRow, release}
-use Rattle.sefs.specs.Slots.{Slot, slotAt, lookup, findSlot}
+use Rattle.sefs.specs.Slots.{Slot, slotAt, findSlot}
 use Rattle.sefs.specs.Folders.{putSlot, direntAppend, direntRemove}
 use Rattle.sefs.specs.Ask.{admit, byHandle, goodName, notLong, notSpecial, known, liveFolder, start}
 use Rattle.sefs.specs.Create.{After, after}
-use Rattle.sefs.specs.Move.{node, judge, renamed, moveLinks, moveWithin, moveBetween, moveSteps, moveOnto, replace, moveTo, callMove}
+use Rattle.sefs.specs.Move.{judge, renamed, moveLinks, moveWithin, moveBetween, moveSteps, moveOnto, replace, callMove}
 use Rattle.calls_steps.specs.Ends.{ending}
 use Rattle.calls_steps.specs.Steps.{syncTwo}
 use Rattle.calls_steps.proofs.Ends.{ending-bind, ending-both, bind-same}
 use Rattle.calls_move.specs.declared.Gone.{Gone}
 use Rattle.calls_move.specs.declared.Gone.the-variants.{Node}
-use Rattle.calls_move.specs.Steps.{replacedOf, removeGone, withinFolder, endMove, openMoved, restMove, betweenFolders, moveSlot, moveNamed, judgeRows, moveOver, Both, both, openTwo, knownTwo, replaceNode, replaceNamed, moveFound, goodTwo, plainTwo, shortTwo, lateAsks, moveAsks, moveWork}
+use Rattle.calls_move.specs.Steps.{replacedOf, removeGone, withinFolder, endMove, openMoved, restMove, betweenFolders, moveSlot, moveNamed, judgeRows, moveOver, both, openTwo, knownTwo, replaceNode, replaceNamed, moveFound, goodTwo, plainTwo, shortTwo, lateAsks, moveAsks, moveWork}
 
 -- ---- the steps
 

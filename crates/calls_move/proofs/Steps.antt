@@ -1,6 +1,5 @@
 -- The steps of move, one after another.
 use mathlib.Core.Path.{_≡_, refl, sym, _∙_, ap, subst}
-use mathlib.Core.Bool.{Bool, true, false}
 use mathlib.Core.List.{List}
 use mathlib.Core.Logic.{⊎-elim}
 use Prim.Native.Nat.{ℕ, zero, suc, _+_, _-_, _≤_, _<_}
@@ -8,9 +7,8 @@ use native.Mathlib.Nat.{eq-or-lt-of-le, le-of-suc-le-suc}
 use native.Mathlib.Numerals.{add-one}
 use native.Mathlib.Omega.{arith}
 use lib.ListN.{length, getD, replicate}
-use lib.Dec.{eqb, leb}
 use borrow.Author.Tests.{eq-eqb, ne-eqb, le-leb, lt-leb}
-use Rattle.base.specs.Out.{Out, done, refused, bind, Went, well, ill}
+use Rattle.base.specs.Out.{done, refused, bind, Went, well, ill}
 use Rattle.base.proofs.Outs.{went-is, went-has, went-not, went-next, went-stop, above-zero}
 use Rattle.base.proofs.Parts.{getD-zero-list}
 use Rattle.le.specs.Le.{leAt, Bytes}
@@ -25,7 +23,7 @@ use Rattle.structs.proofs.Layouts.{entryOf-entryBytes, entryBytes-entryOf}
 use Rattle.structs.proofs.Joins.{bytes-append}
 use Rattle.utf8.specs.Names.{nameBytes}
 use Rattle.utf8.proofs.Names.{length-nameBytes}
-use Rattle.overlay.specs.View.{view, Fine}
+use Rattle.overlay.specs.View.{view}
 use Rattle.table.specs.Table.{rowAt}
 use Rattle.sefs.specs.State.{Fs}
 use Rattle.sefs.specs.Nodes.{recAt, idAt, opened, getNode, syncRow, release}

@@ -6,10 +6,10 @@ ghost use mathlib.Core.List.{List};
 ghost use Prim.Native.Nat.{ℕ, _<_, _≤_};
 ghost use lib.ListN.{length};
 ghost use Rattle.arena.specs.Blocks.{legal};
-ghost use Rattle.base.specs.Out.{Went, answer};
+ghost use Rattle.base.specs.Out.{Went};
 ghost use Rattle.overlay.specs.View.{left};
 ghost use Rattle.overlay.proofs.Views.{Ready as Empty};
-ghost use Rattle.structs.specs.Layout.{entryOf, entryBytes};
+ghost use Rattle.structs.specs.Layout.{entryOf};
 ghost use Rattle.table.specs.Table.{rowAt};
 ghost use Rattle.sefs.specs.Ask.{start};
 ghost use Rattle.sefs.specs.Move.{renamed, readSlots, moveDots, moveLinks, callMove};
@@ -57,7 +57,7 @@ use table::Table;
 use table::well_formed;
 
 // What deciding a move comes to. `Same`: both names are one node's, and nothing changes.
-pub enum Course {
+enum Course {
     Made,
     Same,
     Refused(u8),
@@ -73,7 +73,7 @@ fn as_course(reason: u8) -> Course
 }
 
 // The node that is replaced: its row, and the target's slot that names it. Or there is none.
-pub enum Gone {
+enum Gone {
     Free,
     Node(usize, usize),
 }
@@ -336,7 +336,7 @@ fn move_onto(
 }
 
 // The rows of the replaced and of the moved node, where the reason is 0.
-pub struct Pair {
+struct Pair {
     reason: u8,
     gone: usize,
     moved: usize,

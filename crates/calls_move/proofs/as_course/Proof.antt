@@ -1,6 +1,5 @@
 -- `calls_move::as_course`: by the number.
 use Rattle.calls_move.proofs.Courses.{course-made, course-not}
-use borrow.Author.Needs.{needs}
 use Rattle.calls_move.proofs.as_course.Statement.{statement}
 use Rattle.calls_move.proofs.as_course.Tie as tie
 

@@ -1,6 +1,5 @@
 -- `calls_move::if_empty`: by the count of slots.
 use native.Mathlib.Omega.{arith}
-use mathlib.Core.Path.{_∙_}
 use Rattle.calls_move.proofs.Steps.{empty-not, empty-read}
 use borrow.Author.Needs.{needs}
 use Rattle.calls_move.proofs.if_empty.Statement.{statement}

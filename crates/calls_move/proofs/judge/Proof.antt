@@ -1,5 +1,4 @@
 -- `calls_move::judge`: by the verdict.
-use mathlib.Core.Path.{sym, ap, _∙_}
 use Rattle.calls_move.proofs.Steps.{typed-of, judge-allowed, judge-not-dir, judge-is-dir, judge-empty}
 use borrow.Author.Needs.{needs}
 use Rattle.calls_move.proofs.judge.Statement.{statement}

@@ -1,4 +1,5 @@
 -- `calls_move::move_decide`: by whether the new name exists.
+use Prim.Native.Nat.{_<_}
 use native.Mathlib.Omega.{arith}
 use Rattle.base.proofs.Outs.{went-has}
 use Rattle.calls_move.proofs.Decisions.{found-stop, found-there, found-free}
@@ -47,7 +48,7 @@ same-length-4 c = search needs
 returns-2 : tie.Need-returns-2
 returns-2 c =
     let s = c .before .before .before .before .before .before .before .before .before .before .before .before .before .before .before .before .before .before .before .before .before .before .before .before .before in
-    let l = omega (arith, c .before .before .before .before .before .before .before .before .before .if2 .taken, c .before .before .before .before .before .before .before .before .before .before .before .index .ensures) in
+    let l : c .before .before .before .before .before .before .before .before .before .before .before .before .before .before .before .lookup .result .place < c .before .before .before .before .before .before .before .before .before .before .before .before .before .before .before .before .before .before .rec-at .result .blocks = omega (arith, c .before .before .before .before .before .before .before .before .before .if2 .taken, c .before .before .before .before .before .before .before .before .before .before .before .index .ensures) in
     found-there _ _ _ (s .args .i) (s .args .j) (s .args .old .now) (s .args .name .now) _ (c .before .before .before .before .before .before .before .before .before .before .before .before .before .before .before .before .before .before .rec-at .ensures) (c .before .before .before .before .before .before .before .before .before .before .before .before .before .before .before .lookup .ensures) _ _ (c .before .before .before .before .before .before .before .before .before .before .before .before .if1 .left) l (went-has (c .before .before .before .before .before .before .before .before .before .before .before .before .before .before .before .lookup .ensures) (c .before .before .before .before .before .before .before .before .before .before .before .before .if1 .left) .0 l) (c .before .before .before .before .before .u32-at .ensures) (c .before .before .before .before .replace .ensures)
 
 move-steps-requires : tie.Need-move-steps-requires

@@ -28,13 +28,16 @@ slice-aggregate-rename : tie.Need-slice-aggregate-rename
 slice-aggregate-rename c = search needs
 
 rename-requires : tie.Need-rename-requires
-rename-requires c κs = search needs
+rename-requires c κs =
+    (search needs, c .before .before .before .before .before .before .before .before .before .before .before .before .before .before .pre .1 .1 .1 .1 .0)
 
 slice-aggregate-move-slot : tie.Need-slice-aggregate-move-slot
 slice-aggregate-move-slot c = search needs
 
 move-slot-requires : tie.Need-move-slot-requires
-move-slot-requires c κs = search needs
+move-slot-requires c κs =
+    let s = c .before .before .before .before .before .before .before .before .before .before .before .before .before .before .before .before .before .before .before in
+    (s .pre .0, (s .pre .1 .0, (s .pre .1 .1 .0, (s .pre .1 .1 .1 .0, (search needs, s .pre .1 .1 .1 .1 .1)))))
 
 same-length-3 : tie.Need-same-length-3
 same-length-3 c = search needs

@@ -1,5 +1,5 @@
 -- `calls_move::read_slots`: the slots before k could be read. The measure is what is left of them.
-use Prim.Native.Nat.{_≤_, _-_, _<_}
+use Prim.Native.Nat.{_≤_, _-_}
 use Rattle.base.specs.Out.{done}
 use Rattle.base.proofs.Outs.{went-has}
 use Rattle.sefs.specs.Move.{readSlots}

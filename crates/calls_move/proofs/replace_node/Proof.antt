@@ -1,5 +1,5 @@
 -- `calls_move::replace_node`: both are opened and known; one node, or two.
-use mathlib.Core.Path.{sym, ap, _∙_}
+use mathlib.Core.Path.{sym}
 use Rattle.base.proofs.Outs.{went-has}
 use Rattle.calls_move.proofs.Decisions.{node-stop, node-unknown, node-same, node-over}
 use Rattle.calls_move.proofs.Steps.{typed-of}
