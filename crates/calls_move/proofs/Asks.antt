@@ -13,7 +13,8 @@ use Rattle.base.proofs.Bools.{and-parts}
 use Rattle.structs.specs.declared.DiskINode.{DiskINode}
 use Rattle.sefs.specs.Ask.{notLong, known, liveFolder}
 use Rattle.calls.proofs.Asks.{Asks, asks-ensure, asks-live, asked-done, asked-went}
-use Rattle.calls_move.specs.Steps.{Typed, knownTwo, goodTwo, plainTwo, shortTwo, lateAsks, moveAsks}
+use Rattle.calls_move_steps.specs.Steps.{Typed}
+use Rattle.calls_move.specs.Parts.{knownTwo, goodTwo, plainTwo, shortTwo, lateAsks, moveAsks}
 
 -- a question, and a second one
 module _ (o p : Out Unit) (s : Asks o) {n : ℕ} (e : n ≡ answer o) where

@@ -22,11 +22,13 @@ use Rattle.folders.proofs.Lookups.{lookup-is}
 use Rattle.calls_steps.proofs.Steps.{rec-of}
 use Rattle.calls_move.specs.declared.Course.{Course}
 use Rattle.calls_move.specs.declared.Course.the-variants.{Same, Refused}
-use Rattle.calls_move.specs.declared.Gone.the-variants.{Free}
-use Rattle.calls_move.specs.Steps.{moveNamed, moveOver, Both, both, openTwo, knownTwo, replaceNode, replaceNamed, moveFound, moveAsks, moveWork}
+use Rattle.calls_move_steps.specs.declared.Gone.the-variants.{Free}
+use Rattle.calls_move_steps.specs.Steps.{moveNamed, moveOver}
+use Rattle.calls_move.specs.Parts.{Both, both, openTwo, knownTwo, replaceNode, replaceNamed, moveFound, moveAsks, moveWork}
 use Rattle.calls_move.specs.Courses.{courseOf, Decided, same}
 use Rattle.calls_move.proofs.Courses.{decided-next, decided-stop, decided-steps}
-use Rattle.calls_move.proofs.Moves.{steps-is, replace-is}
+use Rattle.calls_move_steps.proofs.Moves.{steps-is}
+use Rattle.calls_move.proofs.Moves.{replace-is}
 
 -- ---- both nodes opened
 

@@ -1,4 +1,3 @@
-pub mod Steps
 pub mod Courses
 pub mod Moves
 pub mod Asks

@@ -2,7 +2,7 @@
 use Rattle.sefs.specs.Ask.{goodName}
 use Rattle.calls_steps.proofs.Steps.{asks-good}
 use Rattle.calls.proofs.Asks.{asked-went}
-use Rattle.calls_move.specs.Steps.{goodTwo}
+use Rattle.calls_move.specs.Parts.{goodTwo}
 use Rattle.calls_move.proofs.Asks.{pair-stop, pair-next}
 use borrow.Author.Needs.{needs}
 use Rattle.calls_move.proofs.good_names.Statement.{statement}

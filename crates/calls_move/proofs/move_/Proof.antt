@@ -2,7 +2,7 @@
 use mathlib.Core.Path.{refl, _∙_}
 use Rattle.base.proofs.Outs.{went-has}
 use Rattle.sefs.specs.Ask.{start}
-use Rattle.calls_move.specs.Steps.{moveWork}
+use Rattle.calls_move.specs.Parts.{moveWork}
 use Rattle.calls_steps.proofs.Ends.{two-admits, two-legal, two-next, two-stop, returned-is, returned-refused}
 use Rattle.calls_move.proofs.Moves.{move-is}
 use borrow.Author.Needs.{needs}

@@ -3,7 +3,7 @@ use mathlib.Core.Path.{refl, _∙_, ap}
 use Rattle.sefs.specs.Ask.{start}
 use Rattle.calls.specs.Answers.{doneWith}
 use Rattle.calls_steps.proofs.Ends.{fs-start}
-use Rattle.calls_move.specs.Steps.{moveWork}
+use Rattle.calls_move.specs.Parts.{moveWork}
 use Rattle.calls_move.proofs.Courses.{made-fine, returned-made, returned-same, returned-turned}
 use borrow.Author.Needs.{needs}
 use Rattle.calls_move.proofs.move_in.Statement.{statement}

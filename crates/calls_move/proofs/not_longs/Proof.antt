@@ -2,7 +2,7 @@
 use Rattle.sefs.specs.Ask.{notLong}
 use Rattle.calls_steps.proofs.Steps.{long}
 use Rattle.calls_move.proofs.Asks.{asks-long}
-use Rattle.calls_move.specs.Steps.{shortTwo}
+use Rattle.calls_move.specs.Parts.{shortTwo}
 use Rattle.calls_move.proofs.Asks.{pair-stop, pair-next}
 use borrow.Author.Needs.{needs}
 use Rattle.calls_move.proofs.not_longs.Statement.{statement}

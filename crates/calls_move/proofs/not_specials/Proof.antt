@@ -2,7 +2,7 @@
 use Rattle.sefs.specs.Ask.{notSpecial}
 use Rattle.calls_steps.proofs.Steps.{asks-special}
 use Rattle.calls.proofs.Asks.{asked-went}
-use Rattle.calls_move.specs.Steps.{plainTwo}
+use Rattle.calls_move.specs.Parts.{plainTwo}
 use Rattle.calls_move.proofs.Asks.{pair-stop, pair-next}
 use borrow.Author.Needs.{needs}
 use Rattle.calls_move.proofs.not_specials.Statement.{statement}

@@ -2,7 +2,7 @@
 use mathlib.Core.Path.{sym}
 use Rattle.base.proofs.Outs.{went-has}
 use Rattle.calls_move.proofs.Decisions.{node-stop, node-unknown, node-same, node-over}
-use Rattle.calls_move.proofs.Steps.{typed-of}
+use Rattle.calls_move_steps.proofs.Steps.{typed-of}
 use borrow.Author.Needs.{needs}
 use Rattle.calls_move.proofs.replace_node.Statement.{statement}
 use Rattle.calls_move.proofs.replace_node.Tie as tie
