@@ -27,6 +27,7 @@ use Rattle.calls_move_steps.specs.Steps.{moveNamed, moveOver}
 use Rattle.calls_move.specs.Parts.{Both, both, openTwo, knownTwo, replaceNode, replaceNamed, moveFound, moveAsks, moveWork}
 use Rattle.calls_move.specs.Courses.{courseOf, Decided, same}
 use Rattle.calls_move.proofs.Courses.{decided-next, decided-stop, decided-steps}
+use Rattle.calls_move_steps.proofs.Steps.{find-fs}
 use Rattle.calls_move_steps.proofs.Moves.{steps-is}
 use Rattle.calls_move.proofs.Moves.{replace-is}
 
@@ -75,17 +76,13 @@ module _ (a w m n : List ℕ) (i j : ℕ) (old name : List ℕ) (k new was d c :
 
 -- the old name is found first
 module _ (a w m : List ℕ) (i j : ℕ) (old name l : List ℕ) (k p new r : ℕ) {P : Type 0} (x : DiskINode) (e : x ≡ rowAt (tableIn m) i .rec) (g : Went (findSlot (view a w) x old) (record { place = p; entry = entryOf l }) P r) where
-  slot-fs : Went (findSlot (fsOf a w m .arena) (recAt (fsOf a w m) i) old) (record { place = p; entry = entryOf l }) P r
-  unfolding fsOf
-  slot-fs = rw e at g
-
   pub named-stop : (u q : List ℕ) → (r ≡ 0 → ⊥) → Decided (replaceNamed (fsOf a w m) i j old name k new) (fsOf a w m) a u q (Refused r)
   unfolding replaceNamed
-  named-stop u q z = decided-stop _ z slot-fs
+  named-stop u q z = decided-stop _ z (find-fs a w m i old x e g)
 
   pub named-next : {u q : List ℕ} {c : Course} (was : ℕ) → was ≡ leAt l 0 4 → r ≡ 0 → Decided (replaceNode (fsOf a w m) i j old name k new was) (fsOf a w m) a u q c → Decided (replaceNamed (fsOf a w m) i j old name k new) (fsOf a w m) a u q c
   unfolding replaceNamed entryOf
-  named-next was d z h = decided-next (λ f. replaceNode (fsOf a w m) i j old name k new (f .entry .id)) (went-is slot-fs z) (rw d at h)
+  named-next was d z h = decided-next (λ f. replaceNode (fsOf a w m) i j old name k new (f .entry .id)) (went-is (find-fs a w m i old x e g) z) (rw d at h)
 
 -- ---- the new name is looked for
 

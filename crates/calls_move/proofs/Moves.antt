@@ -1,11 +1,12 @@
 -- The call move, in its parts.
-use mathlib.Core.Path.{_≡_, refl, _∙_}
+use mathlib.Core.Path.{_≡_, refl, sym, _∙_}
 use mathlib.Core.Bool.{Bool, true, false}
 use mathlib.Core.List.{List}
 use Prim.Native.Nat.{ℕ}
 use lib.Dec.{eqb}
 use Rattle.base.specs.Out.{Out, done, refused, bind}
 use Rattle.base.specs.Search.{pick}
+use Rattle.base.proofs.Outs.{bind-assoc}
 use Rattle.table.specs.declared.Table.{Table}
 use Rattle.table.specs.declared.Handle.{Handle}
 use Rattle.sefs.specs.State.{Fs}
@@ -30,10 +31,6 @@ two-is {A} {B} {C} {D} (done x) f e g h k = go (f x)
     go (done y) = k x y
     go (refused n) = refl
 
-both-is : {A : Type 0} (o p : Out Unit) (q : Out A) → bind o (λ _. bind p (λ _. q)) ≡ bind (bind o (λ _. p)) (λ _. q)
-both-is (done x) p q = refl
-both-is (refused n) p q = refl
-
 same-pick : (b : Bool) (x y z : Out After) → y ≡ z → pick b x y ≡ pick b x z
 same-pick true x y z e = refl
 same-pick false x y z e = e
@@ -43,7 +40,7 @@ node-is : (s : Fs) (i j : ℕ) (old name : List ℕ) (k new was : ℕ)
 unfolding replaceNode openTwo knownTwo
 node-is s i j old name k new was =
     two-is (getNode s new) (λ d. getNode (d .state) was) (λ d c. both (c .state) (d .row) (c .row)) _ _ (λ d c.
-    both-is (known (recAt (c .state) (c .row))) (known (recAt (c .state) (d .row))) _
+    sym (bind-assoc (known (recAt (c .state) (c .row))) (λ _. known (recAt (c .state) (d .row))) (λ _. pick (eqb was new) (done (after s)) (moveOnto (c .state) i j old name (c .row) (d .row) k)))
     ∙ bind-same (bind (known (recAt (c .state) (c .row))) (λ _. known (recAt (c .state) (d .row)))) _ _ (λ _. same-pick (eqb was new) _ _ _ (onto-is (c .state) i j old name (c .row) (d .row) k)))
 
 pub replace-is : (s : Fs) (i j : ℕ) (old name : List ℕ) (k : ℕ) → replace s i j old name k ≡ bind (slotAt (s .arena) (recAt s j) k) (λ e. replaceNamed s i j old name k (e .id))

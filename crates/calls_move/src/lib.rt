@@ -1,4 +1,4 @@
-// The call move: source 5, 7, 8; 9, 10 for either name; target 7, 8; where the new name exists, 11, the same node, type rules; then the steps.
+// The call move: 5; the source 7, 8; 9, 10 for either name; the target 7, 8; where the new name exists 11, the same node, type rules; then the steps.
 // It decides on a view of the arena, and commits once nothing can refuse it any more.
 ghost use mathlib.Core.Path.{_≡_};
 ghost use mathlib.Core.Bool.{true};

@@ -27,7 +27,7 @@ use Rattle.overlay.specs.View.{view}
 use Rattle.table.specs.Table.{rowAt}
 use Rattle.sefs.specs.State.{Fs}
 use Rattle.sefs.specs.Nodes.{recAt, idAt, opened, getNode, syncRow, release}
-use Rattle.sefs.specs.Slots.{slotAt, findSlot}
+use Rattle.sefs.specs.Slots.{Slot, slotAt, findSlot}
 use Rattle.sefs.specs.Folders.{entry, putSlot, direntAppend, direntRemove, direntNodeRemove}
 use Rattle.sefs.specs.Move.{renamed, readSlots, moveDots, moveLinks}
 use Rattle.mem.specs.Mem.{tableIn, Whole}
@@ -167,20 +167,21 @@ renamed-is l v name id kind b h hi hk p q e =
     let f : EntryFits (entry id name kind) = record { id = hi; kind = hk; name = length-nameBytes name (omega arith); nameBytes = name-bytes name b } in
     ap entryOf e ∙ entryOf-entryBytes (entry id name kind) f ∙ rw (p, q)
 
+-- a slot that was found, in the state
+pub find-fs : {v : Slot} {P : Type 0} {r : ℕ} (a w m : List ℕ) (i : ℕ) (name : List ℕ) (x : DiskINode) → x ≡ rowAt (tableIn m) i .rec → Went (findSlot (view a w) x name) v P r → Went (findSlot (fsOf a w m .arena) (recAt (fsOf a w m) i) name) v P r
+unfolding fsOf
+find-fs a w m i name x e f = rw e at f
+
 -- found by its name
 module _ (a w m : List ℕ) (i j : ℕ) (old name l : List ℕ) (k r : ℕ) {P : Type 0} (g : Gone) (x : DiskINode) (e : x ≡ rowAt (tableIn m) i .rec) (f : Went (findSlot (view a w) x old) (record { place = k; entry = entryOf l }) P r) where
-  slot-fs : Went (findSlot (fsOf a w m .arena) (recAt (fsOf a w m) i) old) (record { place = k; entry = entryOf l }) P r
-  unfolding fsOf
-  slot-fs = rw e at f
-
   pub named-stop : (v : Fs) {Q : Type 0} → (r ≡ 0 → ⊥) → Went (moveNamed (fsOf a w m) i j old name g) v Q r
   unfolding moveNamed
-  named-stop v z = went-stop (λ f. moveSlot (fsOf a w m) i j (f .place) (renamed (f .entry) name) g) v z slot-fs
+  named-stop v z = went-stop (λ f. moveSlot (fsOf a w m) i j (f .place) (renamed (f .entry) name) g) v z (find-fs a w m i old x e f)
 
   pub named-next : {v : Fs} {Q : Type 0} {q : ℕ} (t : List ℕ) → entryOf t ≡ renamed (entryOf l) name → r ≡ 0 → Went (moveSlot (fsOf a w m) i j k (entryOf t) g) v Q q → Went (moveNamed (fsOf a w m) i j old name g) v Q q
   unfolding moveNamed
   named-next {v} {Q} {q} t d z h =
-      went-next (λ f. moveSlot (fsOf a w m) i j (f .place) (renamed (f .entry) name) g) (went-is slot-fs z)
+      went-next (λ f. moveSlot (fsOf a w m) i j (f .place) (renamed (f .entry) name) g) (went-is (find-fs a w m i old x e f) z)
       (subst (λ (y : DiskEntry). Went (moveSlot (fsOf a w m) i j k y g) v Q q) d h)
 
 -- ---- slots that are read
