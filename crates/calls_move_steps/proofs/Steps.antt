@@ -6,11 +6,10 @@ use Prim.Native.Nat.{ℕ, zero, suc, _+_, _-_, _≤_, _<_}
 use native.Mathlib.Nat.{eq-or-lt-of-le, le-of-suc-le-suc}
 use native.Mathlib.Numerals.{add-one}
 use native.Mathlib.Omega.{arith}
-use lib.ListN.{length, getD, replicate}
+use lib.ListN.{length}
 use borrow.Author.Tests.{eq-eqb, ne-eqb, le-leb, lt-leb}
 use Rattle.base.specs.Out.{done, refused, bind, Went, well, ill}
 use Rattle.base.proofs.Outs.{went-is, went-has, went-not, went-next, went-stop, above-zero}
-use Rattle.base.proofs.Parts.{getD-zero-list}
 use Rattle.le.specs.Le.{leAt, Bytes}
 use Rattle.structs.specs.declared.DiskINode.{DiskINode}
 use Rattle.structs.specs.declared.DiskEntry.{DiskEntry}
@@ -20,8 +19,6 @@ use Rattle.structs.specs.Verdict.{verdictOf}
 use Rattle.structs.specs.Layout.{entryOf, entryBytes}
 use Rattle.structs.specs.Fits.{EntryFits}
 use Rattle.structs.proofs.Layouts.{entryOf-entryBytes, entryBytes-entryOf}
-use Rattle.structs.proofs.Joins.{bytes-append}
-use Rattle.utf8.specs.Names.{nameBytes}
 use Rattle.utf8.proofs.Names.{length-nameBytes}
 use Rattle.overlay.specs.View.{view}
 use Rattle.table.specs.Table.{rowAt}
@@ -35,7 +32,7 @@ use Rattle.mem.specs.State.{fsOf, Ready, Stepped}
 use Rattle.folders.proofs.Folders.{id-of}
 use Rattle.folders.proofs.States.{stepped-next, stepped-more}
 use Rattle.calls_steps.specs.Steps.{syncTwo}
-use Rattle.calls_steps.proofs.Steps.{rec-of}
+use Rattle.calls_steps.proofs.Steps.{rec-of, name-bytes}
 use Rattle.calls_move_steps.specs.declared.Gone.{Gone}
 use Rattle.calls_move_steps.specs.declared.Gone.the-variants.{Free, Node}
 use Rattle.calls_move_steps.specs.Steps.{InRow, Typed, removeGone, withinFolder, endMove, openMoved, restMove, betweenFolders, moveSlot, moveNamed, ifEmpty, judgeRows, moveOver}
@@ -155,10 +152,6 @@ module _ (a w m : List ℕ) (i j k : ℕ) (d : DiskEntry) (g : Gone) (x y : ℕ)
   slot-between e h = rw (ne-eqb (idAt (fsOf a w m) i) (idAt (fsOf a w m) j) (λ o. e (id-of a w m i x p ∙ o ∙ sym (id-of a w m j y q)))) h
 
 -- ---- the moved slot
-
-name-bytes : (name : List ℕ) → Bytes name → Bytes (nameBytes name)
-unfolding nameBytes
-name-bytes name b = bytes-append name _ b (λ i. let z : getD (replicate {A = ℕ} (256 - length name) 0) i 0 ≡ 0 = getD-zero-list (256 - length name) i in omega arith)
 
 pub renamed-is : (l v name : List ℕ) (id kind : ℕ) → Bytes name → length name ≤ 255 → id < 4294967296 → kind < 4294967296 → id ≡ leAt l 0 4 → kind ≡ leAt l 260 4
     → v ≡ entryBytes (entry id name kind) → entryOf v ≡ renamed (entryOf l) name
