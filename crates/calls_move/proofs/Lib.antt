@@ -1,0 +1,6 @@
+pub mod Steps
+pub mod Courses
+pub mod Moves
+pub mod Asks
+pub mod Decisions
+pub mod Ones
