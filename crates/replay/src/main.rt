@@ -1,4 +1,4 @@
-// Runs a call script from standard input: scripts and arenas of at most 65,536 bytes.
+// Runs a call script from standard input: scripts of at most 262,144 bytes, arenas of at most 65,536.
 ghost use mathlib.Core.Path.{_≡_};
 ghost use Prim.Native.Nat.{_≤_};
 ghost use lib.ListN.{length};
@@ -24,9 +24,9 @@ fn play_fresh(script: &[u8]) {
 }
 
 fn main() {
-    let mut script = [0u8; 65537];
+    let mut script = [0u8; 262145];
     let n = io::read_full(STDIN_FILENO, &mut script);
-    if n > 65536 {
+    if n > 262144 {
         io::write_all(STDOUT_FILENO, b"bad script\n");
         return;
     }
