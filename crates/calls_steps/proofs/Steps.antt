@@ -68,7 +68,7 @@ asks-special name = asks-ensure (not (isSpecial name)) 9 (omega arith)
 
 -- ---- a slot with a node's id
 
-name-bytes : (name : List ℕ) → Bytes name → Bytes (nameBytes name)
+pub name-bytes : (name : List ℕ) → Bytes name → Bytes (nameBytes name)
 unfolding nameBytes
 name-bytes name b = bytes-append name _ b (λ i. let z : getD (replicate {A = ℕ} (256 - length name) 0) i 0 ≡ 0 = getD-zero-list (256 - length name) i in omega arith)
 

@@ -236,7 +236,7 @@ fn store_rows(arena: &mut [u8], mem: &mut [u8])
     }
 }
 
-// The call's end, once it is decided: the rows are stored, and none is dirty any more.
+// The end of a call that nothing refuses: the rows are stored, and the table is as memory has it.
 fn store_all(arena: &mut [u8], t: Table) -> After
     requires { ⌜ legal (now arena) ≡ true ⌝ }
     requires { ⌜ Does (syncFrom (start (now arena) t) 0 34) ⌝ }

@@ -1,0 +1,92 @@
+-- Parts of the definition of move, as the code's functions have them.
+use mathlib.Core.List.{List}
+use Prim.Native.Nat.{ℕ}
+use lib.Dec.{eqb}
+use Rattle.base.specs.Out.{Out, done, _>>=_}
+use Rattle.base.specs.Search.{pick}
+use Rattle.structs.specs.declared.DiskINode.{DiskINode}
+use Rattle.sefs.specs.State.{Fs}
+use Rattle.sefs.specs.Nodes.{recAt, getNode}
+use Rattle.sefs.specs.Slots.{lookup, findSlot}
+use Rattle.sefs.specs.Ask.{goodName, notLong, notSpecial, known, liveFolder}
+use Rattle.sefs.specs.Create.{After, after}
+use Rattle.sefs.specs.Move.{moveTo}
+use Rattle.calls_steps.specs.Ends.{ending}
+use Rattle.calls_move_steps.specs.Steps.{moveOver}
+
+-- ---- the new name exists
+
+-- the replaced and the moved node, opened
+pub record Both : Type 0 where
+  pub state : Fs
+  pub gone : ℕ
+  pub moved : ℕ
+
+abbrev pub both : Fs → ℕ → ℕ → Both
+both s d c = record { state = s; gone = d; moved = c }
+
+unfoldable pub openTwo : Fs → ℕ → ℕ → Out Both
+openTwo s new was = do
+  d ← getNode s new
+  c ← getNode (d .state) was
+  done (both (c .state) (d .row) (c .row))
+
+-- 000 takes the metadata of both
+unfoldable pub knownTwo : DiskINode → DiskINode → Out Unit
+knownTwo moved gone = do
+  _ ← known moved
+  known gone
+
+-- slot k of the target names node `new`, and the old name is node `was`
+unfoldable pub replaceNode : Fs → ℕ → ℕ → List ℕ → List ℕ → ℕ → ℕ → ℕ → Out After
+replaceNode s i j old name k new was = do
+  b ← openTwo s new was
+  _ ← knownTwo (recAt (b .state) (b .moved)) (recAt (b .state) (b .gone))
+  pick (eqb was new) (done (after s)) (ending (moveOver (b .state) i j old name (b .moved) (b .gone) k))
+
+unfoldable pub replaceNamed : Fs → ℕ → ℕ → List ℕ → List ℕ → ℕ → ℕ → Out After
+replaceNamed s i j old name k new = do
+  f ← findSlot (s .arena) (recAt s i) old
+  replaceNode s i j old name k new (f .entry .id)
+
+unfoldable pub moveFound : Fs → ℕ → ℕ → List ℕ → List ℕ → Out After
+moveFound s i j old name = do
+  f ← lookup (s .arena) (recAt s j) name
+  moveTo s i j old name f
+
+-- ---- what is asked of the records and the names
+
+unfoldable pub goodTwo : List ℕ → List ℕ → Out Unit
+goodTwo old name = do
+  _ ← goodName old
+  goodName name
+
+unfoldable pub plainTwo : List ℕ → List ℕ → Out Unit
+plainTwo old name = do
+  _ ← notSpecial old
+  notSpecial name
+
+unfoldable pub shortTwo : List ℕ → List ℕ → Out Unit
+shortTwo old name = do
+  _ ← notLong old
+  notLong name
+
+-- 9, 10, then the target's 7, 8
+unfoldable pub lateAsks : DiskINode → List ℕ → List ℕ → Out Unit
+lateAsks target old name = do
+  _ ← plainTwo old name
+  _ ← shortTwo old name
+  liveFolder target
+
+-- 5, the source's 7, 8, then the others
+unfoldable pub moveAsks : DiskINode → DiskINode → List ℕ → List ℕ → Out Unit
+moveAsks source target old name = do
+  _ ← goodTwo old name
+  _ ← liveFolder source
+  lateAsks target old name
+
+-- what is asked once the handles are known, and the steps
+unfoldable pub moveWork : Fs → ℕ → ℕ → List ℕ → List ℕ → Out After
+moveWork s i j old name = do
+  _ ← moveAsks (recAt s i) (recAt s j) old name
+  moveFound s i j old name

@@ -1,0 +1,61 @@
+-- What a desk says of its script.
+use mathlib.Core.Bool.{Bool, true, false, not, cond, true≢false}
+use mathlib.Core.List.{List}
+use mathlib.Core.Logic.{⊎-elim}
+use mathlib.Core.Path.{_≡_, refl, ap, _∙_}
+use Prim.Native.Nat.{ℕ, _+_, _-_, _<_, _≤_}
+use native.Mathlib.Omega.{arith}
+use borrow.Author.Tests.{eqb-true, not-false}
+use lib.Dec.{eqb}
+use lib.ListN.{length, getD, set, length-set}
+use lib.Seq.{getD-set-same}
+use Rattle.base.proofs.Bools.{bool-cases}
+use Rattle.le.specs.Le.{leAt, lePut}
+use Rattle.le.proofs.Laws.{leAt-lePut-fits, getD-lePut-out}
+use Rattle.replay_lib.specs.Steps.{endedIn, left}
+
+-- a desk d that took the mark m and then the place v
+module _ (d e : List ℕ) (v m : ℕ) (n : length d ≡ 4387) (f : v < 18446744073709551616) (p : e ≡ lePut (set d 4386 m) 4378 8 v) where
+  room : 4378 + 8 ≤ length (set d 4386 m)
+  room = simp length-set (omega arith)
+
+  pub place-is : leAt e 4378 8 ≡ v
+  place-is = ap (λ (l : List ℕ). leAt l 4378 8) p ∙ leAt-lePut-fits (set d 4386 m) 4378 8 v room f
+
+  pub mark-is : getD e 4386 0 ≡ m
+  mark-is =
+      ap (λ (l : List ℕ). getD l 4386 0) p
+      ∙ getD-lePut-out (set d 4386 m) 4378 8 v room 4386 (λ h. omega arith)
+      ∙ getD-set-same d 4386 m 0 (omega arith)
+
+test-of : (a x : Bool) → cond a (not x) true ≡ false → x ≡ true
+test-of true x e = not-false x e
+test-of false x e = absurd (true≢false e)
+
+length-of : (a x : Bool) → cond a (not x) true ≡ false → a ≡ true
+length-of true x e = refl
+length-of false x e = absurd (true≢false e)
+
+-- a desk that has not ended has its length
+pub desk-length : (d : List ℕ) → endedIn d ≡ false → length d ≡ 4387
+desk-length d e = eqb-true _ _ (length-of (eqb (length d) 4387) (eqb (getD d 4386 0) 0) e)
+
+-- and the mark 0
+pub unmarked : (d : List ℕ) → endedIn d ≡ false → getD d 4386 0 ≡ 0
+unmarked d e = eqb-true _ _ (test-of (eqb (length d) 4387) (eqb (getD d 4386 0) 0) e)
+
+left-ended : (n : ℕ) (d : List ℕ) → endedIn d ≡ true → left n d ≡ 0
+unfolding left
+left-ended n d e = rw e
+
+pub left-open : (n : ℕ) (d : List ℕ) → endedIn d ≡ false → left n d ≡ 1 + (n - leAt d 4378 8)
+unfolding left
+left-open n d e = rw e
+
+-- the script of n bytes is gone on from the desk d's place to v, which the desk e has: less is left
+module _ (n v : ℕ) (d e : List ℕ) (o : endedIn d ≡ false) (q : leAt e 4378 8 ≡ v) (m : getD e 4386 0 ≡ 0 → v < n) (k : leAt d 4378 8 ≤ v) (h : leAt d 4378 8 < n → leAt d 4378 8 < v) where
+  pub left-less : left n e < left n d
+  left-less =
+      ⊎-elim (λ t. omega (arith, left-ended n e t, left-open n d o))
+      (λ t. let u = m (unmarked e t) in omega (arith, left-open n e t, left-open n d o, h (omega arith)))
+      (bool-cases (endedIn e))

@@ -1,0 +1,24 @@
+-- `table_from`: the command is whole.
+use native.Mathlib.Omega.{arith}
+use borrow.Author.Needs.{needs}
+use Rattle.replay_lib.proofs.perform.table_from.Statement.{statement}
+use Rattle.replay_lib.proofs.perform.table_from.Tie as tie
+
+whole-requires : tie.Need-whole-requires
+whole-requires c κs = search needs
+
+returns : tie.Need-returns
+returns c = search needs
+
+set-table-requires : tie.Need-set-table-requires
+set-table-requires c κs = (omega (arith, c .before .before .whole .ensures .full (omega arith)), omega arith)
+
+same-length : tie.Need-same-length
+same-length c = search needs
+
+returns-2 : tie.Need-returns-2
+returns-2 c = search needs
+
+pub table-from-spec : {M : Type 1} → statement M
+table-from-spec =
+    tie.close (tie.spec whole-requires returns set-table-requires same-length returns-2)

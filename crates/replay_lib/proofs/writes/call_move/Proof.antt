@@ -1,0 +1,115 @@
+-- `call_move`: the second name stands where the first ends.
+use mathlib.Core.Path.{_≡_, ap, _∙_}
+use Prim.Native.Nat.{ℕ, _+_}
+use native.Mathlib.Omega.{arith}
+use Rattle.le.specs.Le.{leAt}
+use borrow.Author.Needs.{needs}
+use Rattle.replay_lib.proofs.writes.call_move.Statement.{statement}
+use Rattle.replay_lib.proofs.writes.call_move.Tie as tie
+
+slice-aggregate-put-word : tie.Need-slice-aggregate-put-word
+slice-aggregate-put-word c = search needs
+
+put-word-requires : tie.Need-put-word-requires
+put-word-requires c κs = search needs
+
+add-handle-at : tie.Need-add-handle-at
+add-handle-at c = search needs
+
+handle-at-requires : tie.Need-handle-at-requires
+handle-at-requires c κs = search needs
+
+add-s : tie.Need-add-s
+add-s c = search needs
+
+add-name-end : tie.Need-add-name-end
+add-name-end c = search needs
+
+name-end-requires : tie.Need-name-end-requires
+name-end-requires c κs = search needs
+
+handle-at-requires-2 : tie.Need-handle-at-requires-2
+handle-at-requires-2 c κs = search needs
+
+add-from : tie.Need-add-from
+add-from c = search needs
+
+add-name-end-2 : tie.Need-add-name-end-2
+add-name-end-2 c = search needs
+
+name-end-requires-2 : tie.Need-name-end-requires-2
+name-end-requires-2 c κs =
+    let s = c .before .before .before .before .before .before .before .before .before .before .before .before .args in
+    let h : c .before .name-end .result + 12 ≡ s .at + (13 + (2 + leAt (s .script .now) (s .at + 13) 2) + 12) = omega arith in
+    omega (arith, ap (λ (x : ℕ). leAt (s .script .now) x 2) h)
+
+read-table-requires : tie.Need-read-table-requires
+read-table-requires c κs = search needs
+
+sub-move- : tie.Need-sub-move-
+sub-move- c = search needs
+
+part-move--start : tie.Need-part-move--start
+part-move--start c = search needs
+
+part-move--end : tie.Need-part-move--end
+part-move--end c = search needs
+
+sub-move--2 : tie.Need-sub-move--2
+sub-move--2 c = search needs
+
+part-move--start-2 : tie.Need-part-move--start-2
+part-move--start-2 c = search needs
+
+part-move--end-2 : tie.Need-part-move--end-2
+part-move--end-2 c =
+    let s = c .before .before .before .before .before .before .before .before .before .before .before .before .before .before .before .before .before .args in
+    let h : c .before .before .before .before .before .before .name-end .result + 12 ≡ s .at + (13 + (2 + leAt (s .script .now) (s .at + 13) 2) + 12) = omega (arith, c .before .before .before .before .before .before .name-end .ensures) in
+    omega (arith, ap (λ (x : ℕ). leAt (s .script .now) x 2) h, c .before .before .before .before .before .before .before .before .before .before .before .before .before .before .before .before .before .pre .0, c .before .before .before .before .before .before .name-end .ensures, c .before .before .before .before .name-end2 .ensures)
+
+move--requires : tie.Need-move--requires
+move--requires c κs = search needs
+
+put-after-requires : tie.Need-put-after-requires
+put-after-requires c κs = (omega (arith, c .before .before .before .before .before .before .before .before .before .before .before .before .before .before .before .before .before .before .before .before .before .before .before .pre .1 .0), omega (arith, c .before .before .before .before .before .before .before .before .before .before .before .before .before .before .before .before .before .before .before .before .before .before .before .pre .1 .1, c .before .before .before .before .before .before .before .before .before .before .before .before .before .before .before .before .put-word .ensures .0, c .before .before .before .before .before .before .before .before .before .before .before .before .before .before .before .before .put-word .kept .0))
+
+same-length : tie.Need-same-length
+same-length c = search needs
+
+same-length-2 : tie.Need-same-length-2
+same-length-2 c = search needs
+
+same-length-3 : tie.Need-same-length-3
+same-length-3 c = c .before .before .before .before .put-after .kept .1 .0 ∙ c .before .before .before .before .before .before .before .before .before .before .before .before .before .before .before .before .before .before .before .before .before .put-word .kept .0
+
+returns : tie.Need-returns
+returns c = omega (arith, c .before .before .before .before .put-after .ensures, c .before .before .before .before .before .before .before .before .before .before .before .before .before .before .before .before .before .before .before .before .before .put-word .ensures .0)
+
+pub call-move-spec : {M : Type 1} → statement M
+call-move-spec =
+    tie.close
+    (tie.spec
+    slice-aggregate-put-word
+    put-word-requires
+    add-handle-at
+    handle-at-requires
+    add-s
+    add-name-end
+    name-end-requires
+    handle-at-requires-2
+    add-from
+    add-name-end-2
+    name-end-requires-2
+    read-table-requires
+    sub-move-
+    part-move--start
+    part-move--end
+    sub-move--2
+    part-move--start-2
+    part-move--end-2
+    move--requires
+    put-after-requires
+    same-length
+    same-length-2
+    same-length-3
+    returns)
