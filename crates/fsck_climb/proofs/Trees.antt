@@ -1,9 +1,9 @@
--- Rule 8's test is what the code asks: where rules 3 to 7 hold, a folder with links is named once, so the folder that its slot 1 names is the one
--- that names it exactly where the slots of folders name none but their own.
+-- Rule 8's test is what the code asks, where rules 3 to 7 hold: a folder with links is named once, so the folder that its slot 1 names is the one that
+-- names it just where each slot that names a folder is one of the folder that the named one's slot 1 names.
 use mathlib.Core.Path.{_≡_, refl, sym, ap, subst, _∙_}
 use mathlib.Core.Bool.{Bool, true, false, not, _&&_, _||_, true≢false}
 use mathlib.Core.List.{List}
-use mathlib.Core.Logic.{_≢_, _⊎_, ⊎-elim}
+use mathlib.Core.Logic.{_≢_, ⊎-elim}
 use Prim.Native.Nat.{ℕ, zero, suc, _+_, _%_, _≤_, _<_}
 use native.Mathlib.Omega.{arith}
 use native.Mathlib.Nat.{zero-add}
@@ -11,10 +11,10 @@ use native.Mathlib.Decide.{ℕ-discrete}
 use lib.Dec.{eqb, ltb}
 use lib.ListN.{getD}
 use borrow.Author.Tests.{eq-eqb, ne-eqb, eqb-true, lt-ltb, ltb-true, leb-true}
-use Rattle.base.specs.Count.{sumTo, allTo, countTo}
+use Rattle.base.specs.Count.{sumTo, allTo}
 use Rattle.base.specs.Search.{pick, lowest, upd}
 use Rattle.base.proofs.Bools.{true-false, bool-cases, and-both, and-parts, or-first, or-second, same-bool, true-T}
-use Rattle.base.proofs.Counts.{sumTo-suc, sumTo-change, sumTo-part, allTo-true, allTo-all, countTo-le}
+use Rattle.base.proofs.Counts.{sumTo-change, sumTo-part, allTo-true, allTo-all, countTo-le}
 use Rattle.base.proofs.Finds.{countTo-some}
 use Rattle.base.proofs.Lists.{length-tab, getD-tab}
 use Rattle.base.proofs.Sames.{test-fails, decided-yes}
@@ -27,12 +27,13 @@ use Rattle.rules.specs.Rules.{Rule3, Rule4, Rule5, Rule6, Rule7, Rule8, Later}
 use Rattle.rules.specs.Tests.{test8, parentAllowed, reachesRoot, treeAllowed}
 use Rattle.rules.proofs.General.{decides-count}
 use Rattle.rules.proofs.Metadata.{decides-3, decides-4}
-use Rattle.rules.proofs.Files.{decides-5, node-below}
+use Rattle.rules.proofs.Files.{decides-5}
 use Rattle.rules.proofs.Folders.{decides-6, folder-node, folder-below}
 use Rattle.rules.proofs.Links.{decides-7}
 use Rattle.rules.proofs.Climbs.{decides-8}
 use Rattle.fsck_read.proofs.Nodes.{node-zero}
 use Rattle.fsck_climb.specs.Way.{Ids, Passed, upBy, up, ups, childFine, childrenFine, climbBy, reachesIn, folderFine, treeFine}
+use Rattle.fsck_climb.proofs.Ways.{folder-yes}
 
 -- ---- sums and tests
 
@@ -89,7 +90,7 @@ module _ (a : List ℕ) (t : Table) where
       go true l = l
       go false l = omega arith
 
-  pub ups-ids : Ids (ups a t)
+  ups-ids : Ids (ups a t)
   unfolding ups
   ups-ids = record { size = length-tab (up a t) 0 4096; each = λ i l. omega (arith, ups-at i l, up-below i) }
 
@@ -108,10 +109,6 @@ module _ (a : List ℕ) (t : Table) where
 
   not-zero : (id : ℕ) → isFolderAt a t id ≡ true → id ≢ 0
   not-zero id f z = true-false (folder-node a t id f) (sym (node-zero a id z))
-
-  folder-of : (id : ℕ) → isNode a id ≡ true → recOf a t id .kind ≡ 2 → isFolderAt a t id ≡ true
-  unfolding isFolderAt
-  folder-of id n k = and-both n (eq-eqb (recOf a t id .kind) 2 k)
 
   up-zero : up a t 0 ≡ 0
   unfolding up
@@ -261,12 +258,12 @@ module _ (a : List ℕ) (t : Table) (P : Passed a t) where
         let L : Later a t (laterSlot a r j) = rule6 .folder id (v .folder) .later (2 + j) (omega arith) (omega arith) in
         ⊎-elim
         (λ e. or-second (not (eqb (laterSlot a r j .kind) 2)) (
-          let f : isFolderAt a t c ≡ true = folder-of a t c (L .node) (L .kind ∙ eqb-true (laterSlot a r j .kind) 2 e) in
-          let h : 0 < namesIn a r c = countTo-some (λ i. eqb (laterSlot a r i .id) c) (laterSlots r) j l (eq-eqb c c refl) in
-          let o = once c id f (v .folder) h in
-          let g = parent-names c (o .0) (o .1 .0) in
-          let m : c % 4096 ≡ c = omega (arith, folder-low c f) in
-          eq-eqb _ id (ap (λ (x : ℕ). getD (ups a t) x 0) m ∙ up-lives c (o .0) ∙ one c (parentOf a t c) id (o .1 .1) (g .0) (v .folder) (g .1) h)))
+        let f : isFolderAt a t c ≡ true = folder-yes a t c (recOf a t c) refl (L .node) (L .kind ∙ eqb-true (laterSlot a r j .kind) 2 e) in
+        let h : 0 < namesIn a r c = countTo-some (λ i. eqb (laterSlot a r i .id) c) (laterSlots r) j l (eq-eqb c c refl) in
+        let o = once c id f (v .folder) h in
+        let g = parent-names c (o .0) (o .1 .0) in
+        let m : c % 4096 ≡ c = omega (arith, folder-low c f) in
+        eq-eqb _ id (ap (λ (x : ℕ). getD (ups a t) x 0) m ∙ up-lives c (o .0) ∙ one c (parentOf a t c) id (o .1 .1) (g .0) (v .folder) (g .1) h)))
         (λ e. or-first _ (ap not e))
         (bool-cases (eqb (laterSlot a r j .kind) 2))
 
@@ -279,9 +276,9 @@ module _ (a : List ℕ) (t : Table) (P : Passed a t) where
         elim (ℕ-discrete (recOf a t id .nlinks) 0) [
           | yes e ↦ or-first _ (eq-eqb (recOf a t id .nlinks) 0 e)
           | no n ↦
-            let v : Living a t id = record { folder = f; links = n } in
-            or-second (eqb (recOf a t id .nlinks) 0)
-            (and-both (allTo-all (λ j. childFine a (ups a t) (recOf a t id) id (2 + j)) (laterSlots (recOf a t id)) (child-fine id v)) (reach-fine id v))
+              let v : Living a t id = record { folder = f; links = n } in
+              or-second (eqb (recOf a t id .nlinks) 0)
+              (and-both (allTo-all (λ j. childFine a (ups a t) (recOf a t id) id (2 + j)) (laterSlots (recOf a t id)) (child-fine id v)) (reach-fine id v))
         ]
 
     fine-all : allTo (treeFine a t (ups a t)) (idsIn a) ≡ true
@@ -303,7 +300,6 @@ module _ (a : List ℕ) (t : Table) (P : Passed a t) where
     -- the slot that names a folder
     record Namer (id : ℕ) : Type 0 where
       by : ℕ
-      folder : isFolderAt a t by ≡ true
       lives : Living a t by
       slot : ℕ
       inside : slot < laterSlots (recOf a t by)
@@ -317,9 +313,9 @@ module _ (a : List ℕ) (t : Table) (P : Passed a t) where
         let h = pick-some (isFolderAt a t (s .0)) (namesIn a (recOf a t (s .0)) id) (s .2) in
         let r : DiskINode = recOf a t (s .0) in
         let w = decides-count (λ j. eqb (laterSlot a r j .id) id) (λ j. laterSlot a r j .id ≡ id) (laterSlots r) (λ j. decides-eqb (laterSlot a r j .id) id) .right (true-T _ (lt-ltb 0 _ (h .1))) in
-        record { by = s .0; folder = h .0; lives = naming-lives id (s .0) (h .0) (h .1); slot = w .0; inside = w .1; names = w .2 }
+        record { by = s .0; lives = naming-lives id (s .0) (h .0) (h .1); slot = w .0; inside = w .1; names = w .2 }
 
-    -- it is one of the folder that slot 1 names
+    -- that folder is the one that slot 1 names
     parent-is : (id : ℕ) (v : Living a t id) (N : Namer id) → parentOf a t id ≡ N .by
     unfolding childrenFine childFine isFolderAt
     parent-is id v N =
@@ -327,12 +323,12 @@ module _ (a : List ℕ) (t : Table) (P : Passed a t) where
         let r : DiskINode = recOf a t f in
         let j : ℕ = N .slot in
         let i = N .inside in
-        let L : Later a t (laterSlot a r j) = rule6 .folder f (N .folder) .later (2 + j) (omega arith) (omega arith) in
+        let L : Later a t (laterSlot a r j) = rule6 .folder f (N .lives .folder) .later (2 + j) (omega arith) (omega arith) in
         let k : laterSlot a r j .kind ≡ 2 = sym (L .kind) ∙ ap (λ (x : ℕ). recOf a t x .kind) (N .names) ∙ eqb-true (recOf a t id .kind) 2 (and-parts (isNode a id) _ (v .folder) .1) in
         let e = eqb-true _ f (if-so (eqb (laterSlot a r j .kind) 2) _ (eq-eqb _ 2 k) (allTo-true (λ x. childFine a (ups a t) r f (2 + x)) (laterSlots r) (fine f (N .lives) .0) j i)) in
         let m : laterSlot a r j .id % 4096 ≡ id = omega (arith, N .names, folder-low id (v .folder)) in
         let u : up a t id ≡ f = sym (ups-at a t id (folder-low id (v .folder))) ∙ sym (ap (λ (x : ℕ). getD (ups a t) x 0) m) ∙ e in
-        sym (up-not-zero a t id (λ z. not-zero a t f (N .folder) (sym u ∙ z))) ∙ u
+        sym (up-not-zero a t id (λ z. not-zero a t f (N .lives .folder) (sym u ∙ z))) ∙ u
 
     climb-low : (id : ℕ) → id < 4096 → (n : ℕ) → climbBy (ups a t) id n < 4096
     unfolding climbBy
@@ -364,7 +360,7 @@ module _ (a : List ℕ) (t : Table) (P : Passed a t) where
       parent = λ id f n d.
           let v : Living a t id = record { folder = f; links = n } in
           let N = namer id v d in
-          subst (λ (x : ℕ). isFolderAt a t x ≡ true) (sym (parent-is id v N)) (N .folder);
+          subst (λ (x : ℕ). isFolderAt a t x ≡ true) (sym (parent-is id v N)) (N .lives .folder);
       names = λ id f n d.
           let v : Living a t id = record { folder = f; links = n } in
           let N = namer id v d in

@@ -1,20 +1,20 @@
 -- The tests of a slot, a folder and an id, by each way out of the function that makes them.
-use mathlib.Core.Path.{_≡_, refl, sym, ap, subst, _∙_}
+use mathlib.Core.Path.{_≡_, refl, sym, ap, _∙_}
 use mathlib.Core.Bool.{Bool, true, false, not}
 use mathlib.Core.List.{List}
 use mathlib.Core.Logic.{_≢_, ⊎-elim}
-use Prim.Native.Nat.{ℕ, zero, suc, _+_, _*_, _%_, _≤_, _<_}
+use Prim.Native.Nat.{ℕ, suc, _+_, _*_, _%_, _≤_, _<_}
 use native.Mathlib.Omega.{arith}
 use native.Mathlib.Nat.{eq-or-lt-of-le}
 use native.Mathlib.Numerals.{add-one}
-use lib.Dec.{eqb, ltb}
+use lib.Dec.{eqb}
 use lib.ListN.{getD}
 use borrow.Author.Tests.{eq-eqb, ne-eqb, lt-ltb, le-ltb}
 use Rattle.base.specs.Count.{allTo}
 use Rattle.base.proofs.Bools.{and-false}
 use Rattle.base.proofs.Counts.{allTo-false, allTo-all}
 use Rattle.base.proofs.Finds.{search-yes, search-no}
-use Rattle.base.proofs.Lists.{Stored, stored-none, stored-more, stored-all}
+use Rattle.base.proofs.Lists.{Stored, stored-all}
 use Rattle.le.specs.Le.{leAt}
 use Rattle.structs.specs.Layout.{entryOf}
 use Rattle.structs.specs.declared.DiskINode.{DiskINode}

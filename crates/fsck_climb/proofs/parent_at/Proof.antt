@@ -13,9 +13,11 @@ is-node-requires c κs = search needs
 
 returns : tie.Need-returns
 returns c =
-    let s = c .before .before .before .before .before .before in
-    (up-none (s .args .arena .now) (tableIn (s .args .mem .now)) (s .args .id) (folder-not-node (s .args .arena .now) (tableIn (s .args .mem .now)) (s .args .id)
-    (sym (c .before .is-node .ensures .1 (s .args .arena .now) (s .pre .1 .0 .1)) ∙ not-true _ (c .if1 .taken))), omega arith)
+    let s = c .before .before .before .before .before .before in (
+      up-none (s .args .arena .now) (tableIn (s .args .mem .now)) (s .args .id) (folder-not-node (s .args .arena .now) (tableIn (s .args .mem .now)) (s .args .id)
+          (sym (c .before .is-node .ensures .1 (s .args .arena .now) (s .pre .1 .0 .1)) ∙ not-true _ (c .if1 .taken))),
+      omega arith,
+    )
 
 rec-of-requires : tie.Need-rec-of-requires
 rec-of-requires c κs = search needs
@@ -25,16 +27,20 @@ parent-of-requires c κs = search needs
 
 returns-2 : tie.Need-returns-2
 returns-2 c =
-    let s = c .before .before .before .before .before .before .before .before .before .before in
-    (up-some (s .args .arena .now) (tableIn (s .args .mem .now)) (s .args .id) (c .before .before .before .rec-of .result) (c .parent-of .result) (c .before .before .before .rec-of .ensures)
-    (folder-yes (s .args .arena .now) (tableIn (s .args .mem .now)) (s .args .id) (c .before .before .before .rec-of .result) (c .before .before .before .rec-of .ensures)
-    (sym (c .before .before .before .before .before .is-node .ensures .1 (s .args .arena .now) (s .pre .1 .0 .1)) ∙ not-false _ (c .before .before .before .before .if1 .left)) (c .before .if2 .taken)) (c .parent-of .ensures .0), c .parent-of .ensures .1)
+    let s = c .before .before .before .before .before .before .before .before .before .before in (
+      up-some (s .args .arena .now) (tableIn (s .args .mem .now)) (s .args .id) (c .before .before .before .rec-of .result) (c .parent-of .result) (c .before .before .before .rec-of .ensures)
+          (folder-yes (s .args .arena .now) (tableIn (s .args .mem .now)) (s .args .id) (c .before .before .before .rec-of .result) (c .before .before .before .rec-of .ensures)
+          (sym (c .before .before .before .before .before .is-node .ensures .1 (s .args .arena .now) (s .pre .1 .0 .1)) ∙ not-false _ (c .before .before .before .before .if1 .left)) (c .before .if2 .taken)) (c .parent-of .ensures .0),
+      c .parent-of .ensures .1,
+    )
 
 returns-3 : tie.Need-returns-3
 returns-3 c =
-    let s = c .before .before .before .before .before .before .before .before .before in
-    (up-none (s .args .arena .now) (tableIn (s .args .mem .now)) (s .args .id)
-    (folder-not-kind (s .args .arena .now) (tableIn (s .args .mem .now)) (s .args .id) (c .before .before .rec-of .result) (c .before .before .rec-of .ensures) (c .if2 .left)), omega arith)
+    let s = c .before .before .before .before .before .before .before .before .before in (
+      up-none (s .args .arena .now) (tableIn (s .args .mem .now)) (s .args .id)
+          (folder-not-kind (s .args .arena .now) (tableIn (s .args .mem .now)) (s .args .id) (c .before .before .rec-of .result) (c .before .before .rec-of .ensures) (c .if2 .left)),
+      omega arith,
+    )
 
 pub parent-at-spec : {M : Type 1} → statement M
 parent-at-spec =

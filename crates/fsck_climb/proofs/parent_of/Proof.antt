@@ -1,6 +1,5 @@
 -- `fsck_climb::parent_of`: the first four bytes of slot 1.
 use mathlib.Core.Path.{_∙_}
-use Prim.Native.Nat.{_≤_}
 use native.Mathlib.Omega.{arith}
 use Rattle.fsck_climb.proofs.Ways.{slot-id, up-low, up-high}
 use borrow.Author.Needs.{needs}

@@ -1,5 +1,5 @@
 -- `fsck_climb::reaches_root`: each step leads to an id of the maps.
-use mathlib.Core.Path.{_≡_, _∙_}
+use mathlib.Core.Path.{_≡_}
 use Prim.Native.Nat.{_≤_, _<_, _-_}
 use native.Mathlib.Omega.{arith}
 use Rattle.fsck_climb.specs.Way.{climbBy}
@@ -44,10 +44,16 @@ loop-again : tie.Need-loop-again Inv-loop μ-loop
 loop-again c =
     let s = c .before .before .before .before .before .before in
     let l = c .before .before .before .before .loop in
-    let e = c .index16 .ensures in
-    (omega arith, (omega (arith, e, s .pre .0 .each (l .at) (omega arith)),
-    (climb-more (s .args .parents .now) (s .args .id) (l .i) (l .at) (c .index16 .result) (l .inv .1 .1 .0) e,
-    past-more (s .args .parents .now) (s .args .id) (l .i) (l .at) (l .inv .1 .1 .0) (c .before .before .if1 .left) (l .inv .1 .1 .1))))
+    let e = c .index16 .ensures in (
+      omega arith,
+      (
+        omega (arith, e, s .pre .0 .each (l .at) (omega arith)),
+        (
+          climb-more (s .args .parents .now) (s .args .id) (l .i) (l .at) (c .index16 .result) (l .inv .1 .1 .0) e,
+          past-more (s .args .parents .now) (s .args .id) (l .i) (l .at) (l .inv .1 .1 .0) (c .before .before .if1 .left) (l .inv .1 .1 .1),
+        ),
+      ),
+    )
 
 returns-2 : tie.Need-returns-2 Inv-loop μ-loop
 returns-2 c =

@@ -21,7 +21,7 @@ array-read-if1 c = search needs
 returns : tie.Need-returns
 returns c =
     let s = c .before .before .before .before .before .before .before .before in
-    eight-root (s .args .arena .now) (tableIn (s .args .mem .now)) (s .pre .1 .1) _ (c .before .before .before .find-parents .ensures) (c .if1 .taken)
+    eight-root (s .args .arena .now) (tableIn (s .args .mem .now)) (s .pre .1 .1) _ (c .before .before .find-parents .ensures) (c .if1 .taken)
 
 slice-aggregate-nodes-ok : tie.Need-slice-aggregate-nodes-ok
 slice-aggregate-nodes-ok c = search needs
@@ -29,12 +29,12 @@ slice-aggregate-nodes-ok c = search needs
 nodes-ok-requires : tie.Need-nodes-ok-requires
 nodes-ok-requires c κs =
     let s = c .before .before .before .before .before .before .before .before .before in
-    (s .pre .0, (s .pre .1 .0, ids-of (s .args .arena .now) (tableIn (s .args .mem .now)) _ (c .before .before .before .before .find-parents .ensures)))
+    (s .pre .0, (s .pre .1 .0, ids-of (s .args .arena .now) (tableIn (s .args .mem .now)) _ (c .before .before .before .find-parents .ensures)))
 
 returns-2 : tie.Need-returns-2
 returns-2 c =
     let s = c .before .before .before .before .before .before .before .before .before .before in
-    eight-all (s .args .arena .now) (tableIn (s .args .mem .now)) (s .pre .1 .1) _ (c .nodes-ok .result) (c .before .before .before .before .before .find-parents .ensures) (c .before .before .if1 .left) (c .nodes-ok .ensures)
+    eight-all (s .args .arena .now) (tableIn (s .args .mem .now)) (s .pre .1 .1) _ (c .nodes-ok .result) (c .before .before .before .before .find-parents .ensures) (c .before .before .if1 .left) (c .nodes-ok .ensures)
 
 pub rule8-spec : {M : Type 1} → statement M
 rule8-spec =
