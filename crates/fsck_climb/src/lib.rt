@@ -1,0 +1,197 @@
+// Rule 8: each folder with links is named by the folder that its slot 1 names, and climbing by slot 1 reaches node 2. By rule 7 each but
+// the root is named once, so the slots are gone through where they name a folder.
+ghost use mathlib.Core.Path.{_≡_};
+ghost use Prim.Native.Nat.{_<_};
+ghost use lib.ListN.{length};
+ghost use Rattle.base.specs.Count.{allTo};
+ghost use Rattle.mem.specs.Mem.{tableIn};
+ghost use Rattle.rules.specs.Image.{idsIn};
+ghost use Rattle.rules.specs.Tests.{test8};
+ghost use Rattle.fsck_read.specs.Given.{Led, Loaded, Of};
+ghost use Rattle.fsck_climb.specs.Way.{Ids, Passed, upBy, up, ups, childFine, childrenFine, reachesIn, folderFine, treeFine};
+use base::index;
+use base::index16;
+use fsck_read::ids;
+use fsck_read::is_node;
+use fsck_read::read_slot;
+use fsck_read::rec_of;
+use le::u32_at;
+use structs::DiskINode;
+
+// The id in slot 1, or 0 where it is none of the maps'.
+fn parent_of(arena: &[u8], first: &[u16], next: &[u16], rec: DiskINode) -> u16
+    requires { ⌜ Led (now arena) (now first) (now next) ⌝ }
+    ensures { λ r. ⌜ (r ≡ upBy (now (arena .entry)) rec) × (r < 4096) ⌝ }
+{
+    let mut slot = [0u8; 264];
+    read_slot(arena, first, next, rec, 1, &mut slot);
+    let id = u32_at(&slot, 0);
+    if id < 4096 {
+        return id as u16;
+    }
+    0
+}
+
+fn parent_at(arena: &[u8], first: &[u16], next: &[u16], mem: &[u8], id: usize) -> u16
+    requires { ⌜ Led (now arena) (now first) (now next) ⌝ }
+    requires { ⌜ (Loaded (now mem) × Of (now arena) (now mem)) × (id < 4096) ⌝ }
+    ensures { λ r. ⌜ (r ≡ up (now (arena .entry)) (tableIn (now (mem .entry))) id) × (r < 4096) ⌝ }
+{
+    if !is_node(mem, id) {
+        return 0;
+    }
+    let rec = rec_of(arena, first, next, mem, id);
+    if rec.kind == 2 {
+        return parent_of(arena, first, next, rec);
+    }
+    0
+}
+
+// What slot 1 of each folder names; 0 for other ids.
+fn find_parents(arena: &[u8], first: &[u16], next: &[u16], mem: &[u8], parents: &mut [u16])
+    requires { ⌜ Led (now arena) (now first) (now next) ⌝ }
+    requires { ⌜ (Loaded (now mem) × Of (now arena) (now mem)) × (length (now parents) ≡ 4096) ⌝ }
+    ensures { λ _. ⌜ now (parents .exit) ≡ ups (now (arena .entry)) (tableIn (now (mem .entry))) ⌝ }
+{
+    let mut id: usize = 0;
+    while id < 4096 {
+        parents[id] = parent_at(arena, first, next, mem, id);
+        id = id + 1;
+    }
+}
+
+// Slot k of folder `id`, where it names a folder, names one whose slot 1 names `id`.
+fn child_ok(
+    arena: &[u8],
+    first: &[u16],
+    next: &[u16],
+    rec: DiskINode,
+    id: usize,
+    k: usize,
+    parents: &[u16],
+) -> bool
+    requires { ⌜ Led (now arena) (now first) (now next) ⌝ }
+    requires { ⌜ (k < 4294967296) × (length (now parents) ≡ 4096) ⌝ }
+    ensures { λ r. ⌜ r ≡ childFine (now (arena .entry)) (now (parents .entry)) rec id k ⌝ }
+{
+    let mut slot = [0u8; 264];
+    read_slot(arena, first, next, rec, k, &mut slot);
+    if u32_at(&slot, 260) != 2 {
+        return true;
+    }
+    let child = index(u32_at(&slot, 0)) % 4096;
+    index16(parents[child]) == id
+}
+
+fn children_ok(
+    arena: &[u8],
+    first: &[u16],
+    next: &[u16],
+    rec: DiskINode,
+    id: usize,
+    parents: &[u16],
+) -> bool
+    requires { ⌜ Led (now arena) (now first) (now next) ⌝ }
+    requires { ⌜ length (now parents) ≡ 4096 ⌝ }
+    ensures { λ r. ⌜ r ≡ childrenFine (now (arena .entry)) (now (parents .entry)) rec id ⌝ }
+{
+    let n = index(rec.blocks);
+    let mut j: usize = 0;
+    while 2 + j < n {
+        if !child_ok(arena, first, next, rec, id, 2 + j, parents) {
+            return false;
+        }
+        j = j + 1;
+    }
+    true
+}
+
+// Climbing from `id`: a way up is no longer than the ids are many.
+fn reaches_root(parents: &[u16], id: usize) -> bool
+    requires { ⌜ Ids (now parents) × (id < 4096) ⌝ }
+    ensures { λ r. ⌜ r ≡ reachesIn (now (parents .entry)) id 4097 ⌝ }
+{
+    let mut at = id;
+    let mut i: usize = 0;
+    while i < 4097 {
+        if at == 2 {
+            return true;
+        }
+        at = index16(parents[at]);
+        i = i + 1;
+    }
+    false
+}
+
+fn folder_ok(
+    arena: &[u8],
+    first: &[u16],
+    next: &[u16],
+    rec: DiskINode,
+    id: usize,
+    parents: &[u16],
+) -> bool
+    requires { ⌜ Led (now arena) (now first) (now next) ⌝ }
+    requires { ⌜ Ids (now parents) × (id < 4096) ⌝ }
+    ensures { λ r. ⌜ r ≡ folderFine (now (arena .entry)) (now (parents .entry)) rec id ⌝ }
+{
+    if rec.nlinks == 0 {
+        return true;
+    }
+    if !children_ok(arena, first, next, rec, id, parents) {
+        return false;
+    }
+    reaches_root(parents, id)
+}
+
+fn node_ok(
+    arena: &[u8],
+    first: &[u16],
+    next: &[u16],
+    mem: &[u8],
+    id: usize,
+    parents: &[u16],
+) -> bool
+    requires { ⌜ Led (now arena) (now first) (now next) ⌝ }
+    requires { ⌜ (Loaded (now mem) × Of (now arena) (now mem)) × (Ids (now parents) × (id < 4096)) ⌝ }
+    ensures { λ r. ⌜ r ≡ treeFine (now (arena .entry)) (tableIn (now (mem .entry))) (now (parents .entry)) id ⌝ }
+{
+    if !is_node(mem, id) {
+        return true;
+    }
+    let rec = rec_of(arena, first, next, mem, id);
+    if rec.kind == 2 {
+        return folder_ok(arena, first, next, rec, id, parents);
+    }
+    true
+}
+
+fn nodes_ok(arena: &[u8], first: &[u16], next: &[u16], mem: &[u8], parents: &[u16]) -> bool
+    requires { ⌜ Led (now arena) (now first) (now next) ⌝ }
+    requires { ⌜ (Loaded (now mem) × Of (now arena) (now mem)) × Ids (now parents) ⌝ }
+    ensures { λ r. ⌜ r ≡ allTo (treeFine (now (arena .entry)) (tableIn (now (mem .entry))) (now (parents .entry))) (idsIn (now (arena .entry))) ⌝ }
+{
+    let n = ids(mem);
+    let mut id: usize = 0;
+    while id < n {
+        if !node_ok(arena, first, next, mem, id, parents) {
+            return false;
+        }
+        id = id + 1;
+    }
+    true
+}
+
+pub fn rule8(arena: &[u8], first: &[u16], next: &[u16], mem: &[u8]) -> bool
+    requires { ⌜ Led (now arena) (now first) (now next) ⌝ }
+    requires { ⌜ Loaded (now mem) × Of (now arena) (now mem) ⌝ }
+    requires { ⌜ Passed (now arena) (tableIn (now mem)) ⌝ }
+    ensures { λ r. ⌜ r ≡ test8 (now (arena .entry)) (tableIn (now (mem .entry))) ⌝ }
+{
+    let mut parents = [0u16; 4096];
+    find_parents(arena, first, next, mem, &mut parents);
+    if parents[2] != 2 {
+        return false;
+    }
+    nodes_ok(arena, first, next, mem, &parents)
+}
