@@ -2,17 +2,24 @@
 use mathlib.Core.Path.{_≡_, refl}
 use mathlib.Core.Bool.{Bool, true, false}
 use mathlib.Core.List.{List, [], _∷_}
-use Prim.Native.Nat.{ℕ}
+use Prim.Native.Nat.{ℕ, _≤_}
 use lib.Dec.{eqb}
 use Rattle.base.specs.Search.{pick}
 use Rattle.table.specs.declared.Table.{Table}
 use Rattle.table.specs.Formed.{wellFormed}
-use Rattle.arena.specs.Blocks.{legal}
+use Rattle.arena.specs.Blocks.{blk, blocks, legal}
+use Rattle.arena.specs.Fields.{isFree}
+use Rattle.base.proofs.Counts.{countTo-le}
 use Rattle.sound.specs.Sound.{sound}
 use Rattle.rules.specs.Tests.{test1, test2, test3, test4, test5, test6, test7, test8, checked}
 use Rattle.base.specs.Decides.{firstFail}
+use Rattle.arena.specs.Places.{freeCount}
+use Rattle.structs.specs.declared.SuperBlock.{SuperBlock}
+use Rattle.mem.specs.Mem as memory
+use Rattle.rules.specs.Image.{nodeCount}
+use Rattle.fsck_read.specs.Given.{Of}
 use Rattle.fsck.specs.declared.Verdict.{Verdict}
-use Rattle.fsck.specs.declared.Verdict.the-variants.{Fail}
+use Rattle.fsck.specs.declared.Verdict.the-variants.{Pass, Fail}
 use Rattle.fsck.specs.Verdicts.{passOf, verdictOf, linksVerdict, filesVerdict, metaVerdict}
 
 -- the lowest that fails of six tests, from number 3 on
@@ -80,3 +87,12 @@ module _ (a : List ℕ) (t : Table) where
   pub verdict-on : legal a ≡ true → sound a ≡ true → wellFormed t ≡ true → verdictOf a t ≡ metaVerdict a t
   unfolding verdictOf checked test1 test2 firstFail metaVerdict filesVerdict linksVerdict
   verdict-on e f g = rw (e, f, g) (from-three (passOf a) (test3 a) (test4 a t) (test5 a t) (test6 a t) (test7 a t) (test8 a t))
+
+-- the three counts, as the code has them
+pub pass-is : (a m : List ℕ) (b : SuperBlock) (n f : ℕ) → Of a m → n ≡ nodeCount a → b ≡ memory.superIn m → f ≡ freeCount a → Pass n (b .unused) f ≡ passOf a
+unfolding passOf
+pass-is a m b n f o p q r = rw (p, q, o .super, r)
+
+pub free-most : (a : List ℕ) → freeCount a ≤ blocks a
+unfolding freeCount
+free-most a = countTo-le (λ k. isFree (blk a k)) (blocks a)

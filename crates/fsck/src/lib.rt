@@ -9,6 +9,8 @@ ghost use Rattle.mem.specs.Mem.{tableIn};
 ghost use Rattle.rules.specs.Tests.{test3, test4, test5, test6};
 ghost use Rattle.fsck_read.specs.Given.{Led, Loaded, Of};
 ghost use Rattle.fsck.specs.Verdicts.{passOf, verdictOf, linksVerdict, filesVerdict, metaVerdict};
+use fsck_climb::rule8;
+use fsck_links::rule7;
 use fsck_names::rule5;
 use fsck_read::count_nodes;
 use fsck_read::rule3;
@@ -45,6 +47,12 @@ fn judge_links(arena: &[u8], first: &[u16], next: &[u16], mem: &[u8]) -> Verdict
     requires { ⌜ (test5 (now arena) (tableIn (now mem)) ≡ true) × (test6 (now arena) (tableIn (now mem)) ≡ true) ⌝ }
     ensures { λ r. ⌜ r ≡ linksVerdict (now (arena .entry)) (tableIn (now (mem .entry))) ⌝ }
 {
+    if !rule7(arena, first, next, mem) {
+        return Verdict::Fail(7);
+    }
+    if !rule8(arena, first, next, mem) {
+        return Verdict::Fail(8);
+    }
     pass(arena, mem)
 }
 

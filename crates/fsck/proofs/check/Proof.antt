@@ -1,32 +1,29 @@
+-- `fsck::check`: the length first; the chains' workspaces are zero.
+use mathlib.Core.Path.{refl, sym, _∙_}
+use borrow.Author.Tests.{not-true, not-false}
+use lib.ListN.{getD-replicate}
+use Rattle.fsck.proofs.Verdicts.{verdict-length}
 use borrow.Author.Needs.{needs}
 use Rattle.fsck.proofs.check.Statement.{statement}
 use Rattle.fsck.proofs.check.Tie as tie
-use Rattle.fsck.proofs.check.Reads as reads
-use Rattle.fsck.proofs.check.Lts as lts
-use Rattle.arena.proofs.legal.Reads as legal-reads
-use Rattle.fsck.proofs.check_in.Reads as check-in-reads
 
--- src/lib.rt:106:9
 legal-requires : tie.Need-legal-requires
 legal-requires c κs = search needs
 
--- src/lib.rt:107:9
 returns : tie.Need-returns
-returns c = ?
+returns c =
+    sym (verdict-length (c .before .before .before .args .arena .now) (c .before .before .before .args .t) (sym (c .before .legal .ensures) ∙ not-true _ (c .if1 .taken)))
 
--- src/lib.rt:111:21
 slice-aggregate-check-in : tie.Need-slice-aggregate-check-in
 slice-aggregate-check-in c = search needs
 
--- src/lib.rt:111:33
 slice-aggregate-check-in-2 : tie.Need-slice-aggregate-check-in-2
 slice-aggregate-check-in-2 c = search needs
 
--- src/lib.rt:111:5
 check-in-requires : tie.Need-check-in-requires
-check-in-requires c κs = ?
+check-in-requires c κs =
+    ((sym (c .before .before .before .legal .ensures) ∙ not-false _ (c .before .before .if1 .left), (refl, refl)), λ h m. getD-replicate 4096 h 0 0 m)
 
--- src/lib.rt:103:1
 returns-2 : tie.Need-returns-2
 returns-2 c = search needs
 

@@ -1,37 +1,42 @@
-use borrow.Author.Needs.{needs}
+-- `fsck::judge_files`: rules 5 and 6, then the rest.
+use mathlib.Core.Path.{sym, _∙_}
+use borrow.Author.Tests.{not-true, not-false}
+use Rattle.mem.specs.Mem.{tableIn}
+use Rattle.fsck.proofs.Verdicts.{files-five, files-six, files-on}
 use Rattle.fsck.proofs.judge_files.Statement.{statement}
 use Rattle.fsck.proofs.judge_files.Tie as tie
-use Rattle.fsck.proofs.judge_files.Reads as reads
-use Rattle.fsck.proofs.judge_files.Lts as lts
-use Rattle.fsck.proofs.judge_links.Reads as judge-links-reads
-use Rattle.fsck_names.proofs.rule5.Reads as rule5-reads
-use Rattle.fsck_slots.proofs.rule6.Reads as rule6-reads
 
--- src/lib.rt:57:9
 rule5-requires : tie.Need-rule5-requires
-rule5-requires c κs = search needs
+rule5-requires c κs =
+    (c .before .before .before .before .pre .0, c .before .before .before .before .pre .1 .0)
 
--- src/lib.rt:58:9
 returns : tie.Need-returns
-returns c = ?
+returns c =
+    sym (files-five (c .before .before .before .before .before .before .args .arena .now) (tableIn (c .before .before .before .before .before .before .args .mem .now)) (sym (c .before .rule5 .ensures) ∙ not-true _ (c .if1 .taken)))
 
--- src/lib.rt:60:9
 rule6-requires : tie.Need-rule6-requires
-rule6-requires c κs = search needs
+rule6-requires c κs =
+    (c .before .before .before .before .before .before .pre .0, c .before .before .before .before .before .before .pre .1 .0)
 
--- src/lib.rt:61:9
 returns-2 : tie.Need-returns-2
-returns-2 c = ?
+returns-2 c =
+    sym (files-six (c .before .before .before .before .before .before .before .before .args .arena .now) (tableIn (c .before .before .before .before .before .before .before .before .args .mem .now)) (sym (c .before .before .before .rule5 .ensures) ∙ not-false _ (c .before .before .if1 .left)) (sym (c .before .rule6 .ensures) ∙ not-true _ (c .if2 .taken)))
 
--- src/lib.rt:63:5
 judge-links-requires : tie.Need-judge-links-requires
-judge-links-requires c κs = ?
+judge-links-requires c κs =
+    (c .before .before .before .before .before .before .before .before .pre .0, (c .before .before .before .before .before .before .before .before .pre .1 .0, (c .before .before .before .before .before .before .before .before .pre .1 .1, (sym (c .before .before .before .rule5 .ensures) ∙ not-false _ (c .before .before .if1 .left), sym (c .before .rule6 .ensures) ∙ not-false _ (c .if2 .left)))))
 
--- src/lib.rt:51:1
 returns-3 : tie.Need-returns-3
-returns-3 c = ?
+returns-3 c =
+    c .judge-links .ensures ∙ sym (files-on (c .before .before .before .before .before .before .before .before .before .args .arena .now) (tableIn (c .before .before .before .before .before .before .before .before .before .args .mem .now)) (sym (c .before .before .before .before .rule5 .ensures) ∙ not-false _ (c .before .before .before .if1 .left)) (sym (c .before .before .rule6 .ensures) ∙ not-false _ (c .before .if2 .left)))
 
 pub judge-files-spec : {M : Type 1} → statement M
 judge-files-spec =
     tie.close
-    (tie.spec rule5-requires returns rule6-requires returns-2 judge-links-requires returns-3)
+    (tie.spec
+    rule5-requires
+    returns
+    rule6-requires
+    returns-2
+    judge-links-requires
+    returns-3)

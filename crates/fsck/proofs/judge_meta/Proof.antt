@@ -1,47 +1,46 @@
+-- `fsck::judge_meta`: rules 3 and 4, then the rest; rule 3 leaves superblock and maps in memory, and the table as it was.
+use mathlib.Core.Path.{sym, _∙_, ap}
+use borrow.Author.Tests.{not-true, not-false}
+use Rattle.table.specs.declared.Table.{Table}
+use Rattle.mem.specs.Mem.{tableIn}
+use Rattle.rules.specs.Tests.{test4}
+use Rattle.fsck.specs.Verdicts.{filesVerdict}
+use Rattle.fsck.proofs.Verdicts.{meta-three, meta-four, meta-on}
 use borrow.Author.Needs.{needs}
 use Rattle.fsck.proofs.judge_meta.Statement.{statement}
 use Rattle.fsck.proofs.judge_meta.Tie as tie
-use Rattle.fsck.proofs.judge_meta.Reads as reads
-use Rattle.fsck.proofs.judge_meta.Lts as lts
-use Rattle.fsck.proofs.judge_files.Reads as judge-files-reads
-use Rattle.fsck_read.proofs.rule3.Reads as rule3-reads
-use Rattle.fsck_read.proofs.rule4.Reads as rule4-reads
 
--- src/lib.rt:71:9
 rule3-requires : tie.Need-rule3-requires
 rule3-requires c κs = search needs
 
--- src/lib.rt:72:9
 same-length : tie.Need-same-length
 same-length c = search needs
 
--- src/lib.rt:72:9
 returns : tie.Need-returns
-returns c = ?
+returns c =
+    sym (meta-three (c .before .before .before .before .before .before .before .before .before .args .arena .now) (tableIn (c .before .before .before .before .before .before .before .before .before .args .mem .now)) (sym (c .before .before .before .rule3 .ensures .0) ∙ not-true _ (c .if1 .taken)))
 
--- src/lib.rt:74:9
 rule4-requires : tie.Need-rule4-requires
-rule4-requires c κs = ?
+rule4-requires c κs =
+    (c .before .before .before .before .before .before .before .before .before .before .pre .0, (c .before .before .before .before .rule3 .ensures .1 (not-false _ (c .before .if1 .left))) .0)
 
--- src/lib.rt:75:9
 same-length-2 : tie.Need-same-length-2
 same-length-2 c = search needs
 
--- src/lib.rt:75:9
 returns-2 : tie.Need-returns-2
-returns-2 c = ?
+returns-2 c =
+    sym (meta-four (c .before .before .before .before .before .before .before .before .before .before .before .before .args .arena .now) (tableIn (c .before .before .before .before .before .before .before .before .before .before .before .before .args .mem .now)) (sym (c .before .before .before .before .before .before .rule3 .ensures .0) ∙ not-false _ (c .before .before .before .if1 .left)) (ap (λ (u : Table). test4 (c .before .before .before .before .before .before .before .before .before .before .before .before .args .arena .now) u) (sym ((c .before .before .before .before .before .before .rule3 .ensures .1 (not-false _ (c .before .before .before .if1 .left))) .1)) ∙ sym (c .before .rule4 .ensures) ∙ not-true _ (c .if2 .taken)))
 
--- src/lib.rt:77:5
 judge-files-requires : tie.Need-judge-files-requires
-judge-files-requires c κs = ?
+judge-files-requires c κs =
+    (c .before .before .before .before .before .before .before .before .before .before .before .before .before .pre .0, ((c .before .before .before .before .before .before .before .rule3 .ensures .1 (not-false _ (c .before .before .before .before .if1 .left))) .0, (sym (c .before .before .before .before .before .before .before .rule3 .ensures .0) ∙ not-false _ (c .before .before .before .before .if1 .left), sym (c .before .before .rule4 .ensures) ∙ not-false _ (c .before .if2 .left))))
 
--- src/lib.rt:66:1
 same-length-3 : tie.Need-same-length-3
 same-length-3 c = search needs
 
--- src/lib.rt:66:1
 returns-3 : tie.Need-returns-3
-returns-3 c = ?
+returns-3 c =
+    c .judge-files .ensures ∙ ap (λ (u : Table). filesVerdict (c .before .before .before .before .before .before .before .before .before .before .before .before .before .before .args .arena .now) u) ((c .before .before .before .before .before .before .before .before .rule3 .ensures .1 (not-false _ (c .before .before .before .before .before .if1 .left))) .1) ∙ sym (meta-on (c .before .before .before .before .before .before .before .before .before .before .before .before .before .before .args .arena .now) (tableIn (c .before .before .before .before .before .before .before .before .before .before .before .before .before .before .args .mem .now)) (sym (c .before .before .before .before .before .before .before .before .rule3 .ensures .0) ∙ not-false _ (c .before .before .before .before .before .if1 .left)) (ap (λ (u : Table). test4 (c .before .before .before .before .before .before .before .before .before .before .before .before .before .before .args .arena .now) u) (sym ((c .before .before .before .before .before .before .before .before .rule3 .ensures .1 (not-false _ (c .before .before .before .before .before .if1 .left))) .1)) ∙ sym (c .before .before .before .rule4 .ensures) ∙ not-false _ (c .before .before .if2 .left)))
 
 pub judge-meta-spec : {M : Type 1} → statement M
 judge-meta-spec =
