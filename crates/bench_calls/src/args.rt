@@ -10,7 +10,23 @@ use calls::Got;
 use calls::Listed;
 use calls::Told;
 use fsck::Verdict;
+use structs::Timespec;
+use table::Handle;
 use table_bytes::write_table;
+
+pub fn handle(hold: u32, stamp: u64) -> Handle {
+    Handle {
+        hold: hold,
+        stamp: stamp,
+    }
+}
+
+pub fn time(sec: i64, nsec: i64) -> Timespec {
+    Timespec {
+        sec: sec,
+        nsec: nsec,
+    }
+}
 
 pub fn file_of(name: &[u8]) -> [u8; 16]
     requires { ⌜ length (now name) ≡ 16 ⌝ }

@@ -3,6 +3,7 @@
 mod args;
 
 use args::file_of;
+use args::handle;
 use args::of_after;
 use args::of_answer;
 use args::of_fresh;
@@ -10,9 +11,8 @@ use args::of_given;
 use args::of_listed;
 use args::of_told;
 use args::of_verdict;
+use args::time;
 use calls_create::New;
-use structs::Timespec;
-use table::Handle;
 use table_bytes::read_table;
 
 // ---- the whole image
@@ -31,11 +31,7 @@ pub extern "C" fn call_format(
     if file.len() != 16 {
         return 255;
     }
-    let time = Timespec {
-        sec: sec,
-        nsec: nsec,
-    };
-    let a = calls_format::format(arena, time, file_of(file));
+    let a = calls_format::format(arena, time(sec, nsec), file_of(file));
     of_fresh(table, a)
 }
 
@@ -88,10 +84,7 @@ pub extern "C" fn call_find(
     if table.len() != 4370 {
         return 255;
     }
-    let h = Handle {
-        hold: hold,
-        stamp: stamp,
-    };
+    let h = handle(hold, stamp);
     let g = calls_open::find(arena, read_table(&table[..]), h, name);
     of_given(table, g)
 }
@@ -101,10 +94,7 @@ pub extern "C" fn call_close(arena: &mut [u8], table: &mut [u8], hold: u32, stam
     if table.len() != 4370 {
         return 255;
     }
-    let h = Handle {
-        hold: hold,
-        stamp: stamp,
-    };
+    let h = handle(hold, stamp);
     let a = calls_close::close(arena, read_table(&table[..]), h);
     of_after(table, a)
 }
@@ -130,18 +120,11 @@ pub extern "C" fn call_create(
     if file.len() != 16 {
         return 255;
     }
-    let h = Handle {
-        hold: hold,
-        stamp: stamp,
-    };
-    let time = Timespec {
-        sec: sec,
-        nsec: nsec,
-    };
+    let h = handle(hold, stamp);
     let new = New {
         kind: kind,
         mode: mode,
-        time: time,
+        time: time(sec, nsec),
         file: file_of(file),
     };
     let g = calls_create::create(arena, read_table(&table[..]), h, name, new);
@@ -161,14 +144,8 @@ pub extern "C" fn call_link(
     if table.len() != 4370 {
         return 255;
     }
-    let h = Handle {
-        hold: hold,
-        stamp: stamp,
-    };
-    let child = Handle {
-        hold: child_hold,
-        stamp: child_stamp,
-    };
+    let h = handle(hold, stamp);
+    let child = handle(child_hold, child_stamp);
     let a = calls_link::link(arena, read_table(&table[..]), h, name, child);
     of_after(table, a)
 }
@@ -184,10 +161,7 @@ pub extern "C" fn call_unlink(
     if table.len() != 4370 {
         return 255;
     }
-    let h = Handle {
-        hold: hold,
-        stamp: stamp,
-    };
+    let h = handle(hold, stamp);
     let a = calls_unlink::unlink(arena, read_table(&table[..]), h, name);
     of_after(table, a)
 }
@@ -206,14 +180,8 @@ pub extern "C" fn call_move(
     if table.len() != 4370 {
         return 255;
     }
-    let h = Handle {
-        hold: hold,
-        stamp: stamp,
-    };
-    let target = Handle {
-        hold: to_hold,
-        stamp: to_stamp,
-    };
+    let h = handle(hold, stamp);
+    let target = handle(to_hold, to_stamp);
     let a = calls_move::move_(arena, read_table(&table[..]), h, old, target, name);
     of_after(table, a)
 }
@@ -225,10 +193,7 @@ pub extern "C" fn call_metadata(arena: &[u8], table: &[u8], hold: u32, stamp: u6
     if table.len() != 4370 {
         return 255;
     }
-    let h = Handle {
-        hold: hold,
-        stamp: stamp,
-    };
+    let h = handle(hold, stamp);
     let t = calls_look::metadata(arena, read_table(table), h);
     of_told(t)
 }
@@ -247,11 +212,8 @@ pub extern "C" fn call_set(
     if table.len() != 4370 {
         return 255;
     }
-    let h = Handle {
-        hold: hold,
-        stamp: stamp,
-    };
-    let z = Timespec { sec: 0, nsec: 0 };
+    let h = handle(hold, stamp);
+    let z = time(0, 0);
     let a = calls_look::set_metadata(arena, read_table(&table[..]), h, mode, uid, gid, z, z, z);
     of_after(table, a)
 }
@@ -270,10 +232,7 @@ pub extern "C" fn call_entry(
     if table.len() != 4370 {
         return 255;
     }
-    let h = Handle {
-        hold: hold,
-        stamp: stamp,
-    };
+    let h = handle(hold, stamp);
     let a = calls_look::get_entry(arena, read_table(table), h, k, out);
     of_answer(a)
 }
@@ -290,10 +249,7 @@ pub extern "C" fn call_list(
     if table.len() != 4370 {
         return 255;
     }
-    let h = Handle {
-        hold: hold,
-        stamp: stamp,
-    };
+    let h = handle(hold, stamp);
     let l = calls_look::list_from(arena, read_table(table), h, next, out);
     of_listed(l)
 }
