@@ -1,0 +1,125 @@
+#!/usr/bin/env python3
+"""calls.py: every kind of call timed on the port and on the Rust, by the same call scripts (docs/REPLAY.md) in one run.
+
+An image of 16, 128, 1,024 and 4,096 blocks is filled with files, then every kind of call is made 20 times; no call is refused. Both sides are
+built for release; the least of 5 rounds counts. Needs a C compiler (cc) and what tests/beside_rust needs.
+"""
+import os
+import struct
+import subprocess
+
+TOP = os.path.dirname(os.path.dirname(os.path.dirname(os.path.abspath(__file__))))
+OUT = os.path.join(TOP, "target", "bench")
+ROUNDS = "5"
+
+
+class Script:
+    def __init__(self):
+        self.out, self.stamp, self.files = bytearray(), 0, 0
+
+    def name(self, text):
+        return struct.pack("<H", len(text)) + text
+
+    def put(self, byte, *parts):
+        self.out += bytes([byte]) + b"".join(parts)
+
+    def held(self, hold):
+        """The handle of a hold that a call has just made."""
+        self.stamp += 1
+        return struct.pack("<IQ", hold, self.stamp)
+
+    def create(self, folder, text, kind, hold):
+        self.files += 1
+        self.put(20, folder, self.name(text), struct.pack("<IH", kind, 420), bytes(16), self.files.to_bytes(16, "little"))
+        return self.held(hold)
+
+    def close(self, handle):
+        self.put(29, handle)
+
+
+def script(blocks, rounds):
+    s = Script()
+    s.put(2, struct.pack("<I", 512 * blocks))
+    s.put(16, bytes(16), b"r" * 16)
+    s.put(18)
+    root = s.held(0)
+    folder = s.create(root, b"d", 2, 1)
+    names = [b"glyph%d" % i for i in range(min((blocks - 14) // 2, 1000))]
+    for name in names:
+        s.close(s.create(root, name, 1, 2))
+    for i in range(rounds):
+        # a glyph in the folder's last third, where a lookup has to read two thirds of the slots
+        name = names[len(names) * 2 // 3] if names else b"d"
+        s.put(19, root, s.name(name))
+        h = s.held(2)
+        s.put(24, h)
+        s.put(25, h, struct.pack("<HQQ", 420, i, i), bytes(48))
+        s.put(28)
+        s.close(h)
+        h = s.create(root, b"new", 1, 2)
+        s.put(21, folder, s.name(b"link"), h)
+        s.put(23, folder, s.name(b"link"), folder, s.name(b"other"))
+        s.put(23, folder, s.name(b"other"), root, s.name(b"there"))
+        s.put(22, root, s.name(b"there"))
+        s.put(22, root, s.name(b"new"))
+        s.close(h)
+        s.put(26, root, struct.pack("<QH", 2, 264))
+        s.put(27, root, struct.pack("<QH", 0, 8192))
+        s.put(18)
+        s.close(s.held(2))
+    return bytes(s.out)
+
+
+def full(blocks, files):
+    """An image of so many files, all of them closed."""
+    s = Script()
+    s.put(2, struct.pack("<I", 512 * blocks))
+    s.put(16, bytes(16), b"r" * 16)
+    s.put(18)
+    root = s.held(0)
+    for i in range(files):
+        s.close(s.create(root, b"glyph%d" % i, 1, 1))
+    return bytes(s.out)
+
+
+def build():
+    os.makedirs(OUT, exist_ok=True)
+    objects = [os.path.join(OUT, f"{library}.o") for library in ("bench_calls", "bench")]
+    for library, made in zip(("bench_calls", "bench"), objects):
+        subprocess.run([os.path.join(TOP, "tests", "native"), library, made], check=True)
+    host = os.path.join(OUT, "calls")
+    subprocess.run(["cc", "-O2", "-o", host, os.path.join(TOP, "tests", "bench", "calls.c"), *objects], check=True)
+    subprocess.run([os.path.join(TOP, "tests", "beside_rust", "build")], check=True)
+    return host, os.path.join(TOP, "target", "beside_rust", "driver-release")
+
+
+def times(text):
+    return {kind: int(ns) for kind, _, ns in (line.split() for line in text.splitlines())}
+
+
+def main():
+    host, rust = build()
+    path = os.path.join(OUT, "calls.script")
+
+    def port(data):
+        with open(path, "wb") as file:
+            file.write(data)
+        return times(subprocess.run([host, path, ROUNDS], check=True, capture_output=True, text=True).stdout)
+
+    sizes, rows = (16, 128, 1024, 4096), {}
+    for blocks in sizes:
+        data = script(blocks, 20)
+        ours = port(data)
+        theirs = times(subprocess.run([rust, "timed", ROUNDS], input=data, check=True, capture_output=True).stdout.decode())
+        for kind, ns in theirs.items():
+            rows.setdefault(kind, []).append(f"{ours[kind] / 1000:.1f} / {ns / 1000:.2f} ({ours[kind] / ns:.0f})")
+        rows.setdefault("sound alone", []).append(f"{ours['sound'] / 1000:.1f}")
+    print("| call | " + " | ".join(f"{n:,} blocks" for n in sizes) + " |\n|" + "---|" * (len(sizes) + 1))
+    for kind in [k for k in rows if k != "sound alone"] + ["sound alone"]:
+        print(f"| {kind} | " + " | ".join(rows[kind]) + " |")
+    for blocks, files in ((128, 66), (4096, 2225)):
+        print(f"check of {blocks:,} blocks with {files:,} files: {port(full(blocks, files))['check'] / 1000:.0f} µs")
+
+
+if __name__ == "__main__":
+    main()

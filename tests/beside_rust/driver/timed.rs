@@ -1,0 +1,143 @@
+//! `driver timed ROUNDS < SCRIPT`: the nanoseconds that the Rust takes for each kind of call of a script, the least of so many rounds. Its
+//! device keeps files as plain bytes in memory, and a hold is an `Arc` at the lowest free place: nothing is compared here.
+use crate::script::{Call, Command, Handle, Next, Script, NAMES};
+use crate::world::{feed, kind_of, metadata_of, text, Lister, FED};
+use rcore_fs::dev::{DevError, DevResult};
+use rcore_fs::vfs::{FileSystem, INode, Result};
+use rcore_fs_sefs::dev::{File, SefsMac, Storage};
+use rcore_fs_sefs::SEFS;
+use std::collections::HashMap;
+use std::io::Write;
+use std::sync::{Arc, Mutex};
+use std::time::Instant;
+
+#[derive(Clone, Default)]
+struct Plain(Arc<Mutex<HashMap<String, Arc<Mutex<Vec<u8>>>>>>);
+
+struct Open(Arc<Mutex<Vec<u8>>>);
+
+impl Storage for Plain {
+    fn open(&self, name: &str) -> DevResult<Box<dyn File>> {
+        let file = self.0.lock().unwrap().get(name).cloned().ok_or(DevError(2))?;
+        Ok(Box::new(Open(file)))
+    }
+
+    fn create(&self, name: &str) -> DevResult<Box<dyn File>> {
+        let file = Arc::default();
+        self.0.lock().unwrap().insert(name.to_string(), Arc::clone(&file));
+        Ok(Box::new(Open(file)))
+    }
+
+    fn remove(&self, name: &str) -> DevResult<()> {
+        self.0.lock().unwrap().remove(name).map(|_| ()).ok_or(DevError(2))
+    }
+
+    fn clear(&self) -> DevResult<()> {
+        self.0.lock().unwrap().clear();
+        Ok(())
+    }
+}
+
+impl File for Open {
+    fn read_at(&self, buf: &mut [u8], offset: usize) -> DevResult<usize> {
+        let bytes = self.0.lock().unwrap();
+        let n = buf.len().min(bytes.len().saturating_sub(offset));
+        buf[..n].copy_from_slice(&bytes[offset..offset + n]);
+        Ok(n)
+    }
+
+    fn write_at(&self, buf: &[u8], offset: usize) -> DevResult<usize> {
+        let mut bytes = self.0.lock().unwrap();
+        let end = offset + buf.len();
+        if bytes.len() < end {
+            bytes.resize(end, 0);
+        }
+        bytes[offset..end].copy_from_slice(buf);
+        Ok(buf.len())
+    }
+
+    fn set_len(&self, len: usize) -> DevResult<()> {
+        self.0.lock().unwrap().resize(len, 0);
+        Ok(())
+    }
+
+    fn flush(&self) -> DevResult<()> {
+        Ok(())
+    }
+
+    fn get_file_mac(&self) -> DevResult<SefsMac> {
+        Ok(SefsMac::default())
+    }
+}
+
+#[derive(Default)]
+struct Image {
+    fs: Option<Arc<SEFS>>,
+    holds: Vec<Option<Arc<dyn INode>>>,
+}
+
+impl Image {
+    fn node(&self, h: &Handle) -> &Arc<dyn INode> {
+        self.holds[h.hold as usize].as_ref().unwrap()
+    }
+
+    fn hold(&mut self, node: Arc<dyn INode>) {
+        match self.holds.iter().position(|hold| hold.is_none()) {
+            Some(free) => self.holds[free] = Some(node),
+            None => self.holds.push(Some(node)),
+        }
+    }
+
+    fn perform(&mut self, call: &Call) -> Result<()> {
+        match call {
+            Call::Format(time, file) => {
+                self.holds.clear();
+                feed(*time, *file);
+                self.fs = Some(SEFS::create(Box::new(Plain::default()), &FED, &FED)?);
+                Ok(())
+            }
+            Call::Root => {
+                let root = self.fs.as_ref().unwrap().root_inode();
+                Ok(self.hold(root))
+            }
+            Call::Find(h, name) => self.node(h).find(text(name)).map(|node| self.hold(node)),
+            Call::Create(h, name, kind, mode, time, file) => {
+                feed(*time, *file);
+                self.node(h).create(text(name), kind_of(*kind), *mode).map(|node| self.hold(node))
+            }
+            Call::Link(h, name, other) => self.node(h).link(text(name), self.node(other)),
+            Call::Unlink(h, name) => self.node(h).unlink(text(name)),
+            Call::Move(h, old, to, new) => self.node(h).move_(text(old), self.node(to), text(new)),
+            Call::Metadata(h) => self.node(h).metadata().map(|_| ()),
+            Call::Set(h, mode, uid, gid, times) => self.node(h).set_metadata(&metadata_of(*mode, *uid, *gid, times)),
+            Call::Entry(h, at, _) => self.node(h).get_entry(*at as usize).map(|_| ()),
+            Call::List(h, next, room) => self.node(h).iterate_entries(*next as usize, &mut Lister::new(*room as usize)).map(|_| ()),
+            Call::Sync => self.fs.as_ref().unwrap().sync(),
+            Call::Close(h) => Ok(self.holds[h.hold as usize] = None),
+            Call::Open | Call::Check => panic!("not timed"),
+        }
+    }
+}
+
+pub fn timed(out: &mut impl Write, bytes: &[u8], rounds: u64) -> std::io::Result<()> {
+    let mut best = [f64::INFINITY; 15];
+    let mut counts = [0u32; 15];
+    for _ in 0..rounds {
+        let (mut script, mut image, mut spent) = (Script(bytes), Image::default(), [0f64; 15]);
+        counts = [0; 15];
+        while let Next::Do(command) = script.next() {
+            let Command::Call(call) = command else { continue };
+            let from = Instant::now();
+            image.perform(&call).expect("a call that is refused");
+            spent[call.number()] += from.elapsed().as_nanos() as f64;
+            counts[call.number()] += 1;
+        }
+        for k in 0..15 {
+            best[k] = best[k].min(spent[k] / counts[k] as f64);
+        }
+    }
+    for k in (0..15).filter(|k| counts[*k] > 0) {
+        writeln!(out, "{} {} {:.0}", NAMES[k], counts[k], best[k])?;
+    }
+    Ok(())
+}
