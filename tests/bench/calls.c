@@ -11,6 +11,7 @@
 typedef const uint8_t *in;
 bool bench_sound(in arena, size_t len);
 uint32_t call_format(uint8_t *a, size_t n, uint8_t *t, size_t m, int64_t sec, int64_t nsec, in file, size_t f);
+uint32_t call_open(in a, size_t n, uint8_t *t, size_t m);
 uint32_t call_root(in a, size_t n, uint8_t *t, size_t m);
 uint32_t call_find(in a, size_t n, uint8_t *t, size_t m, uint32_t hold, uint64_t stamp, in name, size_t l);
 uint32_t call_create(uint8_t *a, size_t n, uint8_t *t, size_t m, uint32_t hold, uint64_t stamp, in name, size_t l, uint32_t kind, uint16_t mode, int64_t sec, int64_t nsec, in file, size_t f);
@@ -62,6 +63,7 @@ static uint32_t call(int kind)
     if (kind >= 3 && kind <= 7) l = number(2), name = bytes(l);
     switch (kind) {
     case 0: k = number(8), tos = number(8); return call_format(arena, len, table, 4370, (int64_t)k, (int64_t)tos, bytes(16), 16);
+    case 1: return call_open(arena, len, table, 4370);
     case 2: return call_root(arena, len, table, 4370);
     case 3: return call_find(arena, len, table, 4370, hold, stamp, name, l);
     case 4: to = (uint32_t)number(4), k = number(2), number(16); return call_create(arena, len, table, 4370, hold, stamp, name, l, to, (uint16_t)k, 0, 0, bytes(16), 16);

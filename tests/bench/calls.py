@@ -67,6 +67,7 @@ def script(blocks, rounds):
         s.put(27, root, struct.pack("<QH", 0, 8192))
         s.put(18)
         s.close(s.held(2))
+    s.put(17)
     return bytes(s.out)
 
 

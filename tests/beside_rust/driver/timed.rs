@@ -72,6 +72,7 @@ impl File for Open {
 
 #[derive(Default)]
 struct Image {
+    device: Plain,
     fs: Option<Arc<SEFS>>,
     holds: Vec<Option<Arc<dyn INode>>>,
 }
@@ -93,7 +94,12 @@ impl Image {
             Call::Format(time, file) => {
                 self.holds.clear();
                 feed(*time, *file);
-                self.fs = Some(SEFS::create(Box::new(Plain::default()), &FED, &FED)?);
+                self.fs = Some(SEFS::create(Box::new(self.device.clone()), &FED, &FED)?);
+                Ok(())
+            }
+            Call::Open => {
+                self.holds.clear();
+                self.fs = Some(SEFS::open(Box::new(self.device.clone()), &FED, &FED)?);
                 Ok(())
             }
             Call::Root => {
@@ -114,7 +120,7 @@ impl Image {
             Call::List(h, next, room) => self.node(h).iterate_entries(*next as usize, &mut Lister::new(*room as usize)).map(|_| ()),
             Call::Sync => self.fs.as_ref().unwrap().sync(),
             Call::Close(h) => Ok(self.holds[h.hold as usize] = None),
-            Call::Open | Call::Check => panic!("not timed"),
+            Call::Check => panic!("the Rust has no checker"),
         }
     }
 }
