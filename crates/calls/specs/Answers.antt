@@ -21,6 +21,7 @@ use Rattle.calls.specs.declared.Listed.{Listed}
 use Rattle.calls.specs.declared.Listed.the-variants as listeds
 use Rattle.calls.specs.declared.After.{After}
 use Rattle.calls.specs.declared.Given.{Given}
+use Rattle.calls.specs.declared.Handed.{Handed}
 
 -- ---- a call that gives nothing else
 
@@ -87,6 +88,14 @@ heldWith x = record { answer = gots.Held (x .handle); table = x .table }
 
 abbrev pub notGiven : Table → ℕ → Given
 notGiven t n = record { answer = gots.Refused n; table = t }
+
+-- a hold that was made, and the table with it
+abbrev pub addedAs : Handle → Table → Added
+addedAs h u = record { handle = h; table = u }
+
+-- none was
+abbrev pub notHanded : ℕ → Handed
+notHanded n = record { reason = n; handle = record { hold = 0; stamp = 0 } }
 
 -- by a reason's number: t is the table that the call was given, u the one that its steps left
 unfoldable pub afterOf : Table → Table → ℕ → After

@@ -7,10 +7,13 @@ ghost use Rattle.base.specs.Out.{Went, answer};
 ghost use Rattle.table.specs.Table.{addHold};
 ghost use Rattle.sefs.specs.Ask.{admitArena, byHandle, goodName, notLong, notSpecial, liveFolder, notRemoved};
 ghost use Rattle.sefs.specs.Ask.{known as knownType, folder as isFolder};
-ghost use Rattle.mem.specs.Mem.{tableIn};
-ghost use Rattle.calls.specs.Answers.{doneWith, refusedWith, notGiven, heldWith, afterOf, givenOf};
+ghost use Rattle.mem.specs.Mem.{tableIn, Whole};
+ghost use Rattle.calls.specs.Answers.{doneWith, refusedWith, notGiven, notHanded, addedAs, afterOf, givenOf};
 ghost use Rattle.calls.specs.Asked.{admitIf, firstOf, reached, Reached};
 use base::Found;
+use holds::add_hold;
+use holds::live;
+use holds::well_formed;
 use mem::table_at;
 use sefs::Metadata;
 use structs::DiskINode;
@@ -89,28 +92,52 @@ pub fn settle(t: Table, mem: &[u8], reason: u8) -> After
     done(table_at(mem))
 }
 
-// The table as memory has it, with a hold on the row.
-fn held(mem: &[u8], row: usize) -> Given
-    requires { ⌜ (length (now mem) ≡ 4899) × (row < 34) ⌝ }
-    ensures { λ r. ⌜ r ≡ heldWith (addHold (tableIn (now (mem .entry))) row) ⌝ }
+// ---- a hold that a call makes
+
+// The handle, where the reason is 0.
+pub struct Handed {
+    pub reason: u8,
+    pub handle: Handle,
+}
+
+pub fn not_handed(reason: u8) -> Handed
+    ensures { λ r. ⌜ r ≡ notHanded reason ⌝ }
 {
-    let a = table::add_hold(table_at(mem), row as u32);
-    let h = a.handle;
-    let u = a.table;
-    Given {
-        answer: Got::Held(h),
-        table: u,
+    Handed {
+        reason: reason,
+        handle: Handle { hold: 0, stamp: 0 },
     }
 }
 
-pub fn settle_held(t: Table, mem: &[u8], reason: u8, row: usize) -> Given
-    requires { ⌜ (length (now mem) ≡ 4899) × (reason ≡ 0 → row < 34) ⌝ }
-    ensures { λ r. ⌜ r ≡ givenOf t (addHold (tableIn (now (mem .entry))) row) reason ⌝ }
+// A hold on the row of a node that was opened, in the table in memory. None where its opening had a reason.
+pub fn hand(mem: &mut [u8], reason: u8, row: usize) -> Handed
+    requires { ⌜ (reason ≡ 0 → Whole (now mem) × (row < 34)) ⌝ }
+    ensures { λ r. ⌜ (r .reason ≡ reason) × (reason ≡ 0 → addHold (tableIn (now (mem .entry))) row ≡ addedAs (r .handle) (tableIn (now (mem .exit)))) ⌝ }
 {
     if reason != 0 {
-        return not_given(t, reason);
+        return not_handed(reason);
     }
-    held(mem, row)
+    let h = add_hold(mem, row as u32);
+    Handed {
+        reason: 0,
+        handle: h,
+    }
+}
+
+// The same for a call that makes a hold.
+pub fn settle_held(t: Table, mem: &[u8], h: Handed) -> Given
+    requires { ⌜ length (now mem) ≡ 4899 ⌝ }
+    ensures { λ r. ⌜ r ≡ givenOf t (addedAs (h .handle) (tableIn (now (mem .entry)))) (h .reason) ⌝ }
+{
+    if h.reason != 0 {
+        return not_given(t, h.reason);
+    }
+    let handle = h.handle;
+    let u = table_at(mem);
+    Given {
+        answer: Got::Held(handle),
+        table: u,
+    }
 }
 
 // ---- 1, 2, 3
@@ -225,10 +252,11 @@ pub struct ByHandle {
 }
 
 // 4 where it is not live.
-pub fn by_handle(t: Table, h: Handle) -> ByHandle
-    ensures { λ r. ⌜ Went (byHandle t h) (r .row) (r .row < 34) (r .reason) ⌝ }
+pub fn by_handle(mem: &[u8], h: Handle) -> ByHandle
+    requires { ⌜ Whole (now mem) ⌝ }
+    ensures { λ r. ⌜ Went (byHandle (tableIn (now (mem .entry))) h) (r .row) (r .row < 34) (r .reason) ⌝ }
 {
-    let f = table::live(t, h);
+    let f = live(mem, h);
     match f {
         Found::At(i) => ByHandle { reason: 0, row: i },
         Found::Nothing => ByHandle { reason: 4, row: 0 },
@@ -260,11 +288,12 @@ pub fn admit_two(arena: &[u8], formed: bool, b: ByHandle, c: ByHandle) -> u8
 }
 
 // What a call with one handle asks first: 1, 2, 3, 4.
-pub fn reach(arena: &[u8], t: Table, h: Handle) -> ByHandle
-    ensures { λ r. ⌜ Went (reached (now (arena .entry)) t h) (r .row) (Reached (now (arena .entry)) (r .row)) (r .reason) ⌝ }
+pub fn reach(arena: &[u8], mem: &[u8], h: Handle) -> ByHandle
+    requires { ⌜ Whole (now mem) ⌝ }
+    ensures { λ r. ⌜ Went (reached (now (arena .entry)) (tableIn (now (mem .entry))) h) (r .row) (Reached (now (arena .entry)) (r .row)) (r .reason) ⌝ }
 {
-    let b = by_handle(t, h);
-    let r = admit_by(arena, table::well_formed(t), b);
+    let b = by_handle(mem, h);
+    let r = admit_by(arena, well_formed(mem), b);
     ByHandle {
         reason: r,
         row: b.row,

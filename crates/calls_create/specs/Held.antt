@@ -8,6 +8,7 @@ use Rattle.table.specs.declared.Added.{Added}
 use Rattle.table.specs.Table.{addHold}
 use Rattle.sefs.specs.Nodes.{Opened}
 use Rattle.sefs.specs.Create.{Given, given}
+use Rattle.mem.specs.Mem.{tableIn, Whole}
 use Rattle.calls.specs.declared.Given as answered
 use Rattle.calls.specs.Answers.{heldWith, notGiven}
 
@@ -27,10 +28,15 @@ holding o = bind o (λ x. done (given (x .state) (addHold (x .state .table) (x .
 abbrev pub leaving : List ℕ → Added → Given
 leaving b x = record { arena = b; table = x .table; handle = x .handle }
 
--- the steps, that their definition sends to o, answer r: the arena was a and is b, memory has the table u, and `row` is the node's
-pub data EndedHeld (o : Out Given) (a b : List ℕ) (u : Table) (row : ℕ) : ℕ → Type 0 where
-  held : row < 34 → o ≡ done (leaving b (addHold u row)) → EndedHeld o a b u row 0
-  stuck : {r : ℕ} → 0 < r → o ≡ refused r → b ≡ a → EndedHeld o a b u row r
+-- the steps, that their definition sends to o, answer r: the arena was a and is b, the memory is m, and `row` is the node's
+pub data EndedOpen (o : Out Opened) (a b m : List ℕ) (row : ℕ) : ℕ → Type 0 where
+  opens : Whole m → row < 34 → holding o ≡ done (leaving b (addHold (tableIn m) row)) → EndedOpen o a b m row 0
+  stays : {r : ℕ} → 0 < r → o ≡ refused r → b ≡ a → EndedOpen o a b m row r
+
+-- with the hold on that row: x is the handle, and memory's table
+pub data EndedHeld (o : Out Given) (a b : List ℕ) (x : Added) : ℕ → Type 0 where
+  held : o ≡ done (leaving b x) → EndedHeld o a b x 0
+  stuck : {r : ℕ} → 0 < r → o ≡ refused r → b ≡ a → EndedHeld o a b x r
 
 -- the call, that its definition sends to o, returns r: t is the table that it was given, the arena was a and is b
 pub record ReturnedHeld (t : Table) (o : Out Given) (a b : List ℕ) (r : answered.Given) : Type 0 where

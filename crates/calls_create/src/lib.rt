@@ -15,12 +15,15 @@ ghost use Rattle.sefs.specs.Nodes.{opened as openedAs};
 ghost use Rattle.sefs.specs.Create.{birth as bornOf, nameFolder, named, callCreate};
 ghost use Rattle.mem.specs.Mem.{tableIn, Whole};
 ghost use Rattle.mem.specs.State.{fsOf, Ready, Still, Stepped};
+ghost use Rattle.calls.specs.Answers.{addedAs};
 ghost use Rattle.calls_create.specs.Create.{createAsk, createFree, createSync, createRest, createMoves, createWork};
-ghost use Rattle.calls_create.specs.Held.{holding, EndedHeld, ReturnedHeld};
+ghost use Rattle.calls_create.specs.Held.{holding, EndedOpen, EndedHeld, ReturnedHeld};
 use calls::Given;
+use calls::Handed;
 use calls::good_name;
 use calls::live_folder;
-use calls::not_given;
+use calls::hand;
+use calls::not_handed;
 use calls::not_long;
 use calls::reach;
 use calls::settle_held;
@@ -31,6 +34,7 @@ use files::read::there;
 use folders::dirent_init;
 use folders::nlinks_inc;
 use mem::id_at;
+use holds::can_hold;
 use mem::put_table;
 use mem::rec_at;
 use nodes::Opened;
@@ -41,7 +45,6 @@ use structs::DiskINode;
 use structs::Timespec;
 use table::Handle;
 use table::Table;
-use table::can_hold;
 
 // What a new node is to be.
 #[repr(C)]
@@ -247,7 +250,7 @@ fn create_in(
     room: bool,
 ) -> Opened
     requires { ⌜ Empty (now arena) (now work) 43 × ((length (now mem) ≡ 4899) × (i < 34)) ⌝ }
-    ensures { λ r. ⌜ EndedHeld (holding (createWork (start (now (arena .entry)) (tableIn (now (mem .entry)))) i (now (name .entry)) (new .kind) (new .mode) (new .time) (new .file) room)) (now (arena .entry)) (now (arena .exit)) (tableIn (now (mem .exit))) (r .row) (r .reason) ⌝ }
+    ensures { λ r. ⌜ EndedOpen (createWork (start (now (arena .entry)) (tableIn (now (mem .entry)))) i (now (name .entry)) (new .kind) (new .mode) (new .time) (new .file) room) (now (arena .entry)) (now (arena .exit)) (now (mem .exit)) (r .row) (r .reason) ⌝ }
 {
     load_meta(&arena[..], &work[..], mem);
     let o = create_work(&arena[..], work, mem, i, name, new, room);
@@ -268,30 +271,40 @@ fn create_begin(
     room: bool,
 ) -> Opened
     requires { ⌜ (legal (now arena) ≡ true) × ((length (now mem) ≡ 4899) × (i < 34)) ⌝ }
-    ensures { λ r. ⌜ EndedHeld (holding (createWork (start (now (arena .entry)) (tableIn (now (mem .entry)))) i (now (name .entry)) (new .kind) (new .mode) (new .time) (new .file) room)) (now (arena .entry)) (now (arena .exit)) (tableIn (now (mem .exit))) (r .row) (r .reason) ⌝ }
+    ensures { λ r. ⌜ EndedOpen (createWork (start (now (arena .entry)) (tableIn (now (mem .entry)))) i (now (name .entry)) (new .kind) (new .mode) (new .time) (new .file) room) (now (arena .entry)) (now (arena .exit)) (now (mem .exit)) (r .row) (r .reason) ⌝ }
 {
     let mut work = [0u8; 22016];
     overlay::begin(&mut work);
     create_in(arena, &mut work, mem, i, name, new, room)
 }
 
-// Memory is made.
-fn create_rows(arena: &mut [u8], t: Table, i: usize, name: &[u8], new: New) -> Given
-    requires { ⌜ (legal (now arena) ≡ true) × (i < 34) ⌝ }
-    ensures { λ r. ⌜ ReturnedHeld t (holding (createWork (start (now (arena .entry)) t) i (now (name .entry)) (new .kind) (new .mode) (new .time) (new .file) (canHold t))) (now (arena .entry)) (now (arena .exit)) r ⌝ }
+// The hold on the node that was made.
+fn create_rows(arena: &mut [u8], mem: &mut [u8], i: usize, name: &[u8], new: New) -> Handed
+    requires { ⌜ (legal (now arena) ≡ true) × (Whole (now mem) × (i < 34)) ⌝ }
+    ensures { λ r. ⌜ EndedHeld (holding (createWork (start (now (arena .entry)) (tableIn (now (mem .entry)))) i (now (name .entry)) (new .kind) (new .mode) (new .time) (new .file) (canHold (tableIn (now (mem .entry)))))) (now (arena .entry)) (now (arena .exit)) (addedAs (r .handle) (tableIn (now (mem .exit)))) (r .reason) ⌝ }
 {
-    let mut mem = [0u8; 4899];
-    put_table(&mut mem, t);
-    let o = create_begin(arena, &mut mem, i, name, new, can_hold(t));
-    settle_held(t, &mem, o.reason, o.row)
+    let room = can_hold(&mem[..]);
+    let o = create_begin(arena, mem, i, name, new, room);
+    hand(mem, o.reason, o.row)
+}
+
+// The call on the table in memory.
+fn create_on(arena: &mut [u8], mem: &mut [u8], h: Handle, name: &[u8], new: New) -> Handed
+    requires { ⌜ Whole (now mem) ⌝ }
+    ensures { λ r. ⌜ EndedHeld (callCreate (now (arena .entry)) (tableIn (now (mem .entry))) h (now (name .entry)) (new .kind) (new .mode) (new .time) (new .file)) (now (arena .entry)) (now (arena .exit)) (addedAs (r .handle) (tableIn (now (mem .exit)))) (r .reason) ⌝ }
+{
+    let b = reach(&arena[..], &mem[..], h);
+    if b.reason != 0 {
+        return not_handed(b.reason);
+    }
+    create_rows(arena, mem, b.row, name, new)
 }
 
 pub fn create(arena: &mut [u8], t: Table, h: Handle, name: &[u8], new: New) -> Given
     ensures { λ r. ⌜ ReturnedHeld t (callCreate (now (arena .entry)) t h (now (name .entry)) (new .kind) (new .mode) (new .time) (new .file)) (now (arena .entry)) (now (arena .exit)) r ⌝ }
 {
-    let b = reach(&arena[..], t, h);
-    if b.reason != 0 {
-        return not_given(t, b.reason);
-    }
-    create_rows(arena, t, b.row, name, new)
+    let mut mem = [0u8; 4899];
+    put_table(&mut mem, t);
+    let o = create_on(arena, &mut mem, h, name, new);
+    settle_held(t, &mem, o)
 }

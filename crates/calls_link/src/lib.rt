@@ -9,7 +9,7 @@ ghost use Rattle.overlay.specs.View.{left};
 ghost use Rattle.overlay.proofs.Views.{Ready as Empty};
 ghost use Rattle.sefs.specs.Ask.{start};
 ghost use Rattle.sefs.specs.Create.{callLink};
-ghost use Rattle.mem.specs.Mem.{tableIn};
+ghost use Rattle.mem.specs.Mem.{tableIn, Whole};
 ghost use Rattle.mem.specs.State.{fsOf, Ready, Stepped};
 ghost use Rattle.calls_steps.specs.Ends.{ending, Ended, Returned};
 ghost use Rattle.calls_link.specs.Link.{linkAsk, linkChild, linkMoves, linkWork};
@@ -20,19 +20,18 @@ use calls::good_name;
 use calls::known;
 use calls::live_folder;
 use calls::not_long;
-use calls::refused;
 use calls::settle;
 use calls_steps::append_named;
 use calls_steps::no_slot;
 use calls_steps::sync_two;
 use folders::nlinks_inc;
+use holds::well_formed;
 use mem::put_table;
 use mem::rec_at;
 use nodes::meta::load_meta;
 use structs::DiskINode;
 use table::Handle;
 use table::Table;
-use table::well_formed;
 
 // ---- link: 5, 7, 8, 10, 12, 9 (child a folder), 15, then the steps: slot, child's record, folder's record
 
@@ -116,27 +115,35 @@ fn link_in(arena: &mut [u8], work: &mut [u8], mem: &mut [u8], i: usize, name: &[
     0
 }
 
-// Memory and workspace are made.
-fn link_rows(arena: &mut [u8], t: Table, i: usize, name: &[u8], c: usize) -> After
-    requires { ⌜ (legal (now arena) ≡ true) × ((i < 34) × (c < 34)) ⌝ }
-    ensures { λ r. ⌜ Returned t (ending (linkWork (start (now (arena .entry)) t) i (now (name .entry)) c)) (now (arena .entry)) (now (arena .exit)) r ⌝ }
+// The workspace is made.
+fn link_rows(arena: &mut [u8], mem: &mut [u8], i: usize, name: &[u8], c: usize) -> u8
+    requires { ⌜ (legal (now arena) ≡ true) × ((length (now mem) ≡ 4899) × ((i < 34) × (c < 34))) ⌝ }
+    ensures { λ r. ⌜ Ended (ending (linkWork (start (now (arena .entry)) (tableIn (now (mem .entry)))) i (now (name .entry)) c)) (now (arena .entry)) (now (arena .exit)) (tableIn (now (mem .exit))) r ⌝ }
 {
-    let mut mem = [0u8; 4899];
     let mut work = [0u8; 9728];
-    put_table(&mut mem, t);
     overlay::begin(&mut work);
-    let r = link_in(arena, &mut work, &mut mem, i, name, c);
-    settle(t, &mem, r)
+    link_in(arena, &mut work, mem, i, name, c)
+}
+
+// The call on the table in memory.
+fn link_on(arena: &mut [u8], mem: &mut [u8], h: Handle, name: &[u8], child: Handle) -> u8
+    requires { ⌜ Whole (now mem) ⌝ }
+    ensures { λ r. ⌜ Ended (callLink (now (arena .entry)) (tableIn (now (mem .entry))) h (now (name .entry)) child) (now (arena .entry)) (now (arena .exit)) (tableIn (now (mem .exit))) r ⌝ }
+{
+    let b = by_handle(&mem[..], h);
+    let c = by_handle(&mem[..], child);
+    let r = admit_two(&arena[..], well_formed(&mem[..]), b, c);
+    if r != 0 {
+        return r;
+    }
+    link_rows(arena, mem, b.row, name, c.row)
 }
 
 pub fn link(arena: &mut [u8], t: Table, h: Handle, name: &[u8], child: Handle) -> After
     ensures { λ r. ⌜ Returned t (callLink (now (arena .entry)) t h (now (name .entry)) child) (now (arena .entry)) (now (arena .exit)) r ⌝ }
 {
-    let b = by_handle(t, h);
-    let c = by_handle(t, child);
-    let r = admit_two(&arena[..], well_formed(t), b, c);
-    if r != 0 {
-        return refused(t, r);
-    }
-    link_rows(arena, t, b.row, name, c.row)
+    let mut mem = [0u8; 4899];
+    put_table(&mut mem, t);
+    let r = link_on(arena, &mut mem, h, name, child);
+    settle(t, &mem, r)
 }

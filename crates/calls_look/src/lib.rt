@@ -34,8 +34,6 @@ use structs::DiskINode;
 use structs::Timespec;
 use table::Handle;
 use table::Table;
-use table::row_at;
-use table::take_row;
 
 // A count as a place: its bound is known here.
 fn long(x: u32) -> u64
@@ -87,16 +85,26 @@ fn tell(id: u32, rec: DiskINode) -> Told
     Told::Tells(metadata_of(id, rec))
 }
 
-pub fn metadata(arena: &[u8], t: Table, h: Handle) -> Told
-    ensures { λ r. ⌜ r ≡ toldOf (callMetadata (now (arena .entry)) t h) ⌝ }
+// The call on the table in memory; so below, too.
+fn metadata_on(arena: &[u8], mem: &[u8], h: Handle) -> Told
+    requires { ⌜ Whole (now mem) ⌝ }
+    ensures { λ r. ⌜ r ≡ toldOf (callMetadata (now (arena .entry)) (tableIn (now (mem .entry))) h) ⌝ }
 {
-    let b = reach(arena, t, h);
+    let b = reach(arena, mem, h);
     if b.reason != 0 {
         return Told::Refused(b.reason);
     }
-    let row = row_at(t, b.row);
+    let row = row_at(mem, b.row);
     let rec = row.rec;
     tell(row.id, rec)
+}
+
+pub fn metadata(arena: &[u8], t: Table, h: Handle) -> Told
+    ensures { λ r. ⌜ r ≡ toldOf (callMetadata (now (arena .entry)) t h) ⌝ }
+{
+    let mut mem = [0u8; 4899];
+    put_table(&mut mem, t);
+    metadata_on(arena, &mem, h)
 }
 
 // ---- set metadata
@@ -131,6 +139,29 @@ fn changed(
     }
 }
 
+fn set_on(
+    arena: &[u8],
+    mem: &mut [u8],
+    h: Handle,
+    mode: u16,
+    uid: u64,
+    gid: u64,
+    atime: Timespec,
+    mtime: Timespec,
+    ctime: Timespec,
+) -> u8
+    requires { ⌜ Whole (now mem) ⌝ }
+    ensures { λ r. ⌜ Went (callSet (now (arena .entry)) (tableIn (now (mem .entry))) h mode uid gid atime mtime ctime) (tableIn (now (mem .exit))) Unit r ⌝ }
+{
+    let b = reach(arena, &mem[..], h);
+    if b.reason != 0 {
+        return b.reason;
+    }
+    let rec = rec_at(&mem[..], b.row);
+    set_rec(mem, b.row, changed(rec, mode, uid, gid, atime, mtime, ctime));
+    0
+}
+
 pub fn set_metadata(
     arena: &[u8],
     t: Table,
@@ -144,14 +175,10 @@ pub fn set_metadata(
 ) -> After
     ensures { λ r. ⌜ (r .answer ≡ answerOf (callSet (now (arena .entry)) t h mode uid gid atime mtime ctime)) × (r .table ≡ kept t (callSet (now (arena .entry)) t h mode uid gid atime mtime ctime)) ⌝ }
 {
-    let b = reach(arena, t, h);
-    if b.reason != 0 {
-        return refused(t, b.reason);
-    }
-    let row = row_at(t, b.row);
-    let rec = row.rec;
-    let new = changed(rec, mode, uid, gid, atime, mtime, ctime);
-    done(take_row(t, b.row, row.id, new, true))
+    let mut mem = [0u8; 4899];
+    put_table(&mut mem, t);
+    let r = set_on(arena, &mut mem, h, mode, uid, gid, atime, mtime, ctime);
+    settle(t, &mem, r)
 }
 
 // ---- get entry
@@ -234,17 +261,25 @@ fn as_answer(reason: u8) -> Answer
     Answer::Refused(reason)
 }
 
+fn entry_on(arena: &[u8], mem: &[u8], h: Handle, k: u64, out: &mut [u8]) -> Answer
+    requires { ⌜ Whole (now mem) ⌝ }
+    ensures { λ r. ⌜ r ≡ answerOf (callEntry (now (arena .entry)) (tableIn (now (mem .entry))) h k (length (now (out .entry)))) ⌝ }
+    ensures { λ _. ⌜ now (out .exit) ≡ laid (now (out .entry)) (callEntry (now (arena .entry)) (tableIn (now (mem .entry))) h k (length (now (out .entry)))) ⌝ }
+{
+    let b = reach(arena, mem, h);
+    if b.reason != 0 {
+        return Answer::Refused(b.reason);
+    }
+    as_answer(entry_in(arena, rec_at(mem, b.row), k, out))
+}
+
 pub fn get_entry(arena: &[u8], t: Table, h: Handle, k: u64, out: &mut [u8]) -> Answer
     ensures { λ r. ⌜ r ≡ answerOf (callEntry (now (arena .entry)) t h k (length (now (out .entry)))) ⌝ }
     ensures { λ _. ⌜ now (out .exit) ≡ laid (now (out .entry)) (callEntry (now (arena .entry)) t h k (length (now (out .entry)))) ⌝ }
 {
-    let b = reach(arena, t, h);
-    if b.reason != 0 {
-        return Answer::Refused(b.reason);
-    }
-    let row = row_at(t, b.row);
-    let rec = row.rec;
-    as_answer(entry_in(arena, rec, k, out))
+    let mut mem = [0u8; 4899];
+    put_table(&mut mem, t);
+    entry_on(arena, &mem, h, k, out)
 }
 
 // ---- listing
@@ -340,16 +375,24 @@ fn list_in(arena: &[u8], rec: DiskINode, next: u64, out: &mut [u8]) -> Listed
     as_listed(r, n)
 }
 
+fn list_on(arena: &[u8], mem: &[u8], h: Handle, next: u64, out: &mut [u8]) -> Listed
+    requires { ⌜ Whole (now mem) ⌝ }
+    ensures { λ r. ⌜ r ≡ listedOf (callListing (now (arena .entry)) (tableIn (now (mem .entry))) h next (length (now (out .entry)))) ⌝ }
+    ensures { λ _. ⌜ now (out .exit) ≡ laid (now (out .entry)) (callListing (now (arena .entry)) (tableIn (now (mem .entry))) h next (length (now (out .entry)))) ⌝ }
+{
+    let b = reach(arena, mem, h);
+    if b.reason != 0 {
+        return Listed::Refused(b.reason);
+    }
+    list_in(arena, rec_at(mem, b.row), next, out)
+}
+
 // The slots from `next` on, as stored: as many as there are and as the output takes.
 pub fn list_from(arena: &[u8], t: Table, h: Handle, next: u64, out: &mut [u8]) -> Listed
     ensures { λ r. ⌜ r ≡ listedOf (callListing (now (arena .entry)) t h next (length (now (out .entry)))) ⌝ }
     ensures { λ _. ⌜ now (out .exit) ≡ laid (now (out .entry)) (callListing (now (arena .entry)) t h next (length (now (out .entry)))) ⌝ }
 {
-    let b = reach(arena, t, h);
-    if b.reason != 0 {
-        return Listed::Refused(b.reason);
-    }
-    let row = row_at(t, b.row);
-    let rec = row.rec;
-    list_in(arena, rec, next, out)
+    let mut mem = [0u8; 4899];
+    put_table(&mut mem, t);
+    list_on(arena, &mem, h, next, out)
 }

@@ -9,6 +9,9 @@ use Rattle.overlay.specs.View.{Fine}
 use Rattle.sefs.specs.State.{Fs}
 use Rattle.sefs.specs.Create.{After, after}
 use Rattle.mem.specs.State.{fsOf}
+use Rattle.table.specs.declared.Table.{Table}
+use Rattle.calls.specs.declared.After as answered
+use Rattle.calls.specs.Answers.{doneWith, refusedWith}
 use Rattle.calls_move.specs.declared.Course.{Course}
 use Rattle.calls_move.specs.declared.Course.the-variants.{Made, Same, Refused}
 
@@ -21,3 +24,15 @@ pub data Decided (o : Out After) (s : Fs) (a u m : List ℕ) : Course → Type 0
   made : o ≡ done (after (fsOf a u m)) → Fine a u → Decided o s a u m Made
   same : o ≡ done (after s) → Decided o s a u m Same
   turned : {r : ℕ} → 0 < r → o ≡ refused r → Decided o s a u m (Refused r)
+
+-- the move itself: the arena was a and is b, memory's table was t and is u
+pub data Moved (o : Out After) (t : Table) (a b : List ℕ) (u : Table) : Course → Type 0 where
+  moves : o ≡ done (record { arena = b; table = u }) → Moved o t a b u Made
+  rests : o ≡ done (record { arena = a; table = t }) → b ≡ a → Moved o t a b u Same
+  denied : {r : ℕ} → 0 < r → o ≡ refused r → b ≡ a → Moved o t a b u (Refused r)
+
+-- and what the call returns then: t is the table that it was given, u the one that memory has
+abbrev pub courseAs : Table → Table → Course → answered.After
+courseAs t u Made = doneWith u
+courseAs t u Same = doneWith t
+courseAs t u (Refused n) = refusedWith t n

@@ -15,7 +15,7 @@ ghost use Rattle.mem.specs.State.{fsOf, Ready};
 ghost use Rattle.calls_steps.specs.Ends.{Returned};
 ghost use Rattle.calls_move_steps.specs.Steps.{Typed};
 ghost use Rattle.calls_move.specs.Parts.{both, openTwo, knownTwo, replaceNode, replaceNamed, moveFound, goodTwo, plainTwo, shortTwo, lateAsks, moveAsks, moveWork};
-ghost use Rattle.calls_move.specs.Courses.{courseOf, Decided};
+ghost use Rattle.calls_move.specs.Courses.{courseOf, courseAs, Decided, Moved};
 use base::index;
 use calls::After;
 use calls::admit_two;
@@ -32,6 +32,7 @@ use calls_move_steps::move_onto;
 use calls_move_steps::move_steps;
 use folders::slots::find_slot;
 use folders::slots::lookup;
+use holds::well_formed;
 use le::u32_at;
 use mem::put_table;
 use mem::rec_at;
@@ -41,7 +42,6 @@ use nodes::meta::load_meta;
 use structs::DiskINode;
 use table::Handle;
 use table::Table;
-use table::well_formed;
 
 // What deciding a move comes to. `Same`: both names are one node's, and nothing changes.
 enum Course {
@@ -254,42 +254,79 @@ fn move_work(
     move_decide(arena, work, mem, i, j, old, name)
 }
 
-// The workspace has no block yet, and memory has the table t.
+// The workspace has no block yet.
 fn move_in(
     arena: &mut [u8],
     work: &mut [u8],
     mem: &mut [u8],
-    t: Table,
     i: usize,
     j: usize,
     old: &[u8],
     name: &[u8],
-) -> After
-    requires { ⌜ Empty (now arena) (now work) 83 × ((length (now mem) ≡ 4899) × ((tableIn (now mem) ≡ t) × ((i < 34) × (j < 34)))) ⌝ }
-    ensures { λ r. ⌜ Returned t (moveWork (start (now (arena .entry)) t) i j (now (old .entry)) (now (name .entry))) (now (arena .entry)) (now (arena .exit)) r ⌝ }
+) -> Course
+    requires { ⌜ Empty (now arena) (now work) 83 × ((length (now mem) ≡ 4899) × ((i < 34) × (j < 34))) ⌝ }
+    ensures { λ c. ⌜ Moved (moveWork (start (now (arena .entry)) (tableIn (now (mem .entry)))) i j (now (old .entry)) (now (name .entry))) (tableIn (now (mem .entry))) (now (arena .entry)) (now (arena .exit)) (tableIn (now (mem .exit))) c ⌝ }
 {
     load_meta(&arena[..], &work[..], mem);
     let c = move_work(&arena[..], work, mem, i, j, old, name);
     match c {
         Course::Made => {
             overlay::commit(arena, &work[..]);
-            done(table_at(&mem[..]))
+            Course::Made
         }
-        Course::Same => done(t),
-        Course::Refused(r) => refused(t, r),
+        Course::Same => Course::Same,
+        Course::Refused(r) => Course::Refused(r),
     }
 }
 
-// Memory and workspace are made.
-fn move_rows(arena: &mut [u8], t: Table, i: usize, j: usize, old: &[u8], name: &[u8]) -> After
-    requires { ⌜ (legal (now arena) ≡ true) × ((i < 34) × (j < 34)) ⌝ }
-    ensures { λ r. ⌜ Returned t (moveWork (start (now (arena .entry)) t) i j (now (old .entry)) (now (name .entry))) (now (arena .entry)) (now (arena .exit)) r ⌝ }
+// The workspace is made.
+fn move_rows(
+    arena: &mut [u8],
+    mem: &mut [u8],
+    i: usize,
+    j: usize,
+    old: &[u8],
+    name: &[u8],
+) -> Course
+    requires { ⌜ (legal (now arena) ≡ true) × ((length (now mem) ≡ 4899) × ((i < 34) × (j < 34))) ⌝ }
+    ensures { λ c. ⌜ Moved (moveWork (start (now (arena .entry)) (tableIn (now (mem .entry)))) i j (now (old .entry)) (now (name .entry))) (tableIn (now (mem .entry))) (now (arena .entry)) (now (arena .exit)) (tableIn (now (mem .exit))) c ⌝ }
 {
-    let mut mem = [0u8; 4899];
     let mut work = [0u8; 42496];
-    put_table(&mut mem, t);
     overlay::begin(&mut work);
-    move_in(arena, &mut work, &mut mem, t, i, j, old, name)
+    move_in(arena, &mut work, mem, i, j, old, name)
+}
+
+// The call on the table in memory.
+fn move_on(
+    arena: &mut [u8],
+    mem: &mut [u8],
+    h: Handle,
+    old: &[u8],
+    target: Handle,
+    name: &[u8],
+) -> Course
+    requires { ⌜ Whole (now mem) ⌝ }
+    ensures { λ c. ⌜ Moved (callMove (now (arena .entry)) (tableIn (now (mem .entry))) h (now (old .entry)) target (now (name .entry))) (tableIn (now (mem .entry))) (now (arena .entry)) (now (arena .exit)) (tableIn (now (mem .exit))) c ⌝ }
+{
+    let b = by_handle(&mem[..], h);
+    let c = by_handle(&mem[..], target);
+    let r = admit_two(&arena[..], well_formed(&mem[..]), b, c);
+    if r != 0 {
+        return Course::Refused(r);
+    }
+    move_rows(arena, mem, b.row, c.row, old, name)
+}
+
+// What the call answers: the table as memory has it where the node was moved, else the one that the call was given.
+fn settle_course(t: Table, mem: &[u8], c: Course) -> After
+    requires { ⌜ length (now mem) ≡ 4899 ⌝ }
+    ensures { λ r. ⌜ r ≡ courseAs t (tableIn (now (mem .entry))) c ⌝ }
+{
+    match c {
+        Course::Made => done(table_at(mem)),
+        Course::Same => done(t),
+        Course::Refused(r) => refused(t, r),
+    }
 }
 
 pub fn move_(
@@ -302,11 +339,8 @@ pub fn move_(
 ) -> After
     ensures { λ r. ⌜ Returned t (callMove (now (arena .entry)) t h (now (old .entry)) target (now (name .entry))) (now (arena .entry)) (now (arena .exit)) r ⌝ }
 {
-    let b = by_handle(t, h);
-    let c = by_handle(t, target);
-    let r = admit_two(&arena[..], well_formed(t), b, c);
-    if r != 0 {
-        return refused(t, r);
-    }
-    move_rows(arena, t, b.row, c.row, old, name)
+    let mut mem = [0u8; 4899];
+    put_table(&mut mem, t);
+    let c = move_on(arena, &mut mem, h, old, target, name);
+    settle_course(t, &mem, c)
 }

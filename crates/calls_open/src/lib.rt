@@ -9,26 +9,31 @@ ghost use Rattle.arena.specs.Blocks.{legal};
 ghost use Rattle.overlay.specs.View.{view, Fine};
 ghost use Rattle.sefs.specs.Ask.{start};
 ghost use Rattle.sefs.specs.Open.{callOpen, callRoot, callFind, holdNode};
-ghost use Rattle.mem.specs.Mem.{tableIn};
-ghost use Rattle.calls.specs.Answers.{answerOf};
+ghost use Rattle.mem.specs.Mem.{tableIn, Whole};
+ghost use Rattle.calls.specs.Answers.{answerOf, addedAs};
 ghost use Rattle.calls_open.specs.Opens.{Gives, isSefs, openRead, giveNode, notOrphan, findName, findFolder, findAsk, findId, findIn};
 use base::index;
 use calls::After;
 use calls::Given;
+use calls::Handed;
 use calls::admit;
 use calls::admit_arena;
 use calls::done;
 use calls::folder;
 use calls::good_name;
+use calls::hand;
 use calls::known;
-use calls::not_given;
+use calls::not_handed;
 use calls::not_long;
 use calls::reach;
 use calls::refused;
 use calls::settle_held;
 use folders::slots::find_slot;
+use holds::can_hold;
+use holds::well_formed;
 use le::u32_at;
 use mem::put_table;
+use mem::rec_at;
 use nodes::Opened;
 use nodes::get_node;
 use nodes::meta::load_maps;
@@ -41,61 +46,67 @@ use structs::SuperBlock;
 use structs::super_block_at;
 use table::Handle;
 use table::Table;
-use table::can_hold;
-use table::row_at;
-use table::well_formed;
 use utf8::is_dots;
 
 // ---- a node opened at a call's start, with a hold of its own
 
-fn open_node(arena: &[u8], work: &mut [u8], mem: &mut [u8], t: Table, id: u32) -> Opened
+fn open_node(arena: &[u8], work: &mut [u8], mem: &mut [u8], id: u32) -> Opened
     requires { ⌜ (legal (now arena) ≡ true) × ((now work ≡ replicate 5120 0) × (length (now mem) ≡ 4899)) ⌝ }
-    ensures { λ r. ⌜ Went (holdNode (start (now (arena .entry)) t) id) (addHold (tableIn (now (mem .exit))) (r .row)) (r .row < 34) (r .reason) ⌝ }
+    ensures { λ r. ⌜ Went (holdNode (start (now (arena .entry)) (tableIn (now (mem .entry)))) id) (addHold (tableIn (now (mem .exit))) (r .row)) (Whole (now (mem .exit)) × (r .row < 34)) (r .reason) ⌝ }
 {
     begin(work);
-    put_table(mem, t);
     load_meta(arena, &work[..], mem);
     get_node(arena, &work[..], mem, id)
 }
 
-fn hold_in(arena: &[u8], work: &mut [u8], mem: &mut [u8], t: Table, id: u32) -> Given
+fn hold_in(arena: &[u8], work: &mut [u8], mem: &mut [u8], id: u32) -> Handed
     requires { ⌜ (legal (now arena) ≡ true) × ((now work ≡ replicate 5120 0) × (length (now mem) ≡ 4899)) ⌝ }
-    ensures { λ r. ⌜ Gives t (holdNode (start (now (arena .entry)) t) id) r ⌝ }
+    ensures { λ r. ⌜ Went (holdNode (start (now (arena .entry)) (tableIn (now (mem .entry)))) id) (addedAs (r .handle) (tableIn (now (mem .exit)))) Unit (r .reason) ⌝ }
 {
-    let o = open_node(arena, work, mem, t, id);
-    settle_held(t, &mem[..], o.reason, o.row)
+    let o = open_node(arena, work, mem, id);
+    hand(mem, o.reason, o.row)
 }
 
-fn hold_node(arena: &[u8], t: Table, id: u32) -> Given
-    requires { ⌜ legal (now arena) ≡ true ⌝ }
-    ensures { λ r. ⌜ Gives t (holdNode (start (now (arena .entry)) t) id) r ⌝ }
+fn hold_node(arena: &[u8], mem: &mut [u8], id: u32) -> Handed
+    requires { ⌜ (legal (now arena) ≡ true) × (length (now mem) ≡ 4899) ⌝ }
+    ensures { λ r. ⌜ Went (holdNode (start (now (arena .entry)) (tableIn (now (mem .entry)))) id) (addedAs (r .handle) (tableIn (now (mem .exit)))) Unit (r .reason) ⌝ }
 {
     let mut work = [0u8; 5120];
-    let mut mem = [0u8; 4899];
-    hold_in(arena, &mut work, &mut mem, t, id)
+    hold_in(arena, &mut work, mem, id)
 }
 
 // 16 where no hold can be given.
-fn give_node(arena: &[u8], t: Table, id: u32) -> Given
-    requires { ⌜ legal (now arena) ≡ true ⌝ }
-    ensures { λ r. ⌜ Gives t (giveNode (now (arena .entry)) t id) r ⌝ }
+fn give_node(arena: &[u8], mem: &mut [u8], id: u32) -> Handed
+    requires { ⌜ (legal (now arena) ≡ true) × Whole (now mem) ⌝ }
+    ensures { λ r. ⌜ Went (giveNode (now (arena .entry)) (tableIn (now (mem .entry))) id) (addedAs (r .handle) (tableIn (now (mem .exit)))) Unit (r .reason) ⌝ }
 {
-    if !can_hold(t) {
-        return not_given(t, 16);
+    if !can_hold(&mem[..]) {
+        return not_handed(16);
     }
-    hold_node(arena, t, id)
+    hold_node(arena, mem, id)
 }
 
 // ---- root
 
+// The call on the table in memory.
+fn root_on(arena: &[u8], mem: &mut [u8]) -> Handed
+    requires { ⌜ Whole (now mem) ⌝ }
+    ensures { λ r. ⌜ Went (callRoot (now (arena .entry)) (tableIn (now (mem .entry)))) (addedAs (r .handle) (tableIn (now (mem .exit)))) Unit (r .reason) ⌝ }
+{
+    let r = admit(arena, well_formed(&mem[..]));
+    if r != 0 {
+        return not_handed(r);
+    }
+    give_node(arena, mem, 2)
+}
+
 pub fn root(arena: &[u8], t: Table) -> Given
     ensures { λ r. ⌜ Gives t (callRoot (now (arena .entry)) t) r ⌝ }
 {
-    let r = admit(arena, well_formed(t));
-    if r != 0 {
-        return not_given(t, r);
-    }
-    give_node(arena, t, 2)
+    let mut mem = [0u8; 4899];
+    put_table(&mut mem, t);
+    let h = root_on(arena, &mut mem);
+    settle_held(t, &mem, h)
 }
 
 // ---- open: the superblock is read before 18, the maps after
@@ -237,18 +248,27 @@ fn find_in(arena: &[u8], rec: DiskINode, name: &[u8]) -> Named
     find_id(arena, rec, name)
 }
 
+// The call on the table in memory.
+fn find_on(arena: &[u8], mem: &mut [u8], h: Handle, name: &[u8]) -> Handed
+    requires { ⌜ Whole (now mem) ⌝ }
+    ensures { λ r. ⌜ Went (callFind (now (arena .entry)) (tableIn (now (mem .entry))) h (now (name .entry))) (addedAs (r .handle) (tableIn (now (mem .exit)))) Unit (r .reason) ⌝ }
+{
+    let b = reach(arena, &mem[..], h);
+    if b.reason != 0 {
+        return not_handed(b.reason);
+    }
+    let n = find_in(arena, rec_at(&mem[..], b.row), name);
+    if n.reason != 0 {
+        return not_handed(n.reason);
+    }
+    give_node(arena, mem, n.id)
+}
+
 pub fn find(arena: &[u8], t: Table, h: Handle, name: &[u8]) -> Given
     ensures { λ r. ⌜ Gives t (callFind (now (arena .entry)) t h (now (name .entry))) r ⌝ }
 {
-    let b = reach(arena, t, h);
-    if b.reason != 0 {
-        return not_given(t, b.reason);
-    }
-    let row = row_at(t, b.row);
-    let rec = row.rec;
-    let n = find_in(arena, rec, name);
-    if n.reason != 0 {
-        return not_given(t, n.reason);
-    }
-    give_node(arena, t, n.id)
+    let mut mem = [0u8; 4899];
+    put_table(&mut mem, t);
+    let r = find_on(arena, &mut mem, h, name);
+    settle_held(t, &mem, r)
 }

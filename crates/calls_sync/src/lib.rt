@@ -18,24 +18,23 @@ ghost use Rattle.sefs.specs.Meta.{metaFile};
 ghost use Rattle.sefs.specs.Nodes.{syncRow};
 ghost use Rattle.sefs.specs.Close.{syncFrom, callSync};
 ghost use Rattle.mem.specs.Mem.{tableIn, Whole};
-ghost use Rattle.calls_steps.specs.Ends.{ending, Returned};
+ghost use Rattle.calls_steps.specs.Ends.{ending, Ended, Returned};
 ghost use Rattle.calls_sync.specs.Sync.{stateOf, Decided, Does, isLacking, needed, Counted, Left};
+use base::copy;
 use base::index;
 use calls::After;
 use calls::admit;
-use calls::done;
-use calls::refused;
+use calls::settle;
 use files::find_data;
 use files::read::there;
+use holds::well_formed;
 use mem::dirty_at;
 use mem::id_at;
 use mem::put_dirty;
 use mem::put_table;
-use mem::table_at;
 use nodes::meta::load_meta;
 use nodes::sync_row;
 use table::Table;
-use table::well_formed;
 
 // The row with the lowest id above that one, or 34: `best` is it among the rows passed.
 fn next_row(mem: &[u8], after: u32) -> usize
@@ -181,26 +180,25 @@ fn try_rows<'a>(arena: &'a [u8], work: &'a [u8], mem: &mut [u8]) -> u8
 }
 
 // Memory at the call's start.
-fn load(arena: &[u8], mem: &mut [u8], t: Table)
+fn load(arena: &[u8], mem: &mut [u8])
     requires { ⌜ (legal (now arena) ≡ true) × (length (now mem) ≡ 4899) ⌝ }
-    ensures { λ _. ⌜ (stateOf (now (arena .entry)) (now (mem .exit)) ≡ start (now (arena .entry)) t) × Whole (now (mem .exit)) ⌝ }
+    ensures { λ _. ⌜ (stateOf (now (arena .entry)) (now (mem .exit)) ≡ start (now (arena .entry)) (tableIn (now (mem .entry)))) × Whole (now (mem .exit)) ⌝ }
 {
     let mut work = [0u8; 5120];
     overlay::begin(&mut work);
-    put_table(mem, t);
     load_meta(arena, &work, mem);
 }
 
-// 0 where every dirty row can be stored, else the reason that refuses the call.
-fn decide(arena: &[u8], t: Table) -> u8
-    requires { ⌜ legal (now arena) ≡ true ⌝ }
-    ensures { λ r. ⌜ Decided (syncFrom (start (now (arena .entry)) t) 0 34) (λ _. Unit) r ⌝ }
+// 0 where every dirty row can be stored, else the reason that refuses the call. The counting marks rows, so it has a memory of its own.
+fn decide(arena: &[u8], mem: &[u8]) -> u8
+    requires { ⌜ (legal (now arena) ≡ true) × Whole (now mem) ⌝ }
+    ensures { λ r. ⌜ Decided (syncFrom (stateOf (now (arena .entry)) (now (mem .entry))) 0 34) (λ _. Unit) r ⌝ }
 {
-    let mut mem = [0u8; 4899];
+    let mut own = [0u8; 4899];
     let mut work = [0u8; 5120];
-    load(arena, &mut mem, t);
+    copy(&mut own, mem);
     overlay::begin(&mut work);
-    try_rows(arena, &work, &mut mem)
+    try_rows(arena, &work, &mut own)
 }
 
 // ---- the stores
@@ -236,28 +234,37 @@ fn store_rows(arena: &mut [u8], mem: &mut [u8])
     }
 }
 
-// The end of a call that nothing refuses: the rows are stored, and the table is as memory has it.
-fn store_all(arena: &mut [u8], t: Table) -> After
-    requires { ⌜ legal (now arena) ≡ true ⌝ }
-    requires { ⌜ Does (syncFrom (start (now arena) t) 0 34) ⌝ }
-    ensures { λ r. ⌜ Returned t (ending (syncFrom (start (now (arena .entry)) t) 0 34)) (now (arena .entry)) (now (arena .exit)) r ⌝ }
+// Once the arena and the table are admitted.
+fn sync_in(arena: &mut [u8], mem: &mut [u8]) -> u8
+    requires { ⌜ (legal (now arena) ≡ true) × (length (now mem) ≡ 4899) ⌝ }
+    ensures { λ r. ⌜ Ended (ending (syncFrom (start (now (arena .entry)) (tableIn (now (mem .entry)))) 0 34)) (now (arena .entry)) (now (arena .exit)) (tableIn (now (mem .exit))) r ⌝ }
 {
-    let mut mem = [0u8; 4899];
-    load(&arena[..], &mut mem, t);
-    store_rows(arena, &mut mem);
-    done(table_at(&mem))
+    load(&arena[..], mem);
+    let r = decide(&arena[..], &mem[..]);
+    if r != 0 {
+        return r;
+    }
+    store_rows(arena, mem);
+    0
+}
+
+// The call on the table in memory.
+fn sync_on(arena: &mut [u8], mem: &mut [u8]) -> u8
+    requires { ⌜ Whole (now mem) ⌝ }
+    ensures { λ r. ⌜ Ended (callSync (now (arena .entry)) (tableIn (now (mem .entry)))) (now (arena .entry)) (now (arena .exit)) (tableIn (now (mem .exit))) r ⌝ }
+{
+    let r = admit(&arena[..], well_formed(&mem[..]));
+    if r != 0 {
+        return r;
+    }
+    sync_in(arena, mem)
 }
 
 pub fn sync(arena: &mut [u8], t: Table) -> After
     ensures { λ r. ⌜ Returned t (callSync (now (arena .entry)) t) (now (arena .entry)) (now (arena .exit)) r ⌝ }
 {
-    let r = admit(&arena[..], well_formed(t));
-    if r != 0 {
-        return refused(t, r);
-    }
-    let r = decide(&arena[..], t);
-    if r != 0 {
-        return refused(t, r);
-    }
-    store_all(arena, t)
+    let mut mem = [0u8; 4899];
+    put_table(&mut mem, t);
+    let r = sync_on(arena, &mut mem);
+    settle(t, &mem, r)
 }

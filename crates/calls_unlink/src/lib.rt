@@ -9,7 +9,7 @@ ghost use Rattle.overlay.specs.View.{left};
 ghost use Rattle.overlay.proofs.Views.{Ready as Empty};
 ghost use Rattle.sefs.specs.Ask.{start};
 ghost use Rattle.sefs.specs.Unlink.{notFull, callUnlink};
-ghost use Rattle.mem.specs.Mem.{tableIn};
+ghost use Rattle.mem.specs.Mem.{tableIn, Whole};
 ghost use Rattle.mem.specs.State.{fsOf, Ready, Stepped};
 ghost use Rattle.calls_steps.specs.Ends.{ending, Ended, Returned};
 ghost use Rattle.calls_unlink.specs.Steps.{nameAsks, unlinkAsks, removeNode, removeId, removeName, unlinkIn};
@@ -19,7 +19,6 @@ use calls::live_folder;
 use calls::not_long;
 use calls::not_special;
 use calls::reach;
-use calls::refused;
 use calls::settle;
 use folders::dirent_node_remove;
 use folders::slots::find_slot;
@@ -140,25 +139,33 @@ fn unlink_in(arena: &mut [u8], work: &mut [u8], mem: &mut [u8], i: usize, name: 
     0
 }
 
-// Memory and workspace are made.
-fn unlink_row(arena: &mut [u8], t: Table, i: usize, name: &[u8]) -> After
-    requires { ⌜ (legal (now arena) ≡ true) × (i < 34) ⌝ }
-    ensures { λ r. ⌜ Returned t (ending (unlinkIn (start (now (arena .entry)) t) i (now (name .entry)))) (now (arena .entry)) (now (arena .exit)) r ⌝ }
+// The workspace is made.
+fn unlink_row(arena: &mut [u8], mem: &mut [u8], i: usize, name: &[u8]) -> u8
+    requires { ⌜ (legal (now arena) ≡ true) × ((length (now mem) ≡ 4899) × (i < 34)) ⌝ }
+    ensures { λ r. ⌜ Ended (ending (unlinkIn (start (now (arena .entry)) (tableIn (now (mem .entry)))) i (now (name .entry)))) (now (arena .entry)) (now (arena .exit)) (tableIn (now (mem .exit))) r ⌝ }
 {
-    let mut mem = [0u8; 4899];
     let mut work = [0u8; 18432];
-    put_table(&mut mem, t);
     overlay::begin(&mut work);
-    let r = unlink_in(arena, &mut work, &mut mem, i, name);
-    settle(t, &mem, r)
+    unlink_in(arena, &mut work, mem, i, name)
+}
+
+// The call on the table in memory.
+fn unlink_on(arena: &mut [u8], mem: &mut [u8], h: Handle, name: &[u8]) -> u8
+    requires { ⌜ Whole (now mem) ⌝ }
+    ensures { λ r. ⌜ Ended (callUnlink (now (arena .entry)) (tableIn (now (mem .entry))) h (now (name .entry))) (now (arena .entry)) (now (arena .exit)) (tableIn (now (mem .exit))) r ⌝ }
+{
+    let b = reach(&arena[..], &mem[..], h);
+    if b.reason != 0 {
+        return b.reason;
+    }
+    unlink_row(arena, mem, b.row, name)
 }
 
 pub fn unlink(arena: &mut [u8], t: Table, h: Handle, name: &[u8]) -> After
     ensures { λ r. ⌜ Returned t (callUnlink (now (arena .entry)) t h (now (name .entry))) (now (arena .entry)) (now (arena .exit)) r ⌝ }
 {
-    let b = reach(&arena[..], t, h);
-    if b.reason != 0 {
-        return refused(t, b.reason);
-    }
-    unlink_row(arena, t, b.row, name)
+    let mut mem = [0u8; 4899];
+    put_table(&mut mem, t);
+    let r = unlink_on(arena, &mut mem, h, name);
+    settle(t, &mem, r)
 }
