@@ -17,13 +17,13 @@ pub struct Place {
 }
 
 // What a listing answers, and the slot that comes next then.
-struct Moved {
-    answer: Listed,
-    next: u64,
+pub struct Moved {
+    pub answer: Listed,
+    pub next: u64,
 }
 
 // The listing, with the place's fields by value.
-fn list_on(arena: &[u8], t: Table, h: Handle, next: u64, out: &mut [u8]) -> Moved
+pub fn list_on(arena: &[u8], t: Table, h: Handle, next: u64, out: &mut [u8]) -> Moved
     ensures { λ r. ⌜ r ≡ movedAs next (callListing (now (arena .entry)) t h next (length (now (out .entry)))) ⌝ }
     ensures { λ _. ⌜ now (out .exit) ≡ laid (now (out .entry)) (callListing (now (arena .entry)) t h next (length (now (out .entry)))) ⌝ }
 {

@@ -378,7 +378,7 @@ fn list_in(arena: &[u8], rec: DiskINode, next: u64, out: &mut [u8]) -> Listed
     as_listed(r, n)
 }
 
-fn list_on(arena: &[u8], mem: &[u8], h: Handle, next: u64, out: &mut [u8]) -> Listed
+fn listing_on(arena: &[u8], mem: &[u8], h: Handle, next: u64, out: &mut [u8]) -> Listed
     requires { ⌜ Whole (now mem) ⌝ }
     ensures { λ r. ⌜ r ≡ listedOf (callListing (now (arena .entry)) (tableIn (now (mem .entry))) h next (length (now (out .entry)))) ⌝ }
     ensures { λ _. ⌜ now (out .exit) ≡ laid (now (out .entry)) (callListing (now (arena .entry)) (tableIn (now (mem .entry))) h next (length (now (out .entry)))) ⌝ }
@@ -397,5 +397,5 @@ pub fn list_from(arena: &[u8], t: Table, h: Handle, next: u64, out: &mut [u8]) -
 {
     let mut mem = [0u8; 4899];
     put_table(&mut mem, t);
-    list_on(arena, &mem, h, next, out)
+    listing_on(arena, &mem, h, next, out)
 }

@@ -24,7 +24,8 @@ use crate::text::put_value;
 use crate::text::put_word;
 use base::index16;
 use calls::After;
-use calls::Listed;
+use calls_list::Moved;
+use calls_list::list_on;
 use le::u16_at;
 use le::u64_at;
 use table_bytes::read_table;
@@ -292,31 +293,24 @@ pub fn do_entry(
     }
 }
 
-// The place's next slot after a listing that began at `next`: it moves on by the slots written.
-fn next_slot(next: u64, l: Listed) -> u64 {
-    match l {
-        Listed::Slots(n) => std::num::wrapping_add_u64(next, n as u64),
-        Listed::Refused(_) => next,
-    }
-}
-
-fn put_list(text: &mut [u8], w: usize, l: Listed, out: &[u8], next: u64) -> usize
+fn put_list(text: &mut [u8], w: usize, m: Moved, out: &[u8]) -> usize
     requires { ⌜ w + 512 ≤ length (now text) ⌝ }
     ensures { λ r. ⌜ r ≤ w + 400 ⌝ }
 {
     let a = put_word(text, w, b"list");
+    let l = m.answer;
     let b = put_listed(text, a, l);
     let c = put_output(text, b, out);
     let d = put_word(text, c, b" p");
-    put_value(text, d, next)
+    put_value(text, d, m.next)
 }
 
-fn list(script: &[u8], at: usize, desk: &[u8], arena: &[u8], out: &mut [u8]) -> Listed
+fn list(script: &[u8], at: usize, desk: &[u8], arena: &[u8], out: &mut [u8]) -> Moved
     requires { ⌜ (at + 23 ≤ length (now script)) × (length (now desk) ≡ 4387) ⌝ }
 {
     let h = handle_at(script, at + 1);
     let next = u64_at(script, at + 13);
-    calls_look::list_from(arena, read_table(desk), h, next, out)
+    list_on(arena, read_table(desk), h, next, out)
 }
 
 fn list_words(
@@ -334,9 +328,8 @@ fn list_words(
 {
     put_238(out);
     let n = index16(u16_at(script, at + 21));
-    let l = list(script, at, desk, arena, &mut out[..n]);
-    let next = next_slot(u64_at(script, at + 13), l);
-    put_list(text, w, l, &out[..], next)
+    let m = list(script, at, desk, arena, &mut out[..n]);
+    put_list(text, w, m, &out[..])
 }
 
 fn call_list(

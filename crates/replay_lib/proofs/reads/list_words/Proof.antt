@@ -27,15 +27,6 @@ slice-aggregate-list c = sym (length-take-le (c .before .index16 .result) (c .be
 list-requires : tie.Need-list-requires
 list-requires c κs = search needs
 
-add-u64-at : tie.Need-add-u64-at
-add-u64-at c = search needs
-
-u64-at-requires : tie.Need-u64-at-requires
-u64-at-requires c κs = search needs
-
-next-slot-requires : tie.Need-next-slot-requires
-next-slot-requires c κs = search needs
-
 put-list-requires : tie.Need-put-list-requires
 put-list-requires c κs = search needs
 
@@ -59,9 +50,6 @@ list-words-spec =
     slice-relend-prefix-list
     slice-aggregate-list
     list-requires
-    add-u64-at
-    u64-at-requires
-    next-slot-requires
     put-list-requires
     same-length
     same-length-2
