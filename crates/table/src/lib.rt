@@ -110,7 +110,7 @@ fn numbers_zero(r: DiskINode) -> bool
                     & ((r.blocks == 0) & ((r.uid == 0) & ((r.gid == 0) & (r.pad == 0)))))))
 }
 
-fn record_zero(r: DiskINode) -> bool
+pub fn record_zero(r: DiskINode) -> bool
     ensures { λ z. ⌜ z ≡ recordZero r ⌝ }
 {
     let a = r.atime;
