@@ -172,8 +172,7 @@ fn live_ok(mem: &[u8], n: usize, h: Hold) -> bool
     if row >= 34 {
         return false;
     }
-    (id_at(mem, row) != 0)
-        & ((h.stamp < next_stamp(mem)) & is_at(find_hold(mem, h.stamp), n))
+    (id_at(mem, row) != 0) & ((h.stamp < next_stamp(mem)) & is_at(find_hold(mem, h.stamp), n))
 }
 
 fn hold_ok(mem: &[u8], n: usize) -> bool

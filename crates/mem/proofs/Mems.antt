@@ -66,7 +66,7 @@ unfolding tableOf holdAtPlace
 hold-read m i k = getD-list (holdAtPlace m) zeroHold 32 i k
 
 -- tables of bytes that agree where their holds and the next stamp stand, row by row
-table-is :
+pub table-is :
     (m : List ℕ) (t : Table) → length (t .rows) ≡ 34 → ((i : ℕ) → i < 34 → rowAt t i ≡ rowAtPlace m i) → t .holds ≡ listTo (holdAtPlace m) 32 → t .next ≡ leAt m 4362 8 → tableIn m ≡ t
 unfolding tableOf
 table-is m t e rows holds next =
@@ -146,9 +146,6 @@ module _ (m : List ℕ) (t : Table) (long : 4370 ≤ length m) (F : TableFits t)
       let b : part (tableBytes t) 0 4370 ≡ tableBytes t = take-all (4370 - 0) (tableBytes t) (omega (arith, length-fits t F)) in
       table-kept (tableBytes t) n (a ∙ sym b) ∙ tableOf-tableBytes t F
 
-  pub table-put-rest : part (paste m 0 (tableBytes t)) 4370 4899 ≡ part m 4370 4899
-  table-put-rest = part-paste-other m 0 (tableBytes t) (omega (arith, length-fits t F)) 4370 4899 (λ l. absurd (omega (arith, length-fits t F)))
-
 -- ---- flag, superblock and maps: all in the bytes from 4370 on
 
 module _ (m n : List ℕ) (a : length m ≡ 4899) (b : length n ≡ 4899) (q : part n 4370 4899 ≡ part m 4370 4899) where
@@ -182,6 +179,23 @@ module _ (m n : List ℕ) (a : length m ≡ 4899) (b : length n ≡ 4899) (q : p
   -- the table alone was changed
   pub tabled : (t : Table) → Whole m → tableIn n ≡ t → Tabled m n t
   tabled t W e = record { table = e; meta = meta-kept; whole = whole-kept W }
+
+-- where superblock and maps were not read, there is nothing of them to be whole
+whole-unread : (m : List ℕ) → length m ≡ 4899 → getD m 4370 0 ≡ 0 → Whole m
+whole-unread m size e = record { size = size; some = λ h. absurd (omega (arith, e, h)); few = λ h. absurd (omega (arith, e, h)) }
+
+-- a call's start: the flag is cleared, and the table is written
+pub table-start :
+    (m f n : List ℕ) (t : Table) → length m ≡ 4899 → TableFits t → f ≡ set m 4370 0 → n ≡ paste f 0 (tableBytes t) → (tableIn n ≡ t) × Whole n
+table-start m f n t size F ef en =
+    let h : length f ≡ 4899 = ap length ef ∙ length-set m 4370 0 ∙ size in
+    let l : length (tableBytes t) ≡ 4370 = length-fits t F in
+    let fit : 0 + length (tableBytes t) ≤ length f = omega (arith, h, l) in
+    let long : 4370 ≤ length f = omega (arith, h) in
+    let z : getD f 4370 0 ≡ 0 = ap (λ (k : List ℕ). getD k 4370 0) ef ∙ getD-set-same m 4370 0 0 (omega arith) in
+    let k : length n ≡ 4899 = ap length en ∙ length-paste f 0 (tableBytes t) fit ∙ h in
+    let e : getD n 4370 0 ≡ 0 = ap (λ (k : List ℕ). getD k 4370 0) en ∙ getD-paste-out f 0 (tableBytes t) fit 4370 (λ q. omega (arith, l)) ∙ z in
+    (ap tableIn en ∙ table-put f t long F, whole-unread n k e)
 
 -- where the flag is set
 pub meta-is : (m : List ℕ) → getD m 4370 0 ≡ 1 → metaIn m ≡ done (record { super = superIn m; maps = mapsIn m })

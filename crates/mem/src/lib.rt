@@ -243,14 +243,6 @@ fn put_map(map: &mut [u8], first: u8)
 
 // ---- the start and the end of a call
 
-// The table's bytes; what is behind them stays.
-pub fn put_table(mem: &mut [u8], t: Table)
-    requires { ⌜ length (now mem) ≡ 4899 ⌝ }
-    ensures { λ _. ⌜ (tableIn (now (mem .exit)) ≡ t) × (part (now (mem .exit)) 4370 4899 ≡ part (now (mem .entry)) 4370 4899) ⌝ }
-{
-    table_bytes::write_table(mem, t);
-}
-
 pub fn table_at(mem: &[u8]) -> Table
     requires { ⌜ length (now mem) ≡ 4899 ⌝ }
     ensures { λ r. ⌜ r ≡ tableIn (now (mem .entry)) ⌝ }
@@ -270,6 +262,15 @@ pub fn put_flag(mem: &mut [u8], b: bool)
     ensures { λ _. ⌜ now (mem .exit) ≡ set (now (mem .entry)) 4370 (bit b) ⌝ }
 {
     mem[4370] = mark_of(b);
+}
+
+// A call's memory at its start: the table's bytes, and no superblock or map read yet.
+pub fn put_table(mem: &mut [u8], t: Table)
+    requires { ⌜ length (now mem) ≡ 4899 ⌝ }
+    ensures { λ _. ⌜ (tableIn (now (mem .exit)) ≡ t) × Whole (now (mem .exit)) ⌝ }
+{
+    put_flag(mem, false);
+    table_bytes::write_table(mem, t);
 }
 
 // What format starts from: one group, with the bits of the superblock's and the map's own block clear.

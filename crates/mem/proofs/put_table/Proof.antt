@@ -1,18 +1,15 @@
--- `mem::put_table`: the table's bytes are laid over its place.
-use mathlib.Core.Path.{_≡_, ap, _∙_}
-use mathlib.Core.List.{List}
+-- `mem::put_table`: the table's bytes are laid over its place, and the flag says that nothing was read.
+use mathlib.Core.Path.{_≡_}
 use Prim.Native.Nat.{ℕ}
 use native.Mathlib.Omega.{arith}
 use lib.ListN.{length}
 use Rattle.base.proofs.Finds.{len-of}
-use Rattle.base.specs.Parts.{part}
 use Rattle.table.proofs.Row as row
 use Rattle.table.proofs.Hold as hold
 use Rattle.table.specs.Table.{offRow, rowAt, holdAt}
 use Rattle.table.specs.Zero.{zeroHold}
 use Rattle.table_bytes.specs.Fits.{TableFits}
-use Rattle.mem.specs.Mem.{tableIn}
-use Rattle.mem.proofs.Mems.{table-put, table-put-rest}
+use Rattle.mem.proofs.Mems.{table-start}
 use Rattle.mem.proofs.Owned.{each-at, row-fits, hold-fits}
 use borrow.Author.Needs.{needs}
 use Rattle.mem.proofs.put_table.Statement.{statement}
@@ -34,6 +31,9 @@ fits s = record {
   next = search needs;
 }
 
+put-flag-requires : tie.Need-put-flag-requires
+put-flag-requires c κs = search needs
+
 write-table-requires : tie.Need-write-table-requires
 write-table-requires c κs = search needs
 
@@ -43,11 +43,10 @@ same-length c = search needs
 returns : tie.Need-returns
 returns c =
     let w = c .before .before in
-    let s = w .before .before .before in
-    let m = s .args .mem .now in
+    let p = w .before .before .before .before in
+    let s = p .before .before .before in
     let t = s .args .t in
-    let e = w .write-table .ensures in
-    (ap tableIn e ∙ table-put m t (omega arith) (fits s), ap (λ (l : List ℕ). part l 4370 4899) e ∙ table-put-rest m t (omega arith) (fits s))
+    table-start (s .args .mem .now) _ _ t (s .pre) (fits s) (p .put-flag .ensures) (w .write-table .ensures)
 
 pub put-table-spec : {M : Type 1} → statement M
-put-table-spec = tie.close (tie.spec write-table-requires same-length returns)
+put-table-spec = tie.close (tie.spec put-flag-requires write-table-requires same-length returns)
