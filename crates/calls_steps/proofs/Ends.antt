@@ -101,6 +101,14 @@ pub ended-done : (f : Fs → Out Fs) {x z : Fs} {P : Type 0} {r : ℕ} (a b w n 
 unfolding fsOf
 ended-done f a b w n q g z e = rw (← q) (went (rw (went-is g z, e)))
 
+-- an outcome by another name
+pub ended-is : {o p : Out After} {a b : List ℕ} {u : Table} {n : ℕ} → o ≡ p → Ended p a b u n → Ended o a b u n
+ended-is e g = rw e g
+
+-- a call that is refused before its steps
+pub ended-refused : {o : Out After} {a b : List ℕ} {u : Table} {n : ℕ} → (n ≡ 0 → ⊥) → o ≡ refused n → b ≡ a → Ended o a b u n
+ended-refused z e k = stuck (above-zero _ z) e k
+
 -- what the call returns, by the number that its steps answered
 pub returned-ended : (t : Table) {o : Out After} {a b : List ℕ} {u : Table} {n : ℕ} {r : answered.After} → Ended o a b u n → r ≡ afterOf t u n → Returned t o a b r
 returned-ended t {u = u} (went e) q = record { answer = q ∙ sym (after-done t u 0 refl) ∙ rw e; arena = rw e }

@@ -1,0 +1,41 @@
+-- `calls::hand`: the hold is made where the node was opened.
+use mathlib.Core.Path.{ap, sym, _∙_}
+use Prim.Native.Nat.{ℕ}
+use native.Mathlib.Omega.{arith}
+use Rattle.calls.specs.declared.Handed.{Handed}
+use borrow.Author.Needs.{needs}
+use Rattle.calls.proofs.hand.Statement.{statement}
+use Rattle.calls.proofs.hand.Tie as tie
+
+not-handed-requires : tie.Need-not-handed-requires
+not-handed-requires c κs = search needs
+
+same-length : tie.Need-same-length
+same-length c = search needs
+
+returns : tie.Need-returns
+returns c = (ap (λ (h : Handed). h .reason) (c .not-handed .ensures), λ z. absurd (c .before .if1 .taken z))
+
+cast-add-hold : tie.Need-cast-add-hold
+cast-add-hold c = search needs
+
+add-hold-requires : tie.Need-add-hold-requires
+add-hold-requires c κs = search needs
+
+same-length-2 : tie.Need-same-length-2
+same-length-2 c = search needs
+
+returns-2 : tie.Need-returns-2
+returns-2 c = search needs
+
+pub hand-spec : {M : Type 1} → statement M
+hand-spec =
+    tie.close
+    (tie.spec
+    not-handed-requires
+    same-length
+    returns
+    cast-add-hold
+    add-hold-requires
+    same-length-2
+    returns-2)
