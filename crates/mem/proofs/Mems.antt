@@ -139,7 +139,7 @@ module _ (m : List ℕ) (i : ℕ) (r : Row) (long : 4370 ≤ length m) (inside :
 
 -- a table that is written is in memory
 module _ (m : List ℕ) (t : Table) (long : 4370 ≤ length m) (F : TableFits t) where
-  pub table-put : tableIn (paste m 0 (tableBytes t)) ≡ t
+  table-put : tableIn (paste m 0 (tableBytes t)) ≡ t
   table-put =
       let n : List ℕ = paste m 0 (tableBytes t) in
       let a : part n 0 4370 ≡ tableBytes t = part-written 4370 m 0 (tableBytes t) (length-fits t F) (omega arith) in

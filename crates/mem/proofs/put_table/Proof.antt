@@ -1,6 +1,5 @@
 -- `mem::put_table`: the table's bytes are laid over its place, and the flag says that nothing was read.
 use mathlib.Core.Path.{_≡_}
-use Prim.Native.Nat.{ℕ}
 use native.Mathlib.Omega.{arith}
 use lib.ListN.{length}
 use Rattle.base.proofs.Finds.{len-of}

@@ -1,0 +1,18 @@
+-- `holds::can_hold`: the count and the stamp are the callees'.
+use Rattle.table.specs.Table.{canHold}
+use borrow.Author.Needs.{needs}
+use Rattle.holds.proofs.can_hold.Statement.{statement}
+use Rattle.holds.proofs.can_hold.Tie as tie
+
+live-holds-requires : tie.Need-live-holds-requires
+live-holds-requires c κs = search needs
+
+next-stamp-requires : tie.Need-next-stamp-requires
+next-stamp-requires c κs = search needs
+
+returns : tie.Need-returns
+unfolding canHold
+returns c = rw (c .before .live-holds .ensures, c .next-stamp .ensures)
+
+pub can-hold-spec : {M : Type 1} → statement M
+can-hold-spec = tie.close (tie.spec live-holds-requires next-stamp-requires returns)
