@@ -161,7 +161,11 @@ fn set_on(
         return b.reason;
     }
     let rec = rec_at(&mem[..], b.row);
-    set_rec(mem, b.row, changed(rec, mode, uid, gid, atime, mtime, ctime));
+    set_rec(
+        mem,
+        b.row,
+        changed(rec, mode, uid, gid, atime, mtime, ctime),
+    );
     0
 }
 

@@ -10,20 +10,19 @@ use Rattle.calls.proofs.hand.Tie as tie
 not-handed-requires : tie.Need-not-handed-requires
 not-handed-requires c κs = search needs
 
-same-length : tie.Need-same-length
-same-length c = search needs
-
 returns : tie.Need-returns
 returns c = (ap (λ (h : Handed). h .reason) (c .not-handed .ensures), λ z. absurd (c .before .if1 .taken z))
 
 cast-add-hold : tie.Need-cast-add-hold
-cast-add-hold c = search needs
+cast-add-hold c =
+    let l = c .before .before .before .pre (c .before .if1 .left) .1 in
+    record { fits = omega (arith, l) }
 
 add-hold-requires : tie.Need-add-hold-requires
-add-hold-requires c κs = search needs
+add-hold-requires c κs = c .before .before .before .pre (c .before .if1 .left) .0
 
-same-length-2 : tie.Need-same-length-2
-same-length-2 c = search needs
+same-length : tie.Need-same-length
+same-length c = search needs
 
 returns-2 : tie.Need-returns-2
 returns-2 c = search needs
@@ -33,9 +32,8 @@ hand-spec =
     tie.close
     (tie.spec
     not-handed-requires
-    same-length
     returns
     cast-add-hold
     add-hold-requires
-    same-length-2
+    same-length
     returns-2)

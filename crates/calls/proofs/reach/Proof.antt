@@ -18,7 +18,7 @@ admit-by-requires : tie.Need-admit-by-requires
 admit-by-requires c κs = search needs
 
 returns : tie.Need-returns
-returns c = went-reached _ _ _ _ _ _ (c .before .before .by-handle .ensures) (c .admit-by .ensures ∙ ap (λ (b : Bool). firstOf (answer (admitIf (c .before .before .before .before .args .arena .now) b)) (c .before .before .by-handle .result .reason)) (c .before .well-formed .ensures))
+returns c = went-reached _ _ _ _ _ _ (c .before .before .by-handle .ensures) (c .admit-by .ensures ∙ ap (λ (b : Bool). firstOf (answer (admitIf (c .before .before .before .before .before .args .arena .now) b)) (c .before .before .by-handle .result .reason)) (c .before .well-formed .ensures))
 
 pub reach-spec : {M : Type 1} → statement M
 reach-spec = tie.close (tie.spec by-handle-requires well-formed-requires admit-by-requires returns)

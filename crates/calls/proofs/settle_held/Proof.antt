@@ -18,7 +18,7 @@ table-at-requires c κs = search needs
 
 returns-2 : tie.Need-returns-2
 returns-2 c =
-    let s = c .before .before .before in
+    let s = c .before .before .before .before .before in
     ap (λ (u : Table). heldWith (addedAs (s .args .h .handle) u)) (c .table-at .ensures)
     ∙ given-held _ _ _ (c .before .if1 .left)
 
