@@ -20,7 +20,7 @@ returns-2 : tie.Need-returns-2
 returns-2 c =
     let s = c .before .before .before .before .before in
     ap (λ (u : Table). heldWith (addedAs (s .args .h .handle) u)) (c .table-at .ensures)
-    ∙ given-held _ _ _ (c .before .if1 .left)
+    ∙ given-held _ _ _ (c .before .before .if1 .left)
 
 pub settle-held-spec : {M : Type 1} → statement M
 settle-held-spec =
