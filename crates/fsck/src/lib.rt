@@ -94,18 +94,19 @@ fn judge_table(arena: &[u8], first: &[u16], next: &[u16], t: Table) -> Verdict
     judge_meta(arena, first, next, &mut mem)
 }
 
-fn check_in(arena: &[u8], first: &mut [u16], next: &mut [u16], t: Table) -> Verdict
-    requires { ⌜ (legal (now arena) ≡ true) × ((length (now first) ≡ 4096) × (length (now next) ≡ 4096)) ⌝ }
-    requires { ⌜ ((h : ℕ) → h < 4096 → getD (now first) h 0 ≡ 0) ⌝ }
+fn check_in(arena: &[u8], chains: &mut [u16], t: Table) -> Verdict
+    requires { ⌜ (legal (now arena) ≡ true) × (length (now chains) ≡ 8192) ⌝ }
+    requires { ⌜ ((h : ℕ) → h < 4096 → getD (now chains) h 0 ≡ 0) ⌝ }
     ensures { λ r. ⌜ r ≡ verdictOf (now (arena .entry)) t ⌝ }
 {
-    if !sound::sound_in(arena, first, next) {
+    if !sound::sound_in(arena, chains) {
         return Verdict::Fail(1);
     }
     if !table::well_formed(t) {
         return Verdict::Fail(2);
     }
-    judge_table(arena, &first[..], &next[..], t)
+    let c = &chains[..];
+    judge_table(arena, &c[..4096], &c[4096..], t)
 }
 
 pub fn check(arena: &[u8], t: Table) -> Verdict
@@ -114,7 +115,6 @@ pub fn check(arena: &[u8], t: Table) -> Verdict
     if !arena::legal(arena) {
         return Verdict::Fail(1);
     }
-    let mut first = [0u16; 4096];
-    let mut next = [0u16; 4096];
-    check_in(arena, &mut first, &mut next, t)
+    let mut chains = [0u16; 8192];
+    check_in(arena, &mut chains, t)
 }

@@ -4,18 +4,19 @@ use mathlib.Core.Bool.{Bool, true, false, _&&_, not, true≢false}
 use mathlib.Core.List.{List}
 use mathlib.Core.Logic.{⊎-elim, _⊎_, inl, inr, _≢_}
 use Prim.Native.Nat.{ℕ, suc, _+_, _-_, _≤_, _<_, zero-le}
-use native.Mathlib.Nat.{eq-or-lt-of-le}
+use native.Mathlib.Nat.{eq-or-lt-of-le, zero-add}
 use native.Mathlib.Omega.{arith}
 use native.Mathlib.Decide.{ℕ-discrete}
 use lib.Dec.{eqb, ltb}
-use lib.ListN.{length, getD, set}
-use lib.Seq.{getD-set-same, getD-set-other}
+use lib.ListN.{length, getD, set, take, drop}
+use lib.Seq.{getD-set-same, getD-set-other, take-set-lt, take-set-le, drop-set-lt, drop-set-add}
 use borrow.Author.Tests.{eq-eqb, ne-eqb, eqb-true, lt-ltb, le-ltb, ltb-true}
 use Rattle.base.proofs.Sames.{last-one, allTo-and, and-true}
 use Rattle.base.specs.Count.{allTo}
 use Rattle.base.specs.Search.{lowest, last}
 use Rattle.base.proofs.Bools.{and-parts, true-false}
 use Rattle.base.proofs.Counts.{allTo-true, allTo-cong}
+use Rattle.base.proofs.Lists.{length-part, getD-part}
 use Rattle.base.proofs.Numbers.{lt-or-le}
 use Rattle.base.proofs.Searches.{lowest-first, lowest-here, last-is, last-no, last-yes}
 use Rattle.arena.specs.Blocks.{blk, blocks}
@@ -24,7 +25,7 @@ use Rattle.arena.specs.Places.{headOf, dataOf}
 use Rattle.arena.proofs.Fields.{head-is, head-own, data-is, data-own, free-own, free-not}
 use Rattle.arena.proofs.Places.{head-first}
 use Rattle.sound.specs.Sound.{blockSound, layout, headOnce, dataOnce, within, under, soundAt, sound}
-use Rattle.sound.specs.Chain.{isKey, hashKey, hashOf, inBucket, Chains, alone}
+use Rattle.sound.specs.Chain.{isKey, hashKey, hashOf, inBucket, Chains, firsts, nexts, alone}
 use Rattle.sound.proofs.Sounds.{used-sound}
 
 -- ---- keys and buckets
@@ -138,7 +139,7 @@ chains-skip a first next k C t =
     below free j l used =
         ⊎-elim (λ (x : j ≡ k). absurd (true-false free (subst (λ (i : ℕ). isFree (blk a i) ≡ false) x used))) (λ m. m) (eq-or-lt-of-le (let y : j ≤ k = omega arith in y))
 
-pub chains-more : (a first next : List ℕ) (k h : ℕ) → Chains a first next k → tagOf (blk a k) ≢ 0 → h ≡ hashOf (blk a k) → h < 4096 → length first ≡ 4096 → k < length next
+chains-more : (a first next : List ℕ) (k h : ℕ) → Chains a first next k → tagOf (blk a k) ≢ 0 → h ≡ hashOf (blk a k) → h < 4096 → length first ≡ 4096 → k < length next
     → Chains a (set first h (k + 1)) (set next k (getD first h 0)) (k + 1)
 unfolding inBucket
 chains-more a first next k h C t e hl lf ln =
@@ -156,8 +157,37 @@ chains-more a first next k h C t e hl lf ln =
           (eq-or-lt-of-le (let y : j ≤ k = omega arith in y));
     }
 
-pub chains-as : (a f g n m : List ℕ) (k : ℕ) → g ≡ f → m ≡ n → Chains a f n k → Chains a g m k
+chains-as : (a f g n m : List ℕ) (k : ℕ) → g ≡ f → m ≡ n → Chains a f n k → Chains a g m k
 chains-as a f g n m k e d C = subst (λ (x : List ℕ). Chains a x m k) (sym e) (subst (λ (y : List ℕ). Chains a f y k) (sym d) C)
+
+-- ---- both in one array
+
+pub length-firsts : (c : List ℕ) → length c ≡ 8192 → length (firsts c) ≡ 4096
+length-firsts c n = length-part c 0 4096 (omega arith) (omega arith)
+
+pub length-nexts : (c : List ℕ) → length c ≡ 8192 → length (nexts c) ≡ 4096
+length-nexts c n = length-part c 4096 8192 (omega arith) (omega arith)
+
+pub getD-firsts : (c : List ℕ) (h : ℕ) → h < 4096 → getD (firsts c) h 0 ≡ getD c h 0
+getD-firsts c h l = getD-part c 0 4096 h l ∙ ap (λ (i : ℕ). getD c i 0) (zero-add h)
+
+-- what `insert` does to each half
+insert-halves : (c : List ℕ) (k h v w : ℕ) → h < 4096 → k < 4096
+    → (firsts (set (set c (4096 + k) v) h w) ≡ set (firsts c) h w) × (nexts (set (set c (4096 + k) v) h w) ≡ set (nexts c) k v)
+insert-halves c k h v w hl kl = (
+  take-set-lt 4096 (set c (4096 + k) v) h w hl ∙ ap (λ (x : List ℕ). set x h w) (take-set-le 4096 c (4096 + k) v (omega arith)),
+  ap (take 4096) (drop-set-lt 4096 (set c (4096 + k) v) h w hl ∙ drop-set-add 4096 c k v) ∙ take-set-lt 4096 (drop 4096 c) k v kl,
+)
+
+-- and so block k joins the chains
+pub chains-insert : (a c d : List ℕ) (k h : ℕ) → Chains a (firsts c) (nexts c) k → tagOf (blk a k) ≢ 0 → h ≡ hashOf (blk a k) → h < 4096 → k < 4096 → length c ≡ 8192
+    → d ≡ set (set c (4096 + k) (getD c h 0)) h (k + 1) → Chains a (firsts d) (nexts d) (k + 1)
+chains-insert a c d k h C t e hl kl lc x =
+    let H = insert-halves c k h (getD c h 0) (k + 1) hl kl in
+    chains-as a _ _ _ _ (k + 1)
+    (ap firsts x ∙ H .0)
+    (ap nexts x ∙ H .1 ∙ ap (λ (v : ℕ). set (nexts c) k v) (sym (getD-firsts c h hl)))
+    (chains-more a (firsts c) (nexts c) k h C t e hl (length-firsts c lc) (omega (arith, length-nexts c lc)))
 
 -- ---- block k is the lowest with its key where none before it has it
 

@@ -6,6 +6,7 @@ use mathlib.Core.List.{List}
 use Prim.Native.Nat.{ℕ, _+_, _*_, _/_, _%_, _<_}
 use lib.ListN.{getD}
 use lib.Dec.{eqb}
+use Rattle.base.specs.Parts.{part}
 use Rattle.base.specs.Search.{last}
 use Rattle.le.specs.Le.{leAt}
 use Rattle.arena.specs.Blocks.{blk}
@@ -40,6 +41,13 @@ inBucket a h j = not (isFree (blk a j)) && eqb (hashOf (blk a j)) h
 pub record Chains (a first next : List ℕ) (k : ℕ) : Type 0 where
   pub starts : (h : ℕ) → h < 4096 → getD first h 0 ≡ last (inBucket a h) k
   pub links : (j : ℕ) → j < k → isFree (blk a j) ≡ false → getD next j 0 ≡ last (inBucket a (hashOf (blk a j))) j
+
+-- the code that makes the chains has both in one array of 8,192 entries: first, then next
+abbrev pub firsts : List ℕ → List ℕ
+firsts c = part c 0 4096
+
+abbrev pub nexts : List ℕ → List ℕ
+nexts c = part c 4096 8192
 
 -- what is known of block k once it has joined the chains
 unfoldable pub alone : List ℕ → ℕ → Bool

@@ -8,7 +8,7 @@ ghost use Rattle.base.specs.Search.{last};
 ghost use Rattle.arena.specs.Blocks.{blk, blocks};
 ghost use Rattle.arena.specs.Fields.{file, isFree};
 ghost use Rattle.sound.specs.Sound.{under};
-ghost use Rattle.sound.specs.Chain.{isKey, bucketOf, fileHash, hashKey, hashOf, inBucket, Chains, alone};
+ghost use Rattle.sound.specs.Chain.{isKey, bucketOf, fileHash, hashKey, hashOf, inBucket, Chains, firsts, nexts, alone};
 use crate::block::all_zero;
 use crate::block::layout_ok;
 use crate::block::within_ok;
@@ -89,20 +89,21 @@ fn find_key(
     0
 }
 
-fn insert(first: &mut [u16], next: &mut [u16], k: usize, h: usize)
-    requires { ⌜ (h < length (now first)) × ((k < length (now next)) × (k < 4096)) ⌝ }
-    ensures { λ _. ⌜ (now (first .exit) ≡ set (now (first .entry)) h (k + 1)) × (now (next .exit) ≡ set (now (next .entry)) k (getD (now (first .entry)) h 0)) ⌝ }
+// Block k joins the chain of hash h.
+fn insert(chains: &mut [u16], k: usize, h: usize)
+    requires { ⌜ (length (now chains) ≡ 8192) × ((h < 4096) × (k < 4096)) ⌝ }
+    ensures { λ _. ⌜ now (chains .exit) ≡ set (set (now (chains .entry)) (4096 + k) (getD (now (chains .entry)) h 0)) h (k + 1) ⌝ }
 {
-    next[k] = first[h];
-    first[h] = (k + 1) as u16;
+    chains[4096 + k] = chains[h];
+    chains[h] = (k + 1) as u16;
 }
 
 // Block k by itself, and no block before it with its key; it joins the chains.
-pub fn add_block(arena: &[u8], first: &mut [u16], next: &mut [u16], k: usize) -> bool
-    requires { ⌜ (k < blocks (now arena)) × ((k < 4096) × ((length (now first) ≡ 4096) × (length (now next) ≡ 4096))) ⌝ }
-    requires { ⌜ Chains (now arena) (now first) (now next) k ⌝ }
+pub fn add_block(arena: &[u8], chains: &mut [u16], k: usize) -> bool
+    requires { ⌜ (k < blocks (now arena)) × ((k < 4096) × (length (now chains) ≡ 8192)) ⌝ }
+    requires { ⌜ Chains (now arena) (firsts (now chains)) (nexts (now chains)) k ⌝ }
     ensures { λ r. ⌜ r ≡ alone (now (arena .entry)) k ⌝ }
-    ensures { λ r. ⌜ (r ≡ true → Chains (now (arena .entry)) (now (first .exit)) (now (next .exit)) (k + 1)) ⌝ }
+    ensures { λ r. ⌜ (r ≡ true → Chains (now (arena .entry)) (firsts (now (chains .exit))) (nexts (now (chains .exit))) (k + 1)) ⌝ }
 {
     let o = 512 * k;
     let part = &arena[o..o + 512];
@@ -117,11 +118,11 @@ pub fn add_block(arena: &[u8], first: &mut [u16], next: &mut [u16], k: usize) ->
     let name = &part[4..20];
     let number = u32_at(part, 20);
     let h = hash_key(head, which, name, number);
-    let start = index16(first[h]);
-    if find_key(arena, &next[..], k, start, head, which, name, number) > 0 {
+    let start = index16(chains[h]);
+    if find_key(arena, &chains[4096..], k, start, head, which, name, number) > 0 {
         return false;
     }
-    insert(first, next, k, h);
+    insert(chains, k, h);
     true
 }
 

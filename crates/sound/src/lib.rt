@@ -10,21 +10,21 @@ ghost use lib.ListN.{length, getD};
 ghost use Rattle.base.specs.Count.{allTo};
 ghost use Rattle.arena.specs.Blocks.{blocks};
 ghost use Rattle.sound.specs.Sound.{under, sound as soundArena};
-ghost use Rattle.sound.specs.Chain.{Chains, alone};
+ghost use Rattle.sound.specs.Chain.{Chains, firsts, nexts, alone};
 use chain::add_block;
 use chain::under_at;
 
 // Every block by itself and no key twice; the chains of all blocks.
-fn all_alone(arena: &[u8], first: &mut [u16], next: &mut [u16]) -> bool
-    requires { ⌜ (blocks (now arena) ≤ 4096) × ((length (now first) ≡ 4096) × (length (now next) ≡ 4096)) ⌝ }
-    requires { ⌜ ((h : ℕ) → h < 4096 → getD (now first) h 0 ≡ 0) ⌝ }
+fn all_alone(arena: &[u8], chains: &mut [u16]) -> bool
+    requires { ⌜ (blocks (now arena) ≤ 4096) × (length (now chains) ≡ 8192) ⌝ }
+    requires { ⌜ ((h : ℕ) → h < 4096 → getD (now chains) h 0 ≡ 0) ⌝ }
     ensures { λ r. ⌜ r ≡ allTo (alone (now (arena .entry))) (blocks (now (arena .entry))) ⌝ }
-    ensures { λ r. ⌜ (r ≡ true → Chains (now (arena .entry)) (now (first .exit)) (now (next .exit)) (blocks (now (arena .entry)))) ⌝ }
+    ensures { λ r. ⌜ (r ≡ true → Chains (now (arena .entry)) (firsts (now (chains .exit))) (nexts (now (chains .exit))) (blocks (now (arena .entry)))) ⌝ }
 {
     let n = arena.len() / 512;
     let mut k: usize = 0;
     while k < n {
-        if !add_block(arena, first, next, k) {
+        if !add_block(arena, chains, k) {
             return false;
         }
         k = k + 1;
@@ -50,17 +50,19 @@ fn all_under(arena: &[u8], first: &[u16], next: &[u16]) -> bool
     true
 }
 
-// Whether the arena is sound; where it is, the chains of all blocks are left in `first` and `next`.
-pub fn sound_in(arena: &[u8], first: &mut [u16], next: &mut [u16]) -> bool
-    requires { ⌜ (blocks (now arena) ≤ 4096) × ((length (now first) ≡ 4096) × (length (now next) ≡ 4096)) ⌝ }
-    requires { ⌜ ((h : ℕ) → h < 4096 → getD (now first) h 0 ≡ 0) ⌝ }
+// Whether the arena is sound; where it is, the chains of all blocks are left in `chains`. They are one array and not two, since the
+// compiler lays one local array over a caller's workspace, but not two.
+pub fn sound_in(arena: &[u8], chains: &mut [u16]) -> bool
+    requires { ⌜ (blocks (now arena) ≤ 4096) × (length (now chains) ≡ 8192) ⌝ }
+    requires { ⌜ ((h : ℕ) → h < 4096 → getD (now chains) h 0 ≡ 0) ⌝ }
     ensures { λ r. ⌜ r ≡ soundArena (now (arena .entry)) ⌝ }
-    ensures { λ r. ⌜ (r ≡ true → Chains (now (arena .entry)) (now (first .exit)) (now (next .exit)) (blocks (now (arena .entry)))) ⌝ }
+    ensures { λ r. ⌜ (r ≡ true → Chains (now (arena .entry)) (firsts (now (chains .exit))) (nexts (now (chains .exit))) (blocks (now (arena .entry)))) ⌝ }
 {
-    if !all_alone(arena, first, next) {
+    if !all_alone(arena, chains) {
         return false;
     }
-    all_under(arena, &first[..], &next[..])
+    let c = &chains[..];
+    all_under(arena, &c[..4096], &c[4096..])
 }
 
 // Whether the arena is sound. A caller has tested that its length is legal.
@@ -68,7 +70,6 @@ pub fn sound(arena: &[u8]) -> bool
     requires { ⌜ blocks (now arena) ≤ 4096 ⌝ }
     ensures { λ r. ⌜ r ≡ soundArena (now (arena .entry)) ⌝ }
 {
-    let mut first = [0u16; 4096];
-    let mut next = [0u16; 4096];
-    sound_in(arena, &mut first, &mut next)
+    let mut chains = [0u16; 8192];
+    sound_in(arena, &mut chains)
 }

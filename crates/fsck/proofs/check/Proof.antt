@@ -1,5 +1,6 @@
--- `fsck::check`: the length first; the chains' workspaces are zero.
+-- `fsck::check`: the length first; the chains' workspace is zero.
 use mathlib.Core.Path.{refl, sym, _∙_}
+use native.Mathlib.Omega.{arith}
 use borrow.Author.Tests.{not-true, not-false}
 use lib.ListN.{getD-replicate}
 use Rattle.fsck.proofs.Verdicts.{verdict-length}
@@ -17,12 +18,9 @@ returns c =
 slice-aggregate-check-in : tie.Need-slice-aggregate-check-in
 slice-aggregate-check-in c = search needs
 
-slice-aggregate-check-in-2 : tie.Need-slice-aggregate-check-in-2
-slice-aggregate-check-in-2 c = search needs
-
 check-in-requires : tie.Need-check-in-requires
 check-in-requires c κs =
-    ((sym (c .before .before .before .legal .ensures) ∙ not-false _ (c .before .before .if1 .left), (refl, refl)), λ h m. getD-replicate 4096 h 0 0 m)
+    ((sym (c .before .before .legal .ensures) ∙ not-false _ (c .before .if1 .left), refl), λ h m. getD-replicate 8192 h 0 0 (omega arith))
 
 returns-2 : tie.Need-returns-2
 returns-2 c = search needs
@@ -34,6 +32,5 @@ check-spec =
     legal-requires
     returns
     slice-aggregate-check-in
-    slice-aggregate-check-in-2
     check-in-requires
     returns-2)

@@ -1,7 +1,13 @@
 -- `fsck::check_in`: where the arena is sound its chains lead to all blocks.
-use mathlib.Core.Path.{sym, _∙_}
+use mathlib.Core.Path.{_≡_, sym, _∙_, subst}
+use Prim.Native.Nat.{ℕ}
+use lib.ListN.{length}
 use borrow.Author.Tests.{not-true, not-false}
+use Rattle.base.specs.Parts.{part}
 use Rattle.arena.proofs.Blocks.{legal-is}
+use Rattle.sound.specs.Chain.{firsts}
+use Rattle.sound.proofs.Chains.{length-firsts, length-nexts}
+use Rattle.fsck_read.specs.Given.{Led}
 use Rattle.fsck.proofs.Verdicts.{verdict-sound, verdict-table, verdict-on}
 use borrow.Author.Needs.{needs}
 use Rattle.fsck.proofs.check_in.Statement.{statement}
@@ -9,44 +15,73 @@ use Rattle.fsck.proofs.check_in.Tie as tie
 
 sound-in-requires : tie.Need-sound-in-requires
 sound-in-requires c κs =
-    ((legal-is (c .before .before .before .before .before .args .arena .now) (c .before .before .before .before .before .pre .0 .0) .most, c .before .before .before .before .before .pre .0 .1), c .before .before .before .before .before .pre .1)
+    let s = c .before .before .before in
+    ((legal-is (s .args .arena .now) (s .pre .0 .0) .most, s .pre .0 .1), s .pre .1)
 
 same-length : tie.Need-same-length
 same-length c = search needs
 
-same-length-2 : tie.Need-same-length-2
-same-length-2 c = search needs
-
 returns : tie.Need-returns
 returns c =
-    sym (verdict-sound (c .before .before .before .before .before .before .before .before .before .before .before .args .arena .now) (c .before .before .before .before .before .before .before .before .before .before .before .args .t) (c .before .before .before .before .before .before .before .before .before .before .before .pre .0 .0) (sym (c .before .before .before .before .before .sound-in .ensures .0) ∙ not-true _ (c .if1 .taken)))
+    let r = c .before .before .before in
+    let s = r .before .before .before .before in
+    sym (verdict-sound (s .args .arena .now) (s .args .t) (s .pre .0 .0) (sym (r .sound-in .ensures .0) ∙ not-true _ (c .if1 .taken)))
 
 well-formed-requires : tie.Need-well-formed-requires
 well-formed-requires c κs = search needs
 
-same-length-3 : tie.Need-same-length-3
-same-length-3 c = search needs
-
-same-length-4 : tie.Need-same-length-4
-same-length-4 c = search needs
+same-length-2 : tie.Need-same-length-2
+same-length-2 c = search needs
 
 returns-2 : tie.Need-returns-2
 returns-2 c =
-    sym (verdict-table (c .before .before .before .before .before .before .before .before .before .before .before .before .before .args .arena .now) (c .before .before .before .before .before .before .before .before .before .before .before .before .before .args .t) (c .before .before .before .before .before .before .before .before .before .before .before .before .before .pre .0 .0) (sym (c .before .before .before .before .before .before .before .sound-in .ensures .0) ∙ not-false _ (c .before .before .if1 .left)) (sym (c .before .well-formed .ensures) ∙ not-true _ (c .if2 .taken)))
+    let e1 = c .before .before in
+    let r = e1 .before .before .before in
+    let s = r .before .before .before .before in
+    sym (verdict-table (s .args .arena .now) (s .args .t) (s .pre .0 .0) (sym (r .sound-in .ensures .0) ∙ not-false _ (e1 .if1 .left)) (sym (c .before .well-formed .ensures) ∙ not-true _ (c .if2 .taken)))
+
+slice-aggregate-judge-table : tie.Need-slice-aggregate-judge-table
+slice-aggregate-judge-table c =
+    let r = c .before .before .before .before .before .before .before in
+    sym (length-firsts (r .sound-in .last .1 .0) (r .sound-in .kept .1 .0 ∙ r .before .before .before .before .pre .0 .1))
+
+sub-judge-table : tie.Need-sub-judge-table
+sub-judge-table c = search needs
+
+part-judge-table-start : tie.Need-part-judge-table-start
+part-judge-table-start c = search needs
+
+part-judge-table-end : tie.Need-part-judge-table-end
+part-judge-table-end c = search needs
 
 judge-table-requires : tie.Need-judge-table-requires
 judge-table-requires c κs =
-    record { whole = c .before .before .before .before .before .before .before .before .before .before .before .before .before .before .before .pre .0 .0; most = legal-is (c .before .before .before .before .before .before .before .before .before .before .before .before .before .before .before .args .arena .now) (c .before .before .before .before .before .before .before .before .before .before .before .before .before .before .before .pre .0 .0) .most; starts = c .before .before .before .before .before .before .before .before .before .sound-in .kept .1 .0 ∙ c .before .before .before .before .before .before .before .before .before .before .before .before .before .before .before .pre .0 .1 .0; links = c .before .before .before .before .before .before .before .before .before .sound-in .kept .1 .1 .0 ∙ c .before .before .before .before .before .before .before .before .before .before .before .before .before .before .before .pre .0 .1 .1; chains = c .before .before .before .before .before .before .before .before .before .sound-in .ensures .1 (not-false _ (c .before .before .before .before .if1 .left)); fine = sym (c .before .before .before .before .before .before .before .before .before .sound-in .ensures .0) ∙ not-false _ (c .before .before .before .before .if1 .left) }
+    let e1 = c .before .before .before .before .before in
+    let r = e1 .before .before .before in
+    let s = r .before .before .before .before in
+    let a = s .args .arena .now in
+    let l = r .sound-in .last .1 .0 in
+    let n : length l ≡ 8192 = r .sound-in .kept .1 .0 ∙ s .pre .0 .1 in
+    let t = not-false _ (e1 .if1 .left) in
+    subst (λ (m : ℕ). Led a (firsts l) (part l 4096 m)) (sym n) (record {
+      whole = s .pre .0 .0;
+      most = legal-is a (s .pre .0 .0) .most;
+      starts = length-firsts l n;
+      links = length-nexts l n;
+      chains = r .sound-in .ensures .1 t;
+      fine = sym (r .sound-in .ensures .0) ∙ t;
+    })
 
-same-length-5 : tie.Need-same-length-5
-same-length-5 c = search needs
-
-same-length-6 : tie.Need-same-length-6
-same-length-6 c = search needs
+same-length-3 : tie.Need-same-length-3
+same-length-3 c = search needs
 
 returns-3 : tie.Need-returns-3
 returns-3 c =
-    c .judge-table .ensures ∙ sym (verdict-on (c .before .before .before .before .before .before .before .before .before .before .before .before .before .before .before .before .args .arena .now) (c .before .before .before .before .before .before .before .before .before .before .before .before .before .before .before .before .args .t) (c .before .before .before .before .before .before .before .before .before .before .before .before .before .before .before .before .pre .0 .0) (sym (c .before .before .before .before .before .before .before .before .before .before .sound-in .ensures .0) ∙ not-false _ (c .before .before .before .before .before .if1 .left)) (sym (c .before .before .before .before .well-formed .ensures) ∙ not-false _ (c .before .before .before .if2 .left)))
+    let e2 = c .before .before .before .before in
+    let e1 = e2 .before .before in
+    let r = e1 .before .before .before in
+    let s = r .before .before .before .before in
+    c .judge-table .ensures ∙ sym (verdict-on (s .args .arena .now) (s .args .t) (s .pre .0 .0) (sym (r .sound-in .ensures .0) ∙ not-false _ (e1 .if1 .left)) (sym (e2 .before .well-formed .ensures) ∙ not-false _ (e2 .if2 .left)))
 
 pub check-in-spec : {M : Type 1} → statement M
 check-in-spec =
@@ -54,13 +89,14 @@ check-in-spec =
     (tie.spec
     sound-in-requires
     same-length
-    same-length-2
     returns
     well-formed-requires
-    same-length-3
-    same-length-4
+    same-length-2
     returns-2
+    slice-aggregate-judge-table
+    sub-judge-table
+    part-judge-table-start
+    part-judge-table-end
     judge-table-requires
-    same-length-5
-    same-length-6
+    same-length-3
     returns-3)

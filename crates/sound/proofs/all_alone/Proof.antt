@@ -8,40 +8,37 @@ use borrow.Author.Tests.{not-true, not-false}
 use Rattle.base.specs.Count.{allTo}
 use Rattle.base.proofs.Counts.{allTo-more, allTo-false}
 use Rattle.arena.specs.Blocks.{blocks}
-use Rattle.sound.specs.Chain.{Chains, alone}
-use Rattle.sound.proofs.Chains.{chains-none}
+use Rattle.sound.specs.Chain.{Chains, firsts, nexts, alone}
+use Rattle.sound.proofs.Chains.{chains-none, getD-firsts}
 use Rattle.sound.proofs.all_alone.Statement.{statement}
 use Rattle.sound.proofs.all_alone.Tie as tie
 
 abbrev Inv-loop : tie.InvT-loop
-Inv-loop arena first₀ next₀ n k₀ first next k =
-    (k ≤ n) × (allTo (alone arena) k ≡ true) × Chains arena first next k × (length first ≡ length first₀) × (length next ≡ length next₀)
+Inv-loop arena chains₀ n k₀ chains k =
+    (k ≤ n) × (allTo (alone arena) k ≡ true) × Chains arena (firsts chains) (nexts chains) k × (length chains ≡ length chains₀)
 
 abbrev μ-loop : tie.MeasureT-loop
-μ-loop arena first₀ next₀ n k₀ first next k = n - k
+μ-loop arena chains₀ n k₀ chains k = n - k
 
 loop-holds : tie.Need-loop-holds Inv-loop μ-loop
 unfolding allTo
-loop-holds c = (zero-le, refl, chains-none _ _ _ (c .before .before .before .pre .1), refl, refl)
+loop-holds c =
+    let s = c .before .before in
+    (zero-le, refl, chains-none _ _ _ (λ h l. getD-firsts (s .args .chains .now) h l ∙ s .pre .1 h l), refl)
 
 add-block-requires : tie.Need-add-block-requires Inv-loop μ-loop
-add-block-requires c κs = ((omega arith, (omega arith, (omega arith, omega arith))), c .before .before .before .loop .inv .2)
+add-block-requires c κs = ((omega arith, (omega arith, omega arith)), c .before .before .loop .inv .2)
 
 same-length : tie.Need-same-length Inv-loop μ-loop
 same-length c =
-    let r = c .before .before .before .before .before in
-    r .add-block .kept .1 .0 ∙ r .before .before .before .before .loop .inv .3
-
-same-length-2 : tie.Need-same-length-2 Inv-loop μ-loop
-same-length-2 c =
-    let r = c .before .before .before .before .before in
-    r .add-block .kept .1 .1 .0 ∙ r .before .before .before .before .loop .inv .4
+    let r = c .before .before .before in
+    r .add-block .kept .1 .0 ∙ r .before .before .before .loop .inv .3
 
 returns : tie.Need-returns Inv-loop μ-loop
 returns c =
-    let r = c .before .before .before .before .before in
-    let l = r .before .before .before .before in
-    let a = l .before .before .before .before .args .arena .now in (
+    let r = c .before .before .before in
+    let l = r .before .before .before in
+    let a = l .before .before .before .args .arena .now in (
       sym (allTo-false (alone a) (blocks a) (l .loop .k) (omega arith) (sym (r .add-block .ensures .0) ∙ not-true _ (c .if1 .taken))),
       λ e. absurd (true≢false (sym e)),
     )
@@ -54,28 +51,24 @@ loop-less c = omega arith
 
 loop-again : tie.Need-loop-again Inv-loop μ-loop
 loop-again c =
-    let r = c .before .before .before .before .before in
-    let l = r .before .before .before .before in
+    let r = c .before .before .before in
+    let l = r .before .before .before in
     let t : r .add-block .result ≡ true = not-false _ (c .if1 .left) in (
       omega arith,
       allTo-more _ _ (l .loop .inv .1) (sym (r .add-block .ensures .0) ∙ t),
       r .add-block .ensures .1 t,
       r .add-block .kept .1 .0 ∙ l .loop .inv .3,
-      r .add-block .kept .1 .1 .0 ∙ l .loop .inv .4,
     )
 
-same-length-3 : tie.Need-same-length-3 Inv-loop μ-loop
-same-length-3 c = c .before .loop .inv .3
-
-same-length-4 : tie.Need-same-length-4 Inv-loop μ-loop
-same-length-4 c = c .before .loop .inv .4
+same-length-2 : tie.Need-same-length-2 Inv-loop μ-loop
+same-length-2 c = c .before .loop .inv .3
 
 returns-2 : tie.Need-returns-2 Inv-loop μ-loop
 returns-2 c =
     let l = c .before in
-    let a = l .before .before .before .before .args .arena .now in
+    let a = l .before .before .before .args .arena .now in
     let e : l .loop .k ≡ blocks a = omega arith in
-    (sym (l .loop .inv .1) ∙ ap (allTo (alone a)) e, λ _. subst (λ (n : ℕ). Chains a (l .loop .first) (l .loop .next) n) e (l .loop .inv .2))
+    (sym (l .loop .inv .1) ∙ ap (allTo (alone a)) e, λ _. subst (λ (n : ℕ). Chains a (firsts (l .loop .chains)) (nexts (l .loop .chains)) n) e (l .loop .inv .2))
 
 pub all-alone-spec : {M : Type 1} → statement M
 all-alone-spec =
@@ -86,11 +79,9 @@ all-alone-spec =
     loop-holds
     add-block-requires
     same-length
-    same-length-2
     returns
     add-k
     loop-less
     loop-again
-    same-length-3
-    same-length-4
+    same-length-2
     returns-2)
