@@ -41,6 +41,26 @@ touched-one pos n l h = touched-is pos n l ∙ omega arith
 touched-two : (pos n : ℕ) → 0 < n → n ≤ 480 → pos / 480 < (pos + n - 1) / 480 → touched pos n ≡ suc (suc zero)
 touched-two pos n l m h = touched-is pos n l ∙ omega arith
 
+-- how many: at most two, and only one where the run stays in one block
+pub touched-few : (pos n : ℕ) → n ≤ 480 → touched pos n ≤ 2
+unfolding touched
+touched-few pos zero m = omega arith
+touched-few pos (suc n) m = omega arith
+
+pub touched-within : (pos n : ℕ) → pos % 480 + n ≤ 480 → touched pos n ≤ 1
+unfolding touched
+touched-within pos zero m = omega arith
+touched-within pos (suc n) m = omega arith
+
+-- a byte touches a block, and bytes in two blocks touch both
+pub touched-first : (pos n : ℕ) → 0 < n → 1 ≤ touched pos n
+unfolding touched
+touched-first pos zero l = absurd (omega arith)
+touched-first pos (suc n) l = omega arith
+
+pub touched-last : (pos n : ℕ) → 0 < n → pos / 480 < (pos + n - 1) / 480 → 2 ≤ touched pos n
+touched-last pos n l h = let e = touched-is pos n l in omega arith
+
 module _ (v : List ℕ) (f : File) (pos : ℕ) (src : List ℕ) where
   -- no bytes: the length alone
   pub put-none : length src ≡ 0 → putTo v f pos src (touched pos (length src)) ≡ done (raise v f (pos + length src))
@@ -78,25 +98,25 @@ pub did-after : {a w u t v : List ℕ} {m n r : ℕ} (f : List ℕ → Out (List
 did-after f k c l d = did-next {o = done _} f k (record { is = ap done (sym (c .is)); fine = c .fine; room = c .room }) l d
 
 -- after the length was raised: no bytes, or one or two blocks
-pub did-put-none : {a w u : List ℕ} (f : File) (pos : ℕ) (src : List ℕ) → length src ≡ 0 → Changed a w u (raise (view a w) f (pos + length src)) 1 → Did (putTo (view a w) f pos src (touched pos (length src))) a w u 3 0
-did-put-none {a = a} {w = w} f pos src e c = went (put-none (view a w) f pos src e) (changed-more 3 (omega arith) c)
+pub did-put-none : {a w u : List ℕ} (f : File) (pos : ℕ) (src : List ℕ) → length src ≡ 0 → Changed a w u (raise (view a w) f (pos + length src)) 1 → Did (putTo (view a w) f pos src (touched pos (length src))) a w u (1 + touched pos (length src)) 0
+did-put-none {a = a} {w = w} f pos src e c = went (put-none (view a w) f pos src e) (changed-more (1 + touched pos (length src)) (omega arith) c)
 
 pub did-put-two : {a w u t : List ℕ} {r : ℕ} (f : File) (pos : ℕ) (src : List ℕ) → 0 < length src → length src ≤ 480 → Changed a w u (raise (view a w) f (pos + length src)) 1
-    → Did (bind (putBlock (view a u) f pos src (pos / 480)) (λ d. pick (ltb (pos / 480) ((pos + length src - 1) / 480)) (putBlock d f pos src ((pos + length src - 1) / 480)) (done d))) a u t 2 r
-    → Did (putTo (view a w) f pos src (touched pos (length src))) a w t 3 r
+    → Did (bind (putBlock (view a u) f pos src (pos / 480)) (λ d. pick (ltb (pos / 480) ((pos + length src - 1) / 480)) (putBlock d f pos src ((pos + length src - 1) / 480)) (done d))) a u t (touched pos (length src)) r
+    → Did (putTo (view a w) f pos src (touched pos (length src))) a w t (1 + touched pos (length src)) r
 did-put-two {a = a} {w = w} f pos src l m c d =
     rw (put-two (view a w) f pos src l m)
-    (did-after (λ x. bind (putBlock x f pos src (pos / 480)) (λ d. pick (ltb (pos / 480) ((pos + length src - 1) / 480)) (putBlock d f pos src ((pos + length src - 1) / 480)) (done d))) 3 c (omega arith) d)
+    (did-after (λ x. bind (putBlock x f pos src (pos / 480)) (λ d. pick (ltb (pos / 480) ((pos + length src - 1) / 480)) (putBlock d f pos src ((pos + length src - 1) / 480)) (done d))) (1 + touched pos (length src)) c (omega arith) d)
 
 module _ (a w u : List ℕ) (f : File) (pos : ℕ) (src : List ℕ) where
-  pub did-missing : there (view a w) f ≡ false → Did (putFile (view a w) f pos src) a w u 3 19
+  pub did-missing : there (view a w) f ≡ false → Did (putFile (view a w) f pos src) a w u (1 + touched pos (length src)) 19
   unfolding putFile
   did-missing e = stuck {r = 19} (omega arith) (rw e)
 
-  pub did-long : there (view a w) f ≡ true → 4294967295 < pos + length src → Did (putFile (view a w) f pos src) a w u 3 17
+  pub did-long : there (view a w) f ≡ true → 4294967295 < pos + length src → Did (putFile (view a w) f pos src) a w u (1 + touched pos (length src)) 17
   unfolding putFile
   did-long e l = stuck {r = 17} (omega arith) (rw (e, lt-leb (pos + length src) 4294967295 l))
 
-  pub did-put : {r : ℕ} → there (view a w) f ≡ true → pos + length src ≤ 4294967295 → Did (putTo (view a w) f pos src (touched pos (length src))) a w u 3 r → Did (putFile (view a w) f pos src) a w u 3 r
+  pub did-put : {r : ℕ} → there (view a w) f ≡ true → pos + length src ≤ 4294967295 → Did (putTo (view a w) f pos src (touched pos (length src))) a w u (1 + touched pos (length src)) r → Did (putFile (view a w) f pos src) a w u (1 + touched pos (length src)) r
   unfolding putFile
   did-put e l d = rw (e, le-leb (pos + length src) 4294967295 l) d

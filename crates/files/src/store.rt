@@ -156,9 +156,9 @@ fn put_block(
 
 // The blocks that src touches, in rising order: a run of at most 480 bytes touches one or two.
 fn put_blocks(arena: &[u8], work: &mut [u8], which: u8, name: &[u8], pos: usize, src: &[u8]) -> u8
-    requires { ⌜ Fine (now arena) (now work) × (2 ≤ left (now work)) ⌝ }
+    requires { ⌜ Fine (now arena) (now work) × (touched pos (length (now src)) ≤ left (now work)) ⌝ }
     requires { ⌜ (length (now name) ≡ 16) × ((pos + length (now src) ≤ 4294967295) × ((0 < length (now src)) × (length (now src) ≤ 480))) ⌝ }
-    ensures { λ r. ⌜ Did (bind (putBlock (view (now (arena .entry)) (now (work .entry))) (file which (now (name .entry))) pos (now (src .entry)) (pos / 480)) (λ d. pick (ltb (pos / 480) ((pos + length (now (src .entry)) - 1) / 480)) (putBlock d (file which (now (name .entry))) pos (now (src .entry)) ((pos + length (now (src .entry)) - 1) / 480)) (done d))) (now (arena .entry)) (now (work .entry)) (now (work .exit)) 2 r ⌝ }
+    ensures { λ r. ⌜ Did (bind (putBlock (view (now (arena .entry)) (now (work .entry))) (file which (now (name .entry))) pos (now (src .entry)) (pos / 480)) (λ d. pick (ltb (pos / 480) ((pos + length (now (src .entry)) - 1) / 480)) (putBlock d (file which (now (name .entry))) pos (now (src .entry)) ((pos + length (now (src .entry)) - 1) / 480)) (done d))) (now (arena .entry)) (now (work .entry)) (now (work .exit)) (touched pos (length (now (src .entry)))) r ⌝ }
 {
     let first = pos / 480;
     let last = (pos + src.len() - 1) / 480;
@@ -182,10 +182,10 @@ fn put_at(
     pos: usize,
     src: &[u8],
 ) -> u8
-    requires { ⌜ Fine (now arena) (now work) × (3 ≤ left (now work)) ⌝ }
+    requires { ⌜ Fine (now arena) (now work) × (1 + touched pos (length (now src)) ≤ left (now work)) ⌝ }
     requires { ⌜ (length (now name) ≡ 16) × ((pos + length (now src) ≤ 4294967295) × (length (now src) ≤ 480)) ⌝ }
     requires { ⌜ (k ≡ headOf (view (now arena) (now work)) (file which (now name))) × (k < blocks (now arena)) ⌝ }
-    ensures { λ r. ⌜ Did (putTo (view (now (arena .entry)) (now (work .entry))) (file which (now (name .entry))) pos (now (src .entry)) (touched pos (length (now (src .entry))))) (now (arena .entry)) (now (work .entry)) (now (work .exit)) 3 r ⌝ }
+    ensures { λ r. ⌜ Did (putTo (view (now (arena .entry)) (now (work .entry))) (file which (now (name .entry))) pos (now (src .entry)) (touched pos (length (now (src .entry))))) (now (arena .entry)) (now (work .entry)) (now (work .exit)) (1 + touched pos (length (now (src .entry)))) r ⌝ }
 {
     raise(arena, work, k, (pos + src.len()) as u32);
     if src.len() == 0 {
@@ -196,9 +196,9 @@ fn put_at(
 
 // src at pos of the file: 19 where it is missing, 17 where the end passes the longest length or no block is free.
 pub fn put(arena: &[u8], work: &mut [u8], which: u8, name: &[u8], pos: usize, src: &[u8]) -> u8
-    requires { ⌜ Fine (now arena) (now work) × (3 ≤ left (now work)) ⌝ }
+    requires { ⌜ Fine (now arena) (now work) × (1 + touched pos (length (now src)) ≤ left (now work)) ⌝ }
     requires { ⌜ (length (now name) ≡ 16) × (length (now src) ≤ 480) ⌝ }
-    ensures { λ r. ⌜ Did (putFile (view (now (arena .entry)) (now (work .entry))) (file which (now (name .entry))) pos (now (src .entry))) (now (arena .entry)) (now (work .entry)) (now (work .exit)) 3 r ⌝ }
+    ensures { λ r. ⌜ Did (putFile (view (now (arena .entry)) (now (work .entry))) (file which (now (name .entry))) pos (now (src .entry))) (now (arena .entry)) (now (work .entry)) (now (work .exit)) (1 + touched pos (length (now (src .entry)))) r ⌝ }
 {
     let k = find_head(arena, &work[..], which, name);
     if k >= arena.len() / 512 {

@@ -17,8 +17,9 @@ use Rattle.structs.proofs.Layouts.{entryBytes-entryOf}
 use Rattle.arena.specs.Fields.{file}
 use Rattle.overlay.specs.View.{view, Fine}
 use Rattle.overlay.specs.Steps.{Did}
-use Rattle.overlay.proofs.Chains.{did-well, did-ill}
-use Rattle.files.specs.Store.{putFile, cutFile, longest}
+use Rattle.overlay.proofs.Chains.{did-well, did-ill, did-more}
+use Rattle.files.specs.Store.{putFile, cutFile, longest, touched}
+use Rattle.files.proofs.Puts.{touched-few}
 use Rattle.table.specs.Table.{rowAt}
 use Rattle.sefs.specs.State.{Fs, withArena}
 use Rattle.sefs.specs.Records.{withLinks, withBlocks}
@@ -34,12 +35,13 @@ use Rattle.folders.proofs.States.{did-stepped}
 -- ---- a slot written
 
 pub put-slot-did : (a w u m : List ℕ) (i k p r : ℕ) (l name : List ℕ) (rec : DiskINode) → Whole m → length l ≡ 264 → rec ≡ rowAt (tableIn m) i .rec → name ≡ rec .file → p ≡ min k 16777216
-    → Did (putFile (view a w) (file 1 name) (264 * p) l) a w u 3 r → Stepped (putSlot (fsOf a w m) i k l) a w u m 3 r
+    → Did (putFile (view a w) (file 1 name) (264 * p) l) a w u (1 + touched (264 * p) (length l)) r → Stepped (putSlot (fsOf a w m) i k l) a w u m 3 r
 unfolding putSlot fsOf
 put-slot-did a w u m i k p r l name rec h s e c q d =
     let f = rowAt (tableIn m) i .rec in
     let z : putFile (view a w) (file 1 name) (264 * p) l ≡ putFile (view a w) (nodeFile f) (264 * k) l = ap (λ (x : List ℕ). putFile (view a w) (file 1 x) (264 * p) l) (c ∙ ap (λ (x : DiskINode). x .file) e) ∙ put-held (view a w) (nodeFile f) k p l s q in
-    did-stepped m h (subst (λ (o : Out (List ℕ)). Did o a w u 3 r) z d)
+    let n = touched-few (264 * p) (length l) (omega arith) in
+    did-stepped m h (subst (λ (o : Out (List ℕ)). Did o a w u 3 r) z (did-more 3 (omega arith) d))
 
 -- another name for its bytes
 pub put-slot-as : {a w u m l t : List ℕ} {r : ℕ} (i k : ℕ) → l ≡ t → Stepped (putSlot (fsOf a w m) i k l) a w u m 3 r → Stepped (putSlot (fsOf a w m) i k t) a w u m 3 r

@@ -277,8 +277,8 @@ pub fn dirent_node_remove(
     c: usize,
     k: usize,
 ) -> u8
-    requires { ⌜ Ready (now arena) (now work) (now mem) × ((23 ≤ left (now work)) × ((i < 34) × (c < 34))) ⌝ }
-    ensures { λ r. ⌜ Stepped (direntNodeRemove (fsOf (now (arena .entry)) (now (work .entry)) (now (mem .entry))) i c k) (now (arena .entry)) (now (work .entry)) (now (work .exit)) (now (mem .exit)) 23 r ⌝ }
+    requires { ⌜ Ready (now arena) (now work) (now mem) × ((18 ≤ left (now work)) × ((i < 34) × (c < 34))) ⌝ }
+    ensures { λ r. ⌜ Stepped (direntNodeRemove (fsOf (now (arena .entry)) (now (work .entry)) (now (mem .entry))) i c k) (now (arena .entry)) (now (work .entry)) (now (work .exit)) (now (mem .exit)) 18 r ⌝ }
 {
     let r = dirent_remove(arena, work, mem, i, k);
     if r != 0 {

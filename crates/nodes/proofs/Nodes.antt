@@ -10,6 +10,7 @@ use Rattle.base.specs.Out.{Out, done, refused, bind, guard, Went, well, ill}
 use Rattle.base.specs.Parts.{part}
 use Rattle.base.specs.Search.{pick}
 use Rattle.base.specs.declared.Found.the-variants.{Nothing}
+use Rattle.base.proofs.Lists.{length-part}
 use Rattle.base.proofs.Outs.{above-zero, went-is, went-has, went-not, went-weaken}
 use Rattle.le.specs.Le.{Bytes}
 use Rattle.structs.specs.Layout.{recordOf}
@@ -19,9 +20,10 @@ use Rattle.table.specs.Table.{rowAt, rowOf, freeRow, withDirty, freeRowAt, rowU
 use Rattle.arena.specs.Fields.{file}
 use Rattle.overlay.specs.View.{view}
 use Rattle.overlay.specs.Steps.{Did}
-use Rattle.overlay.proofs.Chains.{did-well, did-ill}
+use Rattle.overlay.proofs.Chains.{did-well, did-ill, did-more}
 use Rattle.files.specs.Read.{there, readFile}
-use Rattle.files.specs.Store.{putFile, makeFile, dropFile}
+use Rattle.files.specs.Store.{putFile, makeFile, dropFile, touched}
+use Rattle.files.proofs.Puts.{touched-few}
 use Rattle.sefs.specs.State.{Fs, withArena, withTable}
 use Rattle.sefs.specs.Records.{newRecord}
 use Rattle.sefs.specs.Meta.{Allocated, metaFile, syncMeta, allocBlock, freeBlock}
@@ -76,17 +78,24 @@ module _ (s : Fs) (kind mode : ℕ) (time : Timespec) (name : List ℕ) where
 
 -- ---- a record is stored
 
-module _ (a w u m : List ℕ) (i r : ℕ) (b : Bytes m) (size : length m ≡ 4899) (l : i < 34) (d : Did (putFile (view a w) metaFile (128 * rowAt (tableIn m) i .id) (part m (117 * i + 5) (117 * i + 5 + 112))) a w u 3 r) where
+module _ (a w u m : List ℕ) (i r : ℕ) (b : Bytes m) (size : length m ≡ 4899) (l : i < 34) (d : Did (putFile (view a w) metaFile (128 * rowAt (tableIn m) i .id) (part m (117 * i + 5) (117 * i + 5 + 112))) a w u (1 + touched (128 * rowAt (tableIn m) i .id) (length (part m (117 * i + 5) (117 * i + 5 + 112)))) r) where
   store-is : storeRow (fsOf a w m) i ≡ bind (putFile (view a w) metaFile (128 * rowAt (tableIn m) i .id) (part m (117 * i + 5) (117 * i + 5 + 112))) (λ d. done (withTable (withArena (fsOf a w m) d) (withDirty (tableIn m) i false)))
   unfolding storeRow fsOf
   store-is = rw (row-bytes m i b size l)
 
+  -- a record may lie in two blocks
+  row-did : Did (putFile (view a w) metaFile (128 * rowAt (tableIn m) i .id) (part m (117 * i + 5) (117 * i + 5 + 112))) a w u 3 r
+  row-did =
+      let n = length-part m (117 * i + 5) (117 * i + 5 + 112) (omega arith) (omega arith) in
+      let k = touched-few (128 * rowAt (tableIn m) i .id) (length (part m (117 * i + 5) (117 * i + 5 + 112))) (omega arith) in
+      did-more 3 (omega arith) d
+
   pub store-stop : (n : List ℕ) → (r ≡ 0 → ⊥) → Stepped (storeRow (fsOf a w m) i) a w u n 3 r
   store-stop n z =
-      rw store-is (did-stops (λ d. done (withTable (withArena (fsOf a w m) d) (withDirty (tableIn m) i false))) (fsOf a u n) (Still a w u n 3) z d)
+      rw store-is (did-stops (λ d. done (withTable (withArena (fsOf a w m) d) (withDirty (tableIn m) i false))) (fsOf a u n) (Still a w u n 3) z row-did)
 
   pub store-done : (n : List ℕ) → r ≡ 0 → Tabled m n (withDirty (tableIn m) i false) → Stepped (storeRow (fsOf a w m) i) a w u n 3 0
-  store-done n z c = rw store-is (did-tabled d z c)
+  store-done n z c = rw store-is (did-tabled row-did z c)
 
 pub row-dirty : (a w m : List ℕ) (i : ℕ) → rowAt (tableIn m) i .dirty ≡ true → syncRow (fsOf a w m) i ≡ storeRow (fsOf a w m) i
 unfolding syncRow fsOf
@@ -102,24 +111,24 @@ row-clean a w m i h = rw h
 removed : ℕ → Fs → Out Fs
 removed i s = bind (dropFile (s .arena) (nodeFile (recAt s i))) (λ a. done (withArena s a))
 
-module _ (a w u m : List ℕ) (i r : ℕ) (d : Stepped (syncMeta (fsOf a w m)) a w u m 15 r) where
-  pub remove-stop : (t n : List ℕ) → (r ≡ 0 → ⊥) → Stepped (removeNode (fsOf a w m) i) a w t n 15 r
+module _ (a w u m : List ℕ) (i r : ℕ) (d : Stepped (syncMeta (fsOf a w m)) a w u m 10 r) where
+  pub remove-stop : (t n : List ℕ) → (r ≡ 0 → ⊥) → Stepped (removeNode (fsOf a w m) i) a w t n 10 r
   unfolding removeNode
   remove-stop t n z = ill (above-zero r z) (rw (went-not d z))
 
-  pub remove-done : (t : List ℕ) (q : ℕ) → r ≡ 0 → Did (dropFile (view a u) (file 1 (rowAt (tableIn m) i .rec .file))) a u t 0 q → Stepped (removeNode (fsOf a w m) i) a w t m 15 q
+  pub remove-done : (t : List ℕ) (q : ℕ) → r ≡ 0 → Did (dropFile (view a u) (file 1 (rowAt (tableIn m) i .rec .file))) a u t 0 q → Stepped (removeNode (fsOf a w m) i) a w t m 10 q
   unfolding removeNode removed fsOf
-  remove-done t q z e = step-next 15 (removed i) (omega arith) z d (did-step (went-has d z .whole) e)
+  remove-done t q z e = step-next 10 (removed i) (omega arith) z d (did-step (went-has d z .whole) e)
 
 module _ (a w m n : List ℕ) (i r : ℕ) (d : Went (freeBlock (fsOf a w m) (rowAt (tableIn m) i .id)) (fsOf a w n) (Whole n) r) where
   free-is : freeNode (fsOf a w m) i ≡ bind (freeBlock (fsOf a w m) (rowAt (tableIn m) i .id)) (λ s. removeNode s i)
   unfolding freeNode removeNode fsOf
   free-is = refl
 
-  pub free-stop : (t p : List ℕ) → (r ≡ 0 → ⊥) → Stepped (freeNode (fsOf a w m) i) a w t p 15 r
+  pub free-stop : (t p : List ℕ) → (r ≡ 0 → ⊥) → Stepped (freeNode (fsOf a w m) i) a w t p 10 r
   free-stop t p z = rw free-is (ill (above-zero r z) (rw (went-not d z)))
 
-  pub free-done : (t : List ℕ) (q : ℕ) → r ≡ 0 → Stepped (removeNode (fsOf a w n) i) a w t n 15 q → Stepped (freeNode (fsOf a w m) i) a w t n 15 q
+  pub free-done : (t : List ℕ) (q : ℕ) → r ≡ 0 → Stepped (removeNode (fsOf a w n) i) a w t n 10 q → Stepped (freeNode (fsOf a w m) i) a w t n 10 q
   free-done t q z e = rw free-is (mem-next (λ s. removeNode s i) z d e)
 
 -- a node without links
@@ -139,21 +148,21 @@ module _ (a w u m n : List ℕ) (i r : ℕ) (d : Stepped (syncRow (fsOf a w m) i
   unfolding dropNode unlinked cleared
   drop-is = refl
 
-  pub drop-stop : (t p : List ℕ) → (r ≡ 0 → ⊥) → Stepped (dropNode (fsOf a w m) i) a w t p 18 r
+  pub drop-stop : (t p : List ℕ) → (r ≡ 0 → ⊥) → Stepped (dropNode (fsOf a w m) i) a w t p 13 r
   drop-stop t p z = rw drop-is (ill (above-zero r z) (rw (went-not d z)))
 
-  module _ (t p : List ℕ) (q : ℕ) (e : Stepped (pick (eqb (rowAt (tableIn n) i .rec .nlinks) 0) (freeNode (fsOf a u n) i) (done (fsOf a u n))) a u t p 15 q) where
-    unlink-step : Stepped (unlinked i (fsOf a u n)) a u t p 15 q
+  module _ (t p : List ℕ) (q : ℕ) (e : Stepped (pick (eqb (rowAt (tableIn n) i .rec .nlinks) 0) (freeNode (fsOf a u n) i) (done (fsOf a u n))) a u t p 10 q) where
+    unlink-step : Stepped (unlinked i (fsOf a u n)) a u t p 10 q
     unfolding unlinked fsOf
     unlink-step = e
 
-    pub drop-stuck : (x y : List ℕ) → r ≡ 0 → (q ≡ 0 → ⊥) → Stepped (dropNode (fsOf a w m) i) a w x y 18 q
+    pub drop-stuck : (x y : List ℕ) → r ≡ 0 → (q ≡ 0 → ⊥) → Stepped (dropNode (fsOf a w m) i) a w x y 13 q
     drop-stuck x y z k = rw (drop-is, went-is d z) (ill (above-zero q k) (rw (went-not unlink-step k)))
 
-    pub drop-done : (y : List ℕ) → r ≡ 0 → q ≡ 0 → Tabled p y (freeRowAt (tableIn p) i) → Stepped (dropNode (fsOf a w m) i) a w t y 18 0
+    pub drop-done : (y : List ℕ) → r ≡ 0 → q ≡ 0 → Tabled p y (freeRowAt (tableIn p) i) → Stepped (dropNode (fsOf a w m) i) a w t y 13 0
     drop-done y z k c =
         let f : Stepped (cleared i (fsOf a t p)) a t t y 0 0 = well (cleared-is a t p y i c) (record { fine = went-has unlink-step k .fine; whole = c .whole; room = omega arith }) in
-        rw drop-is (step-next 18 (λ s. bind (unlinked i s) (cleared i)) (omega arith) z d (step-next 15 (cleared i) (omega arith) k unlink-step f))
+        rw drop-is (step-next 13 (λ s. bind (unlinked i s) (cleared i)) (omega arith) z d (step-next 10 (cleared i) (omega arith) k unlink-step f))
 
 -- an opening ends
 

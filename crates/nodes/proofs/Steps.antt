@@ -2,20 +2,22 @@
 use mathlib.Core.Path.{_≡_, refl, ap, _∙_, sym, subst}
 use mathlib.Core.Bool.{false}
 use mathlib.Core.List.{List}
-use Prim.Native.Nat.{ℕ, suc, _+_, _*_, _≤_, _<_}
+use Prim.Native.Nat.{ℕ, suc, _+_, _*_, _≤_, _<_, _/_}
 use native.Mathlib.Numerals.{add-one}
 use native.Mathlib.Omega.{arith}
 use lib.ListN.{length, getD}
 use lib.Dec.{eqb}
 use Rattle.base.specs.Out.{Out, done, refused, bind, Went, well, ill}
 use Rattle.base.specs.Parts.{part}
+use Rattle.base.proofs.Lists.{length-part}
 use Rattle.base.proofs.Outs.{bind-assoc, above-zero, went-is, went-has, went-next, went-weaken}
 use Rattle.le.specs.Le.{Bytes}
 use Rattle.table.specs.declared.Table.{Table}
 use Rattle.overlay.specs.View.{view, Fine}
 use Rattle.overlay.specs.Steps.{Did, went, stuck}
-use Rattle.overlay.proofs.Chains.{Well, did-well, did-ill, did-next, did-stop}
-use Rattle.files.specs.Store.{putFile}
+use Rattle.overlay.proofs.Chains.{Well, did-well, did-ill, did-more, did-next, did-stop}
+use Rattle.files.specs.Store.{putFile, touched}
+use Rattle.files.proofs.Puts.{touched-within}
 use Rattle.sefs.specs.State.{Fs, Meta, withArena, withTable, withMeta}
 use Rattle.sefs.specs.Meta.{metaFile, mapAt, storeMaps, syncMeta}
 use Rattle.mem.specs.Mem.{superIn, mapsIn, Whole, Tabled, Mapped}
@@ -82,23 +84,27 @@ mem-next f z d e = went-next f (went-is d z) e
 
 -- ---- the maps stored, group after group
 
+-- a map lies in one block of its file
+pub map-touches : (g pos n : ℕ) → g < 4 → pos ≡ mapAt g → n ≡ 128 → touched pos n ≤ 1
+map-touches g pos n l e h = let q : 273 * g ≤ pos / 480 = omega arith in touched-within pos n (omega arith)
+
 stores-suc : (a maps : List ℕ) (n : ℕ) → storeMaps a maps (suc n) ≡ bind (storeMaps a maps n) (λ d. putFile d metaFile (mapAt n) (part maps (128 * n) (128 * n + 128)))
 unfolding storeMaps
 stores-suc a maps n = refl
 
-pub stores-none : (a w maps : List ℕ) → Fine a w → Well (storeMaps (view a w) maps 0) a w w (3 * 0)
+pub stores-none : (a w maps : List ℕ) → Fine a w → Well (storeMaps (view a w) maps 0) a w w (2 * 0)
 unfolding storeMaps
 stores-none a w maps f = record { is = refl; fine = f; room = omega arith }
 
-module _ (a w u t maps : List ℕ) (g r : ℕ) (so-far : Well (storeMaps (view a w) maps g) a w u (3 * g)) (d : Did (putFile (view a u) metaFile (mapAt g) (part maps (128 * g) (128 * g + 128))) a u t 3 r) where
-  next-stores : Did (storeMaps (view a w) maps (g + 1)) a w t (3 * (g + 1)) r
+module _ (a w u t maps : List ℕ) (g r : ℕ) (so-far : Well (storeMaps (view a w) maps g) a w u (2 * g)) (d : Did (putFile (view a u) metaFile (mapAt g) (part maps (128 * g) (128 * g + 128))) a u t 2 r) where
+  next-stores : Did (storeMaps (view a w) maps (g + 1)) a w t (2 * (g + 1)) r
   next-stores =
       let e : storeMaps (view a w) maps (g + 1) ≡ bind (storeMaps (view a w) maps g) (λ d. putFile d metaFile (mapAt g) (part maps (128 * g) (128 * g + 128))) = ap (storeMaps (view a w) maps) (add-one g) ∙ stores-suc (view a w) maps g in
-      subst (λ (o : Out (List ℕ)). Did o a w t (3 * (g + 1)) r) (sym e)
-      (did-next (λ d. putFile d metaFile (mapAt g) (part maps (128 * g) (128 * g + 128))) (3 * (g + 1)) so-far (omega arith) d)
+      subst (λ (o : Out (List ℕ)). Did o a w t (2 * (g + 1)) r) (sym e)
+      (did-next (λ d. putFile d metaFile (mapAt g) (part maps (128 * g) (128 * g + 128))) (2 * (g + 1)) so-far (omega arith) d)
 
   -- one map more
-  pub stores-turn : r ≡ 0 → Well (storeMaps (view a w) maps (g + 1)) a w t (3 * (g + 1))
+  pub stores-turn : r ≡ 0 → Well (storeMaps (view a w) maps (g + 1)) a w t (2 * (g + 1))
   stores-turn z = did-well next-stores z
 
   -- a map that cannot be stored
@@ -126,11 +132,17 @@ pub sync-none : (a w m : List ℕ) → eqb (getD m 4370 0) 1 ≡ false → syncM
 unfolding syncMeta fsOf
 sync-none a w m h = rw (meta-none m h)
 
-module _ (a w u m : List ℕ) (r : ℕ) (b : Bytes m) (h : Whole m) (f : getD m 4370 0 ≡ 1) (d : Did (putFile (view a w) metaFile 0 (part m 4371 4387)) a w u 3 r) where
-  pub sync-stop : (r ≡ 0 → ⊥) → Stepped (syncMeta (fsOf a w m)) a w u m 15 r
-  sync-stop z = rw (sync-is a w m b (h .size) f) (did-step h (did-stop (λ d. storeMaps d (mapsIn m) (superIn m .groups)) u 15 z d))
+module _ (a w u m : List ℕ) (r : ℕ) (b : Bytes m) (h : Whole m) (f : getD m 4370 0 ≡ 1) (d : Did (putFile (view a w) metaFile 0 (part m 4371 4387)) a w u (1 + touched 0 (length (part m 4371 4387))) r) where
+  super-did : Did (putFile (view a w) metaFile 0 (part m 4371 4387)) a w u 2 r
+  super-did =
+      let n = length-part m 4371 4387 (omega arith) (omega (arith, h .size)) in
+      let l = touched-within 0 (length (part m 4371 4387)) (omega arith) in
+      did-more 2 (omega arith) d
 
-  pub sync-done : (t : List ℕ) (q : ℕ) → r ≡ 0 → Did (storeMaps (view a u) (mapsIn m) (superIn m .groups)) a u t (3 * superIn m .groups) q → Stepped (syncMeta (fsOf a w m)) a w t m 15 q
+  pub sync-stop : (r ≡ 0 → ⊥) → Stepped (syncMeta (fsOf a w m)) a w u m 10 r
+  sync-stop z = rw (sync-is a w m b (h .size) f) (did-step h (did-stop (λ d. storeMaps d (mapsIn m) (superIn m .groups)) u 10 z super-did))
+
+  pub sync-done : (t : List ℕ) (q : ℕ) → r ≡ 0 → Did (storeMaps (view a u) (mapsIn m) (superIn m .groups)) a u t (2 * superIn m .groups) q → Stepped (syncMeta (fsOf a w m)) a w t m 10 q
   sync-done t q z e =
       rw (sync-is a w m b (h .size) f)
-      (did-step h (did-next (λ d. storeMaps d (mapsIn m) (superIn m .groups)) 15 (did-well d z) (omega (arith, h .few f)) e))
+      (did-step h (did-next (λ d. storeMaps d (mapsIn m) (superIn m .groups)) 10 (did-well super-did z) (omega (arith, h .few f)) e))

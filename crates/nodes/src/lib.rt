@@ -252,8 +252,8 @@ fn drop_file(arena: &[u8], work: &mut [u8], name: [u8; 16]) -> u8
 
 // The id is free: superblock and maps are stored, and the file is removed.
 fn remove_node(arena: &[u8], work: &mut [u8], mem: &[u8], i: usize) -> u8
-    requires { ⌜ Ready (now arena) (now work) (now mem) × ((15 ≤ left (now work)) × (i < 34)) ⌝ }
-    ensures { λ r. ⌜ Stepped (removeNode (fsOf (now (arena .entry)) (now (work .entry)) (now (mem .entry))) i) (now (arena .entry)) (now (work .entry)) (now (work .exit)) (now (mem .entry)) 15 r ⌝ }
+    requires { ⌜ Ready (now arena) (now work) (now mem) × ((10 ≤ left (now work)) × (i < 34)) ⌝ }
+    ensures { λ r. ⌜ Stepped (removeNode (fsOf (now (arena .entry)) (now (work .entry)) (now (mem .entry))) i) (now (arena .entry)) (now (work .entry)) (now (work .exit)) (now (mem .entry)) 10 r ⌝ }
 {
     let r = sync_meta(arena, work, mem);
     if r != 0 {
@@ -264,8 +264,8 @@ fn remove_node(arena: &[u8], work: &mut [u8], mem: &[u8], i: usize) -> u8
 }
 
 fn free_node(arena: &[u8], work: &mut [u8], mem: &mut [u8], i: usize) -> u8
-    requires { ⌜ Ready (now arena) (now work) (now mem) × ((15 ≤ left (now work)) × (i < 34)) ⌝ }
-    ensures { λ r. ⌜ Stepped (freeNode (fsOf (now (arena .entry)) (now (work .entry)) (now (mem .entry))) i) (now (arena .entry)) (now (work .entry)) (now (work .exit)) (now (mem .exit)) 15 r ⌝ }
+    requires { ⌜ Ready (now arena) (now work) (now mem) × ((10 ≤ left (now work)) × (i < 34)) ⌝ }
+    ensures { λ r. ⌜ Stepped (freeNode (fsOf (now (arena .entry)) (now (work .entry)) (now (mem .entry))) i) (now (arena .entry)) (now (work .entry)) (now (work .exit)) (now (mem .exit)) 10 r ⌝ }
 {
     let r = free_block(mem, id_at(&mem[..], i));
     if r != 0 {
@@ -275,8 +275,8 @@ fn free_node(arena: &[u8], work: &mut [u8], mem: &mut [u8], i: usize) -> u8
 }
 
 fn free_unlinked(arena: &[u8], work: &mut [u8], mem: &mut [u8], i: usize) -> u8
-    requires { ⌜ Ready (now arena) (now work) (now mem) × ((15 ≤ left (now work)) × (i < 34)) ⌝ }
-    ensures { λ r. ⌜ Stepped (pick (eqb (rowAt (tableIn (now (mem .entry))) i .rec .nlinks) 0) (freeNode (fsOf (now (arena .entry)) (now (work .entry)) (now (mem .entry))) i) (done (fsOf (now (arena .entry)) (now (work .entry)) (now (mem .entry))))) (now (arena .entry)) (now (work .entry)) (now (work .exit)) (now (mem .exit)) 15 r ⌝ }
+    requires { ⌜ Ready (now arena) (now work) (now mem) × ((10 ≤ left (now work)) × (i < 34)) ⌝ }
+    ensures { λ r. ⌜ Stepped (pick (eqb (rowAt (tableIn (now (mem .entry))) i .rec .nlinks) 0) (freeNode (fsOf (now (arena .entry)) (now (work .entry)) (now (mem .entry))) i) (done (fsOf (now (arena .entry)) (now (work .entry)) (now (mem .entry))))) (now (arena .entry)) (now (work .entry)) (now (work .exit)) (now (mem .exit)) 10 r ⌝ }
 {
     if rec_at(&mem[..], i).nlinks == 0 {
         return free_node(arena, work, mem, i);
@@ -285,8 +285,8 @@ fn free_unlinked(arena: &[u8], work: &mut [u8], mem: &mut [u8], i: usize) -> u8
 }
 
 pub fn drop_node(arena: &[u8], work: &mut [u8], mem: &mut [u8], i: usize) -> u8
-    requires { ⌜ Ready (now arena) (now work) (now mem) × ((18 ≤ left (now work)) × (i < 34)) ⌝ }
-    ensures { λ r. ⌜ Stepped (dropNode (fsOf (now (arena .entry)) (now (work .entry)) (now (mem .entry))) i) (now (arena .entry)) (now (work .entry)) (now (work .exit)) (now (mem .exit)) 18 r ⌝ }
+    requires { ⌜ Ready (now arena) (now work) (now mem) × ((13 ≤ left (now work)) × (i < 34)) ⌝ }
+    ensures { λ r. ⌜ Stepped (dropNode (fsOf (now (arena .entry)) (now (work .entry)) (now (mem .entry))) i) (now (arena .entry)) (now (work .entry)) (now (work .exit)) (now (mem .exit)) 13 r ⌝ }
 {
     let r = sync_row(arena, work, mem, i);
     if r != 0 {
@@ -302,8 +302,8 @@ pub fn drop_node(arena: &[u8], work: &mut [u8], mem: &mut [u8], i: usize) -> u8
 
 // An operation's own opening ends: where nobody holds the node, it is dropped.
 pub fn release(arena: &[u8], work: &mut [u8], mem: &mut [u8], i: usize) -> u8
-    requires { ⌜ Ready (now arena) (now work) (now mem) × ((18 ≤ left (now work)) × (i < 34)) ⌝ }
-    ensures { λ r. ⌜ Stepped (releaseNode (fsOf (now (arena .entry)) (now (work .entry)) (now (mem .entry))) i) (now (arena .entry)) (now (work .entry)) (now (work .exit)) (now (mem .exit)) 18 r ⌝ }
+    requires { ⌜ Ready (now arena) (now work) (now mem) × ((13 ≤ left (now work)) × (i < 34)) ⌝ }
+    ensures { λ r. ⌜ Stepped (releaseNode (fsOf (now (arena .entry)) (now (work .entry)) (now (mem .entry))) i) (now (arena .entry)) (now (work .entry)) (now (work .exit)) (now (mem .exit)) 13 r ⌝ }
 {
     if row_held(&mem[..], i) {
         return 0;

@@ -123,18 +123,18 @@ pub fn load_meta<'a>(arena: &'a [u8], work: &'a [u8], mem: &mut [u8])
 // ---- storing: superblock first, then the maps of all groups in rising order
 
 fn store_map(arena: &[u8], work: &mut [u8], mem: &[u8], g: usize) -> u8
-    requires { ⌜ Ready (now arena) (now work) (now mem) × (3 ≤ left (now work)) ⌝ }
+    requires { ⌜ Ready (now arena) (now work) (now mem) × (2 ≤ left (now work)) ⌝ }
     requires { ⌜ (getD (now mem) 4370 0 ≡ 1) × (g < superIn (now mem) .groups) ⌝ }
-    ensures { λ r. ⌜ Did (putFile (view (now (arena .entry)) (now (work .entry))) metaFile (mapAt g) (part (mapsIn (now (mem .entry))) (128 * g) (128 * g + 128))) (now (arena .entry)) (now (work .entry)) (now (work .exit)) 3 r ⌝ }
+    ensures { λ r. ⌜ Did (putFile (view (now (arena .entry)) (now (work .entry))) metaFile (mapAt g) (part (mapsIn (now (mem .entry))) (128 * g) (128 * g + 128))) (now (arena .entry)) (now (work .entry)) (now (work .exit)) 2 r ⌝ }
 {
     let meta = [0u8; 16];
     put(arena, work, 0, &meta, map_at(g), map_bytes(mem, g))
 }
 
 fn store_maps(arena: &[u8], work: &mut [u8], mem: &[u8], n: usize) -> u8
-    requires { ⌜ Ready (now arena) (now work) (now mem) × (3 * n ≤ left (now work)) ⌝ }
+    requires { ⌜ Ready (now arena) (now work) (now mem) × (2 * n ≤ left (now work)) ⌝ }
     requires { ⌜ (getD (now mem) 4370 0 ≡ 1) × (n ≤ superIn (now mem) .groups) ⌝ }
-    ensures { λ r. ⌜ Did (storeMaps (view (now (arena .entry)) (now (work .entry))) (mapsIn (now (mem .entry))) n) (now (arena .entry)) (now (work .entry)) (now (work .exit)) (3 * n) r ⌝ }
+    ensures { λ r. ⌜ Did (storeMaps (view (now (arena .entry)) (now (work .entry))) (mapsIn (now (mem .entry))) n) (now (arena .entry)) (now (work .entry)) (now (work .exit)) (2 * n) r ⌝ }
 {
     let mut g: usize = 0;
     while g < n {
@@ -148,8 +148,8 @@ fn store_maps(arena: &[u8], work: &mut [u8], mem: &[u8], n: usize) -> u8
 }
 
 pub fn sync_meta(arena: &[u8], work: &mut [u8], mem: &[u8]) -> u8
-    requires { ⌜ Ready (now arena) (now work) (now mem) × (15 ≤ left (now work)) ⌝ }
-    ensures { λ r. ⌜ Stepped (syncMeta (fsOf (now (arena .entry)) (now (work .entry)) (now (mem .entry)))) (now (arena .entry)) (now (work .entry)) (now (work .exit)) (now (mem .entry)) 15 r ⌝ }
+    requires { ⌜ Ready (now arena) (now work) (now mem) × (10 ≤ left (now work)) ⌝ }
+    ensures { λ r. ⌜ Stepped (syncMeta (fsOf (now (arena .entry)) (now (work .entry)) (now (mem .entry)))) (now (arena .entry)) (now (work .entry)) (now (work .exit)) (now (mem .entry)) 10 r ⌝ }
 {
     if !has_meta(mem) {
         return 19;

@@ -39,6 +39,10 @@ did-room : {o : Out (List ℕ)} {a w u t : List ℕ} {n r : ℕ} (m k : ℕ) →
 did-room m k l h (went e c) = went e (record { is = c .is; fine = c .fine; room = omega (arith, c .room) })
 did-room m k l h (stuck g e) = stuck g e
 
+-- at most so many are at most more
+pub did-more : {o : Out (List ℕ)} {a w u : List ℕ} {n r : ℕ} (m : ℕ) → n ≤ m → Did o a w u n r → Did o a w u m r
+did-more m l d = did-room 0 m (omega arith) (omega arith) d
+
 pub did-next : {o : Out (List ℕ)} {a w u t : List ℕ} {m n r : ℕ} (f : List ℕ → Out (List ℕ)) (k : ℕ) → Well o a w u m → m + n ≤ k → Did (f (view a u)) a u t n r → Did (bind o f) a w t k r
 did-next {m = m} f k w l d = rw (w .is) (did-room m k (w .room) l d)
 

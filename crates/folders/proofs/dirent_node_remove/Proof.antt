@@ -43,7 +43,7 @@ returns-2 c =
     let g = c .before .before .before .before .before .before .before .before .before .before .dirent-remove .ensures in
     let z = c .before .before .before .before .before .if1 .left in
     rw (← (node-remove-is _ (s .args .i) (s .args .c) (s .args .k)))
-    (stepped-next {k = 0} (λ t. bind (bind (nlinksDec t (s .args .c)) (λ t. unlinkDots t (s .args .i) (s .args .c))) (λ t. release t (s .args .c))) 5 23 (went-is g z) (went-has g z) (went-stop _ _ (c .if2 .taken) (c .before .before .before .unname .ensures _ _)) (omega arith))
+    (stepped-next {k = 0} (λ t. bind (bind (nlinksDec t (s .args .c)) (λ t. unlinkDots t (s .args .i) (s .args .c))) (λ t. release t (s .args .c))) 5 18 (went-is g z) (went-has g z) (went-stop _ _ (c .if2 .taken) (c .before .before .before .unname .ensures _ _)) (omega arith))
 
 release-requires : tie.Need-release-requires
 release-requires c κs =
@@ -65,8 +65,8 @@ returns-3 c =
     let h = mem-stepped 0 (went-has g z .fine) (c .before .before .before .before .before .before .before .before .before .before .unname .ensures _ _) in
     let y = c .before .before .before .before .before .before .before .if2 .left in
     rw (← (node-remove-is _ (s .args .i) (s .args .c) (s .args .k)))
-    (stepped-next (λ t. bind (bind (nlinksDec t (s .args .c)) (λ t. unlinkDots t (s .args .i) (s .args .c))) (λ t. release t (s .args .c))) 5 23 (went-is g z) (went-has g z)
-    (stepped-next (λ t. release t (s .args .c)) 0 18 (went-is h y) (went-has h y) (c .before .before .before .before .release .ensures) (omega arith)) (omega arith))
+    (stepped-next (λ t. bind (bind (nlinksDec t (s .args .c)) (λ t. unlinkDots t (s .args .i) (s .args .c))) (λ t. release t (s .args .c))) 5 18 (went-is g z) (went-has g z)
+    (stepped-next (λ t. release t (s .args .c)) 0 13 (went-is h y) (went-has h y) (c .before .before .before .before .release .ensures) (omega arith)) (omega arith))
 
 pub dirent-node-remove-spec : {M : Type 1} → statement M
 dirent-node-remove-spec =

@@ -1,6 +1,10 @@
 -- `folders::put_slot`: the store of the slot, in the file of the row.
-use Rattle.folders.proofs.Folders.{put-slot-did}
+use Prim.Native.Nat.{_*_}
+use native.Mathlib.Omega.{arith}
+use lib.ListN.{length}
 use borrow.Author.Needs.{needs}
+use Rattle.files.proofs.Puts.{touched-few}
+use Rattle.folders.proofs.Folders.{put-slot-did}
 use Rattle.folders.proofs.put_slot.Statement.{statement}
 use Rattle.folders.proofs.put_slot.Tie as tie
 
@@ -20,7 +24,10 @@ mul-put : tie.Need-mul-put
 mul-put c = search needs
 
 put-requires : tie.Need-put-requires
-put-requires c κs = search needs
+put-requires c κs =
+    let s = c .before .before .before .before .before .before .before .before .before in
+    let n = touched-few (264 * c .least .result) (length (s .args .slot .now)) (omega arith) in
+    ((s .pre .0 .fine, omega (arith, n)), (search needs, omega arith))
 
 same-length : tie.Need-same-length
 same-length c = search needs

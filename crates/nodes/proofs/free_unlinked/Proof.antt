@@ -34,7 +34,7 @@ returns-2 : tie.Need-returns-2
 returns-2 c =
     let s = c .before .before .before .before .before .before .before in
     let z : rowAt (tableIn (s .args .mem .now)) (s .args .i) .rec .nlinks ≡ 0 → ⊥ = rw (← (c .before .before .rec-at .ensures)) (c .if1 .left) in
-    rw (ne-eqb (rowAt (tableIn (s .args .mem .now)) (s .args .i) .rec .nlinks) 0 z) (well refl (still-none 15 (s .pre .0 .fine) (s .pre .0 .whole)))
+    rw (ne-eqb (rowAt (tableIn (s .args .mem .now)) (s .args .i) .rec .nlinks) 0 z) (well refl (still-none 10 (s .pre .0 .fine) (s .pre .0 .whole)))
 
 pub free-unlinked-spec : {M : Type 1} → statement M
 free-unlinked-spec =

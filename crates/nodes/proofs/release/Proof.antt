@@ -16,7 +16,7 @@ same-length c = search needs
 returns : tie.Need-returns
 returns c =
     let s = c .before .before .before .before .before .before in
-    rw (release-held (s .args .arena .now) (s .args .work .now) (s .args .mem .now) (s .args .i) (sym (c .before .row-held .ensures) ∙ c .if1 .taken)) (well refl (still-none 18 (s .pre .0 .fine) (s .pre .0 .whole)))
+    rw (release-held (s .args .arena .now) (s .args .work .now) (s .args .mem .now) (s .args .i) (sym (c .before .row-held .ensures) ∙ c .if1 .taken)) (well refl (still-none 13 (s .pre .0 .fine) (s .pre .0 .whole)))
 
 drop-node-requires : tie.Need-drop-node-requires
 drop-node-requires c κs = search needs

@@ -1,5 +1,12 @@
 -- `nodes::store_row`: the record's bytes in memory are those that are stored.
+use mathlib.Core.Path.{refl}
+use Prim.Native.Nat.{_+_, _*_}
+use native.Mathlib.Omega.{arith}
+use lib.ListN.{length}
 use borrow.Author.Needs.{needs}
+use Rattle.base.specs.Parts.{part}
+use Rattle.base.proofs.Lists.{length-part}
+use Rattle.files.proofs.Puts.{touched-few}
 use Rattle.nodes.proofs.Nodes.{store-stop, store-done}
 use Rattle.nodes.proofs.store_row.Statement.{statement}
 use Rattle.nodes.proofs.store_row.Tie as tie
@@ -35,7 +42,12 @@ part-put-end : tie.Need-part-put-end
 part-put-end c = search needs
 
 put-requires : tie.Need-put-requires
-put-requires c κs = search needs
+put-requires c κs =
+    let s = c .before .before .before .before .before .before .before .before .before .before in
+    let l = 117 * s .args .i + 5 in
+    let n = length-part (s .args .mem .now) l (l + 112) (omega arith) (omega (arith, s .pre .0 .whole .size)) in
+    let k = touched-few (128 * c .before .before .before .before .index .result) (length (part (s .args .mem .now) l (l + 112))) (omega (arith, n)) in
+    ((s .pre .0 .fine, omega (arith, k)), (refl, omega (arith, n)))
 
 same-length : tie.Need-same-length
 same-length c = search needs

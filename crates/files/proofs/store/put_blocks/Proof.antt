@@ -10,8 +10,8 @@ use Rattle.base.specs.Out.{done}
 use Rattle.base.specs.Search.{pick}
 use Rattle.arena.specs.Fields.{file}
 use Rattle.overlay.proofs.Chains.{did-well, did-next, did-stop}
-use Rattle.files.specs.Store.{putBlock}
-use Rattle.files.proofs.Puts.{did-end}
+use Rattle.files.specs.Store.{putBlock, touched}
+use Rattle.files.proofs.Puts.{did-end, touched-first, touched-last}
 use Rattle.files.proofs.store.put_blocks.Statement.{statement}
 use Rattle.files.proofs.store.put_blocks.Tie as tie
 
@@ -22,7 +22,9 @@ sub-last : tie.Need-sub-last
 sub-last c = search needs
 
 put-block-requires : tie.Need-put-block-requires
-put-block-requires c κs = search needs
+put-block-requires c κs =
+    let s = c .before .before .before .before .before in
+    ((s .pre .0 .0, omega (arith, touched-first (s .args .pos) (length (s .args .src .now)) (s .pre .1 .1 .1 .0))), (s .pre .1 .0, (s .pre .1 .1 .0, (omega arith, omega arith))))
 
 same-length : tie.Need-same-length
 same-length c = search needs
@@ -30,7 +32,7 @@ same-length c = search needs
 returns : tie.Need-returns
 returns c =
     let s = c .before .before .before .before .before .before .before .before .before in
-    did-stop (λ d. pick (ltb (s .args .pos / 480) ((s .args .pos + length (s .args .src .now) - 1) / 480)) (putBlock d (file (s .args .which) (s .args .name .now)) (s .args .pos) (s .args .src .now) ((s .args .pos + length (s .args .src .now) - 1) / 480)) (done d)) _ 2 (c .if1 .taken) (c .before .before .before .put-block .ensures)
+    did-stop (λ d. pick (ltb (s .args .pos / 480) ((s .args .pos + length (s .args .src .now) - 1) / 480)) (putBlock d (file (s .args .which) (s .args .name .now)) (s .args .pos) (s .args .src .now) ((s .args .pos + length (s .args .src .now) - 1) / 480)) (done d)) _ (touched (s .args .pos) (length (s .args .src .now))) (c .if1 .taken) (c .before .before .before .put-block .ensures)
 
 same-length-2 : tie.Need-same-length-2
 same-length-2 c = search needs
@@ -40,14 +42,14 @@ returns-2 c =
     let e = c .before in
     let s = e .before .before .before .before .before .before .before .before .before in
     let W = did-well (e .before .before .before .put-block .ensures) (e .if1 .left) in
-    did-end (λ d. pick (ltb (s .args .pos / 480) ((s .args .pos + length (s .args .src .now) - 1) / 480)) (putBlock d (file (s .args .which) (s .args .name .now)) (s .args .pos) (s .args .src .now) ((s .args .pos + length (s .args .src .now) - 1) / 480)) (done d)) 2 W (omega arith) (rw (le-ltb _ _ (c .if2 .taken)) refl)
+    did-end (λ d. pick (ltb (s .args .pos / 480) ((s .args .pos + length (s .args .src .now) - 1) / 480)) (putBlock d (file (s .args .which) (s .args .name .now)) (s .args .pos) (s .args .src .now) ((s .args .pos + length (s .args .src .now) - 1) / 480)) (done d)) (touched (s .args .pos) (length (s .args .src .now))) W (touched-first _ _ (s .pre .1 .1 .1 .0)) (rw (le-ltb _ _ (c .if2 .taken)) refl)
 
 put-block-requires-2 : tie.Need-put-block-requires-2
 put-block-requires-2 c κs =
     let e = c .before .before in
     let s = e .before .before .before .before .before .before .before .before .before in
     let W = did-well (e .before .before .before .put-block .ensures) (e .if1 .left) in
-    ((W .fine, omega (arith, W .room)), (s .pre .1 .0, (s .pre .1 .1 .0, (omega arith, omega arith))))
+    ((W .fine, omega (arith, W .room, touched-last (s .args .pos) (length (s .args .src .now)) (s .pre .1 .1 .1 .0) (c .before .if2 .left))), (s .pre .1 .0, (s .pre .1 .1 .0, (omega arith, omega arith))))
 
 same-length-3 : tie.Need-same-length-3
 same-length-3 c = search needs
@@ -57,7 +59,7 @@ returns-3 c =
     let e = c .before .before .before .before .before in
     let s = e .before .before .before .before .before .before .before .before .before in
     let W = did-well (e .before .before .before .put-block .ensures) (e .if1 .left) in
-    did-next {n = 1} (λ d. pick (ltb (s .args .pos / 480) ((s .args .pos + length (s .args .src .now) - 1) / 480)) (putBlock d (file (s .args .which) (s .args .name .now)) (s .args .pos) (s .args .src .now) ((s .args .pos + length (s .args .src .now) - 1) / 480)) (done d)) 2 W (omega arith) (rw (lt-ltb _ _ (c .before .before .before .before .if2 .left)) (c .before .before .put-block2 .ensures))
+    did-next {n = 1} (λ d. pick (ltb (s .args .pos / 480) ((s .args .pos + length (s .args .src .now) - 1) / 480)) (putBlock d (file (s .args .which) (s .args .name .now)) (s .args .pos) (s .args .src .now) ((s .args .pos + length (s .args .src .now) - 1) / 480)) (done d)) (touched (s .args .pos) (length (s .args .src .now))) W (touched-last _ _ (s .pre .1 .1 .1 .0) (c .before .before .before .before .if2 .left)) (rw (lt-ltb _ _ (c .before .before .before .before .if2 .left)) (c .before .before .put-block2 .ensures))
 
 pub put-blocks-spec : {M : Type 1} → statement M
 put-blocks-spec =

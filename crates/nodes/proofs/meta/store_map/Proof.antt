@@ -5,7 +5,9 @@ use native.Mathlib.Omega.{arith}
 use lib.ListN.{length}
 use borrow.Author.Needs.{needs}
 use Rattle.base.proofs.Lists.{length-part}
+use Rattle.overlay.proofs.Chains.{did-more}
 use Rattle.nodes.proofs.Bytes.{map-part}
+use Rattle.nodes.proofs.Steps.{map-touches}
 use Rattle.nodes.proofs.meta.store_map.Statement.{statement}
 use Rattle.nodes.proofs.meta.store_map.Tie as tie
 
@@ -24,7 +26,8 @@ put-requires c κs =
     let m = s .args .mem .now in
     let l : s .args .g < 4 = omega (arith, s .pre .0 .0 .whole .few (s .pre .1 .0)) in
     let n = ap length (c .map-bytes .ensures) ∙ length-part m (4387 + 128 * s .args .g) (4387 + 128 * s .args .g + 128) (omega arith) (omega (arith, s .pre .0 .0 .whole .size)) in
-    ((s .pre .0 .0 .fine, s .pre .0 .1), (refl, omega arith))
+    let k = map-touches (s .args .g) (c .before .map-at .result) (length (c .map-bytes .result .now)) l (c .before .map-at .ensures) (n ∙ omega arith) in
+    ((s .pre .0 .0 .fine, omega (arith, k)), (refl, omega arith))
 
 same-length : tie.Need-same-length
 same-length c = search needs
@@ -32,7 +35,11 @@ same-length c = search needs
 returns : tie.Need-returns
 returns c =
     let s = c .before .before .before .before .before .before .before .before .before .before in
-    rw (map-part (s .args .mem .now) (s .args .g) (s .pre .1 .1), ← (c .before .before .before .map-bytes .ensures), ← (c .before .before .before .before .map-at .ensures)) (c .before .before .put .ensures)
+    let m = s .args .mem .now in
+    let l : s .args .g < 4 = omega (arith, s .pre .0 .0 .whole .few (s .pre .1 .0)) in
+    let n = ap length (c .before .before .before .map-bytes .ensures) ∙ length-part m (4387 + 128 * s .args .g) (4387 + 128 * s .args .g + 128) (omega arith) (omega (arith, s .pre .0 .0 .whole .size)) in
+    let k = map-touches (s .args .g) (c .before .before .before .before .map-at .result) (length (c .before .before .before .map-bytes .result .now)) l (c .before .before .before .before .map-at .ensures) (n ∙ omega arith) in
+    rw (map-part (s .args .mem .now) (s .args .g) (s .pre .1 .1), ← (c .before .before .before .map-bytes .ensures), ← (c .before .before .before .before .map-at .ensures)) (did-more 2 (omega (arith, k)) (c .before .before .put .ensures))
 
 pub store-map-spec : {M : Type 1} → statement M
 store-map-spec =

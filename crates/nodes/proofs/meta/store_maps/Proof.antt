@@ -12,7 +12,7 @@ use Rattle.nodes.proofs.meta.store_maps.Statement.{statement}
 use Rattle.nodes.proofs.meta.store_maps.Tie as tie
 
 abbrev Inv-loop : tie.InvT-loop
-Inv-loop arena work₀ mem n g₀ work g = (g ≤ n) × ((length work ≡ length work₀) × Well (storeMaps (view arena work₀) (mapsIn mem) g) arena work₀ work (3 * g))
+Inv-loop arena work₀ mem n g₀ work g = (g ≤ n) × ((length work ≡ length work₀) × Well (storeMaps (view arena work₀) (mapsIn mem) g) arena work₀ work (2 * g))
 
 abbrev μ-loop : tie.MeasureT-loop
 μ-loop arena work₀ mem n g₀ work g = n - g
@@ -33,7 +33,7 @@ returns : tie.Need-returns Inv-loop μ-loop
 returns c =
     let s = c .before .before .before .before .before .before .before .before .before .before in
     let l = c .before .before .before .before .before .before .loop in
-    stores-stop (s .args .arena .now) (s .args .work .now) (l .work) (c .before .before .before .store-map .last .1 .0) (mapsIn (s .args .mem .now)) (l .g) _ (l .inv .1 .1) (c .before .before .before .store-map .ensures) (s .args .n) (3 * s .args .n) (c .before .before .before .before .before .loop-test .taken) (c .if1 .taken)
+    stores-stop (s .args .arena .now) (s .args .work .now) (l .work) (c .before .before .before .store-map .last .1 .0) (mapsIn (s .args .mem .now)) (l .g) _ (l .inv .1 .1) (c .before .before .before .store-map .ensures) (s .args .n) (2 * s .args .n) (c .before .before .before .before .before .loop-test .taken) (c .if1 .taken)
 
 add-g : tie.Need-add-g Inv-loop μ-loop
 add-g c = omega arith

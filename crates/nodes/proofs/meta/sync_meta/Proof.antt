@@ -8,6 +8,7 @@ use Rattle.base.specs.Out.{ill}
 use Rattle.base.proofs.Lists.{length-part}
 use Rattle.structs.specs.declared.SuperBlock.{SuperBlock}
 use Rattle.overlay.proofs.Chains.{did-well}
+use Rattle.files.proofs.Puts.{touched-within}
 use Rattle.mem.specs.Mem.{superIn}
 use Rattle.nodes.proofs.Steps.{sync-none, sync-stop, sync-done}
 use Rattle.nodes.proofs.meta.sync_meta.Statement.{statement}
@@ -29,7 +30,8 @@ put-requires : tie.Need-put-requires
 put-requires c κs =
     let s = c .before .before .before .before .before .before .before .before in
     let n = ap length (c .super-bytes .ensures) ∙ length-part (s .args .mem .now) 4371 4387 (omega arith) (omega (arith, s .pre .0 .whole .size)) in
-    ((s .pre .0 .fine, omega (arith, s .pre .1)), (refl, omega arith))
+    let k = touched-within 0 (length (c .super-bytes .result .now)) (omega arith) in
+    ((s .pre .0 .fine, omega (arith, s .pre .1, k)), (refl, omega arith))
 
 same-length : tie.Need-same-length
 same-length c = search needs
@@ -53,7 +55,9 @@ store-maps-requires c κs =
     let k = eqb-true (getD m 4370 0) 1 (sym (c .before .before .before .before .before .before .before .before .before .before .before .has-meta .ensures) ∙ not-false _ (c .before .before .before .before .before .before .before .before .before .before .if1 .left)) in
     let e = did-well (c .before .before .before .before .before .before .put .ensures) (c .before .before .before .if2 .left) in
     let n : c .index .result ≡ superIn m .groups = c .index .ensures ∙ ap (λ (b : SuperBlock). b .groups) (c .before .before .super-at .ensures) in
-    ((record { fine = e .fine; whole = s .pre .0 .whole }, omega (arith, e .room, s .pre .1, s .pre .0 .whole .few k)), (k, omega arith))
+    let b = ap length (c .before .before .before .before .before .before .before .super-bytes .ensures) ∙ length-part m 4371 4387 (omega arith) (omega (arith, s .pre .0 .whole .size)) in
+    let l = touched-within 0 (length (c .before .before .before .before .before .before .before .super-bytes .result .now)) (omega (arith, b)) in
+    ((record { fine = e .fine; whole = s .pre .0 .whole }, omega (arith, e .room, s .pre .1, s .pre .0 .whole .few k, l)), (k, omega arith))
 
 same-length-2 : tie.Need-same-length-2
 same-length-2 c = search needs
