@@ -5,7 +5,7 @@ ghost use mathlib.Core.Bool.{true};
 ghost use Prim.Native.Nat.{ℕ, _≤_, _<_};
 ghost use lib.ListN.{length, getD};
 ghost use Rattle.arena.specs.Blocks.{blocks, legal};
-ghost use Rattle.mem.specs.Mem.{tableIn};
+ghost use Rattle.mem.specs.Mem.{tableIn, Whole};
 ghost use Rattle.rules.specs.Tests.{test3, test4, test5, test6};
 ghost use Rattle.fsck_read.specs.Given.{Led, Loaded, Of};
 ghost use Rattle.fsck.specs.Verdicts.{passOf, verdictOf, linksVerdict, filesVerdict, metaVerdict};
@@ -16,6 +16,7 @@ use fsck_read::count_nodes;
 use fsck_read::rule3;
 use fsck_read::rule4;
 use fsck_slots::rule6;
+use holds::well_formed;
 use mem::put_table;
 use mem::super_at;
 use table::Table;
@@ -85,36 +86,37 @@ fn judge_meta(arena: &[u8], first: &[u16], next: &[u16], mem: &mut [u8]) -> Verd
     judge_files(arena, first, next, &mem[..])
 }
 
-fn judge_table(arena: &[u8], first: &[u16], next: &[u16], t: Table) -> Verdict
-    requires { ⌜ Led (now arena) (now first) (now next) ⌝ }
-    ensures { λ r. ⌜ r ≡ metaVerdict (now (arena .entry)) t ⌝ }
-{
-    let mut mem = [0u8; 4899];
-    put_table(&mut mem, t);
-    judge_meta(arena, first, next, &mut mem)
-}
-
-fn check_in(arena: &[u8], chains: &mut [u16], t: Table) -> Verdict
-    requires { ⌜ (legal (now arena) ≡ true) × (length (now chains) ≡ 8192) ⌝ }
+fn check_in(arena: &[u8], chains: &mut [u16], mem: &mut [u8]) -> Verdict
+    requires { ⌜ (legal (now arena) ≡ true) × ((length (now chains) ≡ 8192) × Whole (now mem)) ⌝ }
     requires { ⌜ ((h : ℕ) → h < 4096 → getD (now chains) h 0 ≡ 0) ⌝ }
-    ensures { λ r. ⌜ r ≡ verdictOf (now (arena .entry)) t ⌝ }
+    ensures { λ r. ⌜ r ≡ verdictOf (now (arena .entry)) (tableIn (now (mem .entry))) ⌝ }
 {
     if !sound::sound_in(arena, chains) {
         return Verdict::Fail(1);
     }
-    if !table::well_formed(t) {
+    if !well_formed(&mem[..]) {
         return Verdict::Fail(2);
     }
     let c = &chains[..];
-    judge_table(arena, &c[..4096], &c[4096..], t)
+    judge_meta(arena, &c[..4096], &c[4096..], mem)
 }
 
-pub fn check(arena: &[u8], t: Table) -> Verdict
-    ensures { λ r. ⌜ r ≡ verdictOf (now (arena .entry)) t ⌝ }
+// The call on the table in memory.
+fn check_on(arena: &[u8], mem: &mut [u8]) -> Verdict
+    requires { ⌜ Whole (now mem) ⌝ }
+    ensures { λ r. ⌜ r ≡ verdictOf (now (arena .entry)) (tableIn (now (mem .entry))) ⌝ }
 {
     if !arena::legal(arena) {
         return Verdict::Fail(1);
     }
     let mut chains = [0u16; 8192];
-    check_in(arena, &mut chains, t)
+    check_in(arena, &mut chains, mem)
+}
+
+pub fn check(arena: &[u8], t: Table) -> Verdict
+    ensures { λ r. ⌜ r ≡ verdictOf (now (arena .entry)) t ⌝ }
+{
+    let mut mem = [0u8; 4899];
+    put_table(&mut mem, t);
+    check_on(arena, &mut mem)
 }
