@@ -22,7 +22,7 @@ use table::Table;
 
 // The node of row i is dropped. The workspace has no block yet, and memory has the table.
 fn drop_in(arena: &mut [u8], work: &mut [u8], mem: &mut [u8], i: usize) -> u8
-    requires { ⌜ Empty (now arena) (now work) 28 × ((length (now mem) ≡ 4899) × (i < 34)) ⌝ }
+    requires { ⌜ Empty (now arena) (now work) 23 × ((length (now mem) ≡ 4899) × (i < 34)) ⌝ }
     ensures { λ r. ⌜ Ended (ending (dropNode (start (now (arena .entry)) (tableIn (now (mem .entry)))) i)) (now (arena .entry)) (now (arena .exit)) (tableIn (now (mem .exit))) r ⌝ }
 {
     load_meta(&arena[..], &work[..], mem);
@@ -39,7 +39,7 @@ fn close_last(arena: &mut [u8], mem: &mut [u8], i: usize) -> u8
     requires { ⌜ (legal (now arena) ≡ true) × ((length (now mem) ≡ 4899) × (i < 34)) ⌝ }
     ensures { λ r. ⌜ Ended (ending (dropNode (start (now (arena .entry)) (tableIn (now (mem .entry)))) i)) (now (arena .entry)) (now (arena .exit)) (tableIn (now (mem .exit))) r ⌝ }
 {
-    let mut work = [0u8; 14336];
+    let mut work = [0u8; 11776];
     overlay::begin(&mut work);
     drop_in(arena, &mut work, mem, i)
 }

@@ -155,37 +155,37 @@ module _ {t : Fs} {P : Type 0} {r : ℕ} (s : Fs) (i c : ℕ) (g : Went (nlinksI
 
 -- ---- the stores
 
-module _ {a w u : List ℕ} {r : ℕ} (m : List ℕ) (i c : ℕ) (g : Stepped (syncMeta (fsOf a w m)) a w u m 15 r) where
-  pub all-stop : (t l : List ℕ) → (r ≡ 0 → ⊥) → Stepped (createSync (fsOf a w m) i c) a w t l 21 r
+module _ {a w u : List ℕ} {r : ℕ} (m : List ℕ) (i c : ℕ) (g : Stepped (syncMeta (fsOf a w m)) a w u m 10 r) where
+  pub all-stop : (t l : List ℕ) → (r ≡ 0 → ⊥) → Stepped (createSync (fsOf a w m) i c) a w t l 16 r
   unfolding createSync
   all-stop t l z = went-stop _ _ z g
 
-  pub all-done : {t l : List ℕ} {q : ℕ} → r ≡ 0 → Stepped (syncTwo (fsOf a u m) i c) a u t l 6 q → Stepped (createSync (fsOf a w m) i c) a w t l 21 q
+  pub all-done : {t l : List ℕ} {q : ℕ} → r ≡ 0 → Stepped (syncTwo (fsOf a u m) i c) a u t l 6 q → Stepped (createSync (fsOf a w m) i c) a w t l 16 q
   unfolding createSync
-  all-done z h = stepped-next (λ s. syncTwo s i c) 15 21 (went-is g z) (went-has g z) h (omega arith)
+  all-done z h = stepped-next (λ s. syncTwo s i c) 10 16 (went-is g z) (went-has g z) h (omega arith)
 
 -- ---- what comes after the node is made
 
 module _ {a w u n : List ℕ} {r : ℕ} (m name : List ℕ) (i c kind : ℕ) (g : Stepped (birth (fsOf a w m) i c kind) a w u n 6 r) where
-  pub rest-birth : (t l : List ℕ) → (r ≡ 0 → ⊥) → Stepped (createRest (fsOf a w m) i c name kind) a w t l 30 r
+  pub rest-birth : (t l : List ℕ) → (r ≡ 0 → ⊥) → Stepped (createRest (fsOf a w m) i c name kind) a w t l 25 r
   unfolding createRest
   rest-birth t l z = went-stop _ _ z g
 
   module _ {v p : List ℕ} {x : ℕ} (z : r ≡ 0) (h : Stepped (direntAppend (fsOf a u n) i (entry (idAt (fsOf a u n) c) name kind)) a u v p 3 x) where
-    pub rest-slot : (t l : List ℕ) → (x ≡ 0 → ⊥) → Stepped (createRest (fsOf a w m) i c name kind) a w t l 30 x
+    pub rest-slot : (t l : List ℕ) → (x ≡ 0 → ⊥) → Stepped (createRest (fsOf a w m) i c name kind) a w t l 25 x
     unfolding createRest
     rest-slot t l y = went-next _ (went-is g z) (went-stop _ _ y h)
 
     module _ {b : ℕ} (q : List ℕ) (y : x ≡ 0) (f : Went (named (fsOf a v p) i c kind) (fsOf a v q) (Whole q) b) where
-      pub rest-named : (t l : List ℕ) → (b ≡ 0 → ⊥) → Stepped (createRest (fsOf a w m) i c name kind) a w t l 30 b
+      pub rest-named : (t l : List ℕ) → (b ≡ 0 → ⊥) → Stepped (createRest (fsOf a w m) i c name kind) a w t l 25 b
       unfolding createRest
       rest-named t l o = went-next _ (went-is g z) (went-next _ (went-is h y) (went-stop _ _ o f))
 
-      pub rest-done : {t l : List ℕ} {d : ℕ} → b ≡ 0 → Stepped (createSync (fsOf a v q) i c) a v t l 21 d → Stepped (createRest (fsOf a w m) i c name kind) a w t l 30 d
+      pub rest-done : {t l : List ℕ} {d : ℕ} → b ≡ 0 → Stepped (createSync (fsOf a v q) i c) a v t l 16 d → Stepped (createRest (fsOf a w m) i c name kind) a w t l 25 d
       unfolding createRest
       rest-done o k =
-          stepped-next (λ s. bind (direntAppend s i (entry (idAt s c) name kind)) (λ s. bind (named s i c kind) (λ s. createSync s i c))) 6 30 (went-is g z) (went-has g z)
-          (stepped-next (λ s. bind (named s i c kind) (λ s. createSync s i c)) 3 24 (went-is h y) (went-has h y) (went-next _ (went-is f o) k) (omega arith)) (omega arith)
+          stepped-next (λ s. bind (direntAppend s i (entry (idAt s c) name kind)) (λ s. bind (named s i c kind) (λ s. createSync s i c))) 6 25 (went-is g z) (went-has g z)
+          (stepped-next (λ s. bind (named s i c kind) (λ s. createSync s i c)) 3 19 (went-is h y) (went-has h y) (went-next _ (went-is f o) k) (omega arith)) (omega arith)
 
 -- ---- the name, the file, the links and the table are free
 
@@ -220,11 +220,11 @@ module _ {a w u n : List ℕ} {c x : ℕ} (m name : List ℕ) (i kind mode : ℕ
   unfolding createMoves
   moves-stop v Q z = went-stop _ v z g
 
-  rested : {t l : List ℕ} {y : ℕ} → Stepped (createRest (fsOf a u n) i c name kind) a u t l 30 y → Went (bind (createRest (fsOf a u n) i c name kind) (λ s. done (opened s c))) (opened (fsOf a t l) c) (Still a u t l 30) y
+  rested : {t l : List ℕ} {y : ℕ} → Stepped (createRest (fsOf a u n) i c name kind) a u t l 25 y → Went (bind (createRest (fsOf a u n) i c name kind) (λ s. done (opened s c))) (opened (fsOf a t l) c) (Still a u t l 25) y
   rested (well e p) = well (rw e) p
   rested (ill l e) = ill l (rw e)
 
-  pub moves-done : {t l : List ℕ} {y : ℕ} → x ≡ 0 → Stepped (createRest (fsOf a u n) i c name kind) a u t l 30 y → Went (createMoves (fsOf a w m) i name kind mode time uuid) (opened (fsOf a t l) c) (Still a w t l 33 × (c < 34)) y
+  pub moves-done : {t l : List ℕ} {y : ℕ} → x ≡ 0 → Stepped (createRest (fsOf a u n) i c name kind) a u t l 25 y → Went (createMoves (fsOf a w m) i name kind mode time uuid) (opened (fsOf a t l) c) (Still a w t l 28 × (c < 34)) y
   unfolding createMoves
   moves-done z h =
       let p = went-has g z in

@@ -151,8 +151,8 @@ fn name_node(mem: &mut [u8], i: usize, c: usize, kind: u32) -> u8
 
 // Superblock and maps, the node's record, the folder's record.
 fn create_sync(arena: &[u8], work: &mut [u8], mem: &mut [u8], i: usize, c: usize) -> u8
-    requires { ⌜ Ready (now arena) (now work) (now mem) × ((21 ≤ left (now work)) × ((i < 34) × (c < 34))) ⌝ }
-    ensures { λ r. ⌜ Stepped (createSync (fsOf (now (arena .entry)) (now (work .entry)) (now (mem .entry))) i c) (now (arena .entry)) (now (work .entry)) (now (work .exit)) (now (mem .exit)) 21 r ⌝ }
+    requires { ⌜ Ready (now arena) (now work) (now mem) × ((16 ≤ left (now work)) × ((i < 34) × (c < 34))) ⌝ }
+    ensures { λ r. ⌜ Stepped (createSync (fsOf (now (arena .entry)) (now (work .entry)) (now (mem .entry))) i c) (now (arena .entry)) (now (work .entry)) (now (work .exit)) (now (mem .exit)) 16 r ⌝ }
 {
     let r = sync_meta(arena, work, &mem[..]);
     if r != 0 {
@@ -171,8 +171,8 @@ fn create_rest(
     name: &[u8],
     kind: u32,
 ) -> u8
-    requires { ⌜ Ready (now arena) (now work) (now mem) × ((30 ≤ left (now work)) × ((i < 34) × ((c < 34) × (length (now name) ≤ 255)))) ⌝ }
-    ensures { λ r. ⌜ Stepped (createRest (fsOf (now (arena .entry)) (now (work .entry)) (now (mem .entry))) i c (now (name .entry)) kind) (now (arena .entry)) (now (work .entry)) (now (work .exit)) (now (mem .exit)) 30 r ⌝ }
+    requires { ⌜ Ready (now arena) (now work) (now mem) × ((25 ≤ left (now work)) × ((i < 34) × ((c < 34) × (length (now name) ≤ 255)))) ⌝ }
+    ensures { λ r. ⌜ Stepped (createRest (fsOf (now (arena .entry)) (now (work .entry)) (now (mem .entry))) i c (now (name .entry)) kind) (now (arena .entry)) (now (work .entry)) (now (work .exit)) (now (mem .exit)) 25 r ⌝ }
 {
     let r = birth(arena, work, mem, i, c, kind);
     if r != 0 {
@@ -198,8 +198,8 @@ fn create_moves(
     name: &[u8],
     new: New,
 ) -> Opened
-    requires { ⌜ Ready (now arena) (now work) (now mem) × ((33 ≤ left (now work)) × ((i < 34) × (length (now name) ≤ 255))) ⌝ }
-    ensures { λ r. ⌜ Went (createMoves (fsOf (now (arena .entry)) (now (work .entry)) (now (mem .entry))) i (now (name .entry)) (new .kind) (new .mode) (new .time) (new .file)) (openedAs (fsOf (now (arena .entry)) (now (work .exit)) (now (mem .exit))) (r .row)) (Still (now (arena .entry)) (now (work .entry)) (now (work .exit)) (now (mem .exit)) 33 × (r .row < 34)) (r .reason) ⌝ }
+    requires { ⌜ Ready (now arena) (now work) (now mem) × ((28 ≤ left (now work)) × ((i < 34) × (length (now name) ≤ 255))) ⌝ }
+    ensures { λ r. ⌜ Went (createMoves (fsOf (now (arena .entry)) (now (work .entry)) (now (mem .entry))) i (now (name .entry)) (new .kind) (new .mode) (new .time) (new .file)) (openedAs (fsOf (now (arena .entry)) (now (work .exit)) (now (mem .exit))) (r .row)) (Still (now (arena .entry)) (now (work .entry)) (now (work .exit)) (now (mem .exit)) 28 × (r .row < 34)) (r .reason) ⌝ }
 {
     let time = new.time;
     let file = new.file;
@@ -223,8 +223,8 @@ fn create_work(
     new: New,
     room: bool,
 ) -> Opened
-    requires { ⌜ Ready (now arena) (now work) (now mem) × ((33 ≤ left (now work)) × (i < 34)) ⌝ }
-    ensures { λ r. ⌜ Went (createWork (fsOf (now (arena .entry)) (now (work .entry)) (now (mem .entry))) i (now (name .entry)) (new .kind) (new .mode) (new .time) (new .file) room) (openedAs (fsOf (now (arena .entry)) (now (work .exit)) (now (mem .exit))) (r .row)) (Still (now (arena .entry)) (now (work .entry)) (now (work .exit)) (now (mem .exit)) 33 × (r .row < 34)) (r .reason) ⌝ }
+    requires { ⌜ Ready (now arena) (now work) (now mem) × ((28 ≤ left (now work)) × (i < 34)) ⌝ }
+    ensures { λ r. ⌜ Went (createWork (fsOf (now (arena .entry)) (now (work .entry)) (now (mem .entry))) i (now (name .entry)) (new .kind) (new .mode) (new .time) (new .file) room) (openedAs (fsOf (now (arena .entry)) (now (work .exit)) (now (mem .exit))) (r .row)) (Still (now (arena .entry)) (now (work .entry)) (now (work .exit)) (now (mem .exit)) 28 × (r .row < 34)) (r .reason) ⌝ }
 {
     let rec = rec_at(&mem[..], i);
     let r = create_ask(rec, name, new.kind);
@@ -249,7 +249,7 @@ fn create_in(
     new: New,
     room: bool,
 ) -> Opened
-    requires { ⌜ Empty (now arena) (now work) 43 × ((length (now mem) ≡ 4899) × (i < 34)) ⌝ }
+    requires { ⌜ Empty (now arena) (now work) 38 × ((length (now mem) ≡ 4899) × (i < 34)) ⌝ }
     ensures { λ r. ⌜ EndedOpen (createWork (start (now (arena .entry)) (tableIn (now (mem .entry)))) i (now (name .entry)) (new .kind) (new .mode) (new .time) (new .file) room) (now (arena .entry)) (now (arena .exit)) (now (mem .exit)) (r .row) (r .reason) ⌝ }
 {
     load_meta(&arena[..], &work[..], mem);
@@ -273,7 +273,7 @@ fn create_begin(
     requires { ⌜ (legal (now arena) ≡ true) × ((length (now mem) ≡ 4899) × (i < 34)) ⌝ }
     ensures { λ r. ⌜ EndedOpen (createWork (start (now (arena .entry)) (tableIn (now (mem .entry)))) i (now (name .entry)) (new .kind) (new .mode) (new .time) (new .file) room) (now (arena .entry)) (now (arena .exit)) (now (mem .exit)) (r .row) (r .reason) ⌝ }
 {
-    let mut work = [0u8; 22016];
+    let mut work = [0u8; 19456];
     overlay::begin(&mut work);
     create_in(arena, &mut work, mem, i, name, new, room)
 }

@@ -44,14 +44,14 @@ module _ {a w u : List ℕ} {r : ℕ} (g : Did (makeFile (view a w) metaFile) a 
 
 -- ---- superblock and maps, and a record
 
-module _ {a w u n : List ℕ} {r : ℕ} (m : List ℕ) (i : ℕ) (g : Stepped (syncMeta (fsOf a w m)) a w u n 15 r) where
-  pub both-stop : (t l : List ℕ) → (r ≡ 0 → ⊥) → Stepped (syncBoth (fsOf a w m) i) a w t l 18 r
+module _ {a w u n : List ℕ} {r : ℕ} (m : List ℕ) (i : ℕ) (g : Stepped (syncMeta (fsOf a w m)) a w u n 10 r) where
+  pub both-stop : (t l : List ℕ) → (r ≡ 0 → ⊥) → Stepped (syncBoth (fsOf a w m) i) a w t l 13 r
   unfolding syncBoth
   both-stop t l z = went-stop _ _ z g
 
-  pub both-done : {t l : List ℕ} {q : ℕ} → r ≡ 0 → Stepped (syncRow (fsOf a u n) i) a u t l 3 q → Stepped (syncBoth (fsOf a w m) i) a w t l 18 q
+  pub both-done : {t l : List ℕ} {q : ℕ} → r ≡ 0 → Stepped (syncRow (fsOf a u n) i) a u t l 3 q → Stepped (syncBoth (fsOf a w m) i) a w t l 13 q
   unfolding syncBoth
-  both-done z h = stepped-next (λ s. syncRow s i) 15 18 (went-is g z) (went-has g z) h (omega arith)
+  both-done z h = stepped-next (λ s. syncRow s i) 10 13 (went-is g z) (went-has g z) h (omega arith)
 
 -- ---- the root's slots, count and record
 
@@ -59,23 +59,23 @@ module _ {a w u n : List ℕ} {r : ℕ} (m : List ℕ) (i id : ℕ) (k : id ≡ 
   slotted : Stepped (direntInit (fsOf a w m) i (idAt (fsOf a w m) i)) a w u n 6 r
   slotted = subst (λ (x : ℕ). Stepped (direntInit (fsOf a w m) i x) a w u n 6 r) k g
 
-  pub root-stop : (t l : List ℕ) → (r ≡ 0 → ⊥) → Stepped (fillRoot (fsOf a w m) i) a w t l 24 r
+  pub root-stop : (t l : List ℕ) → (r ≡ 0 → ⊥) → Stepped (fillRoot (fsOf a w m) i) a w t l 19 r
   unfolding fillRoot
   root-stop t l z = went-stop _ _ z slotted
 
   module _ {x : ℕ} (p : List ℕ) (h : Went (nameTwice (fsOf a u n) i) (fsOf a u p) (Whole p) x) (z : r ≡ 0) where
-    pub root-named : (t l : List ℕ) → (x ≡ 0 → ⊥) → Stepped (fillRoot (fsOf a w m) i) a w t l 24 x
+    pub root-named : (t l : List ℕ) → (x ≡ 0 → ⊥) → Stepped (fillRoot (fsOf a w m) i) a w t l 19 x
     unfolding fillRoot
     root-named t l y = went-next _ (went-is slotted z) (went-stop _ _ y h)
 
-    pub root-done : {t l : List ℕ} {q : ℕ} → x ≡ 0 → Stepped (syncBoth (fsOf a u p) i) a u t l 18 q → Stepped (fillRoot (fsOf a w m) i) a w t l 24 q
+    pub root-done : {t l : List ℕ} {q : ℕ} → x ≡ 0 → Stepped (syncBoth (fsOf a u p) i) a u t l 13 q → Stepped (fillRoot (fsOf a w m) i) a w t l 19 q
     unfolding fillRoot
-    root-done y d = stepped-next (λ s. bind (nameTwice s i) (λ s. syncBoth s i)) 6 24 (went-is slotted z) (went-has g z) (went-next _ (went-is h y) d) (omega arith)
+    root-done y d = stepped-next (λ s. bind (nameTwice s i) (λ s. syncBoth s i)) 6 19 (went-is slotted z) (went-has g z) (went-next _ (went-is h y) d) (omega arith)
 
 -- ---- the steps
 
 module _ {a w u : List ℕ} {r : ℕ} (m name : List ℕ) (time : Timespec) (g : Did (makeMeta (view a w)) a w u 3 r) where
-  pub work-stop : (t l : List ℕ) → (r ≡ 0 → ⊥) → Stepped (formatWork (fsOf a w m) time name) a w t l 30 r
+  pub work-stop : (t l : List ℕ) → (r ≡ 0 → ⊥) → Stepped (formatWork (fsOf a w m) time name) a w t l 25 r
   unfolding formatWork fsOf
   work-stop t l z = ill (above-zero r z) (rw (did-ill g z))
 
@@ -84,15 +84,15 @@ module _ {a w u : List ℕ} {r : ℕ} (m name : List ℕ) (time : Timespec) (g :
   work-on z = rw (did-well g z .is)
 
   module _ {t n : List ℕ} {x : ℕ} {row : ℕ} (z : r ≡ 0) (h : Went (newNode (fsOf a u m) typeDir 493 time name) (opened (fsOf a t n) row) (Still a u t n 3 × (row < 34)) x) where
-    pub work-node : (t l : List ℕ) → (x ≡ 0 → ⊥) → Stepped (formatWork (fsOf a w m) time name) a w t l 30 x
+    pub work-node : (t l : List ℕ) → (x ≡ 0 → ⊥) → Stepped (formatWork (fsOf a w m) time name) a w t l 25 x
     work-node t l y = ill (above-zero x y) (work-on z ∙ rw (went-not h y))
 
-    pub work-done : {s l : List ℕ} {q : ℕ} → x ≡ 0 → Stepped (fillRoot (fsOf a t n) row) a t s l 24 q → Stepped (formatWork (fsOf a w m) time name) a w s l 30 q
+    pub work-done : {s l : List ℕ} {q : ℕ} → x ≡ 0 → Stepped (fillRoot (fsOf a t n) row) a t s l 19 q → Stepped (formatWork (fsOf a w m) time name) a w s l 25 q
     work-done {s} {l} {q} y d =
         let e : formatWork (fsOf a w m) time name ≡ fillRoot (fsOf a t n) row = work-on z ∙ rw (went-is h y) in
         let c = did-well g z in
         let b = went-has h y .0 in
-        subst (λ (o : Out Fs). Stepped o a w s l 30 q) (sym e) (went-weaken (λ f. record { fine = f .fine; whole = f .whole; room = omega (arith, f .room, c .room, b .room) }) d)
+        subst (λ (o : Out Fs). Stepped o a w s l 25 q) (sym e) (went-weaken (λ f. record { fine = f .fine; whole = f .whole; room = omega (arith, f .room, c .room, b .room) }) d)
 
 -- ---- from zeros to what is written
 

@@ -69,8 +69,8 @@ fn name_twice(mem: &mut [u8], i: usize) -> u8
 }
 
 fn sync_both(arena: &[u8], work: &mut [u8], mem: &mut [u8], i: usize) -> u8
-    requires { ⌜ Ready (now arena) (now work) (now mem) × ((18 ≤ left (now work)) × (i < 34)) ⌝ }
-    ensures { λ r. ⌜ Stepped (syncBoth (fsOf (now (arena .entry)) (now (work .entry)) (now (mem .entry))) i) (now (arena .entry)) (now (work .entry)) (now (work .exit)) (now (mem .exit)) 18 r ⌝ }
+    requires { ⌜ Ready (now arena) (now work) (now mem) × ((13 ≤ left (now work)) × (i < 34)) ⌝ }
+    ensures { λ r. ⌜ Stepped (syncBoth (fsOf (now (arena .entry)) (now (work .entry)) (now (mem .entry))) i) (now (arena .entry)) (now (work .entry)) (now (work .exit)) (now (mem .exit)) 13 r ⌝ }
 {
     let r = sync_meta(arena, work, &mem[..]);
     if r != 0 {
@@ -81,8 +81,8 @@ fn sync_both(arena: &[u8], work: &mut [u8], mem: &mut [u8], i: usize) -> u8
 
 // The root is its own parent.
 fn fill_root(arena: &[u8], work: &mut [u8], mem: &mut [u8], i: usize) -> u8
-    requires { ⌜ Ready (now arena) (now work) (now mem) × ((24 ≤ left (now work)) × (i < 34)) ⌝ }
-    ensures { λ r. ⌜ Stepped (fillRoot (fsOf (now (arena .entry)) (now (work .entry)) (now (mem .entry))) i) (now (arena .entry)) (now (work .entry)) (now (work .exit)) (now (mem .exit)) 24 r ⌝ }
+    requires { ⌜ Ready (now arena) (now work) (now mem) × ((19 ≤ left (now work)) × (i < 34)) ⌝ }
+    ensures { λ r. ⌜ Stepped (fillRoot (fsOf (now (arena .entry)) (now (work .entry)) (now (mem .entry))) i) (now (arena .entry)) (now (work .entry)) (now (work .exit)) (now (mem .exit)) 19 r ⌝ }
 {
     let id = id_at(&mem[..], i);
     let r = dirent_init(arena, work, mem, i, id);
@@ -97,8 +97,8 @@ fn fill_root(arena: &[u8], work: &mut [u8], mem: &mut [u8], i: usize) -> u8
 }
 
 fn format_work(arena: &[u8], work: &mut [u8], mem: &mut [u8], time: Timespec, file: [u8; 16]) -> u8
-    requires { ⌜ Ready (now arena) (now work) (now mem) × (30 ≤ left (now work)) ⌝ }
-    ensures { λ r. ⌜ Stepped (formatWork (fsOf (now (arena .entry)) (now (work .entry)) (now (mem .entry))) time file) (now (arena .entry)) (now (work .entry)) (now (work .exit)) (now (mem .exit)) 30 r ⌝ }
+    requires { ⌜ Ready (now arena) (now work) (now mem) × (25 ≤ left (now work)) ⌝ }
+    ensures { λ r. ⌜ Stepped (formatWork (fsOf (now (arena .entry)) (now (work .entry)) (now (mem .entry))) time file) (now (arena .entry)) (now (work .entry)) (now (work .exit)) (now (mem .exit)) 25 r ⌝ }
 {
     let r = make_meta(arena, work);
     if r != 0 {
@@ -119,7 +119,7 @@ fn format_in(
     time: Timespec,
     file: [u8; 16],
 ) -> u8
-    requires { ⌜ Empty (now arena) (now work) 40 × Whole (now mem) ⌝ }
+    requires { ⌜ Empty (now arena) (now work) 35 × Whole (now mem) ⌝ }
     ensures { λ r. ⌜ Ended (emptied (formatWork (cleared (now (arena .entry)) (now (mem .entry))) time file)) (now (arena .entry)) (now (arena .exit)) emptyTable r ⌝ }
 {
     clear_all(&arena[..], work);
@@ -136,7 +136,7 @@ fn format_over(arena: &mut [u8], mem: &mut [u8], time: Timespec, file: [u8; 16])
     requires { ⌜ (legal (now arena) ≡ true) × Whole (now mem) ⌝ }
     ensures { λ r. ⌜ Ended (emptied (formatWork (cleared (now (arena .entry)) (now (mem .entry))) time file)) (now (arena .entry)) (now (arena .exit)) emptyTable r ⌝ }
 {
-    let mut work = [0u8; 20480];
+    let mut work = [0u8; 17920];
     overlay::begin(&mut work);
     format_in(arena, &mut work, mem, time, file)
 }

@@ -40,11 +40,11 @@ use Rattle.calls_move_steps.specs.Steps.{InRow, Typed, removeGone, withi
 -- ---- the replaced node
 
 module _ (a w m : List ℕ) (j : ℕ) (g : Gone) where
-  pub gone-free : g ≡ Free → Ready a w m → Stepped (removeGone (fsOf a w m) j g) a w w m 23 0
+  pub gone-free : g ≡ Free → Ready a w m → Stepped (removeGone (fsOf a w m) j g) a w w m 18 0
   unfolding removeGone
   gone-free e h = rw e (well refl (record { fine = h .fine; whole = h .whole; room = omega arith }))
 
-  pub gone-node : {u n : List ℕ} {r : ℕ} (d k : ℕ) → g ≡ Node d k → Stepped (direntNodeRemove (fsOf a w m) j d k) a w u n 23 r → Stepped (removeGone (fsOf a w m) j g) a w u n 23 r
+  pub gone-node : {u n : List ℕ} {r : ℕ} (d k : ℕ) → g ≡ Node d k → Stepped (direntNodeRemove (fsOf a w m) j d k) a w u n 18 r → Stepped (removeGone (fsOf a w m) j g) a w u n 18 r
   unfolding removeGone
   gone-node d k e h = rw e h
 
@@ -57,18 +57,18 @@ module _ {a w u : List ℕ} {r : ℕ} (m l : List ℕ) (i k : ℕ) (g : Gone) (b
   slotted : Stepped (putSlot (fsOf a w m) i k (entryBytes (entryOf l))) a w u m 3 r
   slotted = subst (λ (x : List ℕ). Stepped (putSlot (fsOf a w m) i k x) a w u m 3 r) (sym (entryBytes-entryOf l b y)) p
 
-  pub within-stop : (v q : List ℕ) → (r ≡ 0 → ⊥) → Stepped (withinFolder (fsOf a w m) i k (entryOf l) g) a w v q 29 r
+  pub within-stop : (v q : List ℕ) → (r ≡ 0 → ⊥) → Stepped (withinFolder (fsOf a w m) i k (entryOf l) g) a w v q 24 r
   unfolding withinFolder
   within-stop v q z = went-stop _ _ z slotted
 
-  module _ {v q : List ℕ} {x : ℕ} (z : r ≡ 0) (d : Stepped (removeGone (fsOf a u m) i g) a u v q 23 x) where
-    pub within-gone : (t n : List ℕ) → (x ≡ 0 → ⊥) → Stepped (withinFolder (fsOf a w m) i k (entryOf l) g) a w t n 29 x
+  module _ {v q : List ℕ} {x : ℕ} (z : r ≡ 0) (d : Stepped (removeGone (fsOf a u m) i g) a u v q 18 x) where
+    pub within-gone : (t n : List ℕ) → (x ≡ 0 → ⊥) → Stepped (withinFolder (fsOf a w m) i k (entryOf l) g) a w t n 24 x
     unfolding withinFolder
     within-gone t n o = went-next _ (went-is slotted z) (went-stop _ _ o d)
 
-    pub within-done : {t n : List ℕ} {f : ℕ} → x ≡ 0 → Stepped (syncRow (fsOf a v q) i) a v t n 3 f → Stepped (withinFolder (fsOf a w m) i k (entryOf l) g) a w t n 29 f
+    pub within-done : {t n : List ℕ} {f : ℕ} → x ≡ 0 → Stepped (syncRow (fsOf a v q) i) a v t n 3 f → Stepped (withinFolder (fsOf a w m) i k (entryOf l) g) a w t n 24 f
     unfolding withinFolder
-    within-done o h = stepped-next (λ s. bind (removeGone s i g) (λ s. syncRow s i)) 3 29 (went-is slotted z) (went-has p z) (stepped-next (λ s. syncRow s i) 23 26 (went-is d o) (went-has d o) h (omega arith)) (omega arith)
+    within-done o h = stepped-next (λ s. bind (removeGone s i g) (λ s. syncRow s i)) 3 24 (went-is slotted z) (went-has p z) (stepped-next (λ s. syncRow s i) 18 21 (went-is d o) (went-has d o) h (omega arith)) (omega arith)
 
 -- ---- the links of both folders, by the moved node's record x
 
@@ -89,65 +89,65 @@ module _ (m : List ℕ) (i j c : ℕ) (x : DiskINode) (e : x ≡ rowAt (tableIn 
 
 -- the moved node is in row c
 module _ {a w n : List ℕ} {r : ℕ} (m : List ℕ) (i j c : ℕ) (g : Went (moveLinks (fsOf a w m) i j c) (fsOf a w n) (Whole n) r) where
-  pub end-stop : (v q : List ℕ) → (r ≡ 0 → ⊥) → Stepped (endMove (fsOf a w m) i j c) a w v q 24 r
+  pub end-stop : (v q : List ℕ) → (r ≡ 0 → ⊥) → Stepped (endMove (fsOf a w m) i j c) a w v q 19 r
   unfolding endMove
   end-stop v q z = went-stop _ _ z g
 
   module _ {u q : List ℕ} {x : ℕ} (z : r ≡ 0) (d : Stepped (syncTwo (fsOf a w n) j i) a w u q 6 x) where
-    pub end-sync : (v t : List ℕ) → (x ≡ 0 → ⊥) → Stepped (endMove (fsOf a w m) i j c) a w v t 24 x
+    pub end-sync : (v t : List ℕ) → (x ≡ 0 → ⊥) → Stepped (endMove (fsOf a w m) i j c) a w v t 19 x
     unfolding endMove
     end-sync v t o = went-next _ (went-is g z) (went-stop _ _ o d)
 
-    pub end-done : {v t : List ℕ} {y : ℕ} → x ≡ 0 → Stepped (release (fsOf a u q) c) a u v t 18 y → Stepped (endMove (fsOf a w m) i j c) a w v t 24 y
+    pub end-done : {v t : List ℕ} {y : ℕ} → x ≡ 0 → Stepped (release (fsOf a u q) c) a u v t 13 y → Stepped (endMove (fsOf a w m) i j c) a w v t 19 y
     unfolding endMove
-    end-done o h = went-next (λ s. bind (syncTwo s j i) (λ s. release s c)) (went-is g z) (stepped-next (λ s. release s c) 6 24 (went-is d o) (went-has d o) h (omega arith))
+    end-done o h = went-next (λ s. bind (syncTwo s j i) (λ s. release s c)) (went-is g z) (stepped-next (λ s. release s c) 6 19 (went-is d o) (went-has d o) h (omega arith))
 
 -- it is opened
 module _ (a w m n : List ℕ) (i j id c : ℕ) {r : ℕ} {P : Type 0} (g : Went (getNode (fsOf a w m) id) (opened (fsOf a w n) c) P r) where
-  pub open-stop : (v q : List ℕ) → (r ≡ 0 → ⊥) → Stepped (openMoved (fsOf a w m) i j id) a w v q 24 r
+  pub open-stop : (v q : List ℕ) → (r ≡ 0 → ⊥) → Stepped (openMoved (fsOf a w m) i j id) a w v q 19 r
   unfolding openMoved
   open-stop v q z = went-stop _ _ z g
 
-  pub open-next : {u q : List ℕ} {x : ℕ} → r ≡ 0 → Stepped (endMove (fsOf a w n) i j c) a w u q 24 x → Stepped (openMoved (fsOf a w m) i j id) a w u q 24 x
+  pub open-next : {u q : List ℕ} {x : ℕ} → r ≡ 0 → Stepped (endMove (fsOf a w n) i j c) a w u q 19 x → Stepped (openMoved (fsOf a w m) i j id) a w u q 19 x
   unfolding openMoved
   open-next z h = went-next (λ o. endMove (o .state) i j (o .row)) (went-is g z) h
 
 -- the replaced node goes first
-module _ {a w u n : List ℕ} {r : ℕ} (m : List ℕ) (i j id : ℕ) (e : Gone) (g : Stepped (removeGone (fsOf a w m) j e) a w u n 23 r) where
-  pub rest-stop : (v q : List ℕ) → (r ≡ 0 → ⊥) → Stepped (restMove (fsOf a w m) i j id e) a w v q 47 r
+module _ {a w u n : List ℕ} {r : ℕ} (m : List ℕ) (i j id : ℕ) (e : Gone) (g : Stepped (removeGone (fsOf a w m) j e) a w u n 18 r) where
+  pub rest-stop : (v q : List ℕ) → (r ≡ 0 → ⊥) → Stepped (restMove (fsOf a w m) i j id e) a w v q 37 r
   unfolding restMove
   rest-stop v q z = went-stop _ _ z g
 
-  pub rest-next : {v q : List ℕ} {x : ℕ} → r ≡ 0 → Stepped (openMoved (fsOf a u n) i j id) a u v q 24 x → Stepped (restMove (fsOf a w m) i j id e) a w v q 47 x
+  pub rest-next : {v q : List ℕ} {x : ℕ} → r ≡ 0 → Stepped (openMoved (fsOf a u n) i j id) a u v q 19 x → Stepped (restMove (fsOf a w m) i j id e) a w v q 37 x
   unfolding restMove
-  rest-next z h = stepped-next (λ s. openMoved s i j id) 23 47 (went-is g z) (went-has g z) h (omega arith)
+  rest-next z h = stepped-next (λ s. openMoved s i j id) 18 37 (went-is g z) (went-has g z) h (omega arith)
 
 -- the slots go first
 module _ {a w u n : List ℕ} {r : ℕ} (m l : List ℕ) (i j k : ℕ) (e : Gone) (g : Stepped (direntAppend (fsOf a w m) j (entryOf l)) a w u n 3 r) where
-  pub between-stop : (v q : List ℕ) → (r ≡ 0 → ⊥) → Stepped (betweenFolders (fsOf a w m) i j k (entryOf l) e) a w v q 55 r
+  pub between-stop : (v q : List ℕ) → (r ≡ 0 → ⊥) → Stepped (betweenFolders (fsOf a w m) i j k (entryOf l) e) a w v q 45 r
   unfolding betweenFolders
   between-stop v q z = went-stop _ _ z g
 
   module _ {v q : List ℕ} {x : ℕ} (z : r ≡ 0) (d : Stepped (direntRemove (fsOf a u n) i k) a u v q 5 x) where
-    pub between-remove : (t p : List ℕ) → (x ≡ 0 → ⊥) → Stepped (betweenFolders (fsOf a w m) i j k (entryOf l) e) a w t p 55 x
+    pub between-remove : (t p : List ℕ) → (x ≡ 0 → ⊥) → Stepped (betweenFolders (fsOf a w m) i j k (entryOf l) e) a w t p 45 x
     unfolding betweenFolders
     between-remove t p o = went-next _ (went-is g z) (went-stop _ _ o d)
 
-    pub between-next : {t p : List ℕ} {y : ℕ} (id : ℕ) → id ≡ leAt l 0 4 → x ≡ 0 → Stepped (restMove (fsOf a v q) i j id e) a v t p 47 y → Stepped (betweenFolders (fsOf a w m) i j k (entryOf l) e) a w t p 55 y
+    pub between-next : {t p : List ℕ} {y : ℕ} (id : ℕ) → id ≡ leAt l 0 4 → x ≡ 0 → Stepped (restMove (fsOf a v q) i j id e) a v t p 37 y → Stepped (betweenFolders (fsOf a w m) i j k (entryOf l) e) a w t p 45 y
     unfolding betweenFolders entryOf
     between-next id f o h =
-        stepped-next (λ s. bind (direntRemove s i k) (λ s. restMove s i j (leAt l 0 4) e)) 3 55 (went-is g z) (went-has g z)
-        (stepped-next (λ s. restMove s i j (leAt l 0 4) e) 5 52 (went-is d o) (went-has d o) (rw f at h) (omega arith))
+        stepped-next (λ s. bind (direntRemove s i k) (λ s. restMove s i j (leAt l 0 4) e)) 3 45 (went-is g z) (went-has g z)
+        (stepped-next (λ s. restMove s i j (leAt l 0 4) e) 5 42 (went-is d o) (went-has d o) (rw f at h) (omega arith))
         (omega arith)
 
 -- ---- within or between: x and y are the folders' ids
 
 module _ (a w m : List ℕ) (i j k : ℕ) (d : DiskEntry) (g : Gone) (x y : ℕ) (p : x ≡ rowAt (tableIn m) i .id) (q : y ≡ rowAt (tableIn m) j .id) where
-  pub slot-within : {u n : List ℕ} {r : ℕ} → x ≡ y → Stepped (withinFolder (fsOf a w m) i k d g) a w u n 29 r → Stepped (moveSlot (fsOf a w m) i j k d g) a w u n 55 r
+  pub slot-within : {u n : List ℕ} {r : ℕ} → x ≡ y → Stepped (withinFolder (fsOf a w m) i k d g) a w u n 24 r → Stepped (moveSlot (fsOf a w m) i j k d g) a w u n 45 r
   unfolding moveSlot
-  slot-within e h = rw (eq-eqb (idAt (fsOf a w m) i) (idAt (fsOf a w m) j) (sym (id-of a w m i x p) ∙ e ∙ id-of a w m j y q)) (stepped-more 55 (omega arith) h)
+  slot-within e h = rw (eq-eqb (idAt (fsOf a w m) i) (idAt (fsOf a w m) j) (sym (id-of a w m i x p) ∙ e ∙ id-of a w m j y q)) (stepped-more 45 (omega arith) h)
 
-  pub slot-between : {u n : List ℕ} {r : ℕ} → (x ≡ y → ⊥) → Stepped (betweenFolders (fsOf a w m) i j k d g) a w u n 55 r → Stepped (moveSlot (fsOf a w m) i j k d g) a w u n 55 r
+  pub slot-between : {u n : List ℕ} {r : ℕ} → (x ≡ y → ⊥) → Stepped (betweenFolders (fsOf a w m) i j k d g) a w u n 45 r → Stepped (moveSlot (fsOf a w m) i j k d g) a w u n 45 r
   unfolding moveSlot
   slot-between e h = rw (ne-eqb (idAt (fsOf a w m) i) (idAt (fsOf a w m) j) (λ o. e (id-of a w m i x p ∙ o ∙ sym (id-of a w m j y q)))) h
 
@@ -254,15 +254,15 @@ module _ (a w m : List ℕ) (c d : ℕ) (x y : DiskINode) (p : x ≡ rowAt (tabl
 -- ---- node c in the place of node d
 
 module _ {a w : List ℕ} {r : ℕ} (m : List ℕ) (i j : ℕ) (old name : List ℕ) (c d k : ℕ) (g : Went (judgeRows (fsOf a w m) c d) (fsOf a w m) Unit r) where
-  pub over-stop : (v q : List ℕ) → (r ≡ 0 → ⊥) → Stepped (moveOver (fsOf a w m) i j old name c d k) a w v q 73 r
+  pub over-stop : (v q : List ℕ) → (r ≡ 0 → ⊥) → Stepped (moveOver (fsOf a w m) i j old name c d k) a w v q 58 r
   unfolding moveOver
   over-stop v q z = went-stop _ _ z g
 
-  module _ {u n : List ℕ} {x : ℕ} (z : r ≡ 0) (h : Stepped (release (fsOf a w m) c) a w u n 18 x) where
-    pub over-release : (v q : List ℕ) → (x ≡ 0 → ⊥) → Stepped (moveOver (fsOf a w m) i j old name c d k) a w v q 73 x
+  module _ {u n : List ℕ} {x : ℕ} (z : r ≡ 0) (h : Stepped (release (fsOf a w m) c) a w u n 13 x) where
+    pub over-release : (v q : List ℕ) → (x ≡ 0 → ⊥) → Stepped (moveOver (fsOf a w m) i j old name c d k) a w v q 58 x
     unfolding moveOver
     over-release v q o = went-next _ (went-is g z) (went-stop _ _ o h)
 
-    pub over-next : {v q : List ℕ} {y : ℕ} → x ≡ 0 → Stepped (moveNamed (fsOf a u n) i j old name (Node d k)) a u v q 55 y → Stepped (moveOver (fsOf a w m) i j old name c d k) a w v q 73 y
+    pub over-next : {v q : List ℕ} {y : ℕ} → x ≡ 0 → Stepped (moveNamed (fsOf a u n) i j old name (Node d k)) a u v q 45 y → Stepped (moveOver (fsOf a w m) i j old name c d k) a w v q 58 y
     unfolding moveOver
-    over-next o f = went-next (λ s. bind (release s c) (λ s. moveNamed s i j old name (Node d k))) (went-is g z) (stepped-next (λ s. moveNamed s i j old name (Node d k)) 18 73 (went-is h o) (went-has h o) f (omega arith))
+    over-next o f = went-next (λ s. bind (release s c) (λ s. moveNamed s i j old name (Node d k))) (went-is g z) (stepped-next (λ s. moveNamed s i j old name (Node d k)) 13 58 (went-is h o) (went-has h o) f (omega arith))

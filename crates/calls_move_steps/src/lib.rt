@@ -40,8 +40,8 @@ pub enum Gone {
 // ---- the steps: slots first, then the replaced node, then the folders' records
 
 fn remove_gone(arena: &[u8], work: &mut [u8], mem: &mut [u8], j: usize, gone: Gone) -> u8
-    requires { ⌜ Ready (now arena) (now work) (now mem) × ((23 ≤ left (now work)) × ((j < 34) × (InRow gone))) ⌝ }
-    ensures { λ r. ⌜ Stepped (removeGone (fsOf (now (arena .entry)) (now (work .entry)) (now (mem .entry))) j gone) (now (arena .entry)) (now (work .entry)) (now (work .exit)) (now (mem .exit)) 23 r ⌝ }
+    requires { ⌜ Ready (now arena) (now work) (now mem) × ((18 ≤ left (now work)) × ((j < 34) × (InRow gone))) ⌝ }
+    ensures { λ r. ⌜ Stepped (removeGone (fsOf (now (arena .entry)) (now (work .entry)) (now (mem .entry))) j gone) (now (arena .entry)) (now (work .entry)) (now (work .exit)) (now (mem .exit)) 18 r ⌝ }
 {
     match gone {
         Gone::Free => 0,
@@ -59,8 +59,8 @@ fn move_within(
     moved: &[u8],
     gone: Gone,
 ) -> u8
-    requires { ⌜ Ready (now arena) (now work) (now mem) × ((29 ≤ left (now work)) × ((i < 34) × ((length (now moved) ≡ 264) × (InRow gone)))) ⌝ }
-    ensures { λ r. ⌜ Stepped (withinFolder (fsOf (now (arena .entry)) (now (work .entry)) (now (mem .entry))) i k (entryOf (now (moved .entry))) gone) (now (arena .entry)) (now (work .entry)) (now (work .exit)) (now (mem .exit)) 29 r ⌝ }
+    requires { ⌜ Ready (now arena) (now work) (now mem) × ((24 ≤ left (now work)) × ((i < 34) × ((length (now moved) ≡ 264) × (InRow gone)))) ⌝ }
+    ensures { λ r. ⌜ Stepped (withinFolder (fsOf (now (arena .entry)) (now (work .entry)) (now (mem .entry))) i k (entryOf (now (moved .entry))) gone) (now (arena .entry)) (now (work .entry)) (now (work .exit)) (now (mem .exit)) 24 r ⌝ }
 {
     let r = put_slot(arena, work, &mem[..], i, k, moved);
     if r != 0 {
@@ -102,8 +102,8 @@ fn move_links(mem: &mut [u8], i: usize, j: usize, c: usize) -> u8
 
 // The moved node, in row c: the links of both folders, their records, and the end of c's opening.
 fn move_end(arena: &[u8], work: &mut [u8], mem: &mut [u8], i: usize, j: usize, c: usize) -> u8
-    requires { ⌜ Ready (now arena) (now work) (now mem) × ((24 ≤ left (now work)) × ((i < 34) × ((j < 34) × ((c < 34))))) ⌝ }
-    ensures { λ r. ⌜ Stepped (endMove (fsOf (now (arena .entry)) (now (work .entry)) (now (mem .entry))) i j c) (now (arena .entry)) (now (work .entry)) (now (work .exit)) (now (mem .exit)) 24 r ⌝ }
+    requires { ⌜ Ready (now arena) (now work) (now mem) × ((19 ≤ left (now work)) × ((i < 34) × ((j < 34) × ((c < 34))))) ⌝ }
+    ensures { λ r. ⌜ Stepped (endMove (fsOf (now (arena .entry)) (now (work .entry)) (now (mem .entry))) i j c) (now (arena .entry)) (now (work .entry)) (now (work .exit)) (now (mem .exit)) 19 r ⌝ }
 {
     let r = move_links(mem, i, j, c);
     if r != 0 {
@@ -117,8 +117,8 @@ fn move_end(arena: &[u8], work: &mut [u8], mem: &mut [u8], i: usize, j: usize, c
 }
 
 fn move_open(arena: &[u8], work: &mut [u8], mem: &mut [u8], i: usize, j: usize, id: u32) -> u8
-    requires { ⌜ Ready (now arena) (now work) (now mem) × ((24 ≤ left (now work)) × ((i < 34) × ((j < 34)))) ⌝ }
-    ensures { λ r. ⌜ Stepped (openMoved (fsOf (now (arena .entry)) (now (work .entry)) (now (mem .entry))) i j id) (now (arena .entry)) (now (work .entry)) (now (work .exit)) (now (mem .exit)) 24 r ⌝ }
+    requires { ⌜ Ready (now arena) (now work) (now mem) × ((19 ≤ left (now work)) × ((i < 34) × ((j < 34)))) ⌝ }
+    ensures { λ r. ⌜ Stepped (openMoved (fsOf (now (arena .entry)) (now (work .entry)) (now (mem .entry))) i j id) (now (arena .entry)) (now (work .entry)) (now (work .exit)) (now (mem .exit)) 19 r ⌝ }
 {
     let o = get_node(arena, &work[..], mem, id);
     if o.reason != 0 {
@@ -137,8 +137,8 @@ fn move_rest(
     id: u32,
     gone: Gone,
 ) -> u8
-    requires { ⌜ Ready (now arena) (now work) (now mem) × ((47 ≤ left (now work)) × ((i < 34) × ((j < 34) × (InRow gone)))) ⌝ }
-    ensures { λ r. ⌜ Stepped (restMove (fsOf (now (arena .entry)) (now (work .entry)) (now (mem .entry))) i j id gone) (now (arena .entry)) (now (work .entry)) (now (work .exit)) (now (mem .exit)) 47 r ⌝ }
+    requires { ⌜ Ready (now arena) (now work) (now mem) × ((37 ≤ left (now work)) × ((i < 34) × ((j < 34) × (InRow gone)))) ⌝ }
+    ensures { λ r. ⌜ Stepped (restMove (fsOf (now (arena .entry)) (now (work .entry)) (now (mem .entry))) i j id gone) (now (arena .entry)) (now (work .entry)) (now (work .exit)) (now (mem .exit)) 37 r ⌝ }
 {
     let r = remove_gone(arena, work, mem, j, gone);
     if r != 0 {
@@ -157,8 +157,8 @@ fn move_between(
     moved: &[u8],
     gone: Gone,
 ) -> u8
-    requires { ⌜ Ready (now arena) (now work) (now mem) × ((55 ≤ left (now work)) × ((i < 34) × ((j < 34) × ((length (now moved) ≡ 264) × (InRow gone))))) ⌝ }
-    ensures { λ r. ⌜ Stepped (betweenFolders (fsOf (now (arena .entry)) (now (work .entry)) (now (mem .entry))) i j k (entryOf (now (moved .entry))) gone) (now (arena .entry)) (now (work .entry)) (now (work .exit)) (now (mem .exit)) 55 r ⌝ }
+    requires { ⌜ Ready (now arena) (now work) (now mem) × ((45 ≤ left (now work)) × ((i < 34) × ((j < 34) × ((length (now moved) ≡ 264) × (InRow gone))))) ⌝ }
+    ensures { λ r. ⌜ Stepped (betweenFolders (fsOf (now (arena .entry)) (now (work .entry)) (now (mem .entry))) i j k (entryOf (now (moved .entry))) gone) (now (arena .entry)) (now (work .entry)) (now (work .exit)) (now (mem .exit)) 45 r ⌝ }
 {
     let r = dirent_append(arena, work, mem, j, moved);
     if r != 0 {
@@ -181,8 +181,8 @@ fn move_slot(
     moved: &[u8],
     gone: Gone,
 ) -> u8
-    requires { ⌜ Ready (now arena) (now work) (now mem) × ((55 ≤ left (now work)) × ((i < 34) × ((j < 34) × ((length (now moved) ≡ 264) × (InRow gone))))) ⌝ }
-    ensures { λ r. ⌜ Stepped (moveSlot (fsOf (now (arena .entry)) (now (work .entry)) (now (mem .entry))) i j k (entryOf (now (moved .entry))) gone) (now (arena .entry)) (now (work .entry)) (now (work .exit)) (now (mem .exit)) 55 r ⌝ }
+    requires { ⌜ Ready (now arena) (now work) (now mem) × ((45 ≤ left (now work)) × ((i < 34) × ((j < 34) × ((length (now moved) ≡ 264) × (InRow gone))))) ⌝ }
+    ensures { λ r. ⌜ Stepped (moveSlot (fsOf (now (arena .entry)) (now (work .entry)) (now (mem .entry))) i j k (entryOf (now (moved .entry))) gone) (now (arena .entry)) (now (work .entry)) (now (work .exit)) (now (mem .exit)) 45 r ⌝ }
 {
     if id_at(&mem[..], i) == id_at(&mem[..], j) {
         return move_within(arena, work, mem, i, k, moved, gone);
@@ -210,8 +210,8 @@ pub fn move_steps(
     name: &[u8],
     gone: Gone,
 ) -> u8
-    requires { ⌜ Ready (now arena) (now work) (now mem) × ((55 ≤ left (now work)) × ((i < 34) × ((j < 34) × ((length (now name) ≤ 255) × (InRow gone))))) ⌝ }
-    ensures { λ r. ⌜ Stepped (moveNamed (fsOf (now (arena .entry)) (now (work .entry)) (now (mem .entry))) i j (now (old .entry)) (now (name .entry)) gone) (now (arena .entry)) (now (work .entry)) (now (work .exit)) (now (mem .exit)) 55 r ⌝ }
+    requires { ⌜ Ready (now arena) (now work) (now mem) × ((45 ≤ left (now work)) × ((i < 34) × ((j < 34) × ((length (now name) ≤ 255) × (InRow gone))))) ⌝ }
+    ensures { λ r. ⌜ Stepped (moveNamed (fsOf (now (arena .entry)) (now (work .entry)) (now (mem .entry))) i j (now (old .entry)) (now (name .entry)) gone) (now (arena .entry)) (now (work .entry)) (now (work .exit)) (now (mem .exit)) 45 r ⌝ }
 {
     let mut slot = [0u8; 264];
     let p = find_slot(arena, &work[..], rec_at(&mem[..], i), old, &mut slot);
@@ -280,8 +280,8 @@ pub fn move_onto(
     d: usize,
     k: usize,
 ) -> u8
-    requires { ⌜ Ready (now arena) (now work) (now mem) × ((73 ≤ left (now work)) × ((i < 34) × ((j < 34) × ((c < 34) × ((d < 34) × ((length (now name) ≤ 255) × ((Typed (rowAt (tableIn (now mem)) c .rec)) × (Typed (rowAt (tableIn (now mem)) d .rec))))))))) ⌝ }
-    ensures { λ r. ⌜ Stepped (moveOver (fsOf (now (arena .entry)) (now (work .entry)) (now (mem .entry))) i j (now (old .entry)) (now (name .entry)) c d k) (now (arena .entry)) (now (work .entry)) (now (work .exit)) (now (mem .exit)) 73 r ⌝ }
+    requires { ⌜ Ready (now arena) (now work) (now mem) × ((58 ≤ left (now work)) × ((i < 34) × ((j < 34) × ((c < 34) × ((d < 34) × ((length (now name) ≤ 255) × ((Typed (rowAt (tableIn (now mem)) c .rec)) × (Typed (rowAt (tableIn (now mem)) d .rec))))))))) ⌝ }
+    ensures { λ r. ⌜ Stepped (moveOver (fsOf (now (arena .entry)) (now (work .entry)) (now (mem .entry))) i j (now (old .entry)) (now (name .entry)) c d k) (now (arena .entry)) (now (work .entry)) (now (work .exit)) (now (mem .exit)) 58 r ⌝ }
 {
     let r = judge(arena, &work[..], &mem[..], c, d);
     if r != 0 {

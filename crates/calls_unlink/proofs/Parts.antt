@@ -91,12 +91,12 @@ module _ (r : DiskINode) where
 -- ---- steps
 
 -- the removal, then the folder's record
-module _ (s : Fs) (i c k : ℕ) (a w u m : List ℕ) (r : ℕ) (g : Stepped (direntNodeRemove s i c k) a w u m 23 r) where
-  pub node-stop : (r ≡ 0 → ⊥) → Stepped (removeNode s i c k) a w u m 26 r
+module _ (s : Fs) (i c k : ℕ) (a w u m : List ℕ) (r : ℕ) (g : Stepped (direntNodeRemove s i c k) a w u m 18 r) where
+  pub node-stop : (r ≡ 0 → ⊥) → Stepped (removeNode s i c k) a w u m 21 r
   unfolding removeNode
   node-stop z = went-stop (λ d. syncRow d i) _ z g
 
-  pub node-next : (v n : List ℕ) (q : ℕ) → r ≡ 0 → Stepped (syncRow (fsOf a u m) i) a u v n 3 q → Stepped (removeNode s i c k) a w v n 26 q
+  pub node-next : (v n : List ℕ) (q : ℕ) → r ≡ 0 → Stepped (syncRow (fsOf a u m) i) a u v n 3 q → Stepped (removeNode s i c k) a w v n 21 q
   unfolding removeNode
   node-next v n q z h =
       went-next (λ d. syncRow d i) (went-is g z)

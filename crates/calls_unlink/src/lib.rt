@@ -76,8 +76,8 @@ fn not_full(rec: DiskINode) -> u8
 }
 
 fn remove_node(arena: &[u8], work: &mut [u8], mem: &mut [u8], i: usize, c: usize, k: usize) -> u8
-    requires { ⌜ Ready (now arena) (now work) (now mem) × ((26 ≤ left (now work)) × ((i < 34) × (c < 34))) ⌝ }
-    ensures { λ r. ⌜ Stepped (removeNode (fsOf (now (arena .entry)) (now (work .entry)) (now (mem .entry))) i c k) (now (arena .entry)) (now (work .entry)) (now (work .exit)) (now (mem .exit)) 26 r ⌝ }
+    requires { ⌜ Ready (now arena) (now work) (now mem) × ((21 ≤ left (now work)) × ((i < 34) × (c < 34))) ⌝ }
+    ensures { λ r. ⌜ Stepped (removeNode (fsOf (now (arena .entry)) (now (work .entry)) (now (mem .entry))) i c k) (now (arena .entry)) (now (work .entry)) (now (work .exit)) (now (mem .exit)) 21 r ⌝ }
 {
     let r = dirent_node_remove(arena, work, mem, i, c, k);
     if r != 0 {
@@ -88,8 +88,8 @@ fn remove_node(arena: &[u8], work: &mut [u8], mem: &mut [u8], i: usize, c: usize
 
 // Slot k of folder i names the node `id`.
 fn remove_id(arena: &[u8], work: &mut [u8], mem: &mut [u8], i: usize, id: u32, k: usize) -> u8
-    requires { ⌜ Ready (now arena) (now work) (now mem) × ((26 ≤ left (now work)) × (i < 34)) ⌝ }
-    ensures { λ r. ⌜ Stepped (removeId (fsOf (now (arena .entry)) (now (work .entry)) (now (mem .entry))) i id k) (now (arena .entry)) (now (work .entry)) (now (work .exit)) (now (mem .exit)) 26 r ⌝ }
+    requires { ⌜ Ready (now arena) (now work) (now mem) × ((21 ≤ left (now work)) × (i < 34)) ⌝ }
+    ensures { λ r. ⌜ Stepped (removeId (fsOf (now (arena .entry)) (now (work .entry)) (now (mem .entry))) i id k) (now (arena .entry)) (now (work .entry)) (now (work .exit)) (now (mem .exit)) 21 r ⌝ }
 {
     let o = get_node(arena, &work[..], mem, id);
     if o.reason != 0 {
@@ -103,8 +103,8 @@ fn remove_id(arena: &[u8], work: &mut [u8], mem: &mut [u8], i: usize, id: u32, k
 }
 
 fn remove_name(arena: &[u8], work: &mut [u8], mem: &mut [u8], i: usize, name: &[u8]) -> u8
-    requires { ⌜ Ready (now arena) (now work) (now mem) × ((26 ≤ left (now work)) × (i < 34)) ⌝ }
-    ensures { λ r. ⌜ Stepped (removeName (fsOf (now (arena .entry)) (now (work .entry)) (now (mem .entry))) i (now (name .entry))) (now (arena .entry)) (now (work .entry)) (now (work .exit)) (now (mem .exit)) 26 r ⌝ }
+    requires { ⌜ Ready (now arena) (now work) (now mem) × ((21 ≤ left (now work)) × (i < 34)) ⌝ }
+    ensures { λ r. ⌜ Stepped (removeName (fsOf (now (arena .entry)) (now (work .entry)) (now (mem .entry))) i (now (name .entry))) (now (arena .entry)) (now (work .entry)) (now (work .exit)) (now (mem .exit)) 21 r ⌝ }
 {
     let mut slot = [0u8; 264];
     let p = find_slot(arena, &work[..], rec_at(&mem[..], i), name, &mut slot);
@@ -115,8 +115,8 @@ fn remove_name(arena: &[u8], work: &mut [u8], mem: &mut [u8], i: usize, name: &[
 }
 
 fn unlink_steps(arena: &[u8], work: &mut [u8], mem: &mut [u8], i: usize, name: &[u8]) -> u8
-    requires { ⌜ Ready (now arena) (now work) (now mem) × ((26 ≤ left (now work)) × (i < 34)) ⌝ }
-    ensures { λ r. ⌜ Stepped (unlinkIn (fsOf (now (arena .entry)) (now (work .entry)) (now (mem .entry))) i (now (name .entry))) (now (arena .entry)) (now (work .entry)) (now (work .exit)) (now (mem .exit)) 26 r ⌝ }
+    requires { ⌜ Ready (now arena) (now work) (now mem) × ((21 ≤ left (now work)) × (i < 34)) ⌝ }
+    ensures { λ r. ⌜ Stepped (unlinkIn (fsOf (now (arena .entry)) (now (work .entry)) (now (mem .entry))) i (now (name .entry))) (now (arena .entry)) (now (work .entry)) (now (work .exit)) (now (mem .exit)) 21 r ⌝ }
 {
     let r = unlink_ask(rec_at(&mem[..], i), name);
     if r != 0 {
@@ -127,7 +127,7 @@ fn unlink_steps(arena: &[u8], work: &mut [u8], mem: &mut [u8], i: usize, name: &
 
 // The workspace has no block yet, and memory has the table.
 fn unlink_in(arena: &mut [u8], work: &mut [u8], mem: &mut [u8], i: usize, name: &[u8]) -> u8
-    requires { ⌜ Empty (now arena) (now work) 36 × ((length (now mem) ≡ 4899) × (i < 34)) ⌝ }
+    requires { ⌜ Empty (now arena) (now work) 31 × ((length (now mem) ≡ 4899) × (i < 34)) ⌝ }
     ensures { λ r. ⌜ Ended (ending (unlinkIn (start (now (arena .entry)) (tableIn (now (mem .entry)))) i (now (name .entry)))) (now (arena .entry)) (now (arena .exit)) (tableIn (now (mem .exit))) r ⌝ }
 {
     load_meta(&arena[..], &work[..], mem);
@@ -144,7 +144,7 @@ fn unlink_row(arena: &mut [u8], mem: &mut [u8], i: usize, name: &[u8]) -> u8
     requires { ⌜ (legal (now arena) ≡ true) × ((length (now mem) ≡ 4899) × (i < 34)) ⌝ }
     ensures { λ r. ⌜ Ended (ending (unlinkIn (start (now (arena .entry)) (tableIn (now (mem .entry)))) i (now (name .entry)))) (now (arena .entry)) (now (arena .exit)) (tableIn (now (mem .exit))) r ⌝ }
 {
-    let mut work = [0u8; 18432];
+    let mut work = [0u8; 15872];
     overlay::begin(&mut work);
     unlink_in(arena, &mut work, mem, i, name)
 }

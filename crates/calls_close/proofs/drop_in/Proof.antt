@@ -27,7 +27,7 @@ returns c =
     let d = c .before .before .before .before .before in
     let l = d .before .before .before .before .before .before in
     let s = l .before .before .before .before .before .before .before in
-    ended-not (λ x. dropNode x (s .args .i)) _ _ _ (fs-start _ _ _ _ 28 (s .pre .0) (l .load-meta .ensures .0) (l .load-meta .ensures .1 .0)) (d .drop-node .ensures) (c .if1 .taken) refl
+    ended-not (λ x. dropNode x (s .args .i)) _ _ _ (fs-start _ _ _ _ 23 (s .pre .0) (l .load-meta .ensures .0) (l .load-meta .ensures .1 .0)) (d .drop-node .ensures) (c .if1 .taken) refl
 
 commit-requires : tie.Need-commit-requires
 commit-requires c κs =
@@ -48,7 +48,7 @@ returns-2 c =
     let d = c .before .before .before .before .before .before .before .before .before .before in
     let l = d .before .before .before .before .before .before in
     let s = l .before .before .before .before .before .before .before in
-    ended-done (λ x. dropNode x (s .args .i)) _ _ _ _ (fs-start _ _ _ _ 28 (s .pre .0) (l .load-meta .ensures .0) (l .load-meta .ensures .1 .0)) (d .drop-node .ensures) (c .before .before .before .before .before .if1 .left) (c .before .before .commit .ensures)
+    ended-done (λ x. dropNode x (s .args .i)) _ _ _ _ (fs-start _ _ _ _ 23 (s .pre .0) (l .load-meta .ensures .0) (l .load-meta .ensures .1 .0)) (d .drop-node .ensures) (c .before .before .before .before .before .if1 .left) (c .before .before .commit .ensures)
 
 pub drop-in-spec : {M : Type 1} → statement M
 drop-in-spec =

@@ -17,7 +17,7 @@ slice-aggregate-create-in c = search needs
 create-in-requires : tie.Need-create-in-requires
 create-in-requires c κs =
     let s = c .before .before .before .before .before .before .before .before .before in
-    (started _ _ 43 (s .pre .0) (omega arith) (omega arith) (c .before .before .before .before .begin .ensures), s .pre .1)
+    (started _ _ 38 (s .pre .0) (omega arith) (omega arith) (c .before .before .before .before .begin .ensures), s .pre .1)
 
 same-length : tie.Need-same-length
 same-length c = search needs

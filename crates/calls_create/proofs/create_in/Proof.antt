@@ -27,7 +27,7 @@ returns : tie.Need-returns
 returns c =
     let s = c .before .before .before .before .before .before .before .before .before .before .before .before .before .before .before .before .before .before .before .before in
     let l = c .before .before .before .before .before .before .before .before .before .before .before .before in
-    held-not (λ x. createWork x (s .args .i) (s .args .name .now) (s .args .new .kind) (s .args .new .mode) (s .args .new .time) (s .args .new .file) (s .args .room)) _ _ _ _ (fs-start _ _ _ _ 43 (s .pre .0) (l .load-meta .ensures .0) (l .load-meta .ensures .1 .0)) (c .before .before .before .before .before .before .create-work .ensures) (c .if1 .taken) refl
+    held-not (λ x. createWork x (s .args .i) (s .args .name .now) (s .args .new .kind) (s .args .new .mode) (s .args .new .time) (s .args .new .file) (s .args .room)) _ _ _ _ (fs-start _ _ _ _ 38 (s .pre .0) (l .load-meta .ensures .0) (l .load-meta .ensures .1 .0)) (c .before .before .before .before .before .before .create-work .ensures) (c .if1 .taken) refl
 
 commit-requires : tie.Need-commit-requires
 commit-requires c κs =
@@ -46,7 +46,7 @@ returns-2 : tie.Need-returns-2
 returns-2 c =
     let s = c .before .before .before .before .before .before .before .before .before .before .before .before .before .before .before .before .before .before .before .before .before .before .before .before .before in
     let l = c .before .before .before .before .before .before .before .before .before .before .before .before .before .before .before .before .before in
-    held-done (λ x. createWork x (s .args .i) (s .args .name .now) (s .args .new .kind) (s .args .new .mode) (s .args .new .time) (s .args .new .file) (s .args .room)) _ _ _ _ _ (fs-start _ _ _ _ 43 (s .pre .0) (l .load-meta .ensures .0) (l .load-meta .ensures .1 .0)) (c .before .before .before .before .before .before .before .before .before .before .before .create-work .ensures) (c .before .before .before .before .before .if1 .left) (c .before .before .commit .ensures)
+    held-done (λ x. createWork x (s .args .i) (s .args .name .now) (s .args .new .kind) (s .args .new .mode) (s .args .new .time) (s .args .new .file) (s .args .room)) _ _ _ _ _ (fs-start _ _ _ _ 38 (s .pre .0) (l .load-meta .ensures .0) (l .load-meta .ensures .1 .0)) (c .before .before .before .before .before .before .before .before .before .before .before .create-work .ensures) (c .before .before .before .before .before .if1 .left) (c .before .before .commit .ensures)
 
 pub create-in-spec : {M : Type 1} → statement M
 create-in-spec =

@@ -17,7 +17,7 @@ slice-aggregate-format-in c = search needs
 format-in-requires : tie.Need-format-in-requires
 format-in-requires c κs =
     let s = c .before .before .before .before .before .before .before .before in
-    (started _ _ 40 (s .pre .0) (omega arith) (omega arith) (c .before .before .before .before .begin .ensures), s .pre .1)
+    (started _ _ 35 (s .pre .0) (omega arith) (omega arith) (c .before .before .before .before .begin .ensures), s .pre .1)
 
 same-length : tie.Need-same-length
 same-length c = search needs

@@ -1,4 +1,4 @@
--- `calls_move_steps::move_end`: the links in memory, then 6 blocks and 18.
+-- `calls_move_steps::move_end`: the links in memory, then 6 blocks and 13.
 use native.Mathlib.Omega.{arith}
 use mathlib.Core.List.{[]}
 use Rattle.base.proofs.Outs.{went-has}

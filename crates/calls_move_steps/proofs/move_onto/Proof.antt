@@ -1,4 +1,4 @@
--- `calls_move_steps::move_onto`: type rules, the end of c's opening, the steps; 18 blocks and 55.
+-- `calls_move_steps::move_onto`: type rules, the end of c's opening, the steps; 13 blocks and 45.
 use native.Mathlib.Omega.{arith}
 use Rattle.base.proofs.Outs.{went-has}
 use Rattle.calls_move_steps.proofs.Steps.{over-stop, over-release, over-next}

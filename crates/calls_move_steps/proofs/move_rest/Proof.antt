@@ -1,4 +1,4 @@
--- `calls_move_steps::move_rest`: the replaced node, then the moved one; 23 blocks and 24.
+-- `calls_move_steps::move_rest`: the replaced node, then the moved one; 18 blocks and 19.
 use native.Mathlib.Omega.{arith}
 use Rattle.base.proofs.Outs.{went-has}
 use Rattle.calls_move_steps.proofs.Steps.{rest-stop, rest-next}

@@ -1,4 +1,4 @@
--- `calls_move_steps::move_within`: the slot, the replaced node, the record; 3 blocks, 23 and 3.
+-- `calls_move_steps::move_within`: the slot, the replaced node, the record; 3 blocks, 18 and 3.
 use native.Mathlib.Omega.{arith}
 use Rattle.base.proofs.Outs.{went-has}
 use Rattle.calls_move_steps.proofs.Steps.{within-stop, within-gone, within-done}

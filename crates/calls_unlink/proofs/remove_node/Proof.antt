@@ -1,4 +1,4 @@
--- `calls_unlink::remove_node`: the removal, then the record; 23 blocks and 3.
+-- `calls_unlink::remove_node`: the removal, then the record; 18 blocks and 3.
 use native.Mathlib.Omega.{arith}
 use Rattle.base.proofs.Outs.{went-has}
 use Rattle.calls_unlink.proofs.Parts.{node-stop, node-next}

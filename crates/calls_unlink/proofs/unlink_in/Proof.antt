@@ -26,7 +26,7 @@ returns : tie.Need-returns
 returns c =
     let s = c .before .before .before .before .before .before .before .before .before .before .before .before .before .before .before .before .before .before .before in
     let l = c .before .before .before .before .before .before .before .before .before .before .before in
-    ended-not (λ x. unlinkIn x (s .args .i) (s .args .name .now)) _ _ _ (fs-start _ _ _ _ 36 (s .pre .0) (l .load-meta .ensures .0) (l .load-meta .ensures .1 .0)) (c .before .before .before .before .before .unlink-steps .ensures) (c .if1 .taken) refl
+    ended-not (λ x. unlinkIn x (s .args .i) (s .args .name .now)) _ _ _ (fs-start _ _ _ _ 31 (s .pre .0) (l .load-meta .ensures .0) (l .load-meta .ensures .1 .0)) (c .before .before .before .before .before .unlink-steps .ensures) (c .if1 .taken) refl
 
 commit-requires : tie.Need-commit-requires
 commit-requires c κs =
@@ -45,7 +45,7 @@ returns-2 : tie.Need-returns-2
 returns-2 c =
     let s = c .before .before .before .before .before .before .before .before .before .before .before .before .before .before .before .before .before .before .before .before .before .before .before .before in
     let l = c .before .before .before .before .before .before .before .before .before .before .before .before .before .before .before .before in
-    ended-done (λ x. unlinkIn x (s .args .i) (s .args .name .now)) _ _ _ _ (fs-start _ _ _ _ 36 (s .pre .0) (l .load-meta .ensures .0) (l .load-meta .ensures .1 .0)) (c .before .before .before .before .before .before .before .before .before .before .unlink-steps .ensures) (c .before .before .before .before .before .if1 .left) (c .before .before .commit .ensures)
+    ended-done (λ x. unlinkIn x (s .args .i) (s .args .name .now)) _ _ _ _ (fs-start _ _ _ _ 31 (s .pre .0) (l .load-meta .ensures .0) (l .load-meta .ensures .1 .0)) (c .before .before .before .before .before .before .before .before .before .before .unlink-steps .ensures) (c .before .before .before .before .before .if1 .left) (c .before .before .commit .ensures)
 
 pub unlink-in-spec : {M : Type 1} → statement M
 unlink-in-spec =

@@ -1,9 +1,11 @@
 -- `files_run::ops::put`: the step on the view of nothing changed, and its commit.
 use native.Mathlib.Omega.{arith}
+use lib.ListN.{length}
 use borrow.Author.Needs.{needs}
 use Rattle.arena.specs.Fields.{file}
 use Rattle.overlay.proofs.Chains.{did-well, call-refused, call-done}
 use Rattle.files.specs.Store.{putFile}
+use Rattle.files.proofs.Puts.{touched-few}
 use Rattle.files_run.proofs.Ready.{started}
 use Rattle.files_run.proofs.ops.put.Statement.{statement}
 use Rattle.files_run.proofs.ops.put.Tie as tie
@@ -15,7 +17,8 @@ put-requires : tie.Need-put-requires
 put-requires c κs =
     let s = c .before .before .before .before .before .before .before .before .before .before in
     let R = started (s .args .arena .now) _ (s .pre .0 .0) (s .pre .0 .1) (c .before .before .before .before .start .ensures) in
-    ((R .fine, omega (arith, R .room)), (s .pre .1 .0 .1, s .pre .1 .1))
+    let k = touched-few (s .args .pos) (length (s .args .src .now)) (s .pre .1 .1) in
+    ((R .fine, omega (arith, R .room, k)), (s .pre .1 .0 .1, s .pre .1 .1))
 
 same-length : tie.Need-same-length
 same-length c = search needs
