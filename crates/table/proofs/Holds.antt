@@ -11,7 +11,7 @@ use Rattle.base.specs.declared.Found.the-variants.{At, Nothing}
 use Rattle.base.proofs.Bools.{and-parts}
 use Rattle.base.proofs.Searches.{at-found}
 use Rattle.table.specs.Zero.{zeroHold}
-use Rattle.table.specs.Table.{holdAt, withHold, rowOf, nextRow, holdOf, freeHold, liveRow, liveHolds, canHold, addAt, addHold, rowUsed, closeHold}
+use Rattle.table.specs.Table.{holdAt, withHold, rowOf, holdOf, freeHold, liveRow, liveHolds, canHold, addAt, addHold, rowUsed, closeHold}
 use Rattle.table.specs.declared.Table.{Table}
 use Rattle.table.specs.declared.Handle.{Handle}
 use Rattle.table.specs.declared.Closed.{Closed}
@@ -37,10 +37,6 @@ live-found t h n m e l s r = let b : ltb (h .hold) 32 ≡ true = lt-ltb (h .hold
 pub row-below : (t : Table) (id i : ℕ) → rowOf t id ≡ At i → i < 34
 unfolding rowOf
 row-below t id i e = at-found _ 34 i e .1
-
-pub next-below : (t : Table) (after i : ℕ) → nextRow t after ≡ At i → i < 34
-unfolding nextRow
-next-below t after i e = at-found _ 34 i e .1
 
 pub hold-below : (t : Table) (stamp i : ℕ) → holdOf t stamp ≡ At i → i < 32
 unfolding holdOf
