@@ -7,6 +7,7 @@ use lib.Dec.{ltb, leb}
 use Rattle.base.specs.Out.{Out, done, refused, guard}
 use Rattle.base.specs.Parts.{tab}
 use Rattle.base.specs.Search.{pick}
+use Rattle.base.specs.Reasons.{stuck}
 use Rattle.arena.specs.Blocks.{blk, blocks}
 use Rattle.arena.specs.Fields.{File, numberOf}
 use Rattle.arena.specs.Places.{headOf, dataOf}
@@ -29,4 +30,4 @@ byteAt a f p = pick (present a f (p / 480)) (getD (blk a (dataOf a f (p / 480)))
 
 -- n bytes from pos on. "Stuck is .. a short read, a missing file"
 unfoldable pub readFile : List ℕ → File → ℕ → ℕ → Out (List ℕ)
-readFile a f pos n = guard (there a f) 19 (guard (leb (pos + n) (lengthOf a f)) 19 (done (tab (byteAt a f) pos n)))
+readFile a f pos n = guard (there a f) stuck (guard (leb (pos + n) (lengthOf a f)) stuck (done (tab (byteAt a f) pos n)))

@@ -6,6 +6,7 @@ use lib.ListN.{length, replicate}
 use lib.Dec.{eqb, ltb, leb}
 use Rattle.base.specs.Out.{Out, done, refused, bind, guard}
 use Rattle.base.specs.Parts.{part, paste}
+use Rattle.base.specs.Reasons.{noDeviceSpace, stuck}
 use Rattle.base.specs.Search.{pick}
 use Rattle.le.specs.Le.{lePut}
 use Rattle.arena.specs.Blocks.{blk, putBlk, blocks}
@@ -21,7 +22,7 @@ longest = 4294967295
 
 -- a new block: "the lowest free one"; 17, "a store needs a block and none is free"
 unfoldable pub claim : List ℕ → List ℕ → Out (List ℕ)
-claim a b = guard (ltb (freeOf a) (blocks a)) 17 (done (putBlk a (freeOf a) (seal b)))
+claim a b = guard (ltb (freeOf a) (blocks a)) noDeviceSpace (done (putBlk a (freeOf a) (seal b)))
 
 -- bytes in block q of the file from `off` on, in the block that is there or in a new one
 unfoldable pub writeBlk : List ℕ → File → ℕ → ℕ → List ℕ → Out (List ℕ)
@@ -62,7 +63,7 @@ touched pos (suc n) = (pos + n) / 480 + 1 - pos / 480
 
 unfoldable pub putFile : List ℕ → File → ℕ → List ℕ → Out (List ℕ)
 putFile a f pos src =
-    guard (there a f) 19 (guard (leb (pos + length src) longest) 17 (putTo a f pos src (touched pos (length src))))
+    guard (there a f) stuck (guard (leb (pos + length src) longest) noDeviceSpace (putTo a f pos src (touched pos (length src))))
 
 -- ---- make: a head, of length 0
 
@@ -92,7 +93,7 @@ zeroTail a f len =
     a
 
 unfoldable pub cutFile : List ℕ → File → ℕ → Out (List ℕ)
-cutFile a f len = guard (there a f) 19 (guard (leb len longest) 17 (done (zeroTail (clearAll (isPast f len) (setLength a f len)) f len)))
+cutFile a f len = guard (there a f) stuck (guard (leb len longest) noDeviceSpace (done (zeroTail (clearAll (isPast f len) (setLength a f len)) f len)))
 
 -- ---- drop: all its blocks become zero
 
@@ -100,4 +101,4 @@ unfoldable pub isOf : File → List ℕ → Bool
 isOf f b = isHead f b || isData f (numberOf b) b
 
 unfoldable pub dropFile : List ℕ → File → Out (List ℕ)
-dropFile a f = guard (there a f) 19 (done (clearAll (isOf f) a))
+dropFile a f = guard (there a f) stuck (done (clearAll (isOf f) a))

@@ -21,7 +21,7 @@ use Rattle.base.proofs.Numbers.{lt-or-le}
 use Rattle.base.proofs.Parts.{getD-zero-list}
 use Rattle.base.proofs.Sames.{and-true, allTo-suc, same-true, same-own, test-fails}
 use Rattle.base.proofs.Searches.{last-is, lowest-first, lowest-here, lowest-hit}
-use Rattle.structs.specs.Verdict.{isFolder}
+use Rattle.structs.specs.Verdict.{isFolder, isType}
 use Rattle.structs.specs.declared.DiskINode.{DiskINode}
 use Rattle.table.specs.declared.Table.{Table}
 use Rattle.arena.specs.Blocks.{blk, blocks}
@@ -36,10 +36,9 @@ use Rattle.files_laws.proofs.Parts.{sound-tidy}
 use Rattle.sefs.specs.Nodes.{nodeFile}
 use Rattle.rules.specs.Image.{idsIn, isNode, recOf}
 use Rattle.rules.specs.Tests.{hasName, nodeAllowed, headAllowed, test5}
-use Rattle.fsck_names.specs.Names.{kindFine, claimable, owns, unclaimed, Claimed, headClaimed}
+use Rattle.fsck_names.specs.Names.{claimable, owns, unclaimed, Claimed, headClaimed}
 
-pub kind-fine : (r : DiskINode) → (ltb 0 (r .kind) && ltb (r .kind) 5) ≡ kindFine r
-unfolding kindFine
+pub kind-fine : (r : DiskINode) → (ltb 0 (r .kind) && ltb (r .kind) 5) ≡ isType (r .kind)
 kind-fine r = ap (λ (b : Bool). ltb 0 (r .kind) && b) (leb·suc-suc (r .kind) 4)
 
 -- ---- the head that the chains lead to
@@ -143,8 +142,8 @@ module _ (a : List ℕ) (t : Table) (id : ℕ) where
   unfolding nodeAllowed
   node-other e = sym (rw e refl)
 
-  pub node-kind : isNode a id ≡ true → kindFine rec ≡ false → false ≡ nodeAllowed a t id
-  unfolding nodeAllowed kindFine
+  pub node-kind : isNode a id ≡ true → isType (rec .kind) ≡ false → false ≡ nodeAllowed a t id
+  unfolding nodeAllowed
   node-kind e f = sym (rw e (and-not (leb 1 (rec .kind)) (leb (rec .kind) 4) _ f))
 
   module _ (c : List ℕ) (C : Claimed a t c id) where
@@ -157,8 +156,8 @@ module _ (a : List ℕ) (t : Table) (id : ℕ) where
         ∙ unclaimed-name a t k (rec .file) (there-hit a (nodeFile rec) h) id
         ∙ sym (first-lowest (hasName a t (rec .file)) (idsIn a) id (node-below e) (own-name e))
 
-    pub node-claim : isNode a id ≡ true → kindFine rec ≡ true → claimable a c rec ≡ nodeAllowed a t id
-    unfolding nodeAllowed kindFine claimable
+    pub node-claim : isNode a id ≡ true → isType (rec .kind) ≡ true → claimable a c rec ≡ nodeAllowed a t id
+    unfolding nodeAllowed claimable
     node-claim e f =
         and-same (there a (nodeFile rec)) (eqb (getD c (headOf a (nodeFile rec)) 0) 0) (eqb (lowest (hasName a t (rec .file)) (idsIn a)) id) (name-first e)
         ∙ sym (rw e (and-then (leb 1 (rec .kind)) (leb (rec .kind) 4) _ f))

@@ -3,7 +3,7 @@ use mathlib.Core.Path.{_≡_}
 use mathlib.Core.Bool.{Bool, not, _&&_, _||_}
 use mathlib.Core.List.{List}
 use Prim.Native.Nat.{ℕ, _<_}
-use lib.Dec.{eqb, leb}
+use lib.Dec.{eqb}
 use lib.ListN.{length, getD}
 use Rattle.base.specs.Count.{allTo, bit}
 use Rattle.structs.specs.declared.DiskINode.{DiskINode}
@@ -14,9 +14,6 @@ use Rattle.arena.specs.Places.{headOf}
 use Rattle.files.specs.Read.{there}
 use Rattle.sefs.specs.Nodes.{nodeFile}
 use Rattle.rules.specs.Image.{isNode, recOf}
-
-unfoldable pub kindFine : DiskINode → Bool
-kindFine r = leb 1 (r .kind) && leb (r .kind) 4
 
 -- the file of a record is there, and no byte says that its head was claimed
 unfoldable pub claimable : List ℕ → List ℕ → DiskINode → Bool

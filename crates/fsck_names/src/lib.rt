@@ -3,6 +3,7 @@ ghost use mathlib.Core.Path.{_≡_};
 ghost use mathlib.Core.Bool.{true};
 ghost use Prim.Native.Nat.{_+_, _<_, _≤_};
 ghost use lib.ListN.{length, set};
+ghost use Rattle.structs.specs.Verdict.{isType};
 ghost use Rattle.base.specs.Count.{allTo};
 ghost use Rattle.arena.specs.Blocks.{blocks};
 ghost use Rattle.arena.specs.Places.{headOf};
@@ -11,7 +12,7 @@ ghost use Rattle.mem.specs.Mem.{tableIn};
 ghost use Rattle.rules.specs.Image.{idsIn};
 ghost use Rattle.rules.specs.Tests.{nodeAllowed, test5};
 ghost use Rattle.fsck_read.specs.Given.{Led, Loaded, Of};
-ghost use Rattle.fsck_names.specs.Names.{kindFine, claimable, Claimed, headClaimed};
+ghost use Rattle.fsck_names.specs.Names.{claimable, Claimed, headClaimed};
 use fsck_read::ids;
 use fsck_read::is_node;
 use fsck_read::rec_of;
@@ -19,7 +20,7 @@ use sound::chain::find;
 use structs::DiskINode;
 
 fn kind_ok(rec: DiskINode) -> bool
-    ensures { λ r. ⌜ r ≡ kindFine rec ⌝ }
+    ensures { λ r. ⌜ r ≡ isType (rec .kind) ⌝ }
 {
     (0 < rec.kind) & (rec.kind < 5)
 }

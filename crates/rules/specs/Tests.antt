@@ -56,7 +56,7 @@ test4 a t =
 
 -- ---- 5
 
--- node j has id's file name
+-- node j has the file name
 unfoldable pub hasName : List ℕ → Table → List ℕ → ℕ → Bool
 hasName a t name j = isNode a j && same (recOf a t j .file) name
 

@@ -1,10 +1,10 @@
 -- What a call asks before its steps: the reasons that every call can give, in document 01's order, and those about folders and names.
-use mathlib.Core.Bool.{Bool, true, false, not, _&&_}
+use mathlib.Core.Bool.{Bool, true, false, not}
 use mathlib.Core.List.{List}
 use Prim.Native.Nat.{ℕ}
 use lib.ListN.{length}
 use lib.Dec.{eqb, ltb, leb}
-use Rattle.structs.specs.Verdict.{isFolder}
+use Rattle.structs.specs.Verdict.{isFolder, isType}
 use Rattle.base.specs.Out.{Out, done, refused, ensure, _>>=_}
 use Rattle.base.specs.Reasons.{badArena, damaged, badTable, badHandle, badName, notDir, dirRemoved, nameTooLong, stuck, entryExist, isDir}
 use Rattle.base.specs.declared.Found.{Found}
@@ -54,7 +54,7 @@ notSpecial name = ensure (not (isSpecial name)) isDir
 
 -- 000 takes metadata: "type 0 where 000 takes metadata" and "a type above 4" stick
 abbrev pub known : DiskINode → Out Unit
-known r = ensure (ltb 0 (r .kind) && leb (r .kind) 4) stuck
+known r = ensure (isType (r .kind)) stuck
 
 -- reason 7, once the type is known
 abbrev pub folder : DiskINode → Out Unit

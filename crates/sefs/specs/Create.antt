@@ -3,8 +3,8 @@ use mathlib.Core.Bool.{Bool, true, false, not, _&&_, _||_}
 use mathlib.Core.List.{List, [], _∷_}
 use Prim.Native.Nat.{ℕ}
 use lib.ListN.{length, replicate}
-use lib.Dec.{eqb, ltb, leb}
-use Rattle.structs.specs.Verdict.{isFolder}
+use lib.Dec.{eqb, ltb}
+use Rattle.structs.specs.Verdict.{isFolder, isType}
 use Rattle.structs.specs.Constants.{sefsMagic, typeDir}
 use Rattle.base.specs.Out.{Out, done, refused, ensure, _>>=_}
 use Rattle.base.specs.Reasons.{badArena, invalidParam, isDir, entryExist, fileTaken, tooManyLinks, tableFull}
@@ -104,7 +104,7 @@ callCreate a t h name kind mode time uuid = do
   _ ← admit a t
   i ← byHandle t h
   _ ← goodName name
-  _ ← ensure (ltb 0 kind && leb kind 4) invalidParam
+  _ ← ensure (isType kind) invalidParam
   _ ← liveFolder (rowAt t i .rec)
   _ ← notLong name
   f ← lookup a (rowAt t i .rec) name
