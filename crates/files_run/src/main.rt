@@ -10,10 +10,10 @@ ghost use Rattle.arena.specs.Blocks.{blocks};
 use base::clear;
 use base::index;
 use base::least;
-use base::wide;
 use le::u32_at;
 use libc::STDIN_FILENO;
 use libc::STDOUT_FILENO;
+use sums::sum;
 
 const ARENA: u8 = 1;
 
@@ -53,17 +53,6 @@ fn fill(buf: &mut [u8], first: u8, by: u8) {
         b = std::num::wrapping_add_u8(b, by);
         i = i + 1;
     }
-}
-
-fn sum(bytes: &[u8]) -> u64 {
-    let n = bytes.len();
-    let mut h: u64 = 0;
-    let mut i: usize = 0;
-    while i < n {
-        h = (h * 257 + wide(bytes[i]) as u64 + 1) % 4294967291;
-        i = i + 1;
-    }
-    h
 }
 
 // ---- the lines

@@ -12,7 +12,7 @@ use lib.Seq.{getD-set-same}
 use Rattle.base.proofs.Bools.{bool-cases}
 use Rattle.le.specs.Le.{leAt, lePut}
 use Rattle.le.proofs.Laws.{leAt-lePut-fits, getD-lePut-out}
-use Rattle.replay_lib.specs.Steps.{endedIn, left}
+use Rattle.replay_lib.specs.Steps.{endedIn, toGo}
 
 -- a desk d that took the mark m and then the place v
 module _ (d e : List ℕ) (v m : ℕ) (n : length d ≡ 4387) (f : v < 18446744073709551616) (p : e ≡ lePut (set d 4386 m) 4378 8 v) where
@@ -44,18 +44,18 @@ desk-length d e = eqb-true _ _ (length-of (eqb (length d) 4387) (eqb (getD d 438
 pub unmarked : (d : List ℕ) → endedIn d ≡ false → getD d 4386 0 ≡ 0
 unmarked d e = eqb-true _ _ (test-of (eqb (length d) 4387) (eqb (getD d 4386 0) 0) e)
 
-left-ended : (n : ℕ) (d : List ℕ) → endedIn d ≡ true → left n d ≡ 0
-unfolding left
-left-ended n d e = rw e
+to-go-ended : (n : ℕ) (d : List ℕ) → endedIn d ≡ true → toGo n d ≡ 0
+unfolding toGo
+to-go-ended n d e = rw e
 
-pub left-open : (n : ℕ) (d : List ℕ) → endedIn d ≡ false → left n d ≡ 1 + (n - leAt d 4378 8)
-unfolding left
-left-open n d e = rw e
+pub to-go-open : (n : ℕ) (d : List ℕ) → endedIn d ≡ false → toGo n d ≡ 1 + (n - leAt d 4378 8)
+unfolding toGo
+to-go-open n d e = rw e
 
 -- the script of n bytes is gone on from the desk d's place to v, which the desk e has: less is left
 module _ (n v : ℕ) (d e : List ℕ) (o : endedIn d ≡ false) (q : leAt e 4378 8 ≡ v) (m : getD e 4386 0 ≡ 0 → v < n) (k : leAt d 4378 8 ≤ v) (h : leAt d 4378 8 < n → leAt d 4378 8 < v) where
-  pub left-less : left n e < left n d
-  left-less =
-      ⊎-elim (λ t. omega (arith, left-ended n e t, left-open n d o))
-      (λ t. let u = m (unmarked e t) in omega (arith, left-open n e t, left-open n d o, h (omega arith)))
+  pub to-go-less : toGo n e < toGo n d
+  to-go-less =
+      ⊎-elim (λ t. omega (arith, to-go-ended n e t, to-go-open n d o))
+      (λ t. let u = m (unmarked e t) in omega (arith, to-go-open n e t, to-go-open n d o, h (omega arith)))
       (bool-cases (endedIn e))

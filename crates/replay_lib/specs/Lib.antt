@@ -1,3 +1,2 @@
-pub mod Sum
 pub mod Shape
 pub mod Steps

@@ -17,7 +17,7 @@ ghost use mathlib.Core.Bool.{false};
 ghost use Prim.Native.Nat.{_<_, _≤_};
 ghost use lib.ListN.{length, getD};
 ghost use Rattle.le.specs.Le.{leAt};
-ghost use Rattle.replay_lib.specs.Steps.{Ready, Gone, endedIn, left};
+ghost use Rattle.replay_lib.specs.Steps.{Primed, Gone, endedIn, toGo};
 use le::put_u64;
 use le::u64_at;
 use perform::perform;
@@ -74,7 +74,7 @@ fn advance(
     text: &mut [u8],
     w: usize,
 ) -> Step
-    requires { ⌜ Ready (now script) at (now desk) (now text) w ⌝ }
+    requires { ⌜ Primed (now script) at (now desk) (now text) w ⌝ }
     ensures { λ r. ⌜ (at < r .at) × Gone 512 (length (now (script .entry))) at (r .at) w (r .w) ⌝ }
 {
     if script[at] == 0 {
@@ -124,7 +124,7 @@ pub fn ended(desk: &[u8]) -> bool
 // Runs the script on and answers how much text there is. With room for a line each run goes on, so that a loop over it ends.
 pub fn run(script: &[u8], desk: &mut [u8], arena: &mut [u8], text: &mut [u8]) -> usize
     ensures { λ r. ⌜ r ≤ length (now (text .entry)) ⌝ }
-    ensures { λ _. ⌜ (512 ≤ length (now (text .entry)) → endedIn (now (desk .entry)) ≡ false → left (length (now (script .entry))) (now (desk .exit)) < left (length (now (script .entry))) (now (desk .entry))) ⌝ }
+    ensures { λ _. ⌜ (512 ≤ length (now (text .entry)) → endedIn (now (desk .entry)) ≡ false → toGo (length (now (script .entry))) (now (desk .exit)) < toGo (length (now (script .entry))) (now (desk .entry))) ⌝ }
 {
     if ended(&desk[..]) {
         return 0;

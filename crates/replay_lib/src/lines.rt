@@ -6,7 +6,6 @@ use crate::text::put_number;
 use crate::text::put_signed;
 use crate::text::put_value;
 use crate::text::put_word;
-use crate::text::sum;
 use calls::After;
 use calls::Answer;
 use calls::Given;
@@ -16,6 +15,7 @@ use calls::Told;
 use fsck::Verdict;
 use sefs::Metadata;
 use structs::Timespec;
+use sums::sum;
 use table::Handle;
 use table_bytes::write_table;
 

@@ -3,7 +3,7 @@ ghost use mathlib.Core.Path.{_≡_};
 ghost use Prim.Native.Nat.{_+_, _<_, _≤_};
 ghost use lib.ListN.{length};
 ghost use Rattle.le.specs.Le.{leAt};
-ghost use Rattle.replay_lib.specs.Steps.{Ready, Gone};
+ghost use Rattle.replay_lib.specs.Steps.{Primed, Gone};
 use crate::Step;
 use crate::reads::do_check;
 use crate::reads::do_entry;
@@ -18,7 +18,6 @@ use crate::shape::arena_length;
 use crate::shape::whole;
 use crate::text::put_number;
 use crate::text::put_word;
-use crate::text::sum;
 use crate::writes::do_close;
 use crate::writes::do_create;
 use crate::writes::do_format;
@@ -32,6 +31,7 @@ use base::index;
 use le::put_u64;
 use le::u32_at;
 use le::u64_at;
+use sums::sum;
 use table_bytes::read_table;
 use table_bytes::write_table;
 
@@ -164,7 +164,7 @@ fn do_read(
     text: &mut [u8],
     w: usize,
 ) -> Step
-    requires { ⌜ Ready (now script) at (now desk) (now text) w ⌝ }
+    requires { ⌜ Primed (now script) at (now desk) (now text) w ⌝ }
     ensures { λ r. ⌜ Gone 400 (length (now (script .entry))) at (r .at) w (r .w) ⌝ }
 {
     let c = script[at];
@@ -185,7 +185,7 @@ fn do_read(
 
 // 24, 26, 27, 30: the table stays too.
 fn do_look(script: &[u8], at: usize, desk: &[u8], arena: &[u8], text: &mut [u8], w: usize) -> Step
-    requires { ⌜ Ready (now script) at (now desk) (now text) w ⌝ }
+    requires { ⌜ Primed (now script) at (now desk) (now text) w ⌝ }
     ensures { λ r. ⌜ Gone 400 (length (now (script .entry))) at (r .at) w (r .w) ⌝ }
 {
     let c = script[at];
@@ -213,7 +213,7 @@ fn do_name(
     text: &mut [u8],
     w: usize,
 ) -> Step
-    requires { ⌜ Ready (now script) at (now desk) (now text) w ⌝ }
+    requires { ⌜ Primed (now script) at (now desk) (now text) w ⌝ }
     ensures { λ r. ⌜ Gone 400 (length (now (script .entry))) at (r .at) w (r .w) ⌝ }
 {
     let c = script[at];
@@ -237,7 +237,7 @@ fn do_call(
     text: &mut [u8],
     w: usize,
 ) -> Step
-    requires { ⌜ Ready (now script) at (now desk) (now text) w ⌝ }
+    requires { ⌜ Primed (now script) at (now desk) (now text) w ⌝ }
     ensures { λ r. ⌜ Gone 400 (length (now (script .entry))) at (r .at) w (r .w) ⌝ }
 {
     let c = script[at];
@@ -277,7 +277,7 @@ fn do_line(
     text: &mut [u8],
     w: usize,
 ) -> Step
-    requires { ⌜ Ready (now script) at (now desk) (now text) w ⌝ }
+    requires { ⌜ Primed (now script) at (now desk) (now text) w ⌝ }
     ensures { λ r. ⌜ Gone 512 (length (now (script .entry))) at (r .at) w (r .w) ⌝ }
 {
     let s = do_call(script, at, desk, arena, text, w);
@@ -298,7 +298,7 @@ pub fn perform(
     text: &mut [u8],
     w: usize,
 ) -> Step
-    requires { ⌜ Ready (now script) at (now desk) (now text) w ⌝ }
+    requires { ⌜ Primed (now script) at (now desk) (now text) w ⌝ }
     ensures { λ r. ⌜ Gone 512 (length (now (script .entry))) at (r .at) w (r .w) ⌝ }
 {
     let c = script[at];

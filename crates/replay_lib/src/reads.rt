@@ -4,7 +4,7 @@ ghost use Prim.Native.Nat.{_+_, _<_, _≤_};
 ghost use lib.ListN.{length};
 ghost use Rattle.le.specs.Le.{leAt};
 ghost use Rattle.replay_lib.specs.Shape.{named1};
-ghost use Rattle.replay_lib.specs.Steps.{Ready, Gone};
+ghost use Rattle.replay_lib.specs.Steps.{Primed, Gone};
 use crate::Step;
 use crate::args::handle_at;
 use crate::args::name_end;
@@ -98,7 +98,7 @@ pub fn do_find(
     text: &mut [u8],
     w: usize,
 ) -> Step
-    requires { ⌜ Ready (now script) at (now desk) (now text) w ⌝ }
+    requires { ⌜ Primed (now script) at (now desk) (now text) w ⌝ }
     ensures { λ r. ⌜ Gone 400 (length (now (script .entry))) at (r .at) w (r .w) ⌝ }
 {
     let n = named(script, at, 13);
@@ -139,7 +139,7 @@ pub fn do_metadata(
     text: &mut [u8],
     w: usize,
 ) -> Step
-    requires { ⌜ Ready (now script) at (now desk) (now text) w ⌝ }
+    requires { ⌜ Primed (now script) at (now desk) (now text) w ⌝ }
     ensures { λ r. ⌜ Gone 400 (length (now (script .entry))) at (r .at) w (r .w) ⌝ }
 {
     let n = whole(script, at, 13);
@@ -193,7 +193,7 @@ pub fn do_set(
     text: &mut [u8],
     w: usize,
 ) -> Step
-    requires { ⌜ Ready (now script) at (now desk) (now text) w ⌝ }
+    requires { ⌜ Primed (now script) at (now desk) (now text) w ⌝ }
     ensures { λ r. ⌜ Gone 400 (length (now (script .entry))) at (r .at) w (r .w) ⌝ }
 {
     let n = whole(script, at, 79);
@@ -280,7 +280,7 @@ pub fn do_entry(
     text: &mut [u8],
     w: usize,
 ) -> Step
-    requires { ⌜ Ready (now script) at (now desk) (now text) w ⌝ }
+    requires { ⌜ Primed (now script) at (now desk) (now text) w ⌝ }
     ensures { λ r. ⌜ Gone 400 (length (now (script .entry))) at (r .at) w (r .w) ⌝ }
 {
     let n = with_output(script, at);
@@ -356,7 +356,7 @@ pub fn do_list(
     text: &mut [u8],
     w: usize,
 ) -> Step
-    requires { ⌜ Ready (now script) at (now desk) (now text) w ⌝ }
+    requires { ⌜ Primed (now script) at (now desk) (now text) w ⌝ }
     ensures { λ r. ⌜ Gone 400 (length (now (script .entry))) at (r .at) w (r .w) ⌝ }
 {
     let n = with_output(script, at);

@@ -3,9 +3,7 @@ ghost use mathlib.Core.Path.{_≡_};
 ghost use Prim.Native.Nat.{_+_, _<_, _≤_};
 ghost use lib.ListN.{length};
 ghost use Rattle.base.specs.Parts.{paste};
-ghost use Rattle.replay_lib.specs.Sum.{sumOf};
 use base::copy;
-use base::wide;
 use le::to_bits;
 
 pub fn put_word(text: &mut [u8], w: usize, word: &[u8]) -> usize
@@ -63,17 +61,4 @@ pub fn put_signed(text: &mut [u8], w: usize, z: i64) -> usize
     }
     let v = put_word(text, w, b" -");
     put_number(text, v, 18446744073709551615 - bits + 1)
-}
-
-pub fn sum(bytes: &[u8]) -> u64
-    ensures { λ r. ⌜ r ≡ sumOf (now (bytes .entry)) (length (now (bytes .entry))) ⌝ }
-{
-    let n = bytes.len();
-    let mut h: u64 = 0;
-    let mut i: usize = 0;
-    while i < n {
-        h = (h * 257 + wide(bytes[i]) as u64 + 1) % 4294967291;
-        i = i + 1;
-    }
-    h
 }

@@ -3,7 +3,7 @@ ghost use mathlib.Core.Path.{_≡_};
 ghost use Prim.Native.Nat.{_+_, _<_, _≤_};
 ghost use lib.ListN.{length};
 ghost use Rattle.replay_lib.specs.Shape.{named1, named2};
-ghost use Rattle.replay_lib.specs.Steps.{Ready, Gone};
+ghost use Rattle.replay_lib.specs.Steps.{Primed, Gone};
 use crate::Step;
 use crate::args::file_at;
 use crate::args::handle_at;
@@ -49,7 +49,7 @@ pub fn do_format(
     text: &mut [u8],
     w: usize,
 ) -> Step
-    requires { ⌜ Ready (now script) at (now desk) (now text) w ⌝ }
+    requires { ⌜ Primed (now script) at (now desk) (now text) w ⌝ }
     ensures { λ r. ⌜ Gone 400 (length (now (script .entry))) at (r .at) w (r .w) ⌝ }
 {
     let n = whole(script, at, 33);
@@ -100,7 +100,7 @@ pub fn do_close(
     text: &mut [u8],
     w: usize,
 ) -> Step
-    requires { ⌜ Ready (now script) at (now desk) (now text) w ⌝ }
+    requires { ⌜ Primed (now script) at (now desk) (now text) w ⌝ }
     ensures { λ r. ⌜ Gone 400 (length (now (script .entry))) at (r .at) w (r .w) ⌝ }
 {
     let n = whole(script, at, 13);
@@ -144,7 +144,7 @@ pub fn do_create(
     text: &mut [u8],
     w: usize,
 ) -> Step
-    requires { ⌜ Ready (now script) at (now desk) (now text) w ⌝ }
+    requires { ⌜ Primed (now script) at (now desk) (now text) w ⌝ }
     ensures { λ r. ⌜ Gone 400 (length (now (script .entry))) at (r .at) w (r .w) ⌝ }
 {
     let n = named_more(script, at, 13, 38);
@@ -186,7 +186,7 @@ pub fn do_link(
     text: &mut [u8],
     w: usize,
 ) -> Step
-    requires { ⌜ Ready (now script) at (now desk) (now text) w ⌝ }
+    requires { ⌜ Primed (now script) at (now desk) (now text) w ⌝ }
     ensures { λ r. ⌜ Gone 400 (length (now (script .entry))) at (r .at) w (r .w) ⌝ }
 {
     let n = named_more(script, at, 13, 12);
@@ -227,7 +227,7 @@ pub fn do_unlink(
     text: &mut [u8],
     w: usize,
 ) -> Step
-    requires { ⌜ Ready (now script) at (now desk) (now text) w ⌝ }
+    requires { ⌜ Primed (now script) at (now desk) (now text) w ⌝ }
     ensures { λ r. ⌜ Gone 400 (length (now (script .entry))) at (r .at) w (r .w) ⌝ }
 {
     let n = named(script, at, 13);
@@ -278,7 +278,7 @@ pub fn do_move(
     text: &mut [u8],
     w: usize,
 ) -> Step
-    requires { ⌜ Ready (now script) at (now desk) (now text) w ⌝ }
+    requires { ⌜ Primed (now script) at (now desk) (now text) w ⌝ }
     ensures { λ r. ⌜ Gone 400 (length (now (script .entry))) at (r .at) w (r .w) ⌝ }
 {
     let n = named_twice(script, at);

@@ -3,7 +3,7 @@ use mathlib.Core.Bool.{true≢false}
 use mathlib.Core.Path.{sym, _∙_}
 use native.Mathlib.Omega.{arith}
 use lib.ListN.{length}
-use Rattle.replay_lib.proofs.Desks.{desk-length, left-less}
+use Rattle.replay_lib.proofs.Desks.{desk-length, to-go-less}
 use borrow.Author.Needs.{needs}
 use Rattle.replay_lib.proofs.run.Statement.{statement}
 use Rattle.replay_lib.proofs.run.Tie as tie
@@ -40,7 +40,7 @@ returns-2 c =
     let s = c .before .before .before .before .before .before .before .before .before .before .before .before .before .before .before .before .before .before .before .before .before .before .before .args in
     let f = c .before .before .before .before .before .before .before .before .before .before .before .before .before .before .u64-at .ensures in
     let r = c .before .before .before .before .before .before .before .before .before .before .run-from .ensures in
-    (r .0 .1, λ h g. left-less (length (s .script .now)) (c .before .before .before .before .before .before .before .before .before .before .run-from .result .at) (s .desk .now) (c .before .before .stand .last .0) g (c .before .before .stand .ensures .0) (c .before .before .stand .ensures .1) (omega (arith, f, r .0 .0)) (λ q. omega (arith, f, r .1 h (omega (arith, f, q)))))
+    (r .0 .1, λ h g. to-go-less (length (s .script .now)) (c .before .before .before .before .before .before .before .before .before .before .run-from .result .at) (s .desk .now) (c .before .before .stand .last .0) g (c .before .before .stand .ensures .0) (c .before .before .stand .ensures .1) (omega (arith, f, r .0 .0)) (λ q. omega (arith, f, r .1 h (omega (arith, f, q)))))
 
 pub run-spec : {M : Type 1} → statement M
 run-spec =

@@ -4,7 +4,7 @@ use mathlib.Core.List.{List}
 use Prim.Native.Nat.{ℕ, _+_, _*_, _%_}
 use native.Mathlib.Numerals.{add-one}
 use lib.ListN.{getD}
-use Rattle.replay_lib.specs.Sum.{sumOf}
+use Rattle.sums.specs.Sum.{sumOf}
 
 module _ (l : List ℕ) (i : ℕ) where
   at-more : sumOf l (i + 1) ≡ (sumOf l i * 257 + getD l i 0 + 1) % 4294967291

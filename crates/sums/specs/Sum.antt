@@ -1,4 +1,4 @@
--- The sum over bytes that every line ends with.
+-- The sum over bytes that a line of a script's answers ends with.
 use mathlib.Core.List.{List}
 use Prim.Native.Nat.{ℕ, zero, suc, _+_, _*_, _%_}
 use lib.ListN.{getD}

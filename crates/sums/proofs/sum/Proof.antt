@@ -1,17 +1,20 @@
--- `files_run::sum`: the sum stays below the modulus.
-use Prim.Native.Nat.{_-_, _<_}
+-- `sums::sum`: after i turns it is the sum over the first i bytes, below the modulus.
+use mathlib.Core.Path.{_≡_, _∙_, ap}
+use Prim.Native.Nat.{_-_, _≤_, _<_}
 use native.Mathlib.Omega.{arith}
-use Rattle.files_run.proofs.sum.Statement.{statement}
-use Rattle.files_run.proofs.sum.Tie as tie
+use Rattle.sums.specs.Sum.{sumOf}
+use Rattle.sums.proofs.Sums.{sum-none, sum-more}
+use Rattle.sums.proofs.sum.Statement.{statement}
+use Rattle.sums.proofs.sum.Tie as tie
 
 abbrev Inv-loop : tie.InvT-loop
-Inv-loop bytes n h₀ i₀ h i = h < 4294967291
+Inv-loop bytes n h₀ i₀ h i = (i ≤ n) × ((h < 4294967291) × (h ≡ sumOf bytes i))
 
 abbrev μ-loop : tie.MeasureT-loop
 μ-loop bytes n h₀ i₀ h i = n - i
 
 loop-holds : tie.Need-loop-holds Inv-loop μ-loop
-loop-holds c = omega arith
+loop-holds c = (omega arith, (omega arith, sum-none _))
 
 mul-h : tie.Need-mul-h Inv-loop μ-loop
 mul-h c = omega arith
@@ -38,10 +41,10 @@ loop-less : tie.Need-loop-less Inv-loop μ-loop
 loop-less c = omega arith
 
 loop-again : tie.Need-loop-again Inv-loop μ-loop
-loop-again c = omega arith
+loop-again c = (omega arith, (omega arith, sum-more _ _ _ _ (c .before .before .before .loop .inv .1 .1) (c .wide .ensures .0)))
 
 returns : tie.Need-returns Inv-loop μ-loop
-returns c = tt
+returns c = c .before .loop .inv .1 .1 ∙ ap (sumOf _) (omega arith)
 
 pub sum-spec : {M : Type 1} → statement M
 sum-spec =
