@@ -68,7 +68,7 @@ module _ (a w m n : List ℕ) (i j : ℕ) (old name : List ℕ) (k new was d c :
     unfolding replaceNode
     node-same u q o l = decided-next _ (went-is g z) (decided-next _ (went-is known-fs o) (same (rw (eq-eqb was new l))))
 
-    pub node-over : {u q : List ℕ} {v : ℕ} {t : Course} → p ≡ 0 → (was ≡ new → ⊥) → Stepped (moveOver (fsOf a w n) i j old name c d k) a w u q 73 v → t ≡ courseOf v
+    pub node-over : {u q : List ℕ} {v : ℕ} {t : Course} → p ≡ 0 → (was ≡ new → ⊥) → Stepped (moveOver (fsOf a w n) i j old name c d k) a w u q 58 v → t ≡ courseOf v
         → Decided (replaceNode (fsOf a w m) i j old name k new was) (fsOf a w m) a u q t
     unfolding replaceNode
     node-over o l b q =
@@ -111,7 +111,7 @@ module _ (a w m : List ℕ) (i j : ℕ) (old name : List ℕ) {k r : ℕ} {P : T
   found-there l new z b f d h =
       decided-next (moveTo (fsOf a w m) i j old name) (went-is look-fs z ∙ ap done (found-at k (x .blocks) b)) (there l f (rw d at h))
 
-  pub found-free : {u q : List ℕ} {c : Course} {v : ℕ} → r ≡ 0 → x .blocks ≤ k → Stepped (moveNamed (fsOf a w m) i j old name Free) a w u q 55 v → c ≡ courseOf v
+  pub found-free : {u q : List ℕ} {c : Course} {v : ℕ} → r ≡ 0 → x .blocks ≤ k → Stepped (moveNamed (fsOf a w m) i j old name Free) a w u q 45 v → c ≡ courseOf v
       → Decided (moveFound (fsOf a w m) i j old name) (fsOf a w m) a u q c
   unfolding moveFound
   found-free {u} {q} {c} z b h t =

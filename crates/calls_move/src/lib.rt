@@ -112,7 +112,7 @@ fn replace_node(
     new: u32,
     was: u32,
 ) -> Course
-    requires { ⌜ Ready (now arena) (now work) (now mem) × ((73 ≤ left (now work)) × ((i < 34) × ((j < 34) × (length (now name) ≤ 255)))) ⌝ }
+    requires { ⌜ Ready (now arena) (now work) (now mem) × ((58 ≤ left (now work)) × ((i < 34) × ((j < 34) × (length (now name) ≤ 255)))) ⌝ }
     ensures { λ c. ⌜ Decided (replaceNode (fsOf (now (arena .entry)) (now (work .entry)) (now (mem .entry))) i j (now (old .entry)) (now (name .entry)) k new was) (fsOf (now (arena .entry)) (now (work .entry)) (now (mem .entry))) (now (arena .entry)) (now (work .exit)) (now (mem .exit)) c ⌝ }
 {
     let p = open_two(arena, &work[..], mem, new, was);
@@ -140,7 +140,7 @@ fn replace(
     k: usize,
     new: u32,
 ) -> Course
-    requires { ⌜ Ready (now arena) (now work) (now mem) × ((73 ≤ left (now work)) × ((i < 34) × ((j < 34) × (length (now name) ≤ 255)))) ⌝ }
+    requires { ⌜ Ready (now arena) (now work) (now mem) × ((58 ≤ left (now work)) × ((i < 34) × ((j < 34) × (length (now name) ≤ 255)))) ⌝ }
     ensures { λ c. ⌜ Decided (replaceNamed (fsOf (now (arena .entry)) (now (work .entry)) (now (mem .entry))) i j (now (old .entry)) (now (name .entry)) k new) (fsOf (now (arena .entry)) (now (work .entry)) (now (mem .entry))) (now (arena .entry)) (now (work .exit)) (now (mem .exit)) c ⌝ }
 {
     let mut slot = [0u8; 264];
@@ -160,7 +160,7 @@ fn move_decide(
     old: &[u8],
     name: &[u8],
 ) -> Course
-    requires { ⌜ Ready (now arena) (now work) (now mem) × ((73 ≤ left (now work)) × ((i < 34) × ((j < 34) × (length (now name) ≤ 255)))) ⌝ }
+    requires { ⌜ Ready (now arena) (now work) (now mem) × ((58 ≤ left (now work)) × ((i < 34) × ((j < 34) × (length (now name) ≤ 255)))) ⌝ }
     ensures { λ c. ⌜ Decided (moveFound (fsOf (now (arena .entry)) (now (work .entry)) (now (mem .entry))) i j (now (old .entry)) (now (name .entry))) (fsOf (now (arena .entry)) (now (work .entry)) (now (mem .entry))) (now (arena .entry)) (now (work .exit)) (now (mem .exit)) c ⌝ }
 {
     let rec = rec_at(&mem[..], j);
@@ -244,7 +244,7 @@ fn move_work(
     old: &[u8],
     name: &[u8],
 ) -> Course
-    requires { ⌜ Ready (now arena) (now work) (now mem) × ((73 ≤ left (now work)) × ((i < 34) × (j < 34))) ⌝ }
+    requires { ⌜ Ready (now arena) (now work) (now mem) × ((58 ≤ left (now work)) × ((i < 34) × (j < 34))) ⌝ }
     ensures { λ c. ⌜ Decided (moveWork (fsOf (now (arena .entry)) (now (work .entry)) (now (mem .entry))) i j (now (old .entry)) (now (name .entry))) (fsOf (now (arena .entry)) (now (work .entry)) (now (mem .entry))) (now (arena .entry)) (now (work .exit)) (now (mem .exit)) c ⌝ }
 {
     let r = move_ask(rec_at(&mem[..], i), rec_at(&mem[..], j), old, name);
@@ -265,7 +265,7 @@ fn move_in(
     old: &[u8],
     name: &[u8],
 ) -> After
-    requires { ⌜ Empty (now arena) (now work) 83 × ((length (now mem) ≡ 4899) × ((tableIn (now mem) ≡ t) × ((i < 34) × (j < 34)))) ⌝ }
+    requires { ⌜ Empty (now arena) (now work) 68 × ((length (now mem) ≡ 4899) × ((tableIn (now mem) ≡ t) × ((i < 34) × (j < 34)))) ⌝ }
     ensures { λ r. ⌜ Returned t (moveWork (start (now (arena .entry)) t) i j (now (old .entry)) (now (name .entry))) (now (arena .entry)) (now (arena .exit)) r ⌝ }
 {
     load_meta(&arena[..], &work[..], mem);
@@ -286,7 +286,7 @@ fn move_rows(arena: &mut [u8], t: Table, i: usize, j: usize, old: &[u8], name: &
     ensures { λ r. ⌜ Returned t (moveWork (start (now (arena .entry)) t) i j (now (old .entry)) (now (name .entry))) (now (arena .entry)) (now (arena .exit)) r ⌝ }
 {
     let mut mem = [0u8; 4899];
-    let mut work = [0u8; 42496];
+    let mut work = [0u8; 34816];
     put_table(&mut mem, t);
     overlay::begin(&mut work);
     move_in(arena, &mut work, &mut mem, t, i, j, old, name)

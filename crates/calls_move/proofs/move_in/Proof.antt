@@ -53,7 +53,7 @@ same-length-3 c = search needs
 returns : tie.Need-returns
 returns c =
     let s = c .before .before .before .before .before .before .before .before .before .before .before .before .before .before .before .before .before .before .before .before .before .before .before .before .before .before .before .before .before in
-    returned-made (s .args .t) (λ x. moveWork x (s .args .i) (s .args .j) (s .args .old .now) (s .args .name .now)) (fs-start _ _ _ _ 83 (s .pre .0) (c .before .before .before .before .before .before .before .before .before .before .before .before .before .before .before .before .before .before .before .before .load-meta .ensures .0) (c .before .before .before .before .before .before .before .before .before .before .before .before .before .before .before .before .before .before .before .before .load-meta .ensures .1 .0) ∙ ap (start (s .args .arena .now)) (s .pre .1 .1 .0)) (c .before .before .before .before .before .before .before .before .before .before .before .before .before .before .move-work .ensures) (c .before .before .before .before .before .before .before .before .enum-told .given .1) (c .before .before .before .before .before .commit .ensures) (c .done .ensures ∙ ap doneWith (c .before .table-at .ensures))
+    returned-made (s .args .t) (λ x. moveWork x (s .args .i) (s .args .j) (s .args .old .now) (s .args .name .now)) (fs-start _ _ _ _ 68 (s .pre .0) (c .before .before .before .before .before .before .before .before .before .before .before .before .before .before .before .before .before .before .before .before .load-meta .ensures .0) (c .before .before .before .before .before .before .before .before .before .before .before .before .before .before .before .before .before .before .before .before .load-meta .ensures .1 .0) ∙ ap (start (s .args .arena .now)) (s .pre .1 .1 .0)) (c .before .before .before .before .before .before .before .before .before .before .before .before .before .before .move-work .ensures) (c .before .before .before .before .before .before .before .before .enum-told .given .1) (c .before .before .before .before .before .commit .ensures) (c .done .ensures ∙ ap doneWith (c .before .table-at .ensures))
 
 same-length-4 : tie.Need-same-length-4
 same-length-4 c = search needs
@@ -67,7 +67,7 @@ same-length-6 c = search needs
 returns-2 : tie.Need-returns-2
 returns-2 c =
     let s = c .before .before .before .before .before .before .before .before .before .before .before .before .before .before .before .before .before .before .before .before .before .before in
-    returned-same (s .args .t) (λ x. moveWork x (s .args .i) (s .args .j) (s .args .old .now) (s .args .name .now)) (fs-start _ _ _ _ 83 (s .pre .0) (c .before .before .before .before .before .before .before .before .before .before .before .before .before .load-meta .ensures .0) (c .before .before .before .before .before .before .before .before .before .before .before .before .before .load-meta .ensures .1 .0) ∙ ap (start (s .args .arena .now)) (s .pre .1 .1 .0)) (c .before .before .before .before .before .before .before .move-work .ensures) (c .before .enum-told2 .given .1) refl (c .done2 .ensures)
+    returned-same (s .args .t) (λ x. moveWork x (s .args .i) (s .args .j) (s .args .old .now) (s .args .name .now)) (fs-start _ _ _ _ 68 (s .pre .0) (c .before .before .before .before .before .before .before .before .before .before .before .before .before .load-meta .ensures .0) (c .before .before .before .before .before .before .before .before .before .before .before .before .before .load-meta .ensures .1 .0) ∙ ap (start (s .args .arena .now)) (s .pre .1 .1 .0)) (c .before .before .before .before .before .before .before .move-work .ensures) (c .before .enum-told2 .given .1) refl (c .done2 .ensures)
 
 same-length-7 : tie.Need-same-length-7
 same-length-7 c = search needs
@@ -81,7 +81,7 @@ same-length-9 c = search needs
 returns-3 : tie.Need-returns-3
 returns-3 c =
     let s = c .before .before .before .before .before .before .before .before .before .before .before .before .before .before .before .before .before .before .before .before .before .before .before in
-    returned-turned (s .args .t) (λ x. moveWork x (s .args .i) (s .args .j) (s .args .old .now) (s .args .name .now)) (fs-start _ _ _ _ 83 (s .pre .0) (c .before .before .before .before .before .before .before .before .before .before .before .before .before .before .load-meta .ensures .0) (c .before .before .before .before .before .before .before .before .before .before .before .before .before .before .load-meta .ensures .1 .0) ∙ ap (start (s .args .arena .now)) (s .pre .1 .1 .0)) (c .before .before .before .before .before .before .before .before .move-work .ensures) _ (c .before .before .c .given .1) refl (c .refused .ensures)
+    returned-turned (s .args .t) (λ x. moveWork x (s .args .i) (s .args .j) (s .args .old .now) (s .args .name .now)) (fs-start _ _ _ _ 68 (s .pre .0) (c .before .before .before .before .before .before .before .before .before .before .before .before .before .before .load-meta .ensures .0) (c .before .before .before .before .before .before .before .before .before .before .before .before .before .before .load-meta .ensures .1 .0) ∙ ap (start (s .args .arena .now)) (s .pre .1 .1 .0)) (c .before .before .before .before .before .before .before .before .move-work .ensures) _ (c .before .before .c .given .1) refl (c .refused .ensures)
 
 pub move-in-spec : {M : Type 1} → statement M
 move-in-spec =

@@ -26,7 +26,7 @@ slice-aggregate-move-in-2 c = search needs
 move-in-requires : tie.Need-move-in-requires
 move-in-requires c κs =
     let s = c .before .before .before .before .before .before .before .before .before .before .before .before in
-    (started _ _ 83 (s .pre .0) (omega arith) (omega arith) (c .before .before .before .before .begin .ensures), (search needs, (c .before .before .before .before .before .before .before .put-table .ensures .0, s .pre .1)))
+    (started _ _ 68 (s .pre .0) (omega arith) (omega arith) (c .before .before .before .before .begin .ensures), (search needs, (c .before .before .before .before .before .before .before .put-table .ensures .0, s .pre .1)))
 
 same-length : tie.Need-same-length
 same-length c = search needs
