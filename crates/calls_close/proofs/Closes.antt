@@ -27,8 +27,8 @@ module _ (a : List ℕ) (t : Table) (h : Handle) {i n : ℕ} {P : Type 0} (g : W
   close-not z = close-is a t h ∙ rw (went-not g z)
 
   -- x: the table without the hold, and whether it was its row's last
-  pub close-at : (x : Closed) → x ≡ closeHold t (h .hold) → n ≡ 0 → callClose a t h ≡ ending (closeSteps (start a (x .table)) (x .last) i)
-  close-at x q z = rw q (close-is a t h ∙ rw (went-is g z))
+  pub close-at : (x : Closed) → closeHold t (h .hold) ≡ x → n ≡ 0 → callClose a t h ≡ ending (closeSteps (start a (x .table)) (x .last) i)
+  close-at x q z = rw (← q) (close-is a t h ∙ rw (went-is g z))
 
 -- the row's last hold: its node is dropped
 pub steps-last : (s : Fs) (last : Bool) (i : ℕ) → last ≡ true → ending (closeSteps s last i) ≡ ending (dropNode s i)

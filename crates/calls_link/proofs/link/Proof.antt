@@ -1,62 +1,45 @@
--- `calls_link::link`: the first questions, and the rest.
-use mathlib.Core.Path.{refl, _∙_}
-use Rattle.base.proofs.Outs.{went-has}
-use Rattle.sefs.specs.Ask.{start}
-use Rattle.calls_steps.specs.Ends.{ending}
-use Rattle.calls_link.specs.Link.{linkWork}
-use Rattle.calls_steps.proofs.Ends.{two-admits, two-legal, two-next, two-stop, returned-is, returned-refused}
-use Rattle.calls_link.proofs.Links.{link-is}
+-- `calls_link::link`: memory has the table, and what the call left there is settled.
+use Rattle.sefs.specs.Create.{callLink}
+use Rattle.calls_steps.proofs.Ends.{returned-table}
 use borrow.Author.Needs.{needs}
 use Rattle.calls_link.proofs.link.Statement.{statement}
 use Rattle.calls_link.proofs.link.Tie as tie
 
-by-handle-requires : tie.Need-by-handle-requires
-by-handle-requires c κs = search needs
+slice-aggregate-put-table : tie.Need-slice-aggregate-put-table
+slice-aggregate-put-table c = search needs
 
-by-handle-requires-2 : tie.Need-by-handle-requires-2
-by-handle-requires-2 c κs = search needs
+put-table-requires : tie.Need-put-table-requires
+put-table-requires c κs = search needs
 
-well-formed-requires : tie.Need-well-formed-requires
-well-formed-requires c κs = search needs
+slice-aggregate-link-on : tie.Need-slice-aggregate-link-on
+slice-aggregate-link-on c = search needs
 
-admit-two-requires : tie.Need-admit-two-requires
-admit-two-requires c κs = search needs
+link-on-requires : tie.Need-link-on-requires
+link-on-requires c κs = search needs
 
-refused-requires : tie.Need-refused-requires
-refused-requires c κs = search needs
+slice-aggregate-settle : tie.Need-slice-aggregate-settle
+slice-aggregate-settle c = search needs
+
+settle-requires : tie.Need-settle-requires
+settle-requires c κs = search needs
 
 same-length : tie.Need-same-length
 same-length c = search needs
 
 returns : tie.Need-returns
 returns c =
-    let s = c .before .before .before .before .before .before .before .before .before in
-    returned-refused _ (link-is _ _ _ _ _ ∙ two-stop _ _ _ (s .args .h) (s .args .child) (λ i j. ending (linkWork (start (s .args .arena .now) (s .args .t)) i (s .args .name .now) j)) (c .before .before .before .well-formed .ensures) (c .before .before .before .before .before .before .by-handle .ensures) (c .before .before .before .before .before .by-handle2 .ensures) (c .before .before .admit-two .ensures) (c .before .if1 .taken)) refl (c .refused .ensures)
-
-link-rows-requires : tie.Need-link-rows-requires
-link-rows-requires c κs =
-    let k = two-admits _ _ _ _ _ (c .before .before .admit-two .ensures) (c .before .if1 .left) in
-    (two-legal _ _ _ _ _ (c .before .before .admit-two .ensures) (c .before .if1 .left), (went-has (c .before .before .before .before .before .before .by-handle .ensures) (k .1 .0), went-has (c .before .before .before .before .before .by-handle2 .ensures) (k .1 .1)))
-
-same-length-2 : tie.Need-same-length-2
-same-length-2 c = search needs
-
-returns-2 : tie.Need-returns-2
-returns-2 c =
-    let s = c .before .before .before .before .before .before .before .before .before .before .before .before in
-    returned-is _ (link-is _ _ _ _ _ ∙ two-next _ _ _ (s .args .h) (s .args .child) (λ i j. ending (linkWork (start (s .args .arena .now) (s .args .t)) i (s .args .name .now) j)) (c .before .before .before .before .before .before .well-formed .ensures) (c .before .before .before .before .before .before .before .before .before .by-handle .ensures) (c .before .before .before .before .before .before .before .before .by-handle2 .ensures) (c .before .before .before .before .before .admit-two .ensures) (c .before .before .before .before .if1 .left)) (c .before .before .link-rows .ensures)
+    let s = c .before .before .before .before .before .before .before .before .before .before .before .before .before in
+    returned-table (λ u. callLink (s .args .arena .now) u (s .args .h) (s .args .name .now) (s .args .child)) _ (c .before .before .before .before .before .before .before .before .before .put-table .ensures .0) (c .before .before .before .before .before .link-on .ensures) (c .settle .ensures)
 
 pub link-spec : {M : Type 1} → statement M
 link-spec =
     tie.close
     (tie.spec
-    by-handle-requires
-    by-handle-requires-2
-    well-formed-requires
-    admit-two-requires
-    refused-requires
+    slice-aggregate-put-table
+    put-table-requires
+    slice-aggregate-link-on
+    link-on-requires
+    slice-aggregate-settle
+    settle-requires
     same-length
-    returns
-    link-rows-requires
-    same-length-2
-    returns-2)
+    returns)

@@ -1,18 +1,9 @@
--- `calls_link::link_rows`: memory has the table, and the workspace is ready.
+-- `calls_link::link_rows`: the workspace is ready.
 use native.Mathlib.Omega.{arith}
-use Rattle.sefs.specs.Ask.{start}
-use Rattle.calls_steps.specs.Ends.{ending}
-use Rattle.calls_link.specs.Link.{linkWork}
-use Rattle.calls_steps.proofs.Ends.{started, returned-table}
+use Rattle.calls_steps.proofs.Ends.{started}
 use borrow.Author.Needs.{needs}
 use Rattle.calls_link.proofs.link_rows.Statement.{statement}
 use Rattle.calls_link.proofs.link_rows.Tie as tie
-
-slice-aggregate-put-table : tie.Need-slice-aggregate-put-table
-slice-aggregate-put-table c = search needs
-
-put-table-requires : tie.Need-put-table-requires
-put-table-requires c κs = search needs
 
 slice-aggregate-begin : tie.Need-slice-aggregate-begin
 slice-aggregate-begin c = search needs
@@ -23,40 +14,27 @@ begin-requires c κs = search needs
 slice-aggregate-link-in : tie.Need-slice-aggregate-link-in
 slice-aggregate-link-in c = search needs
 
-slice-aggregate-link-in-2 : tie.Need-slice-aggregate-link-in-2
-slice-aggregate-link-in-2 c = search needs
-
 link-in-requires : tie.Need-link-in-requires
 link-in-requires c κs =
-    let s = c .before .before .before .before .before .before .before .before .before .before .before in
-    (started _ _ 19 (s .pre .0) (omega arith) (omega arith) (c .before .before .before .before .begin .ensures), (search needs, s .pre .1))
-
-slice-aggregate-settle : tie.Need-slice-aggregate-settle
-slice-aggregate-settle c = search needs
-
-settle-requires : tie.Need-settle-requires
-settle-requires c κs = search needs
+    (started _ _ 19 (c .before .before .before .before .before .before .before .before .before .pre .0) (omega arith) (omega arith) (c .before .before .before .before .begin .ensures), c .before .before .before .before .before .before .before .before .before .pre .1)
 
 same-length : tie.Need-same-length
 same-length c = search needs
 
+same-length-2 : tie.Need-same-length-2
+same-length-2 c = search needs
+
 returns : tie.Need-returns
-returns c =
-    let s = c .before .before .before .before .before .before .before .before .before .before .before .before .before .before .before .before .before .before in
-    returned-table (λ u. ending (linkWork (start (s .args .arena .now) u) (s .args .i) (s .args .name .now) (s .args .c))) _ (c .before .before .before .before .before .before .before .before .before .before .before .before .before .before .put-table .ensures .0) (c .before .before .before .before .before .before .link-in .ensures) (c .settle .ensures)
+returns c = search needs
 
 pub link-rows-spec : {M : Type 1} → statement M
 link-rows-spec =
     tie.close
     (tie.spec
-    slice-aggregate-put-table
-    put-table-requires
     slice-aggregate-begin
     begin-requires
     slice-aggregate-link-in
-    slice-aggregate-link-in-2
     link-in-requires
-    slice-aggregate-settle
-    settle-requires
     same-length
+    same-length-2
     returns)
