@@ -33,9 +33,10 @@ use Rattle.sefs.specs.Ask.{admitArena, goodName, notLong, known, folder, start}
 use Rattle.sefs.specs.Open.{callOpen, callRoot, callFind, holdNode}
 use Rattle.mem.specs.Mem.{tableIn, metaIn, Whole}
 use Rattle.mem.specs.State.{fsOf}
-use Rattle.calls.specs.Answers.{gotOf, heldTable, givenOf, heldWith, notGiven}
+use Rattle.calls.specs.Answers.{gotOf, heldTable, givenOf, notHanded}
 use Rattle.calls.specs.Asked.{admitIf, reached, Reached}
 use Rattle.calls.specs.declared.Given.{Given}
+use Rattle.calls.specs.declared.Handed.{Handed}
 use Rattle.calls.proofs.Answers.{given-held, given-refused}
 use Rattle.calls.proofs.Asks.{Asks, asks-ensure, asks-then, asks-arena, asks-admitIf, asked-not, asked-done, admit-is, admitted-legal, call-stop, call-next, answer-stop, answer-next}
 use Rattle.calls_open.proofs.General.{went-last}
@@ -57,29 +58,34 @@ unfolding fsOf
 fs-start a w m t e f g = rw (f, g, e)
 
 -- the node that was opened, and the hold
-pub hold-went : (a w m n : List ℕ) (t : Table) (id row r : ℕ) → fsOf a w m ≡ start a t → Went (getNode (fsOf a w m) id) (opened (fsOf a w n) row) (Whole n × (row < 34)) r → Went (holdNode (start a t) id) (addHold (tableIn n) row) (row < 34) r
+pub hold-went : (a w m n : List ℕ) (t : Table) (id row r : ℕ) → fsOf a w m ≡ start a t → Went (getNode (fsOf a w m) id) (opened (fsOf a w n) row) (Whole n × (row < 34)) r → Went (holdNode (start a t) id) (addHold (tableIn n) row) (Whole n × (row < 34)) r
 unfolding holdNode fsOf
 hold-went a w m n t id row r e g =
-    subst (λ (s : Fs). Went (holdNode s id) (addHold (tableIn n) row) (row < 34) r) e (went-last (λ (o : Opened). addHold (o .state .table) (o .row)) (λ (p : Whole n × (row < 34)). p .1) g)
+    subst (λ (s : Fs). Went (holdNode s id) (addHold (tableIn n) row) (Whole n × (row < 34)) r) e (went-last (λ (o : Opened). addHold (o .state .table) (o .row)) (λ (p : Whole n × (row < 34)). p) g)
 
 -- ---- answers
 
--- by a reason's number, and by the outcome
-pub given-is : (t : Table) (o : Out Added) (x : Added) (P : Type 0) (n : ℕ) (r : Given) → Went o x P n → r ≡ givenOf t x n → Gives t o r
-given-is t o x P n r (well e p) q =
-    let h : r ≡ heldWith x = q ∙ sym (given-held t x 0 refl) in
-    (ap (λ (y : Given). y .answer) h ∙ sym (ap gotOf e), ap (λ (y : Given). y .table) h ∙ sym (ap (heldTable t) e))
-given-is t o x P n r (ill l e) q =
-    let h : r ≡ notGiven t n = q ∙ sym (given-refused t x n (λ z. omega arith)) in
-    (ap (λ (y : Given). y .answer) h ∙ sym (ap gotOf e), ap (λ (y : Given). y .table) h ∙ sym (ap (heldTable t) e))
+-- the hold x by the handle and the table that it left
+pub handed : {o : Out Added} {x y : Added} {P : Type 0} {n r : ℕ} → r ≡ n → (n ≡ 0 → x ≡ y) → Went o x P n → Went o y Unit r
+handed q k (well e p) = rw q (well (e ∙ ap done (k refl)) tt)
+handed q k (ill l e) = rw q (ill l e)
 
 -- a refusal
-pub gives-refused : (t : Table) (o : Out Added) (n : ℕ) (r : Given) → o ≡ refused n → r ≡ notGiven t n → Gives t o r
-gives-refused t o n r e h = (ap (λ (y : Given). y .answer) h ∙ sym (ap gotOf e), ap (λ (y : Given). y .table) h ∙ sym (ap (heldTable t) e))
+pub not-handed : {o : Out Added} {x : Added} {n : ℕ} {r : Handed} → 0 < n → o ≡ refused n → r ≡ notHanded n → Went o x Unit (r .reason)
+not-handed l e q = rw q (ill l e)
 
--- the same outcome, said in another way
-pub gives-as : (t : Table) (o q : Out Added) (r : Given) → q ≡ o → Gives t o r → Gives t q r
-gives-as t o q r e g = (g .0 ∙ sym (ap gotOf e), g .1 ∙ sym (ap (heldTable t) e))
+-- by a reason's number, and by the outcome
+given-is : (t : Table) {o : Out Added} {x : Added} {P : Type 0} {n : ℕ} {r : Given} → Went o x P n → r ≡ givenOf t x n → Gives t o r
+given-is t {x = x} (well e p) q =
+    let h = q ∙ sym (given-held t x 0 refl) in
+    (ap (λ (y : Given). y .answer) h ∙ sym (ap gotOf e), ap (λ (y : Given). y .table) h ∙ sym (ap (heldTable t) e))
+given-is t {x = x} (ill {r = n} l e) q =
+    let h = q ∙ sym (given-refused t x n (λ z. omega arith)) in
+    (ap (λ (y : Given). y .answer) h ∙ sym (ap gotOf e), ap (λ (y : Given). y .table) h ∙ sym (ap (heldTable t) e))
+
+-- the same, where the table that memory was given is known by another name
+pub given-table : (f : Table → Out Added) (t : Table) {u v : Table} {x : Added} {P : Type 0} {n : ℕ} {r : Given} → u ≡ v → Went (f u) x P n → r ≡ givenOf t x n → Gives t (f v) r
+given-table f t q g e = rw (← q) (given-is t g e)
 
 -- ---- 16, and then the opening
 

@@ -1,63 +1,32 @@
--- `calls_open::find`: the handle's row, the slot in its folder, the node.
-use mathlib.Core.Path.{subst, ap}
-use Rattle.base.specs.Out.{Went}
-use Rattle.base.proofs.Outs.{went-has}
-use Rattle.structs.specs.declared.DiskINode.{DiskINode}
-use Rattle.table.specs.declared.Row.{Row}
+-- `calls_open::find`: memory has the table.
 use Rattle.sefs.specs.Open.{callFind}
-use Rattle.calls_open.specs.Opens.{giveNode, findIn}
-use Rattle.calls_open.proofs.Opens.{gives-refused, gives-as, find-stop, find-not, find-give}
+use Rattle.calls_open.proofs.Opens.{given-table}
 use borrow.Author.Needs.{needs}
 use Rattle.calls_open.proofs.find.Statement.{statement}
 use Rattle.calls_open.proofs.find.Tie as tie
 
-reach-requires : tie.Need-reach-requires
-reach-requires c κs = search needs
+slice-aggregate-put-table : tie.Need-slice-aggregate-put-table
+slice-aggregate-put-table c = search needs
 
-not-given-requires : tie.Need-not-given-requires
-not-given-requires c κs = search needs
+put-table-requires : tie.Need-put-table-requires
+put-table-requires c κs = search needs
+
+slice-aggregate-find-on : tie.Need-slice-aggregate-find-on
+slice-aggregate-find-on c = search needs
+
+find-on-requires : tie.Need-find-on-requires
+find-on-requires c κs = search needs
+
+slice-aggregate-settle-held : tie.Need-slice-aggregate-settle-held
+slice-aggregate-settle-held c = search needs
+
+settle-held-requires : tie.Need-settle-held-requires
+settle-held-requires c κs = search needs
 
 returns : tie.Need-returns
 returns c =
-    let s = c .before .before .before .before .before .before .args in
-    gives-refused (s .t) (callFind (s .arena .now) (s .t) (s .h) (s .name .now)) _ _ (find-stop (s .arena .now) (s .t) (s .h) (s .name .now) _ _ (c .before .before .before .reach .ensures) (c .before .if1 .taken)) (c .not-given .ensures)
-
-row-at-requires : tie.Need-row-at-requires
-row-at-requires c κs = went-has (c .before .before .reach .ensures) (c .if1 .left) .below
-
-find-in-requires : tie.Need-find-in-requires
-find-in-requires c κs = went-has (c .before .before .before .before .reach .ensures) (c .before .before .if1 .left) .legal
-
-not-given-requires-2 : tie.Need-not-given-requires-2
-not-given-requires-2 c κs = search needs
-
-returns-2 : tie.Need-returns-2
-returns-2 c =
-    let s = c .before .before .before .before .before .before .before .before .before .before .before .args in
-    let n = c .before .before .before .find-in .result in
-    let f = subst (λ (x : DiskINode). Went (findIn (s .arena .now) x (s .name .now)) (n .id) Unit (n .reason)) (ap (λ (x : Row). x .rec) (c .before .before .before .before .before .row-at .ensures)) (c .before .before .before .find-in .ensures) in
-    gives-refused (s .t) (callFind (s .arena .now) (s .t) (s .h) (s .name .now)) _ _ (find-not (s .arena .now) (s .t) (s .h) (s .name .now) _ _ (c .before .before .before .before .before .before .before .before .reach .ensures) _ _ (c .before .before .before .before .before .before .if1 .left) f (c .before .if2 .taken)) (c .not-given2 .ensures)
-
-give-node-requires : tie.Need-give-node-requires
-give-node-requires c κs = went-has (c .before .before .before .before .before .before .before .reach .ensures) (c .before .before .before .before .before .if1 .left) .legal
-
-returns-3 : tie.Need-returns-3
-returns-3 c =
-    let s = c .before .before .before .before .before .before .before .before .before .before .before .args in
-    let n = c .before .before .before .find-in .result in
-    let f = subst (λ (x : DiskINode). Went (findIn (s .arena .now) x (s .name .now)) (n .id) Unit (n .reason)) (ap (λ (x : Row). x .rec) (c .before .before .before .before .before .row-at .ensures)) (c .before .before .before .find-in .ensures) in
-    gives-as (s .t) (giveNode (s .arena .now) (s .t) (n .id)) (callFind (s .arena .now) (s .t) (s .h) (s .name .now)) _ (find-give (s .arena .now) (s .t) (s .h) (s .name .now) _ _ (c .before .before .before .before .before .before .before .before .reach .ensures) _ _ (c .before .before .before .before .before .before .if1 .left) f (c .before .if2 .left)) (c .give-node .ensures)
+    let s = c .before .before .before .before .before .before .before .before .before .before .args in
+    given-table (λ u. callFind (s .arena .now) u (s .h) (s .name .now)) _ (c .before .before .before .before .before .before .put-table .ensures .0) (c .before .before .before .find-on .ensures) (c .settle-held .ensures)
 
 pub find-spec : {M : Type 1} → statement M
-find-spec =
-    tie.close
-    (tie.spec
-    reach-requires
-    not-given-requires
-    returns
-    row-at-requires
-    find-in-requires
-    not-given-requires-2
-    returns-2
-    give-node-requires
-    returns-3)
+find-spec = tie.close (tie.spec slice-aggregate-put-table put-table-requires slice-aggregate-find-on find-on-requires slice-aggregate-settle-held settle-held-requires returns)

@@ -1,10 +1,10 @@
 -- `calls_open::give_node`: whether a hold can be given is asked first.
 use mathlib.Core.Path.{sym, _∙_}
+use native.Mathlib.Omega.{arith}
 use borrow.Author.Tests.{not-true, not-false}
-use Rattle.sefs.specs.Ask.{start}
-use Rattle.sefs.specs.Open.{holdNode}
-use Rattle.calls_open.specs.Opens.{giveNode}
-use Rattle.calls_open.proofs.Opens.{gives-refused, gives-as, give-full, give-next}
+use Rattle.mem.specs.Mem.{tableIn}
+use Rattle.calls_open.proofs.General.{went-as}
+use Rattle.calls_open.proofs.Opens.{not-handed, give-full, give-next}
 use borrow.Author.Needs.{needs}
 use Rattle.calls_open.proofs.give_node.Statement.{statement}
 use Rattle.calls_open.proofs.give_node.Tie as tie
@@ -12,22 +12,29 @@ use Rattle.calls_open.proofs.give_node.Tie as tie
 can-hold-requires : tie.Need-can-hold-requires
 can-hold-requires c κs = search needs
 
-not-given-requires : tie.Need-not-given-requires
-not-given-requires c κs = search needs
+not-handed-requires : tie.Need-not-handed-requires
+not-handed-requires c κs = search needs
+
+same-length : tie.Need-same-length
+same-length c = search needs
 
 returns : tie.Need-returns
 returns c =
-    let s = c .before .before .before .before .args in
-    gives-refused (s .t) (giveNode (s .arena .now) (s .t) (s .id)) 16 _ (give-full (s .arena .now) (s .t) (s .id) (sym (c .before .before .can-hold .ensures) ∙ not-true _ (c .before .if1 .taken))) (c .not-given .ensures)
+    let s = c .before .before .before .before .before .before .args in
+    not-handed (omega arith) (give-full (s .arena .now) (tableIn (s .mem .now)) (s .id) (sym (c .before .before .can-hold .ensures) ∙ not-true _ (c .before .if1 .taken))) (c .not-handed .ensures)
 
 hold-node-requires : tie.Need-hold-node-requires
-hold-node-requires c κs = search needs
+hold-node-requires c κs =
+    let p = c .before .before .before .before .before .before .pre in
+    (p .0, p .1 .size)
+
+same-length-2 : tie.Need-same-length-2
+same-length-2 c = search needs
 
 returns-2 : tie.Need-returns-2
 returns-2 c =
-    let s = c .before .before .before .before .args in
-    gives-as (s .t) (holdNode (start (s .arena .now) (s .t)) (s .id)) (giveNode (s .arena .now) (s .t) (s .id)) _ (give-next (s .arena .now) (s .t) (s .id) (sym (c .before .before .can-hold .ensures) ∙ not-false _ (c .before .if1 .left))) (c .hold-node .ensures)
+    let s = c .before .before .before .before .before .before .before .before .before .args in
+    went-as (give-next (s .arena .now) (tableIn (s .mem .now)) (s .id) (sym (c .before .before .before .before .before .can-hold .ensures) ∙ not-false _ (c .before .before .before .before .if1 .left))) (c .before .before .hold-node .ensures)
 
 pub give-node-spec : {M : Type 1} → statement M
-give-node-spec =
-    tie.close (tie.spec can-hold-requires not-given-requires returns hold-node-requires returns-2)
+give-node-spec = tie.close (tie.spec can-hold-requires not-handed-requires same-length returns hold-node-requires same-length-2 returns-2)

@@ -1,49 +1,32 @@
--- `calls_open::root`: the questions, then node 2.
-use mathlib.Core.Path.{_∙_, ap}
-use mathlib.Core.Bool.{Bool}
-use Rattle.base.specs.Out.{answer}
+-- `calls_open::root`: memory has the table.
 use Rattle.sefs.specs.Open.{callRoot}
-use Rattle.calls.specs.Asked.{admitIf}
-use Rattle.calls_open.specs.Opens.{giveNode}
-use Rattle.calls_open.proofs.Opens.{gives-refused, gives-as, root-stop, root-legal, root-next}
+use Rattle.calls_open.proofs.Opens.{given-table}
 use borrow.Author.Needs.{needs}
 use Rattle.calls_open.proofs.root.Statement.{statement}
 use Rattle.calls_open.proofs.root.Tie as tie
 
-well-formed-requires : tie.Need-well-formed-requires
-well-formed-requires c κs = search needs
+slice-aggregate-put-table : tie.Need-slice-aggregate-put-table
+slice-aggregate-put-table c = search needs
 
-admit-requires : tie.Need-admit-requires
-admit-requires c κs = search needs
+put-table-requires : tie.Need-put-table-requires
+put-table-requires c κs = search needs
 
-not-given-requires : tie.Need-not-given-requires
-not-given-requires c κs = search needs
+slice-aggregate-root-on : tie.Need-slice-aggregate-root-on
+slice-aggregate-root-on c = search needs
+
+root-on-requires : tie.Need-root-on-requires
+root-on-requires c κs = search needs
+
+slice-aggregate-settle-held : tie.Need-slice-aggregate-settle-held
+slice-aggregate-settle-held c = search needs
+
+settle-held-requires : tie.Need-settle-held-requires
+settle-held-requires c κs = search needs
 
 returns : tie.Need-returns
 returns c =
-    let s = c .before .before .before .before .before .args in
-    let e = c .before .before .admit .ensures ∙ ap (λ (b : Bool). answer (admitIf (s .arena .now) b)) (c .before .before .before .well-formed .ensures) in
-    gives-refused (s .t) (callRoot (s .arena .now) (s .t)) _ _ (root-stop (s .arena .now) (s .t) _ e (c .before .if1 .taken)) (c .not-given .ensures)
-
-give-node-requires : tie.Need-give-node-requires
-give-node-requires c κs =
-    let s = c .before .before .before .before .args in
-    let e = c .before .admit .ensures ∙ ap (λ (b : Bool). answer (admitIf (s .arena .now) b)) (c .before .before .well-formed .ensures) in
-    root-legal (s .arena .now) (s .t) _ e (c .if1 .left)
-
-returns-2 : tie.Need-returns-2
-returns-2 c =
-    let s = c .before .before .before .before .before .args in
-    let e = c .before .before .admit .ensures ∙ ap (λ (b : Bool). answer (admitIf (s .arena .now) b)) (c .before .before .before .well-formed .ensures) in
-    gives-as (s .t) (giveNode (s .arena .now) (s .t) 2) (callRoot (s .arena .now) (s .t)) _ (root-next (s .arena .now) (s .t) _ e (c .before .if1 .left)) (c .give-node .ensures)
+    let s = c .before .before .before .before .before .before .before .before .before .args in
+    given-table (λ u. callRoot (s .arena .now) u) _ (c .before .before .before .before .before .before .put-table .ensures .0) (c .before .before .before .root-on .ensures) (c .settle-held .ensures)
 
 pub root-spec : {M : Type 1} → statement M
-root-spec =
-    tie.close
-    (tie.spec
-    well-formed-requires
-    admit-requires
-    not-given-requires
-    returns
-    give-node-requires
-    returns-2)
+root-spec = tie.close (tie.spec slice-aggregate-put-table put-table-requires slice-aggregate-root-on root-on-requires slice-aggregate-settle-held settle-held-requires returns)
