@@ -12,15 +12,13 @@ use Rattle.base.specs.Parts.{paste}
 use Rattle.base.proofs.Outs.{went-is, went-not, above-zero}
 use Rattle.structs.specs.declared.DiskINode.{DiskINode}
 use Rattle.table.specs.declared.Table.{Table}
-use Rattle.table.specs.declared.Handle.{Handle}
-use Rattle.table.specs.Table.{rowAt}
 use Rattle.arena.specs.Blocks.{legal}
 use Rattle.arena.proofs.Blocks.{legal-is}
 use Rattle.overlay.specs.View.{begun}
 use Rattle.overlay.proofs.Views.{Ready, ready}
 use Rattle.sefs.specs.Ask.{known, folder}
-use Rattle.sefs.specs.Read.{metadataOf, readable, namedSlot, listTo, callMetadata, callSet, callEntry, callListing, changed}
-use Rattle.calls.specs.Answers.{answerOf, afterOf, toldOf, listedOf, laid}
+use Rattle.sefs.specs.Read.{metadataOf, readable, namedSlot, listTo}
+use Rattle.calls.specs.Answers.{answerOf, afterOf, listedOf, laid}
 use Rattle.calls.proofs.Answers.{after-done, after-refused, done-after, refused-after}
 use Rattle.calls.proofs.Asks.{Asks, asks-ensure, asks-then, asked-not, asked-done, answer-stop, answer-next}
 use Rattle.calls.specs.declared.After.{After}
