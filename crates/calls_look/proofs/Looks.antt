@@ -7,21 +7,21 @@ use native.Mathlib.Omega.{arith}
 use lib.ListN.{length, drop, replicate}
 use lib.Dec.{eqb, ltb, leb}
 use borrow.Author.Tests.{ltb-true, leb-true}
-use Rattle.base.specs.Out.{Out, done, refused, bind, ensure, answer, Went, well, ill}
+use Rattle.base.specs.Out.{Out, done, refused, bind, ensure, answer, kept, Went, well, ill}
 use Rattle.base.specs.Parts.{paste}
 use Rattle.base.proofs.Outs.{went-is, went-not, above-zero}
 use Rattle.structs.specs.declared.DiskINode.{DiskINode}
 use Rattle.table.specs.declared.Table.{Table}
-use Rattle.table.specs.declared.Handle.{Handle}
-use Rattle.table.specs.Table.{rowAt}
 use Rattle.arena.specs.Blocks.{legal}
 use Rattle.arena.proofs.Blocks.{legal-is}
 use Rattle.overlay.specs.View.{begun}
 use Rattle.overlay.proofs.Views.{Ready, ready}
 use Rattle.sefs.specs.Ask.{known, folder}
-use Rattle.sefs.specs.Read.{metadataOf, readable, namedSlot, listTo, callMetadata, callSet, callEntry, callListing, changed}
-use Rattle.calls.specs.Answers.{answerOf, toldOf, listedOf, laid}
+use Rattle.sefs.specs.Read.{metadataOf, readable, namedSlot, listTo}
+use Rattle.calls.specs.Answers.{answerOf, afterOf, listedOf, laid}
+use Rattle.calls.proofs.Answers.{after-done, after-refused, done-after, refused-after}
 use Rattle.calls.proofs.Asks.{Asks, asks-ensure, asks-then, asked-not, asked-done, answer-stop, answer-next}
+use Rattle.calls.specs.declared.After.{After}
 use Rattle.calls.specs.declared.Answer.the-variants as answers
 use Rattle.calls.specs.declared.Listed.the-variants as listeds
 use Rattle.calls_look.proofs.Lists.{whether-not}
@@ -116,6 +116,11 @@ laid-out {out = out} (leave z e p) = p ∙ sym (ap (laid out) e)
 pub laid-listed : {o : Out (List ℕ)} {out now : List ℕ} {m r : ℕ} (n : ℕ) → m ≡ 264 * n → Laid o out now m r → listedAs r n ≡ listedOf o
 laid-listed n h (lay {l = l} e q p) = ap listeds.Slots (let z : n ≡ length l / 264 = omega arith in z) ∙ sym (ap listedOf e)
 laid-listed n h (leave {r = r} z e p) = sym (listed-as r n (above z)) ∙ sym (ap listedOf e)
+
+-- what set metadata answers, by the table that memory has afterwards; v is the one that it had
+pub settled : (f : Table → Out Table) {v t u : Table} {n : ℕ} {x : After} → v ≡ t → Went (f v) u Unit n → x ≡ afterOf t u n → (x .answer ≡ answerOf (f t)) × (x .table ≡ kept t (f t))
+settled f {t = t} {u = u} {x = x} e (well q p) k = done-after t (f t) x u (sym (ap f e) ∙ q) (k ∙ sym (after-done t u 0 refl))
+settled f {t = t} {u = u} {x = x} e (ill {r = r} l q) k = refused-after t (f t) x r (sym (ap f e) ∙ q) (k ∙ sym (after-refused t u r (above l)))
 
 -- a question before it
 pub laid-stop : (q : Out Unit) (o : Out (List ℕ)) (out : List ℕ) (n r : ℕ) → r ≡ answer q → (r ≡ 0 → ⊥) → Laid (bind q (λ _. o)) out out n r

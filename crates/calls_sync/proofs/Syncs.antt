@@ -27,11 +27,10 @@ use Rattle.sefs.specs.Ask.{start}
 use Rattle.sefs.specs.Close.{syncFrom, callSync}
 use Rattle.mem.specs.Mem.{tableIn, metaIn, Whole}
 use Rattle.mem.specs.State.{fsOf, Stepped}
-use Rattle.calls.specs.declared.After.{After}
-use Rattle.calls.specs.Answers.{doneWith}
 use Rattle.calls.specs.Asked.{admitIf}
 use Rattle.calls.proofs.Asks.{asks-admitIf, asked-not, asked-done, admit-is, admitted-legal}
-use Rattle.calls_steps.specs.Ends.{ending, Returned}
+use Rattle.calls_steps.specs.Ends.{ending, Ended, went}
+use Rattle.calls_steps.proofs.Ends.{ended-refused}
 use Rattle.calls_sync.specs.Sync.{stateOf, Decided, can, cannot, Does, Counted, Left}
 
 -- ---- answers
@@ -195,21 +194,24 @@ module _ (m : List ℕ) (i : ℕ) {a w u n : List ℕ} {r : ℕ} (E : Empty a w 
 
 -- ---- the start and the end
 
-pub load-is : (a w l n : List ℕ) (t : Table) → Empty a w 10 → tableIn l ≡ t → metaIn n ≡ loadMeta (view a w) → tableIn n ≡ tableIn l → stateOf a n ≡ start a t
+pub load-is : (a w l n : List ℕ) → Empty a w 10 → metaIn n ≡ loadMeta (view a w) → tableIn n ≡ tableIn l → stateOf a n ≡ start a (tableIn l)
 unfolding stateOf
-load-is a w l n t E e q k = rw (q, k ∙ e, E .is)
+load-is a w l n E q k = rw (q, k, E .is)
 
-pub decided-start : {s z : Fs} {P : Fs → Type 0} {r : ℕ} → s ≡ z → Decided (syncFrom s 0 34) P r → Decided (syncFrom z 0 34) P r
-decided-start e g = rw (← e) g
+-- it was decided on the state s, that is the one at the call's start
+module _ {s z : Fs} {r : ℕ} (e : s ≡ z) (g : Decided (syncFrom s 0 34) (λ _. Unit) r) where
+  pub decided-start : Decided (syncFrom z 0 34) (λ _. Unit) r
+  decided-start = rw (← e) g
 
-pub does-start : {s z : Fs} → s ≡ z → Does (syncFrom z 0 34) → Does (syncFrom s 0 34)
-does-start e g = rw e g
+  pub ended-cannot : (a b : List ℕ) (u : Table) → (r ≡ 0 → ⊥) → b ≡ a → Ended (ending (syncFrom z 0 34)) a b u r
+  ended-cannot a b u n k = ended-refused n (ap ending (decided-not decided-start n)) k
 
-pub returned-stored : (t : Table) (a b m n : List ℕ) (r : After) → stateOf a m ≡ start a t → syncFrom (stateOf a m) 0 34 ≡ done (stateOf b n) → r ≡ doneWith (tableIn n) → Returned t (ending (syncFrom (start a t) 0 34)) a b r
+pub sync-can : {r : ℕ} (s : Fs) → Decided (syncFrom s 0 34) (λ _. Unit) r → r ≡ 0 → Does (syncFrom s 0 34)
+sync-can s g n = let f = decided-has g n in (f .0, f .1)
+
+pub ended-stored : {s z : Fs} (a b n : List ℕ) → s ≡ z → syncFrom s 0 34 ≡ done (stateOf b n) → Ended (ending (syncFrom z 0 34)) a b (tableIn n) 0
 unfolding stateOf
-returned-stored t a b m n r e g q =
-    let k : syncFrom (start a t) 0 34 ≡ done (stateOf b n) = sym (ap (λ (s : Fs). syncFrom s 0 34) e) ∙ g in
-    record { answer = q ∙ rw k; arena = rw k }
+ended-stored a b n e g = went (ap ending (sym (ap (λ (s : Fs). syncFrom s 0 34) e) ∙ g))
 
 -- ---- the first questions, and the rest
 
@@ -229,10 +231,3 @@ module _ (a : List ℕ) (t : Table) (formed : Bool) (k : formed ≡ wellFormed t
 
   pub sync-legal : r ≡ 0 → legal a ≡ true
   sync-legal z = admitted-legal a formed tt (admitted z)
-
-  module _ {x : ℕ} (z : r ≡ 0) (g : Decided (syncFrom (start a t) 0 34) (λ _. Unit) x) where
-    pub sync-cannot : (x ≡ 0 → ⊥) → callSync a t ≡ refused x
-    sync-cannot n = sync-goes z ∙ rw (decided-not g n)
-
-    pub sync-can : x ≡ 0 → Does (syncFrom (start a t) 0 34)
-    sync-can n = let f = decided-has g n in (f .0, f .1)

@@ -1,64 +1,44 @@
--- `calls_look::get_entry`: the first questions, then the slot.
-use mathlib.Core.Path.{sym, _∙_, ap}
-use mathlib.Core.List.{List}
-use Prim.Native.Nat.{ℕ}
+-- `calls_look::get_entry`: memory has the table.
+use mathlib.Core.Path.{_∙_, ap}
 use lib.ListN.{length}
 use borrow.Author.Needs.{needs}
-use Rattle.base.specs.Out.{Out}
-use Rattle.base.proofs.Outs.{went-has}
-use Rattle.table.specs.Table.{rowAt}
+use Rattle.table.specs.declared.Table.{Table}
 use Rattle.sefs.specs.Read.{callEntry}
 use Rattle.calls.specs.Answers.{answerOf, laid}
-use Rattle.calls.proofs.Asks.{call-stop, call-next}
-use Rattle.calls_look.specs.Look.{entryIn}
-use Rattle.calls_look.proofs.Looks.{laid-answer, laid-out}
-use Rattle.table.specs.declared.Row.{Row}
 use Rattle.calls_look.proofs.get_entry.Statement.{statement}
 use Rattle.calls_look.proofs.get_entry.Tie as tie
 
-reach-requires : tie.Need-reach-requires
-reach-requires c κs = search needs
+slice-aggregate-put-table : tie.Need-slice-aggregate-put-table
+slice-aggregate-put-table c = search needs
 
-returns : tie.Need-returns
-unfolding callEntry entryIn
-returns c =
-    let s = c .before .before .before .before .before .args in
-    let f : ℕ → Out (List ℕ) = λ i. entryIn (s .arena .now) (rowAt (s .t) i .rec) (s .k) (length (s .out .now)) in
-    let e = call-stop (s .arena .now) (s .t) (s .h) f _ _ (c .before .before .reach .ensures) (c .if1 .taken) in
-    (sym (ap answerOf e), sym (ap (laid (s .out .now)) e))
+put-table-requires : tie.Need-put-table-requires
+put-table-requires c κs = search needs
 
-row-at-requires : tie.Need-row-at-requires
-row-at-requires c κs = went-has (c .before .before .reach .ensures) (c .if1 .left) .below
+slice-aggregate-entry-on : tie.Need-slice-aggregate-entry-on
+slice-aggregate-entry-on c = search needs
 
-entry-in-requires : tie.Need-entry-in-requires
-entry-in-requires c κs = went-has (c .before .before .before .before .before .reach .ensures) (c .before .before .before .if1 .left) .legal
-
-as-answer-requires : tie.Need-as-answer-requires
-as-answer-requires c κs = search needs
+entry-on-requires : tie.Need-entry-on-requires
+entry-on-requires c κs = c .before .before .before .put-table .ensures .1
 
 same-length : tie.Need-same-length
 same-length c = search needs
 
-returns-2 : tie.Need-returns-2
-unfolding callEntry entryIn
-returns-2 c =
-    let s = c .before .before .before .before .before .before .before .before .before .before .before .before .args in
-    let f : ℕ → Out (List ℕ) = λ i. entryIn (s .arena .now) (rowAt (s .t) i .rec) (s .k) (length (s .out .now)) in
-    let e = call-next (s .arena .now) (s .t) (s .h) f _ _ (c .before .before .before .before .before .before .before .before .before .reach .ensures) (c .before .before .before .before .before .before .before .if1 .left) in
-    let L = c .before .before .before .entry-in .ensures in
-    let w = c .before .before .before .before .before .before .row-at .ensures in (
-      c .as-answer .ensures ∙ laid-answer L ∙ ap (λ (w : Row). answerOf (entryIn (s .arena .now) (w .rec) (s .k) (length (s .out .now)))) w ∙ sym (ap answerOf e),
-      laid-out L ∙ ap (λ (w : Row). laid (s .out .now) (entryIn (s .arena .now) (w .rec) (s .k) (length (s .out .now)))) w ∙ sym (ap (laid (s .out .now)) e),
+returns : tie.Need-returns
+returns c =
+    let s = c .before .before .before .before .before .before .before .before .before .before .args in
+    let r = c .before .before .entry-on .ensures in
+    let e = c .before .before .before .before .before .before .put-table .ensures .0 in (
+      r .0 ∙ ap (λ (u : Table). answerOf (callEntry (s .arena .now) u (s .h) (s .k) (length (s .out .now)))) e,
+      r .1 ∙ ap (λ (u : Table). laid (s .out .now) (callEntry (s .arena .now) u (s .h) (s .k) (length (s .out .now)))) e,
     )
 
 pub get-entry-spec : {M : Type 1} → statement M
 get-entry-spec =
     tie.close
     (tie.spec
-    reach-requires
-    returns
-    row-at-requires
-    entry-in-requires
-    as-answer-requires
+    slice-aggregate-put-table
+    put-table-requires
+    slice-aggregate-entry-on
+    entry-on-requires
     same-length
-    returns-2)
+    returns)

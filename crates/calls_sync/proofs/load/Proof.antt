@@ -12,15 +12,14 @@ slice-aggregate-begin c = search needs
 begin-requires : tie.Need-begin-requires
 begin-requires c κs = search needs
 
-put-table-requires : tie.Need-put-table-requires
-put-table-requires c κs = search needs
-
 slice-aggregate-load-meta : tie.Need-slice-aggregate-load-meta
 slice-aggregate-load-meta c = search needs
 
 load-meta-requires : tie.Need-load-meta-requires
 load-meta-requires c κs =
-    (started _ _ 10 (c .before .before .before .before .before .before .before .before .before .before .before .pre .0) (omega arith) (omega arith) (c .before .before .before .before .before .before .before .begin .ensures) .fine, search needs)
+    let b = c .before .before .before in
+    let s = c .before .before .before .before .before .before .before in
+    (started _ _ 10 (s .pre .0) (omega arith) (omega arith) (b .begin .ensures) .fine, s .pre .1)
 
 same-length : tie.Need-same-length
 same-length c = search needs
@@ -28,7 +27,9 @@ same-length c = search needs
 returns : tie.Need-returns
 returns c =
     let l = c .before .before .load-meta .ensures in
-    (load-is _ _ _ _ _ (started _ _ 10 (c .before .before .before .before .before .before .before .before .before .before .before .before .before .before .pre .0) (omega arith) (omega arith) (c .before .before .before .before .before .before .before .before .before .before .begin .ensures)) (c .before .before .before .before .before .before .before .put-table .ensures .0) (l .0) (l .1 .0), l .1 .1)
+    let b = c .before .before .before .before .before .before in
+    let s = c .before .before .before .before .before .before .before .before .before .before in
+    (load-is _ _ _ _ (started _ _ 10 (s .pre .0) (omega arith) (omega arith) (b .begin .ensures)) (l .0) (l .1 .0), l .1 .1)
 
 pub load-spec : {M : Type 1} → statement M
 load-spec =
@@ -36,7 +37,6 @@ load-spec =
     (tie.spec
     slice-aggregate-begin
     begin-requires
-    put-table-requires
     slice-aggregate-load-meta
     load-meta-requires
     same-length

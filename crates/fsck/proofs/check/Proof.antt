@@ -1,36 +1,33 @@
--- `fsck::check`: the length first; the chains' workspace is zero.
-use mathlib.Core.Path.{refl, sym, _∙_}
-use native.Mathlib.Omega.{arith}
-use borrow.Author.Tests.{not-true, not-false}
-use lib.ListN.{getD-replicate}
-use Rattle.fsck.proofs.Verdicts.{verdict-length}
+-- `fsck::check`: memory has the table.
+use mathlib.Core.Path.{_∙_, ap}
+use Rattle.table.specs.declared.Table.{Table}
+use Rattle.fsck.specs.Verdicts.{verdictOf}
 use borrow.Author.Needs.{needs}
 use Rattle.fsck.proofs.check.Statement.{statement}
 use Rattle.fsck.proofs.check.Tie as tie
 
-legal-requires : tie.Need-legal-requires
-legal-requires c κs = search needs
+slice-aggregate-put-table : tie.Need-slice-aggregate-put-table
+slice-aggregate-put-table c = search needs
+
+put-table-requires : tie.Need-put-table-requires
+put-table-requires c κs = search needs
+
+slice-aggregate-check-on : tie.Need-slice-aggregate-check-on
+slice-aggregate-check-on c = search needs
+
+check-on-requires : tie.Need-check-on-requires
+check-on-requires c κs = c .before .before .put-table .ensures .1
 
 returns : tie.Need-returns
 returns c =
-    sym (verdict-length (c .before .before .before .args .arena .now) (c .before .before .before .args .t) (sym (c .before .legal .ensures) ∙ not-true _ (c .if1 .taken)))
-
-slice-aggregate-check-in : tie.Need-slice-aggregate-check-in
-slice-aggregate-check-in c = search needs
-
-check-in-requires : tie.Need-check-in-requires
-check-in-requires c κs =
-    ((sym (c .before .before .legal .ensures) ∙ not-false _ (c .before .if1 .left), refl), λ h m. getD-replicate 8192 h 0 0 (omega arith))
-
-returns-2 : tie.Need-returns-2
-returns-2 c = search needs
+    c .before .check-on .ensures ∙ ap (λ (u : Table). verdictOf (c .before .before .before .before .before .before .before .args .arena .now) u) (c .before .before .before .before .put-table .ensures .0)
 
 pub check-spec : {M : Type 1} → statement M
 check-spec =
     tie.close
     (tie.spec
-    legal-requires
-    returns
-    slice-aggregate-check-in
-    check-in-requires
-    returns-2)
+    slice-aggregate-put-table
+    put-table-requires
+    slice-aggregate-check-on
+    check-on-requires
+    returns)
