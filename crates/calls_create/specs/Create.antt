@@ -2,8 +2,8 @@
 use mathlib.Core.Bool.{Bool, not, _&&_}
 use mathlib.Core.List.{List}
 use Prim.Native.Nat.{ℕ}
-use lib.Dec.{eqb, ltb, leb}
-use Rattle.structs.specs.Verdict.{isFolder}
+use lib.Dec.{eqb}
+use Rattle.structs.specs.Verdict.{isFolder, isType}
 use Rattle.structs.specs.declared.DiskINode.{DiskINode}
 use Rattle.structs.specs.declared.Timespec.{Timespec}
 use Rattle.base.specs.Out.{Out, done, ensure, _>>=_}
@@ -22,7 +22,7 @@ use Rattle.calls_steps.specs.Steps.{noSlot, syncTwo}
 unfoldable pub createAsk : DiskINode → List ℕ → ℕ → Out Unit
 createAsk r name kind = do
   _ ← goodName name
-  _ ← ensure (ltb 0 kind && leb kind 4) invalidParam
+  _ ← ensure (isType kind) invalidParam
   _ ← liveFolder r
   notLong name
 

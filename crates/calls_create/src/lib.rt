@@ -1,14 +1,14 @@
 // The call create. It decides on a view of the arena, and commits once nothing can refuse it any more.
 ghost use mathlib.Core.Path.{_≡_};
-ghost use mathlib.Core.Bool.{true, _&&_};
+ghost use mathlib.Core.Bool.{true};
 ghost use mathlib.Core.List.{List};
 ghost use Prim.Native.Nat.{ℕ, _<_, _≤_};
 ghost use lib.ListN.{length};
-ghost use lib.Dec.{ltb, leb};
 ghost use Rattle.base.specs.Out.{Went};
 ghost use Rattle.arena.specs.Blocks.{legal};
 ghost use Rattle.overlay.specs.View.{view, left, Fine};
 ghost use Rattle.overlay.proofs.Views.{Ready as Empty};
+ghost use Rattle.structs.specs.Verdict.{isType};
 ghost use Rattle.table.specs.Table.{canHold};
 ghost use Rattle.sefs.specs.Ask.{start};
 ghost use Rattle.sefs.specs.Nodes.{opened as openedAs};
@@ -58,7 +58,7 @@ pub struct New {
 // ---- 5, 6, 7, 8, 10, 12, 14, 15, 16
 
 fn good_kind(kind: u32) -> bool
-    ensures { λ r. ⌜ r ≡ (ltb 0 kind && leb kind 4) ⌝ }
+    ensures { λ r. ⌜ r ≡ isType kind ⌝ }
 {
     (0 < kind) & (kind <= 4)
 }

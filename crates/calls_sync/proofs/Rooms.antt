@@ -33,7 +33,7 @@ use Rattle.sefs.specs.Nodes.{storeRow, syncRow}
 use Rattle.sefs.specs.State.{withArena, withTable}
 use Rattle.mem.specs.Mem.{tableIn, Tabled, Whole}
 use Rattle.nodes.proofs.Bytes.{row-bytes}
-use Rattle.calls_sync.specs.Sync.{stateOf, Decided, can, cannot, isLacking, needed, Counted, Left}
+use Rattle.calls_sync.specs.Sync.{stateOf, Judged, can, cannot, isLacking, needed, Counted, Left}
 
 -- ---- one block
 
@@ -118,29 +118,29 @@ module _ (a w : List ℕ) (E : Empty a w 10) (b : Bool) (t : b ≡ there (view a
   head-is : there a metaFile ≡ b
   head-is = sym (t ∙ ap (λ (x : List ℕ). there x metaFile) (E .is))
 
-  pub room-missing : {P : List ℕ → Type 0} → b ≡ false → (d src : List ℕ) (low : ℕ) → Counted a d low from free → low < id → length src ≡ 112 → Decided (putFile d metaFile (128 * id) src) P 19
+  pub room-missing : {P : List ℕ → Type 0} → b ≡ false → (d src : List ℕ) (low : ℕ) → Counted a d low from free → low < id → length src ≡ 112 → Judged (putFile d metaFile (128 * id) src) P 19
   room-missing n d src low C l s = cannot {r = 19} (omega arith) (put-missing d metaFile (128 * id) src (C .head ∙ head-is ∙ n))
 
   module _ (y : b ≡ true) (x : ℕ) (q : x ≡ id) where
-    pub room-far : {P : List ℕ → Type 0} → longest < 128 * x + 112 → (d src : List ℕ) (low : ℕ) → Counted a d low from free → low < id → length src ≡ 112 → Decided (putFile d metaFile (128 * id) src) P 17
+    pub room-far : {P : List ℕ → Type 0} → longest < 128 * x + 112 → (d src : List ℕ) (low : ℕ) → Counted a d low from free → low < id → length src ≡ 112 → Judged (putFile d metaFile (128 * id) src) P 17
     room-far g d src low C l s = cannot {r = 17} (omega arith) (put-far d metaFile (128 * id) src (C .head ∙ head-is ∙ y) (omega arith))
 
     module _ (n : ℕ) (e : n ≡ needed a from (128 * x)) where
       needs-is : n ≡ needed a from (128 * id)
       needs-is = e ∙ ap (λ (z : ℕ). needed a from (128 * z)) q
 
-      pub room-full : {P : List ℕ → Type 0} → free < n → (d src : List ℕ) (low : ℕ) → Counted a d low from free → low < id → length src ≡ 112 → Decided (putFile d metaFile (128 * id) src) P 17
+      pub room-full : {P : List ℕ → Type 0} → free < n → (d src : List ℕ) (low : ℕ) → Counted a d low from free → low < id → length src ≡ 112 → Judged (putFile d metaFile (128 * id) src) P 17
       room-full g d src low C l s =
           cannot {r = 17} (omega arith) (put-full d metaFile (128 * id) src (C .head ∙ head-is ∙ y) (omega (arith, C .room, lack-is src C l s, needs-is)))
 
-      pub room-fits : (k m : ℕ) → 128 * x + 112 ≤ longest → n ≤ free → k ≡ (128 * x + 111) / 480 + 1 → m ≡ free - n → (d src : List ℕ) (low : ℕ) → Counted a d low from free → low < id → length src ≡ 112 → Decided (putFile d metaFile (128 * id) src) (λ z. Counted a z id k m) 0
+      pub room-fits : (k m : ℕ) → 128 * x + 112 ≤ longest → n ≤ free → k ≡ (128 * x + 111) / 480 + 1 → m ≡ free - n → (d src : List ℕ) (low : ℕ) → Counted a d low from free → low < id → length src ≡ 112 → Judged (putFile d metaFile (128 * id) src) (λ z. Counted a z id k m) 0
       room-fits k m g h ek em d src low C l s =
           let p = put-done d metaFile (128 * id) src (C .head ∙ head-is ∙ y) (omega arith) (omega (arith, C .room, lack-is src C l s, needs-is)) in
           rw (ek, em, q, needs-is) (can (p .1) (counted-put src C l s (p .2)))
 
 -- ---- row i's turn
 
-pub try-clean : (a m : List ℕ) (i from free : ℕ) → Whole m → rowAt (tableIn m) i .dirty ≡ false → (d : List ℕ) (low : ℕ) → Counted a d low from free → low < rowAt (tableIn m) i .id → Decided (syncRow (stateOf d m) i) (Left a m (rowAt (tableIn m) i .id) from free) 0
+pub try-clean : (a m : List ℕ) (i from free : ℕ) → Whole m → rowAt (tableIn m) i .dirty ≡ false → (d : List ℕ) (low : ℕ) → Counted a d low from free → low < rowAt (tableIn m) i .id → Judged (syncRow (stateOf d m) i) (Left a m (rowAt (tableIn m) i .id) from free) 0
 unfolding syncRow stateOf
 try-clean a m i from free w e d low C l =
     can {x = stateOf d m} (rw e)
@@ -153,7 +153,7 @@ try-clean a m i from free w e d low C l =
 
 module _ (a m n : List ℕ) (i from free k x id r : ℕ) (b : Bytes m) (size : length m ≡ 4899) (h : i < 34) (q : id ≡ rowAt (tableIn m) i .id)
     (y : rowAt (tableIn m) i .dirty ≡ true) (T : Tabled m n (withDirty (tableIn m) i false))
-    (g : (d src : List ℕ) (low : ℕ) → Counted a d low from free → low < id → length src ≡ 112 → Decided (putFile d metaFile (128 * id) src) (λ z. Counted a z id k x) r) where
+    (g : (d src : List ℕ) (low : ℕ) → Counted a d low from free → low < id → length src ≡ 112 → Judged (putFile d metaFile (128 * id) src) (λ z. Counted a z id k x) r) where
   src : List ℕ
   src = recordBytes (rowAt (tableIn m) i .rec)
 
@@ -169,10 +169,10 @@ module _ (a m n : List ℕ) (i from free k x id r : ℕ) (b : Bytes m) (size : l
   unfolding stateOf
   tabled-is d e = sym (λ z. record { arena = e; table = T .table z; meta = T .meta z })
 
-  pub try-dirty : (d : List ℕ) (low : ℕ) → Counted a d low from free → low < rowAt (tableIn m) i .id → Decided (syncRow (stateOf d m) i) (Left a n (rowAt (tableIn m) i .id) k x) r
-  try-dirty d low C l = rw (row-is d) (go (subst (λ (z : ℕ). Decided (putFile d metaFile (128 * z) src) (λ e. Counted a e z k x) r) q (g d src low C (omega arith) src-size)))
+  pub try-dirty : (d : List ℕ) (low : ℕ) → Counted a d low from free → low < rowAt (tableIn m) i .id → Judged (syncRow (stateOf d m) i) (Left a n (rowAt (tableIn m) i .id) k x) r
+  try-dirty d low C l = rw (row-is d) (go (subst (λ (z : ℕ). Judged (putFile d metaFile (128 * z) src) (λ e. Counted a e z k x) r) q (g d src low C (omega arith) src-size)))
     where
-      go : {v : ℕ} → Decided (putFile d metaFile (128 * rowAt (tableIn m) i .id) src) (λ e. Counted a e (rowAt (tableIn m) i .id) k x) v
-          → Decided (bind (putFile d metaFile (128 * rowAt (tableIn m) i .id) src) (λ e. done (withTable (withArena (stateOf d m) e) (withDirty (tableIn m) i false)))) (Left a n (rowAt (tableIn m) i .id) k x) v
+      go : {v : ℕ} → Judged (putFile d metaFile (128 * rowAt (tableIn m) i .id) src) (λ e. Counted a e (rowAt (tableIn m) i .id) k x) v
+          → Judged (bind (putFile d metaFile (128 * rowAt (tableIn m) i .id) src) (λ e. done (withTable (withArena (stateOf d m) e) (withDirty (tableIn m) i false)))) (Left a n (rowAt (tableIn m) i .id) k x) v
       go (can {x = e} p c) = can {x = stateOf e n} (rw p (ap done (tabled-is d e))) (record { arena = e; is = refl; whole = T .whole; counted = c })
       go (cannot z p) = cannot z (rw p)

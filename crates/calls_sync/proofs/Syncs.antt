@@ -31,16 +31,16 @@ use Rattle.calls.specs.Asked.{admitIf}
 use Rattle.calls.proofs.Asks.{asks-admitIf, asked-not, asked-done, admit-is, admitted-legal}
 use Rattle.calls_steps.specs.Ends.{ending, Ended, went}
 use Rattle.calls_steps.proofs.Ends.{ended-refused}
-use Rattle.calls_sync.specs.Sync.{stateOf, Decided, can, cannot, Does, Counted, Left}
+use Rattle.calls_sync.specs.Sync.{stateOf, Judged, can, cannot, Does, Counted, Left}
 
 -- ---- answers
 
 -- another answer than 0: it is the reason
-decided-not : {A : Type 0} {o : Out A} {P : A → Type 0} {r : ℕ} → Decided o P r → (r ≡ 0 → ⊥) → o ≡ refused r
+decided-not : {A : Type 0} {o : Out A} {P : A → Type 0} {r : ℕ} → Judged o P r → (r ≡ 0 → ⊥) → o ≡ refused r
 decided-not (can e p) z = absurd (z refl)
 decided-not (cannot l e) z = e
 
-decided-has : {A : Type 0} {o : Out A} {P : A → Type 0} {r : ℕ} → Decided o P r → r ≡ 0 → (x : A) × (o ≡ done x) × P x
+decided-has : {A : Type 0} {o : Out A} {P : A → Type 0} {r : ℕ} → Judged o P r → r ≡ 0 → (x : A) × (o ≡ done x) × P x
 decided-has (can {x = x} e p) z = (x, e, p)
 decided-has (cannot l e) z = absurd (omega arith)
 
@@ -138,19 +138,19 @@ try-start a m free w e = record {
 }
 
 module _ {a : List ℕ} {s : Fs} {l : List ℕ} {low more from free : ℕ} (T : Trying a s l low more from free) where
-  pub try-end : more ≤ 0 → Decided (syncFrom s 0 34) (λ _. Unit) 0
+  pub try-end : more ≤ 0 → Judged (syncFrom s 0 34) (λ _. Unit) 0
   try-end z = can (turn-end (T .turn) z) tt
 
   module _ (i : ℕ) (e : foundBelow i 34 ≡ nextRow (tableIn l) low) where
-    pub try-none : 34 ≤ i → Decided (syncFrom s 0 34) (λ _. Unit) 0
+    pub try-none : 34 ≤ i → Judged (syncFrom s 0 34) (λ _. Unit) 0
     try-none h = can (turn-none (T .turn) i e h) tt
 
     module _ (n : List ℕ) (k m r : ℕ) (h : i < 34) (p : 0 < more)
-        (g : (d : List ℕ) (low : ℕ) → Counted a d low from free → low < rowAt (tableIn l) i .id → Decided (syncRow (stateOf d l) i) (Left a n (rowAt (tableIn l) i .id) k m) r) where
-      decided : Decided (syncRow (stateOf (T .arena) l) i) (Left a n (rowAt (tableIn l) i .id) k m) r
+        (g : (d : List ℕ) (low : ℕ) → Counted a d low from free → low < rowAt (tableIn l) i .id → Judged (syncRow (stateOf d l) i) (Left a n (rowAt (tableIn l) i .id) k m) r) where
+      decided : Judged (syncRow (stateOf (T .arena) l) i) (Left a n (rowAt (tableIn l) i .id) k m) r
       decided = g (T .arena) low (T .counted) (next-above (tableIn l) low i e h)
 
-      pub try-stop : (r ≡ 0 → ⊥) → Decided (syncFrom s 0 34) (λ _. Unit) r
+      pub try-stop : (r ≡ 0 → ⊥) → Judged (syncFrom s 0 34) (λ _. Unit) r
       try-stop z = cannot (above-zero r z) (turn-stop (T .turn) i e h p r (decided-not decided z))
 
       pub try-next : (id : ℕ) → id ≡ rowAt (tableIn l) i .id → r ≡ 0 → Trying a s n id (more - 1) k m
@@ -199,14 +199,14 @@ unfolding stateOf
 load-is a w l n E q k = rw (q, k, E .is)
 
 -- it was decided on the state s, that is the one at the call's start
-module _ {s z : Fs} {r : ℕ} (e : s ≡ z) (g : Decided (syncFrom s 0 34) (λ _. Unit) r) where
-  pub decided-start : Decided (syncFrom z 0 34) (λ _. Unit) r
+module _ {s z : Fs} {r : ℕ} (e : s ≡ z) (g : Judged (syncFrom s 0 34) (λ _. Unit) r) where
+  pub decided-start : Judged (syncFrom z 0 34) (λ _. Unit) r
   decided-start = rw (← e) g
 
   pub ended-cannot : (a b : List ℕ) (u : Table) → (r ≡ 0 → ⊥) → b ≡ a → Ended (ending (syncFrom z 0 34)) a b u r
   ended-cannot a b u n k = ended-refused n (ap ending (decided-not decided-start n)) k
 
-pub sync-can : {r : ℕ} (s : Fs) → Decided (syncFrom s 0 34) (λ _. Unit) r → r ≡ 0 → Does (syncFrom s 0 34)
+pub sync-can : {r : ℕ} (s : Fs) → Judged (syncFrom s 0 34) (λ _. Unit) r → r ≡ 0 → Does (syncFrom s 0 34)
 sync-can s g n = let f = decided-has g n in (f .0, f .1)
 
 pub ended-stored : {s z : Fs} (a b n : List ℕ) → s ≡ z → syncFrom s 0 34 ≡ done (stateOf b n) → Ended (ending (syncFrom z 0 34)) a b (tableIn n) 0

@@ -18,9 +18,9 @@ unfoldable pub stateOf : List ℕ → List ℕ → Fs
 stateOf a m = record { arena = a; table = tableIn m; meta = metaIn m }
 
 -- whether o can be done is answered with r: 0, and then P holds of what it leaves; or its reason
-pub data Decided {A : Type 0} (o : Out A) (P : A → Type 0) : ℕ → Type 0 where
-  can : {x : A} → o ≡ done x → P x → Decided o P 0
-  cannot : {r : ℕ} → 0 < r → o ≡ refused r → Decided o P r
+pub data Judged {A : Type 0} (o : Out A) (P : A → Type 0) : ℕ → Type 0 where
+  can : {x : A} → o ≡ done x → P x → Judged o P 0
+  cannot : {r : ℕ} → 0 < r → o ≡ refused r → Judged o P r
 
 -- it is done
 abbrev pub Does : Out Fs → Type 0

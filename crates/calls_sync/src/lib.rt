@@ -19,7 +19,7 @@ ghost use Rattle.sefs.specs.Nodes.{syncRow};
 ghost use Rattle.sefs.specs.Close.{syncFrom, callSync};
 ghost use Rattle.mem.specs.Mem.{tableIn, Whole};
 ghost use Rattle.calls_steps.specs.Ends.{ending, Ended, Returned};
-ghost use Rattle.calls_sync.specs.Sync.{stateOf, Decided, Does, isLacking, needed, Counted, Left};
+ghost use Rattle.calls_sync.specs.Sync.{stateOf, Judged, Does, isLacking, needed, Counted, Left};
 use base::copy;
 use base::index;
 use calls::After;
@@ -96,7 +96,7 @@ fn needs<'a>(arena: &'a [u8], work: &'a [u8], from: usize, pos: usize) -> usize
 // Whether the record of that id can be stored after the others.
 fn room_for<'a>(arena: &'a [u8], work: &'a [u8], id: u32, from: usize, free: usize) -> Room
     requires { ⌜ Empty (now arena) (now work) 10 ⌝ }
-    ensures { λ r. ⌜ ((d src : List ℕ) (low : ℕ) → Counted (now (arena .entry)) d low from free → low < id → length src ≡ 112 → Decided (putFile d metaFile (128 * id) src) (λ e. Counted (now (arena .entry)) e id (r .from) (r .free)) (r .reason)) ⌝ }
+    ensures { λ r. ⌜ ((d src : List ℕ) (low : ℕ) → Counted (now (arena .entry)) d low from free → low < id → length src ≡ 112 → Judged (putFile d metaFile (128 * id) src) (λ e. Counted (now (arena .entry)) e id (r .from) (r .free)) (r .reason)) ⌝ }
 {
     let meta = [0u8; 16];
     if !there(arena, work, 0, &meta) {
@@ -139,7 +139,7 @@ fn try_row<'a>(
     free: usize,
 ) -> Room
     requires { ⌜ Empty (now arena) (now work) 10 × (Whole (now mem) × (i < 34)) ⌝ }
-    ensures { λ r. ⌜ ((d : List ℕ) (low : ℕ) → Counted (now (arena .entry)) d low from free → low < rowAt (tableIn (now (mem .entry))) i .id → Decided (syncRow (stateOf d (now (mem .entry))) i) (Left (now (arena .entry)) (now (mem .exit)) (rowAt (tableIn (now (mem .entry))) i .id) (r .from) (r .free)) (r .reason)) ⌝ }
+    ensures { λ r. ⌜ ((d : List ℕ) (low : ℕ) → Counted (now (arena .entry)) d low from free → low < rowAt (tableIn (now (mem .entry))) i .id → Judged (syncRow (stateOf d (now (mem .entry))) i) (Left (now (arena .entry)) (now (mem .exit)) (rowAt (tableIn (now (mem .entry))) i .id) (r .from) (r .free)) (r .reason)) ⌝ }
 {
     if !dirty_at(&mem[..], i) {
         return Room {
@@ -156,7 +156,7 @@ fn try_row<'a>(
 // Every row's turn, by rising id. `more`: how many rows there still can be with an id above `low`.
 fn try_rows<'a>(arena: &'a [u8], work: &'a [u8], mem: &mut [u8]) -> u8
     requires { ⌜ Empty (now arena) (now work) 10 × Whole (now mem) ⌝ }
-    ensures { λ r. ⌜ Decided (syncFrom (stateOf (now (arena .entry)) (now (mem .entry))) 0 34) (λ _. Unit) r ⌝ }
+    ensures { λ r. ⌜ Judged (syncFrom (stateOf (now (arena .entry)) (now (mem .entry))) 0 34) (λ _. Unit) r ⌝ }
 {
     let mut from: usize = 0;
     let mut free = arena::free_count(arena);
@@ -192,7 +192,7 @@ fn load(arena: &[u8], mem: &mut [u8])
 // 0 where every dirty row can be stored, else the reason that refuses the call. The counting marks rows, so it has a memory of its own.
 fn decide(arena: &[u8], mem: &[u8]) -> u8
     requires { ⌜ (legal (now arena) ≡ true) × Whole (now mem) ⌝ }
-    ensures { λ r. ⌜ Decided (syncFrom (stateOf (now (arena .entry)) (now (mem .entry))) 0 34) (λ _. Unit) r ⌝ }
+    ensures { λ r. ⌜ Judged (syncFrom (stateOf (now (arena .entry)) (now (mem .entry))) 0 34) (λ _. Unit) r ⌝ }
 {
     let mut own = [0u8; 4899];
     let mut work = [0u8; 5120];
