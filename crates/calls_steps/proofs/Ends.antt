@@ -22,7 +22,7 @@ use Rattle.sefs.specs.Create.{After, after}
 use Rattle.mem.specs.Mem.{tableIn, metaIn, Whole}
 use Rattle.mem.specs.State.{fsOf, Ready, Still, Stepped}
 use Rattle.calls.specs.declared.After as answered
-use Rattle.calls.specs.Answers.{doneWith, refusedWith, afterOf}
+use Rattle.calls.specs.Answers.{refusedWith, afterOf}
 use Rattle.calls.specs.Asked.{admitIf, firstOf}
 use Rattle.calls.proofs.Answers.{after-done, after-refused}
 use Rattle.calls.proofs.Asks.{Asks, asks-admitIf, admit-is, admitted-legal}
@@ -118,17 +118,9 @@ returned-ended t {u = u} (stuck {r = n} l e k) q = record { answer = q ∙ sym (
 pub returned-table : (f : Table → Out After) (t : Table) {x y : Table} {a b : List ℕ} {u : Table} {n : ℕ} {r : answered.After} → x ≡ y → Ended (f x) a b u n → r ≡ afterOf t u n → Returned t (f y) a b r
 returned-table f t q g e = rw (← q) (returned-ended t g e)
 
--- an outcome by another name
-pub returned-is : (t : Table) {o p : Out After} {a b : List ℕ} {r : answered.After} → o ≡ p → Returned t p a b r → Returned t o a b r
-returned-is t e g = rw e g
-
 -- a call that is refused before its steps
 pub returned-refused : (t : Table) {o : Out After} {a b : List ℕ} {n : ℕ} {r : answered.After} → o ≡ refused n → b ≡ a → r ≡ refusedWith t n → Returned t o a b r
 returned-refused t e k q = record { answer = q ∙ rw e; arena = k ∙ rw e }
-
--- one that is done, and writes nothing
-pub returned-done : (t u : Table) {o : Out After} {a b : List ℕ} {r : answered.After} → o ≡ done (record { arena = a; table = u }) → b ≡ a → r ≡ doneWith u → Returned t o a b r
-returned-done t u e k q = record { answer = q ∙ rw e; arena = k ∙ rw e }
 
 -- ---- two results that satisfy a contract are the same
 
