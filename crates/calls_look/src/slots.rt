@@ -3,7 +3,6 @@ ghost use mathlib.Core.Path.{_≡_};
 ghost use Prim.Native.Nat.{ℕ, _+_, _*_, _<_, _≤_};
 ghost use lib.ListN.{length};
 ghost use Rattle.base.specs.Out.{Went, done};
-ghost use Rattle.base.specs.Parts.{part};
 ghost use Rattle.utf8.specs.Names.{storedName};
 ghost use Rattle.overlay.specs.View.{view, Fine};
 ghost use Rattle.sefs.specs.Slots.{isEnded};
