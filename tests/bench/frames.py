@@ -3,6 +3,7 @@
 
 A function's frame is what it pushes and what it takes from the stack pointer; the depth is its frame and that of the deepest function that it
 calls, with 8 bytes for each return address. A function of the C library counts nothing (memcpy, memset, memcmp).
+It fails where a call takes 64 KB or more, and where it found no call at all.
 """
 import re
 import subprocess
@@ -36,6 +37,9 @@ def functions(archive):
     return found
 
 
+MOST = 65536
+
+
 def depth(name, found, known):
     if name not in found:
         return 0, []
@@ -50,8 +54,11 @@ def depth(name, found, known):
 def main():
     found, known = functions(sys.argv[1]), {}
     prefix = sys.argv[2] if len(sys.argv) > 2 else "call_"
-    for deep, way in sorted((depth(n, found, known) for n in found if n.startswith(prefix)), reverse=True):
+    calls = sorted((depth(n, found, known) for n in found if n.startswith(prefix)), reverse=True)
+    for deep, way in calls:
         print(f"{way[0][0]} {deep}: " + ", ".join(f"{n} {f}" for n, f in way[:6]))
+    if not calls or calls[0][0] >= MOST:
+        sys.exit(f"frames.py: no call, or one over {MOST} bytes")
 
 
 if __name__ == "__main__":
