@@ -4,7 +4,7 @@ use borrow.Author.Tests.{not-true}
 use native.Mathlib.Omega.{arith}
 use lib.ListN.{length}
 use lib.Seq.{length-take-le}
-use Rattle.replay_lib.specs.Steps.{left}
+use Rattle.replay_lib.specs.Steps.{toGo}
 use Rattle.replay.proofs.play.Statement.{statement}
 use Rattle.replay.proofs.play.Tie as tie
 
@@ -12,7 +12,7 @@ abbrev Inv-loop : tie.InvT-loop
 Inv-loop script desk₀ arena₀ text₀ desk arena text = (length desk ≡ length desk₀) × (length arena ≡ length arena₀) × (length text ≡ length text₀)
 
 abbrev μ-loop : tie.MeasureT-loop
-μ-loop script desk₀ arena₀ text₀ desk arena text = left (length script) desk
+μ-loop script desk₀ arena₀ text₀ desk arena text = toGo (length script) desk
 
 begin-requires : tie.Need-begin-requires Inv-loop μ-loop
 begin-requires c κs = tt
