@@ -4,7 +4,7 @@ use mathlib.Core.Path.{_≡_, refl, sym, ap, subst, _∙_}
 use Prim.Native.Nat.{ℕ, _+_, _<_, _≤_}
 use native.Mathlib.Omega.{arith}
 use lib.ListN.{length, getD}
-use Rattle.replay_lib.specs.Shape.{Sized, There, sizeBy, sizeOf, arenaBy, arenaOf, outputBy, outputOf}
+use Rattle.replay_lib.specs.Shape.{Sized, There, sizeBy, arenaBy, arenaOf, outputBy}
 
 -- what `size_at` says of a size r, where c is the first byte and the arena may have l bytes
 abbrev pub Answers : ℕ → List ℕ → ℕ → ℕ → ℕ → Type 0

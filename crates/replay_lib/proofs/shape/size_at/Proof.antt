@@ -69,136 +69,79 @@ whole-requires-10 c κs = search needs
 
 returns : tie.Need-returns
 unfolding sizeBy arenaBy outputBy
-returns c =
-    let a = c .before .before .before .before .args in
-    let e = c .arena-bytes .ensures in
-    answers 1 (a .script .now) (a .at) (c .before .match .keys1) (c .arena-bytes .result) (a .limit) (e .0, λ h. (e .1 h, omega arith))
+returns c = answers 1 _ _ (c .before .match .keys1) _ _ (c .arena-bytes .ensures .0, λ h. (c .arena-bytes .ensures .1 h, omega arith))
 
 returns-2 : tie.Need-returns-2
 unfolding sizeBy arenaBy outputBy
-returns-2 c =
-    let a = c .before .before .before .before .args in
-    let e = c .arena-length .ensures in
-    answers 2 (a .script .now) (a .at) (c .before .match .keys2) (c .arena-length .result) (a .limit) (e .0, λ h. (e .1 h, omega arith))
+returns-2 c = answers 2 _ _ (c .before .match .keys2) _ _ (c .arena-length .ensures .0, λ h. (c .arena-length .ensures .1 h, omega arith))
 
 returns-3 : tie.Need-returns-3
 unfolding sizeBy arenaBy outputBy
-returns-3 c =
-    let a = c .before .before .before .before .args in
-    let e = c .whole .ensures in
-    plain 3 (a .script .now) (a .at) (c .before .match .keys3) (c .whole .result) (a .limit) refl refl e
+returns-3 c = plain 3 _ _ (c .before .match .keys3) _ _ refl refl (c .whole .ensures)
 
 returns-4 : tie.Need-returns-4
 unfolding sizeBy arenaBy outputBy
-returns-4 c =
-    let a = c .before .before .before .before .args in
-    let e = c .whole2 .ensures in
-    plain 4 (a .script .now) (a .at) (c .before .match .keys4) (c .whole2 .result) (a .limit) refl refl e
+returns-4 c = plain 4 _ _ (c .before .match .keys4) _ _ refl refl (c .whole2 .ensures)
 
 returns-5 : tie.Need-returns-5
 unfolding sizeBy arenaBy outputBy
-returns-5 c =
-    let a = c .before .before .before .before .args in
-    let e = c .whole3 .ensures in
-    plain 16 (a .script .now) (a .at) (c .before .match .keys5) (c .whole3 .result) (a .limit) refl refl e
+returns-5 c = plain 16 _ _ (c .before .match .keys5) _ _ refl refl (c .whole3 .ensures)
 
 returns-6 : tie.Need-returns-6
 unfolding sizeBy arenaBy outputBy
-returns-6 c =
-    let a = c .before .before .before .before .args in
-    let e = c .whole4 .ensures in
-    plain 17 (a .script .now) (a .at) (c .before .match .keys6) (c .whole4 .result) (a .limit) refl refl e
+returns-6 c = plain 17 _ _ (c .before .match .keys6) _ _ refl refl (c .whole4 .ensures)
 
 returns-7 : tie.Need-returns-7
 unfolding sizeBy arenaBy outputBy
-returns-7 c =
-    let a = c .before .before .before .before .args in
-    let e = c .whole5 .ensures in
-    plain 18 (a .script .now) (a .at) (c .before .match .keys7) (c .whole5 .result) (a .limit) refl refl e
+returns-7 c = plain 18 _ _ (c .before .match .keys7) _ _ refl refl (c .whole5 .ensures)
 
 returns-8 : tie.Need-returns-8
 unfolding sizeBy arenaBy outputBy
-returns-8 c =
-    let a = c .before .before .before .before .args in
-    let e = c .named .ensures in
-    plain 19 (a .script .now) (a .at) (c .before .match .keys8) (c .named .result) (a .limit) refl refl (e .0)
+returns-8 c = plain 19 _ _ (c .before .match .keys8) _ _ refl refl (c .named .ensures .0)
 
 returns-9 : tie.Need-returns-9
 unfolding sizeBy arenaBy outputBy
-returns-9 c =
-    let a = c .before .before .before .before .args in
-    let e = c .named-more .ensures in
-    plain 20 (a .script .now) (a .at) (c .before .match .keys9) (c .named-more .result) (a .limit) refl refl (e .0)
+returns-9 c = plain 20 _ _ (c .before .match .keys9) _ _ refl refl (c .named-more .ensures .0)
 
 returns-10 : tie.Need-returns-10
 unfolding sizeBy arenaBy outputBy
-returns-10 c =
-    let a = c .before .before .before .before .args in
-    let e = c .named-more2 .ensures in
-    plain 21 (a .script .now) (a .at) (c .before .match .keys10) (c .named-more2 .result) (a .limit) refl refl (e .0)
+returns-10 c = plain 21 _ _ (c .before .match .keys10) _ _ refl refl (c .named-more2 .ensures .0)
 
 returns-11 : tie.Need-returns-11
 unfolding sizeBy arenaBy outputBy
-returns-11 c =
-    let a = c .before .before .before .before .args in
-    let e = c .named2 .ensures in
-    plain 22 (a .script .now) (a .at) (c .before .match .keys11) (c .named2 .result) (a .limit) refl refl (e .0)
+returns-11 c = plain 22 _ _ (c .before .match .keys11) _ _ refl refl (c .named2 .ensures .0)
 
 returns-12 : tie.Need-returns-12
 unfolding sizeBy arenaBy outputBy
-returns-12 c =
-    let a = c .before .before .before .before .args in
-    let e = c .named-twice .ensures in
-    plain 23 (a .script .now) (a .at) (c .before .match .keys12) (c .named-twice .result) (a .limit) refl refl e
+returns-12 c = plain 23 _ _ (c .before .match .keys12) _ _ refl refl (c .named-twice .ensures)
 
 returns-13 : tie.Need-returns-13
 unfolding sizeBy arenaBy outputBy
-returns-13 c =
-    let a = c .before .before .before .before .args in
-    let e = c .whole6 .ensures in
-    plain 24 (a .script .now) (a .at) (c .before .match .keys13) (c .whole6 .result) (a .limit) refl refl e
+returns-13 c = plain 24 _ _ (c .before .match .keys13) _ _ refl refl (c .whole6 .ensures)
 
 returns-14 : tie.Need-returns-14
 unfolding sizeBy arenaBy outputBy
-returns-14 c =
-    let a = c .before .before .before .before .args in
-    let e = c .whole7 .ensures in
-    plain 25 (a .script .now) (a .at) (c .before .match .keys14) (c .whole7 .result) (a .limit) refl refl e
+returns-14 c = plain 25 _ _ (c .before .match .keys14) _ _ refl refl (c .whole7 .ensures)
 
 returns-15 : tie.Need-returns-15
 unfolding sizeBy arenaBy outputBy
-returns-15 c =
-    let a = c .before .before .before .before .args in
-    let e = c .with-output .ensures in
-    answers 26 (a .script .now) (a .at) (c .before .match .keys15) (c .with-output .result) (a .limit) (e .0, λ h. (omega arith, e .1 h))
+returns-15 c = answers 26 _ _ (c .before .match .keys15) _ _ (c .with-output .ensures .0, λ h. (omega arith, c .with-output .ensures .1 h))
 
 returns-16 : tie.Need-returns-16
 unfolding sizeBy arenaBy outputBy
-returns-16 c =
-    let a = c .before .before .before .before .args in
-    let e = c .with-output2 .ensures in
-    answers 27 (a .script .now) (a .at) (c .before .match .keys16) (c .with-output2 .result) (a .limit) (e .0, λ h. (omega arith, e .1 h))
+returns-16 c = answers 27 _ _ (c .before .match .keys16) _ _ (c .with-output2 .ensures .0, λ h. (omega arith, c .with-output2 .ensures .1 h))
 
 returns-17 : tie.Need-returns-17
 unfolding sizeBy arenaBy outputBy
-returns-17 c =
-    let a = c .before .before .before .before .args in
-    let e = c .whole8 .ensures in
-    plain 28 (a .script .now) (a .at) (c .before .match .keys17) (c .whole8 .result) (a .limit) refl refl e
+returns-17 c = plain 28 _ _ (c .before .match .keys17) _ _ refl refl (c .whole8 .ensures)
 
 returns-18 : tie.Need-returns-18
 unfolding sizeBy arenaBy outputBy
-returns-18 c =
-    let a = c .before .before .before .before .args in
-    let e = c .whole9 .ensures in
-    plain 29 (a .script .now) (a .at) (c .before .match .keys18) (c .whole9 .result) (a .limit) refl refl e
+returns-18 c = plain 29 _ _ (c .before .match .keys18) _ _ refl refl (c .whole9 .ensures)
 
 returns-19 : tie.Need-returns-19
 unfolding sizeBy arenaBy outputBy
-returns-19 c =
-    let a = c .before .before .before .before .args in
-    let e = c .whole10 .ensures in
-    plain 30 (a .script .now) (a .at) (c .before .match .keys19) (c .whole10 .result) (a .limit) refl refl e
+returns-19 c = plain 30 _ _ (c .before .match .keys19) _ _ refl refl (c .whole10 .ensures)
 
 returns-20 : tie.Need-returns-20
 returns-20 c = search needs
