@@ -100,23 +100,9 @@ fn do_quiet(script: &[u8], at: usize, desk: &mut [u8], arena: &mut [u8])
     }
 }
 
-// ---- calls: each function makes its own and hands the others on
+// ---- calls
 
-// 24, 26, 27, 30: the arena and the table stay.
-fn do_look(script: &[u8], at: usize, desk: &[u8], arena: &[u8], text: &mut [u8], w: usize) -> usize
-    requires { ⌜ There (now script) at ⌝ }
-    requires { ⌜ (length (now desk) ≡ 4387) × (w + 400 ≤ length (now text)) ⌝ }
-    ensures { λ r. ⌜ r ≤ w + 400 ⌝ }
-{
-    match script[at] {
-        24 => call_metadata(script, at, desk, arena, text, w),
-        26 => call_entry(script, at, desk, arena, text, w),
-        27 => call_list(script, at, desk, arena, text, w),
-        _ => call_check(desk, arena, text, w),
-    }
-}
-
-// 17 to 19, 25: the arena stays.
+// Those of reads.rt: 17 to 19, 24 to 27, 30.
 fn do_read(
     script: &[u8],
     at: usize,
@@ -133,34 +119,15 @@ fn do_read(
         17 => call_open(desk, arena, text, w),
         18 => call_root(desk, arena, text, w),
         19 => call_find(script, at, desk, arena, text, w),
+        24 => call_metadata(script, at, &desk[..], arena, text, w),
         25 => call_set(script, at, desk, arena, text, w),
-        _ => do_look(script, at, &desk[..], arena, text, w),
+        26 => call_entry(script, at, &desk[..], arena, text, w),
+        27 => call_list(script, at, &desk[..], arena, text, w),
+        _ => call_check(&desk[..], arena, text, w),
     }
 }
 
-// 20 to 23: names.
-fn do_name(
-    script: &[u8],
-    at: usize,
-    desk: &mut [u8],
-    arena: &mut [u8],
-    text: &mut [u8],
-    w: usize,
-) -> usize
-    requires { ⌜ There (now script) at ⌝ }
-    requires { ⌜ (length (now desk) ≡ 4387) × (w + 400 ≤ length (now text)) ⌝ }
-    ensures { λ r. ⌜ r ≤ w + 400 ⌝ }
-{
-    match script[at] {
-        20 => call_create(script, at, desk, arena, text, w),
-        21 => call_link(script, at, desk, arena, text, w),
-        22 => call_unlink(script, at, desk, arena, text, w),
-        23 => call_move(script, at, desk, arena, text, w),
-        _ => do_read(script, at, desk, &arena[..], text, w),
-    }
-}
-
-// 16, 28, 29.
+// Those of writes.rt: 16, 20 to 23, 28, 29. The others leave the arena as it is.
 fn do_call(
     script: &[u8],
     at: usize,
@@ -175,9 +142,13 @@ fn do_call(
 {
     match script[at] {
         16 => call_format(script, at, desk, arena, text, w),
+        20 => call_create(script, at, desk, arena, text, w),
+        21 => call_link(script, at, desk, arena, text, w),
+        22 => call_unlink(script, at, desk, arena, text, w),
+        23 => call_move(script, at, desk, arena, text, w),
         28 => call_sync(desk, arena, text, w),
         29 => call_close(script, at, desk, arena, text, w),
-        _ => do_name(script, at, desk, arena, text, w),
+        _ => do_read(script, at, desk, &arena[..], text, w),
     }
 }
 
