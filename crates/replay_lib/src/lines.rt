@@ -1,4 +1,4 @@
-// A line's words after the call's name: what a call answered. The longest, metadata's, has 303 bytes.
+// A line's words: the call's name, by its byte in the script, and what the call answered. The longest answer, metadata's, has 303 bytes.
 ghost use mathlib.Core.Path.{_≡_};
 ghost use Prim.Native.Nat.{_+_, _≤_};
 ghost use lib.ListN.{length};
@@ -18,6 +18,33 @@ use structs::Timespec;
 use sums::sum;
 use table::Handle;
 use table_bytes::write_table;
+
+// ---- the call's name
+
+pub fn put_name(text: &mut [u8], w: usize, c: u8) -> usize
+    requires { ⌜ w + 8 ≤ length (now text) ⌝ }
+    ensures { λ r. ⌜ r ≤ w + 8 ⌝ }
+{
+    match c {
+        16 => put_word(text, w, b"format"),
+        17 => put_word(text, w, b"open"),
+        18 => put_word(text, w, b"root"),
+        19 => put_word(text, w, b"find"),
+        20 => put_word(text, w, b"create"),
+        21 => put_word(text, w, b"link"),
+        22 => put_word(text, w, b"unlink"),
+        23 => put_word(text, w, b"move"),
+        24 => put_word(text, w, b"metadata"),
+        25 => put_word(text, w, b"set"),
+        26 => put_word(text, w, b"entry"),
+        27 => put_word(text, w, b"list"),
+        28 => put_word(text, w, b"sync"),
+        29 => put_word(text, w, b"close"),
+        _ => put_word(text, w, b"check"),
+    }
+}
+
+// ---- what it answered
 
 fn put_no(text: &mut [u8], w: usize, reason: u8) -> usize
     requires { ⌜ w + 24 ≤ length (now text) ⌝ }

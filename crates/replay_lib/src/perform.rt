@@ -1,30 +1,30 @@
 // The command at a place of the script. One that breaks the format stays where it is.
 ghost use mathlib.Core.Path.{_≡_};
 ghost use Prim.Native.Nat.{_+_, _<_, _≤_};
-ghost use lib.ListN.{length};
+ghost use lib.ListN.{length, getD};
 ghost use Rattle.le.specs.Le.{leAt};
+ghost use Rattle.replay_lib.specs.Shape.{There, arenaOf};
 ghost use Rattle.replay_lib.specs.Steps.{Primed, Gone};
 use crate::Step;
-use crate::reads::do_check;
-use crate::reads::do_entry;
-use crate::reads::do_find;
-use crate::reads::do_list;
-use crate::reads::do_metadata;
-use crate::reads::do_open;
-use crate::reads::do_root;
-use crate::reads::do_set;
-use crate::shape::arena_bytes;
-use crate::shape::arena_length;
-use crate::shape::whole;
+use crate::lines::put_name;
+use crate::reads::call_check;
+use crate::reads::call_entry;
+use crate::reads::call_find;
+use crate::reads::call_list;
+use crate::reads::call_metadata;
+use crate::reads::call_open;
+use crate::reads::call_root;
+use crate::reads::call_set;
+use crate::shape::size_at;
 use crate::text::put_number;
 use crate::text::put_word;
-use crate::writes::do_close;
-use crate::writes::do_create;
-use crate::writes::do_format;
-use crate::writes::do_link;
-use crate::writes::do_move;
-use crate::writes::do_sync;
-use crate::writes::do_unlink;
+use crate::writes::call_close;
+use crate::writes::call_create;
+use crate::writes::call_format;
+use crate::writes::call_link;
+use crate::writes::call_move;
+use crate::writes::call_sync;
+use crate::writes::call_unlink;
 use base::clear;
 use base::copy;
 use base::index;
@@ -60,18 +60,6 @@ fn set_arena(script: &[u8], at: usize, desk: &mut [u8], arena: &mut [u8])
     put_u64(desk, 4370, n as u64);
 }
 
-fn arena_from(script: &[u8], at: usize, desk: &mut [u8], arena: &mut [u8]) -> usize
-    requires { ⌜ (at < length (now script)) × (length (now desk) ≡ 4387) ⌝ }
-    ensures { λ r. ⌜ at + r ≤ length (now (script .entry)) ⌝ }
-{
-    let n = arena_bytes(script, at, arena.len());
-    if n == 0 {
-        return 0;
-    }
-    set_arena(script, at, desk, arena);
-    n
-}
-
 fn clear_arena(script: &[u8], at: usize, desk: &mut [u8], arena: &mut [u8])
     requires { ⌜ at + 5 ≤ length (now script) ⌝ }
     requires { ⌜ (length (now desk) ≡ 4387) × (leAt (now script) (at + 1) 4 ≤ length (now arena)) ⌝ }
@@ -79,18 +67,6 @@ fn clear_arena(script: &[u8], at: usize, desk: &mut [u8], arena: &mut [u8])
     let n = index(u32_at(script, at + 1));
     clear(&mut arena[..n]);
     put_u64(desk, 4370, n as u64);
-}
-
-fn arena_zeros(script: &[u8], at: usize, desk: &mut [u8], arena: &mut [u8]) -> usize
-    requires { ⌜ (at < length (now script)) × (length (now desk) ≡ 4387) ⌝ }
-    ensures { λ r. ⌜ at + r ≤ length (now (script .entry)) ⌝ }
-{
-    let n = arena_length(script, at, arena.len());
-    if n == 0 {
-        return 0;
-    }
-    clear_arena(script, at, desk, arena);
-    n
 }
 
 // A place past the arena's end changes nothing.
@@ -103,18 +79,6 @@ fn set_byte(script: &[u8], at: usize, desk: &[u8], arena: &mut [u8])
     }
 }
 
-fn poke(script: &[u8], at: usize, desk: &[u8], arena: &mut [u8]) -> usize
-    requires { ⌜ (at < length (now script)) × (length (now desk) ≡ 4387) ⌝ }
-    ensures { λ r. ⌜ at + r ≤ length (now (script .entry)) ⌝ }
-{
-    let n = whole(script, at, 6);
-    if n == 0 {
-        return 0;
-    }
-    set_byte(script, at, desk, arena);
-    n
-}
-
 fn set_table(script: &[u8], at: usize, desk: &mut [u8])
     requires { ⌜ (at + 4371 ≤ length (now script)) × (length (now desk) ≡ 4387) ⌝ }
 {
@@ -123,39 +87,22 @@ fn set_table(script: &[u8], at: usize, desk: &mut [u8])
     write_table(desk, read_table(&script[s..e]));
 }
 
-fn table_from(script: &[u8], at: usize, desk: &mut [u8]) -> usize
-    requires { ⌜ (at < length (now script)) × (length (now desk) ≡ 4387) ⌝ }
-    ensures { λ r. ⌜ at + r ≤ length (now (script .entry)) ⌝ }
-{
-    let n = whole(script, at, 4371);
-    if n == 0 {
-        return 0;
-    }
-    set_table(script, at, desk);
-    n
-}
-
 // They print nothing.
-fn do_quiet(script: &[u8], at: usize, desk: &mut [u8], arena: &mut [u8]) -> usize
-    requires { ⌜ (at < length (now script)) × (length (now desk) ≡ 4387) ⌝ }
-    ensures { λ r. ⌜ at + r ≤ length (now (script .entry)) ⌝ }
+fn do_quiet(script: &[u8], at: usize, desk: &mut [u8], arena: &mut [u8])
+    requires { ⌜ There (now script) at × (arenaOf (now script) at ≤ length (now arena)) ⌝ }
+    requires { ⌜ (length (now desk) ≡ 4387) × ((0 < getD (now script) at 0) × (getD (now script) at 0 ≤ 4)) ⌝ }
 {
-    let c = script[at];
-    if c == 1 {
-        return arena_from(script, at, desk, arena);
+    match script[at] {
+        1 => set_arena(script, at, desk, arena),
+        2 => clear_arena(script, at, desk, arena),
+        3 => set_byte(script, at, &desk[..], arena),
+        _ => set_table(script, at, desk),
     }
-    if c == 2 {
-        return arena_zeros(script, at, desk, arena);
-    }
-    if c == 3 {
-        return poke(script, at, &desk[..], arena);
-    }
-    table_from(script, at, desk)
 }
 
 // ---- calls
 
-// 17 to 19, 24 to 27, 30.
+// Those of reads.rt: 17 to 19, 24 to 27, 30.
 fn do_read(
     script: &[u8],
     at: usize,
@@ -163,72 +110,24 @@ fn do_read(
     arena: &[u8],
     text: &mut [u8],
     w: usize,
-) -> Step
-    requires { ⌜ Primed (now script) at (now desk) (now text) w ⌝ }
-    ensures { λ r. ⌜ Gone 400 (length (now (script .entry))) at (r .at) w (r .w) ⌝ }
+) -> usize
+    requires { ⌜ There (now script) at ⌝ }
+    requires { ⌜ (length (now desk) ≡ 4387) × (w + 400 ≤ length (now text)) ⌝ }
+    ensures { λ r. ⌜ r ≤ w + 400 ⌝ }
 {
-    let c = script[at];
-    if c == 17 {
-        return do_open(at, desk, arena, text, w);
+    match script[at] {
+        17 => call_open(desk, arena, text, w),
+        18 => call_root(desk, arena, text, w),
+        19 => call_find(script, at, desk, arena, text, w),
+        24 => call_metadata(script, at, &desk[..], arena, text, w),
+        25 => call_set(script, at, desk, arena, text, w),
+        26 => call_entry(script, at, &desk[..], arena, text, w),
+        27 => call_list(script, at, &desk[..], arena, text, w),
+        _ => call_check(&desk[..], arena, text, w),
     }
-    if c == 18 {
-        return do_root(at, desk, arena, text, w);
-    }
-    if c == 19 {
-        return do_find(script, at, desk, arena, text, w);
-    }
-    if c == 25 {
-        return do_set(script, at, desk, arena, text, w);
-    }
-    do_look(script, at, &desk[..], arena, text, w)
 }
 
-// 24, 26, 27, 30: the table stays too.
-fn do_look(script: &[u8], at: usize, desk: &[u8], arena: &[u8], text: &mut [u8], w: usize) -> Step
-    requires { ⌜ Primed (now script) at (now desk) (now text) w ⌝ }
-    ensures { λ r. ⌜ Gone 400 (length (now (script .entry))) at (r .at) w (r .w) ⌝ }
-{
-    let c = script[at];
-    if c == 24 {
-        return do_metadata(script, at, desk, arena, text, w);
-    }
-    if c == 26 {
-        return do_entry(script, at, desk, arena, text, w);
-    }
-    if c == 27 {
-        return do_list(script, at, desk, arena, text, w);
-    }
-    if c == 30 {
-        return do_check(at, desk, arena, text, w);
-    }
-    Step { at: at, w: w }
-}
-
-// 20 to 23.
-fn do_name(
-    script: &[u8],
-    at: usize,
-    desk: &mut [u8],
-    arena: &mut [u8],
-    text: &mut [u8],
-    w: usize,
-) -> Step
-    requires { ⌜ Primed (now script) at (now desk) (now text) w ⌝ }
-    ensures { λ r. ⌜ Gone 400 (length (now (script .entry))) at (r .at) w (r .w) ⌝ }
-{
-    let c = script[at];
-    if c == 20 {
-        return do_create(script, at, desk, arena, text, w);
-    }
-    if c == 21 {
-        return do_link(script, at, desk, arena, text, w);
-    }
-    if c == 22 {
-        return do_unlink(script, at, desk, arena, text, w);
-    }
-    do_move(script, at, desk, arena, text, w)
-}
-
+// Those of writes.rt: 16, 20 to 23, 28, 29. The others leave the arena as it is.
 fn do_call(
     script: &[u8],
     at: usize,
@@ -236,24 +135,21 @@ fn do_call(
     arena: &mut [u8],
     text: &mut [u8],
     w: usize,
-) -> Step
-    requires { ⌜ Primed (now script) at (now desk) (now text) w ⌝ }
-    ensures { λ r. ⌜ Gone 400 (length (now (script .entry))) at (r .at) w (r .w) ⌝ }
+) -> usize
+    requires { ⌜ There (now script) at ⌝ }
+    requires { ⌜ (length (now desk) ≡ 4387) × (w + 400 ≤ length (now text)) ⌝ }
+    ensures { λ r. ⌜ r ≤ w + 400 ⌝ }
 {
-    let c = script[at];
-    if c == 16 {
-        return do_format(script, at, desk, arena, text, w);
+    match script[at] {
+        16 => call_format(script, at, desk, arena, text, w),
+        20 => call_create(script, at, desk, arena, text, w),
+        21 => call_link(script, at, desk, arena, text, w),
+        22 => call_unlink(script, at, desk, arena, text, w),
+        23 => call_move(script, at, desk, arena, text, w),
+        28 => call_sync(desk, arena, text, w),
+        29 => call_close(script, at, desk, arena, text, w),
+        _ => do_read(script, at, desk, &arena[..], text, w),
     }
-    if c == 28 {
-        return do_sync(at, desk, arena, text, w);
-    }
-    if c == 29 {
-        return do_close(script, at, desk, arena, text, w);
-    }
-    if (20 <= c) & (c <= 23) {
-        return do_name(script, at, desk, arena, text, w);
-    }
-    do_read(script, at, desk, &arena[..], text, w)
 }
 
 // The end of a line: the sums over the arena and over the table's bytes.
@@ -276,18 +172,14 @@ fn do_line(
     arena: &mut [u8],
     text: &mut [u8],
     w: usize,
-) -> Step
-    requires { ⌜ Primed (now script) at (now desk) (now text) w ⌝ }
-    ensures { λ r. ⌜ Gone 512 (length (now (script .entry))) at (r .at) w (r .w) ⌝ }
+) -> usize
+    requires { ⌜ There (now script) at ⌝ }
+    requires { ⌜ (length (now desk) ≡ 4387) × (w + 512 ≤ length (now text)) ⌝ }
+    ensures { λ r. ⌜ r ≤ w + 512 ⌝ }
 {
-    let s = do_call(script, at, desk, arena, text, w);
-    if s.at == at {
-        return s;
-    }
-    Step {
-        at: s.at,
-        w: put_sums(&desk[..], &arena[..], text, s.w),
-    }
+    let a = put_name(text, w, script[at]);
+    let b = do_call(script, at, desk, arena, text, a);
+    put_sums(&desk[..], &arena[..], text, b)
 }
 
 pub fn perform(
@@ -301,13 +193,18 @@ pub fn perform(
     requires { ⌜ Primed (now script) at (now desk) (now text) w ⌝ }
     ensures { λ r. ⌜ Gone 512 (length (now (script .entry))) at (r .at) w (r .w) ⌝ }
 {
-    let c = script[at];
-    if (1 <= c) & (c <= 4) {
-        return Step {
-            at: at + do_quiet(script, at, desk, arena),
-            w: w,
-        };
+    let n = size_at(script, at, arena.len());
+    if n == 0 {
+        return Step { at: at, w: w };
     }
-    let n = arena_len(&desk[..], arena.len());
-    do_line(script, at, desk, &mut arena[..n], text, w)
+    let next = at + n;
+    if script[at] <= 4 {
+        do_quiet(script, at, desk, arena);
+        return Step { at: next, w: w };
+    }
+    let m = arena_len(&desk[..], arena.len());
+    Step {
+        at: next,
+        w: do_line(script, at, desk, &mut arena[..m], text, w),
+    }
 }

@@ -1,11 +1,9 @@
-// The calls that change no byte of the arena. Each is two functions: one sees that the command is whole, the other calls.
+// The calls that change no byte of the arena. The caller has seen that the command is whole, and put the call's name.
 ghost use mathlib.Core.Path.{_≡_};
-ghost use Prim.Native.Nat.{_+_, _<_, _≤_};
+ghost use Prim.Native.Nat.{_+_, _≤_};
 ghost use lib.ListN.{length};
 ghost use Rattle.le.specs.Le.{leAt};
 ghost use Rattle.replay_lib.specs.Shape.{named1};
-ghost use Rattle.replay_lib.specs.Steps.{Primed, Gone};
-use crate::Step;
 use crate::args::handle_at;
 use crate::args::name_end;
 use crate::args::time_at;
@@ -17,9 +15,6 @@ use crate::lines::put_listed;
 use crate::lines::put_output;
 use crate::lines::put_told;
 use crate::lines::put_verdict;
-use crate::shape::named;
-use crate::shape::whole;
-use crate::shape::with_output;
 use crate::text::put_value;
 use crate::text::put_word;
 use base::index16;
@@ -32,45 +27,33 @@ use table_bytes::read_table;
 
 // ---- open, root, check: no arguments
 
-pub fn do_open(at: usize, desk: &mut [u8], arena: &[u8], text: &mut [u8], w: usize) -> Step
-    requires { ⌜ (at < 18446744073709551615) × ((length (now desk) ≡ 4387) × (w + 512 ≤ length (now text))) ⌝ }
-    ensures { λ r. ⌜ (r .at ≡ at + 1) × (r .w ≤ w + 400) ⌝ }
+pub fn call_open(desk: &mut [u8], arena: &[u8], text: &mut [u8], w: usize) -> usize
+    requires { ⌜ (length (now desk) ≡ 4387) × (w + 400 ≤ length (now text)) ⌝ }
+    ensures { λ r. ⌜ r ≤ w + 400 ⌝ }
 {
-    let v = put_word(text, w, b"open");
     let a = calls_open::open(arena);
-    Step {
-        at: at + 1,
-        w: put_fresh(desk, text, v, a),
-    }
+    put_fresh(desk, text, w, a)
 }
 
-pub fn do_root(at: usize, desk: &mut [u8], arena: &[u8], text: &mut [u8], w: usize) -> Step
-    requires { ⌜ (at < 18446744073709551615) × ((length (now desk) ≡ 4387) × (w + 512 ≤ length (now text))) ⌝ }
-    ensures { λ r. ⌜ (r .at ≡ at + 1) × (r .w ≤ w + 400) ⌝ }
+pub fn call_root(desk: &mut [u8], arena: &[u8], text: &mut [u8], w: usize) -> usize
+    requires { ⌜ (length (now desk) ≡ 4387) × (w + 400 ≤ length (now text)) ⌝ }
+    ensures { λ r. ⌜ r ≤ w + 400 ⌝ }
 {
-    let v = put_word(text, w, b"root");
     let g = calls_open::root(arena, read_table(&desk[..]));
-    Step {
-        at: at + 1,
-        w: put_given(desk, text, v, g),
-    }
+    put_given(desk, text, w, g)
 }
 
-pub fn do_check(at: usize, desk: &[u8], arena: &[u8], text: &mut [u8], w: usize) -> Step
-    requires { ⌜ (at < 18446744073709551615) × ((length (now desk) ≡ 4387) × (w + 512 ≤ length (now text))) ⌝ }
-    ensures { λ r. ⌜ (r .at ≡ at + 1) × (r .w ≤ w + 400) ⌝ }
+pub fn call_check(desk: &[u8], arena: &[u8], text: &mut [u8], w: usize) -> usize
+    requires { ⌜ (length (now desk) ≡ 4387) × (w + 400 ≤ length (now text)) ⌝ }
+    ensures { λ r. ⌜ r ≤ w + 400 ⌝ }
 {
-    let v = put_word(text, w, b"check");
     let r = fsck::check(arena, read_table(desk));
-    Step {
-        at: at + 1,
-        w: put_verdict(text, v, r),
-    }
+    put_verdict(text, w, r)
 }
 
 // ---- find
 
-fn call_find(
+pub fn call_find(
     script: &[u8],
     at: usize,
     desk: &mut [u8],
@@ -79,41 +62,19 @@ fn call_find(
     w: usize,
 ) -> usize
     requires { ⌜ at + named1 (now script) at 13 ≤ length (now script) ⌝ }
-    requires { ⌜ (length (now desk) ≡ 4387) × (w + 512 ≤ length (now text)) ⌝ }
+    requires { ⌜ (length (now desk) ≡ 4387) × (w + 400 ≤ length (now text)) ⌝ }
     ensures { λ r. ⌜ r ≤ w + 400 ⌝ }
 {
-    let v = put_word(text, w, b"find");
     let h = handle_at(script, at + 1);
     let s = at + 15;
     let e = name_end(script, at + 13);
     let g = calls_open::find(arena, read_table(&desk[..]), h, &script[s..e]);
-    put_given(desk, text, v, g)
-}
-
-pub fn do_find(
-    script: &[u8],
-    at: usize,
-    desk: &mut [u8],
-    arena: &[u8],
-    text: &mut [u8],
-    w: usize,
-) -> Step
-    requires { ⌜ Primed (now script) at (now desk) (now text) w ⌝ }
-    ensures { λ r. ⌜ Gone 400 (length (now (script .entry))) at (r .at) w (r .w) ⌝ }
-{
-    let n = named(script, at, 13);
-    if n == 0 {
-        return Step { at: at, w: w };
-    }
-    Step {
-        at: at + n,
-        w: call_find(script, at, desk, arena, text, w),
-    }
+    put_given(desk, text, w, g)
 }
 
 // ---- metadata, set metadata
 
-fn call_metadata(
+pub fn call_metadata(
     script: &[u8],
     at: usize,
     desk: &[u8],
@@ -122,34 +83,12 @@ fn call_metadata(
     w: usize,
 ) -> usize
     requires { ⌜ at + 13 ≤ length (now script) ⌝ }
-    requires { ⌜ (length (now desk) ≡ 4387) × (w + 512 ≤ length (now text)) ⌝ }
+    requires { ⌜ (length (now desk) ≡ 4387) × (w + 400 ≤ length (now text)) ⌝ }
     ensures { λ r. ⌜ r ≤ w + 400 ⌝ }
 {
-    let v = put_word(text, w, b"metadata");
     let h = handle_at(script, at + 1);
     let t = calls_look::metadata(arena, read_table(desk), h);
-    put_told(text, v, t)
-}
-
-pub fn do_metadata(
-    script: &[u8],
-    at: usize,
-    desk: &[u8],
-    arena: &[u8],
-    text: &mut [u8],
-    w: usize,
-) -> Step
-    requires { ⌜ Primed (now script) at (now desk) (now text) w ⌝ }
-    ensures { λ r. ⌜ Gone 400 (length (now (script .entry))) at (r .at) w (r .w) ⌝ }
-{
-    let n = whole(script, at, 13);
-    if n == 0 {
-        return Step { at: at, w: w };
-    }
-    Step {
-        at: at + n,
-        w: call_metadata(script, at, desk, arena, text, w),
-    }
+    put_told(text, w, t)
 }
 
 fn set(script: &[u8], at: usize, desk: &[u8], arena: &[u8]) -> After
@@ -168,7 +107,7 @@ fn set(script: &[u8], at: usize, desk: &[u8], arena: &[u8]) -> After
     )
 }
 
-fn call_set(
+pub fn call_set(
     script: &[u8],
     at: usize,
     desk: &mut [u8],
@@ -177,33 +116,11 @@ fn call_set(
     w: usize,
 ) -> usize
     requires { ⌜ at + 79 ≤ length (now script) ⌝ }
-    requires { ⌜ (length (now desk) ≡ 4387) × (w + 512 ≤ length (now text)) ⌝ }
+    requires { ⌜ (length (now desk) ≡ 4387) × (w + 400 ≤ length (now text)) ⌝ }
     ensures { λ r. ⌜ r ≤ w + 400 ⌝ }
 {
-    let v = put_word(text, w, b"set");
     let a = set(script, at, &desk[..], arena);
-    put_after(desk, text, v, a)
-}
-
-pub fn do_set(
-    script: &[u8],
-    at: usize,
-    desk: &mut [u8],
-    arena: &[u8],
-    text: &mut [u8],
-    w: usize,
-) -> Step
-    requires { ⌜ Primed (now script) at (now desk) (now text) w ⌝ }
-    ensures { λ r. ⌜ Gone 400 (length (now (script .entry))) at (r .at) w (r .w) ⌝ }
-{
-    let n = whole(script, at, 79);
-    if n == 0 {
-        return Step { at: at, w: w };
-    }
-    Step {
-        at: at + n,
-        w: call_set(script, at, desk, arena, text, w),
-    }
+    put_after(desk, text, w, a)
 }
 
 // ---- get entry, listing: the output has 8,192 bytes, all 238, of which the call is lent the first
@@ -246,17 +163,16 @@ fn entry_words(
     w: usize,
 ) -> usize
     requires { ⌜ (at + 23 ≤ length (now script)) × (leAt (now script) (at + 21) 2 ≤ length (now out)) ⌝ }
-    requires { ⌜ (length (now desk) ≡ 4387) × (w + 512 ≤ length (now text)) ⌝ }
+    requires { ⌜ (length (now desk) ≡ 4387) × (w + 400 ≤ length (now text)) ⌝ }
     ensures { λ r. ⌜ r ≤ w + 400 ⌝ }
 {
     put_238(out);
     let n = index16(u16_at(script, at + 21));
-    let v = put_word(text, w, b"entry");
-    let u = put_entry(script, at, desk, arena, &mut out[..n], text, v);
+    let u = put_entry(script, at, desk, arena, &mut out[..n], text, w);
     put_output(text, u, &out[..])
 }
 
-fn call_entry(
+pub fn call_entry(
     script: &[u8],
     at: usize,
     desk: &[u8],
@@ -265,44 +181,22 @@ fn call_entry(
     w: usize,
 ) -> usize
     requires { ⌜ (at + 23 ≤ length (now script)) × (leAt (now script) (at + 21) 2 ≤ 8192) ⌝ }
-    requires { ⌜ (length (now desk) ≡ 4387) × (w + 512 ≤ length (now text)) ⌝ }
+    requires { ⌜ (length (now desk) ≡ 4387) × (w + 400 ≤ length (now text)) ⌝ }
     ensures { λ r. ⌜ r ≤ w + 400 ⌝ }
 {
     let mut out = [0u8; 8192];
     entry_words(script, at, desk, arena, &mut out, text, w)
 }
 
-pub fn do_entry(
-    script: &[u8],
-    at: usize,
-    desk: &[u8],
-    arena: &[u8],
-    text: &mut [u8],
-    w: usize,
-) -> Step
-    requires { ⌜ Primed (now script) at (now desk) (now text) w ⌝ }
-    ensures { λ r. ⌜ Gone 400 (length (now (script .entry))) at (r .at) w (r .w) ⌝ }
-{
-    let n = with_output(script, at);
-    if n == 0 {
-        return Step { at: at, w: w };
-    }
-    Step {
-        at: at + n,
-        w: call_entry(script, at, desk, arena, text, w),
-    }
-}
-
 fn put_list(text: &mut [u8], w: usize, m: Moved, out: &[u8]) -> usize
-    requires { ⌜ w + 512 ≤ length (now text) ⌝ }
+    requires { ⌜ w + 400 ≤ length (now text) ⌝ }
     ensures { λ r. ⌜ r ≤ w + 400 ⌝ }
 {
-    let a = put_word(text, w, b"list");
     let l = m.answer;
-    let b = put_listed(text, a, l);
-    let c = put_output(text, b, out);
-    let d = put_word(text, c, b" p");
-    put_value(text, d, m.next)
+    let a = put_listed(text, w, l);
+    let b = put_output(text, a, out);
+    let c = put_word(text, b, b" p");
+    put_value(text, c, m.next)
 }
 
 fn list(script: &[u8], at: usize, desk: &[u8], arena: &[u8], out: &mut [u8]) -> Moved
@@ -323,7 +217,7 @@ fn list_words(
     w: usize,
 ) -> usize
     requires { ⌜ (at + 23 ≤ length (now script)) × (leAt (now script) (at + 21) 2 ≤ length (now out)) ⌝ }
-    requires { ⌜ (length (now desk) ≡ 4387) × (w + 512 ≤ length (now text)) ⌝ }
+    requires { ⌜ (length (now desk) ≡ 4387) × (w + 400 ≤ length (now text)) ⌝ }
     ensures { λ r. ⌜ r ≤ w + 400 ⌝ }
 {
     put_238(out);
@@ -332,7 +226,7 @@ fn list_words(
     put_list(text, w, m, &out[..])
 }
 
-fn call_list(
+pub fn call_list(
     script: &[u8],
     at: usize,
     desk: &[u8],
@@ -341,30 +235,9 @@ fn call_list(
     w: usize,
 ) -> usize
     requires { ⌜ (at + 23 ≤ length (now script)) × (leAt (now script) (at + 21) 2 ≤ 8192) ⌝ }
-    requires { ⌜ (length (now desk) ≡ 4387) × (w + 512 ≤ length (now text)) ⌝ }
+    requires { ⌜ (length (now desk) ≡ 4387) × (w + 400 ≤ length (now text)) ⌝ }
     ensures { λ r. ⌜ r ≤ w + 400 ⌝ }
 {
     let mut out = [0u8; 8192];
     list_words(script, at, desk, arena, &mut out, text, w)
-}
-
-pub fn do_list(
-    script: &[u8],
-    at: usize,
-    desk: &[u8],
-    arena: &[u8],
-    text: &mut [u8],
-    w: usize,
-) -> Step
-    requires { ⌜ Primed (now script) at (now desk) (now text) w ⌝ }
-    ensures { λ r. ⌜ Gone 400 (length (now (script .entry))) at (r .at) w (r .w) ⌝ }
-{
-    let n = with_output(script, at);
-    if n == 0 {
-        return Step { at: at, w: w };
-    }
-    Step {
-        at: at + n,
-        w: call_list(script, at, desk, arena, text, w),
-    }
 }

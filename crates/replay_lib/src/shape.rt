@@ -2,14 +2,14 @@
 ghost use Prim.Native.Nat.{_+_, _<_, _≤_};
 ghost use lib.ListN.{length};
 ghost use Rattle.le.specs.Le.{leAt};
-ghost use Rattle.replay_lib.specs.Shape.{Sized, named1, named2};
+ghost use Rattle.replay_lib.specs.Shape.{Sized, named1, named2, sizeOf, arenaOf, outputOf};
 use base::index;
 use base::index16;
 use le::u16_at;
 use le::u32_at;
 
 // n bytes from `at` on.
-pub fn whole(script: &[u8], at: usize, n: usize) -> usize
+fn whole(script: &[u8], at: usize, n: usize) -> usize
     requires { ⌜ at ≤ length (now script) ⌝ }
     ensures { λ r. ⌜ Sized (now (script .entry)) at r n ⌝ }
 {
@@ -20,7 +20,7 @@ pub fn whole(script: &[u8], at: usize, n: usize) -> usize
 }
 
 // With a name after the first n bytes.
-pub fn named(script: &[u8], at: usize, n: usize) -> usize
+fn named(script: &[u8], at: usize, n: usize) -> usize
     requires { ⌜ (at ≤ length (now script)) × (n ≤ 65536) ⌝ }
     ensures { λ r. ⌜ Sized (now (script .entry)) at r (named1 (now (script .entry)) at n) ⌝ }
     ensures { λ r. ⌜ r ≤ n + 1026 ⌝ }
@@ -36,7 +36,7 @@ pub fn named(script: &[u8], at: usize, n: usize) -> usize
 }
 
 // With a name after the first n bytes and `more` bytes after it.
-pub fn named_more(script: &[u8], at: usize, n: usize, more: usize) -> usize
+fn named_more(script: &[u8], at: usize, n: usize, more: usize) -> usize
     requires { ⌜ (at ≤ length (now script)) × ((n ≤ 65536) × (more ≤ 65536)) ⌝ }
     ensures { λ r. ⌜ Sized (now (script .entry)) at r (named1 (now (script .entry)) at n + more) ⌝ }
     ensures { λ r. ⌜ r ≤ n + 1026 + more ⌝ }
@@ -49,7 +49,7 @@ pub fn named_more(script: &[u8], at: usize, n: usize, more: usize) -> usize
 }
 
 // Two names, each after a handle: move.
-pub fn named_twice(script: &[u8], at: usize) -> usize
+fn named_twice(script: &[u8], at: usize) -> usize
     requires { ⌜ at ≤ length (now script) ⌝ }
     ensures { λ r. ⌜ Sized (now (script .entry)) at r (named2 (now (script .entry)) at) ⌝ }
 {
@@ -61,7 +61,7 @@ pub fn named_twice(script: &[u8], at: usize) -> usize
 }
 
 // A length that the arena takes.
-pub fn arena_length(script: &[u8], at: usize, limit: usize) -> usize
+fn arena_length(script: &[u8], at: usize, limit: usize) -> usize
     requires { ⌜ at ≤ length (now script) ⌝ }
     ensures { λ r. ⌜ Sized (now (script .entry)) at r 5 ⌝ }
     ensures { λ r. ⌜ (0 < r → leAt (now (script .entry)) (at + 1) 4 ≤ limit) ⌝ }
@@ -76,7 +76,7 @@ pub fn arena_length(script: &[u8], at: usize, limit: usize) -> usize
 }
 
 // And as many bytes.
-pub fn arena_bytes(script: &[u8], at: usize, limit: usize) -> usize
+fn arena_bytes(script: &[u8], at: usize, limit: usize) -> usize
     requires { ⌜ at ≤ length (now script) ⌝ }
     ensures { λ r. ⌜ Sized (now (script .entry)) at r (5 + leAt (now (script .entry)) (at + 1) 4) ⌝ }
     ensures { λ r. ⌜ (0 < r → leAt (now (script .entry)) (at + 1) 4 ≤ limit) ⌝ }
@@ -88,7 +88,7 @@ pub fn arena_bytes(script: &[u8], at: usize, limit: usize) -> usize
 }
 
 // An output of at most 8,192 bytes.
-pub fn with_output(script: &[u8], at: usize) -> usize
+fn with_output(script: &[u8], at: usize) -> usize
     requires { ⌜ at ≤ length (now script) ⌝ }
     ensures { λ r. ⌜ Sized (now (script .entry)) at r 23 ⌝ }
     ensures { λ r. ⌜ (0 < r → leAt (now (script .entry)) (at + 21) 2 ≤ 8192) ⌝ }
@@ -100,4 +100,34 @@ pub fn with_output(script: &[u8], at: usize) -> usize
         return 0;
     }
     23
+}
+
+// The command at `at`, by its first byte: all sizes of docs/REPLAY.md. An arena may have `limit` bytes.
+pub fn size_at(script: &[u8], at: usize, limit: usize) -> usize
+    requires { ⌜ at < length (now script) ⌝ }
+    ensures { λ r. ⌜ Sized (now (script .entry)) at r (sizeOf (now (script .entry)) at) ⌝ }
+    ensures { λ r. ⌜ (0 < r → (arenaOf (now (script .entry)) at ≤ limit) × (outputOf (now (script .entry)) at ≤ 8192)) ⌝ }
+{
+    match script[at] {
+        1 => arena_bytes(script, at, limit),
+        2 => arena_length(script, at, limit),
+        3 => whole(script, at, 6),
+        4 => whole(script, at, 4371),
+        16 => whole(script, at, 33),
+        17 => whole(script, at, 1),
+        18 => whole(script, at, 1),
+        19 => named(script, at, 13),
+        20 => named_more(script, at, 13, 38),
+        21 => named_more(script, at, 13, 12),
+        22 => named(script, at, 13),
+        23 => named_twice(script, at),
+        24 => whole(script, at, 13),
+        25 => whole(script, at, 79),
+        26 => with_output(script, at),
+        27 => with_output(script, at),
+        28 => whole(script, at, 1),
+        29 => whole(script, at, 13),
+        30 => whole(script, at, 1),
+        _ => 0,
+    }
 }

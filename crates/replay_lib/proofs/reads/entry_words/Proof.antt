@@ -18,17 +18,11 @@ u16-at-requires c κs = search needs
 index16-requires : tie.Need-index16-requires
 index16-requires c κs = search needs
 
-slice-aggregate-put-word : tie.Need-slice-aggregate-put-word
-slice-aggregate-put-word c = search needs
-
-put-word-requires : tie.Need-put-word-requires
-put-word-requires c κs = search needs
-
 slice-relend-prefix-put-entry : tie.Need-slice-relend-prefix-put-entry
 slice-relend-prefix-put-entry c = search needs
 
 slice-aggregate-put-entry : tie.Need-slice-aggregate-put-entry
-slice-aggregate-put-entry c = sym (length-take-le (c .before .before .before .before .before .before .index16 .result) (c .before .before .before .before .before .before .before .before .before .before .put-238 .last .0) (omega (arith, c .before .before .before .before .before .before .before .before .before .before .put-238 .kept .0)))
+slice-aggregate-put-entry c = sym (length-take-le (c .before .index16 .result) (c .before .before .before .before .before .put-238 .last .0) (omega (arith, c .before .before .before .before .before .put-238 .kept .0)))
 
 put-entry-requires : tie.Need-put-entry-requires
 put-entry-requires c κs = search needs
@@ -53,8 +47,6 @@ entry-words-spec =
     add-u16-at
     u16-at-requires
     index16-requires
-    slice-aggregate-put-word
-    put-word-requires
     slice-relend-prefix-put-entry
     slice-aggregate-put-entry
     put-entry-requires

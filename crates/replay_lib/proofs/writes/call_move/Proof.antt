@@ -1,17 +1,11 @@
--- `call_move`: the second name stands where the first ends.
-use mathlib.Core.Path.{_≡_, ap, _∙_}
+-- `call_move`: the second name stands where the first part ends.
+use mathlib.Core.Path.{_≡_, ap}
 use Prim.Native.Nat.{ℕ, _+_}
 use native.Mathlib.Omega.{arith}
 use Rattle.le.specs.Le.{leAt}
 use borrow.Author.Needs.{needs}
 use Rattle.replay_lib.proofs.writes.call_move.Statement.{statement}
 use Rattle.replay_lib.proofs.writes.call_move.Tie as tie
-
-slice-aggregate-put-word : tie.Need-slice-aggregate-put-word
-slice-aggregate-put-word c = search needs
-
-put-word-requires : tie.Need-put-word-requires
-put-word-requires c κs = search needs
 
 add-handle-at : tie.Need-add-handle-at
 add-handle-at c = search needs
@@ -39,9 +33,10 @@ add-name-end-2 c = search needs
 
 name-end-requires-2 : tie.Need-name-end-requires-2
 name-end-requires-2 c κs =
-    let s = c .before .before .before .before .before .before .before .before .before .before .before .before .args in
-    let h : c .before .name-end .result + 12 ≡ s .at + (13 + (2 + leAt (s .script .now) (s .at + 13) 2) + 12) = omega arith in
-    omega (arith, ap (λ (x : ℕ). leAt (s .script .now) x 2) h)
+    let s = c .before .before .before .before .before .before .before .args in
+    let e = c .before .name-end in
+    let h : e .result + 12 ≡ s .at + (13 + (2 + leAt (s .script .now) (s .at + 13) 2) + 12) = omega (arith, e .ensures) in
+    omega (arith, ap (λ (x : ℕ). leAt (s .script .now) x 2) h, e .ensures, c .before .before .before .before .before .before .before .pre .0)
 
 read-table-requires : tie.Need-read-table-requires
 read-table-requires c κs = search needs
@@ -63,15 +58,16 @@ part-move--start-2 c = search needs
 
 part-move--end-2 : tie.Need-part-move--end-2
 part-move--end-2 c =
-    let s = c .before .before .before .before .before .before .before .before .before .before .before .before .before .before .before .before .before .args in
-    let h : c .before .before .before .before .before .before .name-end .result + 12 ≡ s .at + (13 + (2 + leAt (s .script .now) (s .at + 13) 2) + 12) = omega (arith, c .before .before .before .before .before .before .name-end .ensures) in
-    omega (arith, ap (λ (x : ℕ). leAt (s .script .now) x 2) h, c .before .before .before .before .before .before .before .before .before .before .before .before .before .before .before .before .before .pre .0, c .before .before .before .before .before .before .name-end .ensures, c .before .before .before .before .name-end2 .ensures)
+    let s = c .before .before .before .before .before .before .before .before .before .before .before .before .args in
+    let e = c .before .before .before .before .before .before .name-end in
+    let h : e .result + 12 ≡ s .at + (13 + (2 + leAt (s .script .now) (s .at + 13) 2) + 12) = omega (arith, e .ensures) in
+    omega (arith, ap (λ (x : ℕ). leAt (s .script .now) x 2) h, c .before .before .before .before .before .before .before .before .before .before .before .before .pre .0, e .ensures, c .before .before .before .before .name-end2 .ensures)
 
 move--requires : tie.Need-move--requires
 move--requires c κs = search needs
 
 put-after-requires : tie.Need-put-after-requires
-put-after-requires c κs = (omega (arith, c .before .before .before .before .before .before .before .before .before .before .before .before .before .before .before .before .before .before .before .before .before .before .before .pre .1 .0), omega (arith, c .before .before .before .before .before .before .before .before .before .before .before .before .before .before .before .before .before .before .before .before .before .before .before .pre .1 .1, c .before .before .before .before .before .before .before .before .before .before .before .before .before .before .before .before .put-word .ensures .0, c .before .before .before .before .before .before .before .before .before .before .before .before .before .before .before .before .put-word .kept .0))
+put-after-requires c κs = (c .before .before .before .before .before .before .before .before .before .before .before .before .before .before .before .before .before .before .pre .1 .0, omega (arith, c .before .before .before .before .before .before .before .before .before .before .before .before .before .before .before .before .before .before .pre .1 .1))
 
 same-length : tie.Need-same-length
 same-length c = search needs
@@ -80,17 +76,15 @@ same-length-2 : tie.Need-same-length-2
 same-length-2 c = search needs
 
 same-length-3 : tie.Need-same-length-3
-same-length-3 c = c .before .before .before .before .put-after .kept .1 .0 ∙ c .before .before .before .before .before .before .before .before .before .before .before .before .before .before .before .before .before .before .before .before .before .put-word .kept .0
+same-length-3 c = search needs
 
 returns : tie.Need-returns
-returns c = omega (arith, c .before .before .before .before .put-after .ensures, c .before .before .before .before .before .before .before .before .before .before .before .before .before .before .before .before .before .before .before .before .before .put-word .ensures .0)
+returns c = search needs
 
 pub call-move-spec : {M : Type 1} → statement M
 call-move-spec =
     tie.close
     (tie.spec
-    slice-aggregate-put-word
-    put-word-requires
     add-handle-at
     handle-at-requires
     add-s
