@@ -1,4 +1,4 @@
-// The bytes of a table of open nodes, 4,370 of them: for programs that keep or compare tables outside of Rattle.
+// The bytes of a table of open nodes, 4,370 of them: what a call has of it in memory, and what a program keeps or compares.
 ghost use mathlib.Core.Path.{_≡_};
 ghost use mathlib.Core.List.{[], _∷_};
 ghost use Prim.Native.Nat.{ℕ, _+_, _<_, _≤_};
