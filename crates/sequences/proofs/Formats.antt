@@ -25,6 +25,9 @@ use Rattle.files.specs.Read.{there, lengthOf, present, byteAt}
 use Rattle.files.specs.Store.{longest, touched, putFile, cutFile, makeFile}
 use Rattle.files_laws.specs.Laws.{Named, Put, Cut, Make, Kept, lacking}
 use Rattle.files_laws.proofs.Put.{put-done}
+use Rattle.files_laws.proofs.Cut.{cut-done}
+use Rattle.files_laws.proofs.Make.{make-done}
+use Rattle.files_laws.proofs.Bounds.{named-meta}
 use Rattle.files_laws.proofs.Parts.{file-cases}
 use Rattle.files_laws.proofs.Views.{kept-next}
 use Rattle.sefs.specs.State.{Fs}
@@ -36,9 +39,9 @@ use Rattle.sefs.specs.Create.{formatSteps, callFormat}
 use Rattle.rules.specs.Image.{run, slotIn}
 use Rattle.sequences.proofs.Zeros.{zeroArena, zero-bytes, zero-sound, zero-none, zero-free}
 use Rattle.sequences.proofs.Metas.{node-other, put-run}
-use Rattle.sequences.proofs.Appends.{put-long, slot-before, slot-new}
+use Rattle.sequences.proofs.Appends.{slot-kept, put-long, slot-before, slot-new}
 use Rattle.sequences.proofs.Inits.{dot-fits, dots-fits}
-use Rattle.sequences.proofs.Roots.{rootMap, length-rootMap, rootSuper, new-root}
+use Rattle.sequences.proofs.Roots.{rootMap, length-rootMap, rootMap-bytes, rootSuper, new-root}
 
 -- the root's record and its two slots
 abbrev pub rootRecord : Timespec → List ℕ → DiskINode
@@ -113,17 +116,27 @@ record Begun (n k : ℕ) (name a : List ℕ) : Type 0 where
   node : there a (file 1 name) ≡ true
   others : (f : List ℕ) → f ≢ name → there a (file 1 f) ≡ false
 
-begun-put : (n j k : ℕ) (name a : List ℕ) → Begun n (j + k) name a → (f : File) (pos m : ℕ) (src : List ℕ) → length src ≡ m → touched pos m ≤ j → Bytes src
-    → (b : List ℕ) → Put a f pos src b → Begun n k name b
-begun-put n j k name a B f pos m src long t h b P = record {
-  size = P .size ∙ B .size;
-  bytes = P .bytes (B .bytes) h;
-  sound = P .keeps (B .bytes) h (B .sound);
-  room = omega (arith, B .room, free-left a f pos m src long b P);
-  meta = there-same a f pos m src long b P metaFile ∙ B .meta;
-  node = there-same a f pos m src long b P (file 1 name) ∙ B .node;
-  others = λ g d. there-same a f pos m src long b P (file 1 g) ∙ B .others g d;
-}
+-- a store of that kind that is done
+record Stored (n k : ℕ) (name a : List ℕ) (f : File) (pos : ℕ) (src : List ℕ) : Type 0 where
+  to : List ℕ
+  is : putFile a f pos src ≡ done to
+  put : Put a f pos src to
+  begun : Begun n k name to
+
+module _ (n j k : ℕ) (name a : List ℕ) (B : Begun n (j + k) name a) (f : File) (pos m : ℕ) (src : List ℕ) (long : length src ≡ m) (t : touched pos m ≤ j) (h : Bytes src) where
+  begun-put : (b : List ℕ) → Put a f pos src b → Begun n k name b
+  begun-put b P = record {
+    size = P .size ∙ B .size;
+    bytes = P .bytes (B .bytes) h;
+    sound = P .keeps (B .bytes) h (B .sound);
+    room = omega (arith, B .room, free-left a f pos m src long b P);
+    meta = there-same a f pos m src long b P metaFile ∙ B .meta;
+    node = there-same a f pos m src long b P (file 1 name) ∙ B .node;
+    others = λ g d. there-same a f pos m src long b P (file 1 g) ∙ B .others g d;
+  }
+
+  begun-goes : there a f ≡ true → pos + m ≤ longest → Stored n k name a f pos src
+  begun-goes y l = let x = put-goes a f pos m src long y l (omega (arith, B .room)) in record { to = x .0; is = x .1; put = x .2; begun = begun-put (x .0) (x .2) }
 
 module _ (n : ℕ) (enough : 16 ≤ n / 512) (time : Timespec) (name : List ℕ) (N : Named (file 1 name)) where
   abbrev z : List ℕ
@@ -158,13 +171,25 @@ module _ (n : ℕ) (enough : 16 ≤ n / 512) (time : Timespec) (name : List ℕ)
       begun-empty : lengthOf c node ≡ 0
       begun-empty = C .long (no-file name)
 
-  -- slots, superblock, map and record are put
   record-long : length (recordBytes (rootRecord time name)) ≡ 112
   record-long = length-recordBytes (rootRecord time name) (N .size) (length-replicate {A = ℕ} 16 0)
 
   record-bytes : Bytes (recordBytes (rootRecord time name))
   record-bytes = recordBytes-bytes (rootRecord time name) (N .bytes) (λ i. rw (getD-zero-list 16 i) (omega arith))
 
+  dot-long : length (entryBytes dotSlot) ≡ 264
+  dot-long = length-entryBytes dotSlot (dot-fits 2 (omega arith) .name)
+
+  dot-bytes : Bytes (entryBytes dotSlot)
+  dot-bytes = entryBytes-bytes dotSlot (dot-fits 2 (omega arith) .nameBytes)
+
+  dots-long : length (entryBytes dotsSlot) ≡ 264
+  dots-long = length-entryBytes dotsSlot (dots-fits 2 (omega arith) .name)
+
+  dots-bytes : Bytes (entryBytes dotsSlot)
+  dots-bytes = entryBytes-bytes dotsSlot (dots-fits 2 (omega arith) .nameBytes)
+
+  -- slots, superblock, map and record are put
   module _ (c d e f g h : List ℕ) (end : lengthOf c metaFile ≡ 131072) (empty : lengthOf c node ≡ 0) (S : Begun n 14 name c)
       (D : Put c node 0 (entryBytes dotSlot) d)
       (E : Put d node 264 (entryBytes dotsSlot) e)
@@ -177,9 +202,8 @@ module _ (n : ℕ) (enough : 16 ≤ n / 512) (time : Timespec) (name : List ℕ)
     meta-before : Kept c e metaFile
     meta-before = kept-next (D .others metaFile (λ q. node-other name (sym q))) (E .others metaFile (λ q. node-other name (sym q)))
 
-    slot-kept : (k : ℕ) → slotIn h (rootRecord time name) k ≡ slotIn e (rootRecord time name) k
-    unfolding slotIn
-    slot-kept k = ap entryOf (tab-cong (byteAt h node) (byteAt e node) (264 * k) (264 * k) 264 (λ i l. node-kept .byte (264 * k + i)))
+    slot-same : (k : ℕ) → slotIn h (rootRecord time name) k ≡ slotIn e (rootRecord time name) k
+    slot-same = slot-kept e h (rootRecord time name) (rootRecord time name) refl node-kept
 
     made : Begun n 8 name h → Made n time name h
     made B = record {
@@ -192,8 +216,73 @@ module _ (n : ℕ) (enough : 16 ≤ n / 512) (time : Timespec) (name : List ℕ)
       end = H .long ∙ omega (arith, G .long, F .long, meta-before .long, end, record-long, length-rootMap, length-superBytes rootSuper);
       own = B .node;
       long = node-kept .long ∙ put-long d name 1 dotsSlot (dots-fits 2 (omega arith)) (D .exists) e E (put-long c name 0 dotSlot (dot-fits 2 (omega arith)) (S .node) d D empty);
-      dot = slot-kept 0 ∙ slot-before d name 1 dotsSlot (dots-fits 2 (omega arith)) (D .exists) e E (rootRecord time name) (rootRecord time name) refl refl 0 (omega arith)
+      dot = slot-same 0 ∙ slot-before d name 1 dotsSlot (dots-fits 2 (omega arith)) (D .exists) e E (rootRecord time name) (rootRecord time name) refl refl 0 (omega arith)
           ∙ slot-new c name 0 dotSlot (dot-fits 2 (omega arith)) (S .node) d D (rootRecord time name) refl;
-      dots = slot-kept 1 ∙ slot-new d name 1 dotsSlot (dots-fits 2 (omega arith)) (D .exists) e E (rootRecord time name) refl;
+      dots = slot-same 1 ∙ slot-new d name 1 dotsSlot (dots-fits 2 (omega arith)) (D .exists) e E (rootRecord time name) refl;
       others = B .others;
     }
+
+  -- ---- each store has room
+
+  record Started : Type 0 where
+    first : List ℕ
+    second : List ℕ
+    third : List ℕ
+    one : makeFile z metaFile ≡ done first
+    two : cutFile first metaFile 131072 ≡ done second
+    three : makeFile second node ≡ done third
+    is-begun : Begun n 14 name third
+    end : lengthOf third metaFile ≡ 131072
+    empty : lengthOf third node ≡ 0
+
+  started : Started
+  started =
+      let x = make-done z metaFile named-meta (omega (arith, zero-free n, length-replicate {A = ℕ} n 0)) in
+      let y = cut-done (x .0) metaFile 131072 (x .2 .exists) (omega arith) in
+      let w = make-done (y .0) node N (omega (arith, zero-free n, length-replicate {A = ℕ} n 0, x .2 .free, y .2 .free)) in
+      record {
+        first = x .0;
+        second = y .0;
+        third = w .0;
+        one = x .1;
+        two = y .1;
+        three = w .1;
+        is-begun = begun (x .0) (y .0) (w .0) (x .2) (y .2) (w .2);
+        end = begun-end (x .0) (y .0) (w .0) (x .2) (y .2) (w .2);
+        empty = begun-empty (x .0) (y .0) (w .0) (x .2) (y .2) (w .2);
+      }
+
+  put-dot : (a : List ℕ) → Begun n 14 name a → Stored n 13 name a node 0 (entryBytes dotSlot)
+  unfolding touched
+  put-dot a B = begun-goes n 1 13 name a B node 0 264 (entryBytes dotSlot) dot-long (omega arith) dot-bytes (B .node) (omega arith)
+
+  put-dots : (a : List ℕ) → Begun n 13 name a → Stored n 11 name a node 264 (entryBytes dotsSlot)
+  unfolding touched
+  put-dots a B = begun-goes n 2 11 name a B node 264 264 (entryBytes dotsSlot) dots-long (omega arith) dots-bytes (B .node) (omega arith)
+
+  put-super : (a : List ℕ) → Begun n 11 name a → Stored n 10 name a metaFile 0 (superBytes rootSuper)
+  unfolding touched
+  put-super a B = begun-goes n 1 10 name a B metaFile 0 16 (superBytes rootSuper) (length-superBytes rootSuper) (omega arith) (superBytes-bytes rootSuper) (B .meta) (omega arith)
+
+  put-map : (a : List ℕ) → Begun n 10 name a → Stored n 9 name a metaFile 128 rootMap
+  unfolding touched
+  put-map a B = begun-goes n 1 9 name a B metaFile 128 128 rootMap length-rootMap (omega arith) rootMap-bytes (B .meta) (omega arith)
+
+  put-record : (a : List ℕ) → Begun n 9 name a → Stored n 8 name a metaFile 256 (recordBytes (rootRecord time name))
+  unfolding touched
+  put-record a B = begun-goes n 1 8 name a B metaFile 256 112 (recordBytes (rootRecord time name)) record-long (omega arith) record-bytes (B .meta) (omega arith)
+
+  -- so format is done
+  pub format-done : (h : List ℕ) × (bind (formatSteps (zeroArena n) time name) (λ s. done (s .arena)) ≡ done h) × Made n time name h
+  format-done =
+      let S = started in
+      let D = put-dot (S .third) (S .is-begun) in
+      let E = put-dots (D .to) (D .begun) in
+      let F = put-super (E .to) (E .begun) in
+      let G = put-map (F .to) (F .begun) in
+      let H = put-record (G .to) (G .begun) in
+      (
+        H .to,
+        steps-are z (S .first) (S .second) (S .third) (D .to) (E .to) (F .to) (G .to) (H .to) time name (S .one) (S .two) (S .three) (D .is) (E .is) (F .is) (G .is) (H .is),
+        made (S .third) (D .to) (E .to) (F .to) (G .to) (H .to) (S .end) (S .empty) (S .is-begun) (D .put) (E .put) (F .put) (G .put) (H .put) (H .begun),
+      )
