@@ -1,19 +1,18 @@
 -- Format on an arena of zeros: eight stores, each with room, and what the arena is then.
 use mathlib.Core.Path.{_≡_, refl, sym, ap, _∙_, subst}
-use mathlib.Core.Bool.{Bool, true, false, not}
+use mathlib.Core.Bool.{true, false, not}
 use mathlib.Core.List.{List, [], _∷_}
 use mathlib.Core.Logic.{_≢_, ⊎-elim}
-use Prim.Native.Nat.{ℕ, _+_, _*_, _-_, _/_, _≤_, _<_, max}
+use Prim.Native.Nat.{ℕ, _+_, _/_, _≤_}
 use native.Mathlib.Omega.{arith}
-use lib.ListN.{length, getD, replicate, length-replicate}
-use Rattle.base.specs.Out.{Out, done, bind, Ok}
+use lib.ListN.{length, length-replicate}
+use Rattle.base.specs.Out.{done, bind}
 use Rattle.base.proofs.Counts.{countTo-le}
-use Rattle.base.proofs.Lists.{tab-cong, tab-getD}
-use Rattle.base.specs.Parts.{tab}
-use Rattle.base.proofs.Parts.{part-whole, getD-zero-list}
+use Rattle.base.proofs.Lists.{tab-cong}
+use Rattle.base.proofs.Parts.{part-whole}
 use Rattle.le.specs.Le.{Bytes}
 use Rattle.structs.specs.Constants.{typeDir}
-use Rattle.structs.specs.Layout.{superBytes, recordBytes, entryOf, entryBytes}
+use Rattle.structs.specs.Layout.{superBytes, recordBytes, entryBytes}
 use Rattle.structs.proofs.Layouts.{length-superBytes, superBytes-bytes, length-recordBytes, recordBytes-bytes, length-entryBytes, entryBytes-bytes}
 use Rattle.structs.specs.declared.DiskEntry.{DiskEntry}
 use Rattle.structs.specs.declared.DiskINode.{DiskINode}
@@ -30,12 +29,11 @@ use Rattle.files_laws.proofs.Make.{make-done}
 use Rattle.files_laws.proofs.Bounds.{named-meta}
 use Rattle.files_laws.proofs.Parts.{file-cases}
 use Rattle.files_laws.proofs.Views.{kept-next}
-use Rattle.sefs.specs.State.{Fs}
 use Rattle.sefs.specs.Records.{newRecord, withLinks, withBlocks}
 use Rattle.sefs.specs.Meta.{metaFile, storeMaps, syncMeta}
 use Rattle.sefs.specs.Nodes.{storeRow, syncRow}
 use Rattle.sefs.specs.Folders.{entry, putSlot, direntInit, nlinksInc}
-use Rattle.sefs.specs.Create.{formatSteps, callFormat}
+use Rattle.sefs.specs.Create.{formatSteps}
 use Rattle.rules.specs.Image.{run, slotIn}
 use Rattle.sequences.proofs.Zeros.{zeroArena, zero-bytes, zero-sound, zero-none, zero-free}
 use Rattle.sequences.proofs.Metas.{node-other, put-run}
@@ -64,13 +62,14 @@ module _ (z a b c d e f g h : List ℕ) (time : Timespec) (name : List ℕ)
     (e6 : putFile e metaFile 0 (superBytes rootSuper) ≡ done f)
     (e7 : putFile f metaFile 128 rootMap ≡ done g)
     (e8 : putFile g metaFile 256 (recordBytes (rootRecord time name)) ≡ done h) where
-  pub steps-are : bind (formatSteps z time name) (λ s. done (s .arena)) ≡ done h
+  steps-are : bind (formatSteps z time name) (λ s. done (s .arena)) ≡ done h
   unfolding formatSteps direntInit putSlot nlinksInc syncMeta storeMaps syncRow storeRow
   steps-are = rw (e1, e2, new-root b c time name e3, e4, e5, e6, part-whole rootMap 128 length-rootMap, e7, e8)
 
 -- ---- one store: room, and what it leaves of the files
 
 module _ (a : List ℕ) (f : File) (pos n : ℕ) (src : List ℕ) (long : length src ≡ n) where
+  -- it needs no more blocks than it touches
   few : lacking a f pos (length src) ≤ touched pos n
   unfolding lacking
   few = subst (λ (k : ℕ). lacking a f pos (length src) ≤ touched pos k) long (countTo-le (λ i. not (present a f (pos / 480 + i))) (touched pos (length src)))
@@ -80,13 +79,16 @@ module _ (a : List ℕ) (f : File) (pos n : ℕ) (src : List ℕ) (long : length
   put-goes y l room = put-done a f pos src y (omega (arith, long)) (omega (arith, few))
 
   module _ (b : List ℕ) (P : Put a f pos src b) where
+    -- what it leaves free
     free-left : freeCount a ≤ freeCount b + touched pos n
     free-left = omega (arith, few, P .free)
 
+    -- the same files are there
     there-same : (g : File) → there b g ≡ there a g
     there-same g =
         ⊎-elim (λ (e : f ≡ g). subst (λ (x : File). there b x ≡ there a x) e (P .exists ∙ sym (P .was))) (λ d. P .others g d .exists) (file-cases f g)
 
+    -- bytes before it are as they were
     put-before : (q m : ℕ) → q + m ≤ pos → run b f q m ≡ run a f q m
     put-before q m l = tab-cong (byteAt b f) (byteAt a f) q q m (λ i k. P .outside (q + i) (λ g. absurd (omega arith)))
 
@@ -107,7 +109,7 @@ pub record Made (n : ℕ) (time : Timespec) (name b : List ℕ) : Type 0 where
   pub others : (f : List ℕ) → f ≢ name → there b (file 1 f) ≡ false
 
 -- what holds after each store once both files are there: k blocks or more are free
-record Begun (n k : ℕ) (name a : List ℕ) : Type 0 where
+record Partway (n k : ℕ) (name a : List ℕ) : Type 0 where
   size : length a ≡ n
   bytes : Bytes a
   sound : sound a ≡ true
@@ -121,11 +123,11 @@ record Stored (n k : ℕ) (name a : List ℕ) (f : File) (pos : ℕ) (src : List
   to : List ℕ
   is : putFile a f pos src ≡ done to
   put : Put a f pos src to
-  begun : Begun n k name to
+  partway : Partway n k name to
 
-module _ (n j k : ℕ) (name a : List ℕ) (B : Begun n (j + k) name a) (f : File) (pos m : ℕ) (src : List ℕ) (long : length src ≡ m) (t : touched pos m ≤ j) (h : Bytes src) where
-  begun-put : (b : List ℕ) → Put a f pos src b → Begun n k name b
-  begun-put b P = record {
+module _ (n j k : ℕ) (name a : List ℕ) (B : Partway n (j + k) name a) (f : File) (pos m : ℕ) (src : List ℕ) (long : length src ≡ m) (t : touched pos m ≤ j) (h : Bytes src) where
+  partway-put : (b : List ℕ) → Put a f pos src b → Partway n k name b
+  partway-put b P = record {
     size = P .size ∙ B .size;
     bytes = P .bytes (B .bytes) h;
     sound = P .keeps (B .bytes) h (B .sound);
@@ -135,8 +137,8 @@ module _ (n j k : ℕ) (name a : List ℕ) (B : Begun n (j + k) name a) (f : Fil
     others = λ g d. there-same a f pos m src long b P (file 1 g) ∙ B .others g d;
   }
 
-  begun-goes : there a f ≡ true → pos + m ≤ longest → Stored n k name a f pos src
-  begun-goes y l = let x = put-goes a f pos m src long y l (omega (arith, B .room)) in record { to = x .0; is = x .1; put = x .2; begun = begun-put (x .0) (x .2) }
+  partway-goes : there a f ≡ true → pos + m ≤ longest → Stored n k name a f pos src
+  partway-goes y l = let x = put-goes a f pos m src long y l (omega (arith, B .room)) in record { to = x .0; is = x .1; put = x .2; partway = partway-put (x .0) (x .2) }
 
 module _ (n : ℕ) (enough : 16 ≤ n / 512) (time : Timespec) (name : List ℕ) (N : Named (file 1 name)) where
   abbrev z : List ℕ
@@ -145,7 +147,8 @@ module _ (n : ℕ) (enough : 16 ≤ n / 512) (time : Timespec) (name : List ℕ)
   abbrev node : File
   node = file 1 name
 
-  -- the two files are made
+  -- ---- the two files are made
+
   module _ (a b c : List ℕ) (A : Make z metaFile a) (B : Cut a metaFile 131072 b) where
     no-file : (f : List ℕ) → there b (file 1 f) ≡ false
     no-file f = B .others (file 1 f) (node-other f) .exists ∙ A .others (file 1 f) (node-other f) .exists ∙ zero-none n (file 1 f)
@@ -154,8 +157,8 @@ module _ (n : ℕ) (enough : 16 ≤ n / 512) (time : Timespec) (name : List ℕ)
       meta-kept : Kept b c metaFile
       meta-kept = C .others metaFile (λ e. node-other name (sym e))
 
-      begun : Begun n 14 name c
-      begun = record {
+      partway : Partway n 14 name c
+      partway = record {
         size = C .size ∙ B .size ∙ A .size ∙ length-replicate {A = ℕ} n 0;
         bytes = C .bytes (B .bytes (A .bytes (zero-bytes n)));
         sound = C .keeps (B .bytes (A .bytes (zero-bytes n))) (B .keeps (A .bytes (zero-bytes n)) (A .keeps (zero-bytes n) (zero-sound n) (zero-none n metaFile))) (no-file name);
@@ -165,17 +168,19 @@ module _ (n : ℕ) (enough : 16 ≤ n / 512) (time : Timespec) (name : List ℕ)
         others = λ f d. C .others (file 1 f) (λ e. d (sym (ap (λ (g : File). g .name) e))) .exists ∙ no-file f;
       }
 
-      begun-end : lengthOf c metaFile ≡ 131072
-      begun-end = meta-kept .long ∙ B .long
+      partway-end : lengthOf c metaFile ≡ 131072
+      partway-end = meta-kept .long ∙ B .long
 
-      begun-empty : lengthOf c node ≡ 0
-      begun-empty = C .long (no-file name)
+      partway-empty : lengthOf c node ≡ 0
+      partway-empty = C .long (no-file name)
+
+  -- ---- what is put
 
   record-long : length (recordBytes (rootRecord time name)) ≡ 112
-  record-long = length-recordBytes (rootRecord time name) (N .size) (length-replicate {A = ℕ} 16 0)
+  record-long = length-recordBytes (rootRecord time name) (N .size) (named-meta .size)
 
   record-bytes : Bytes (recordBytes (rootRecord time name))
-  record-bytes = recordBytes-bytes (rootRecord time name) (N .bytes) (λ i. rw (getD-zero-list 16 i) (omega arith))
+  record-bytes = recordBytes-bytes (rootRecord time name) (N .bytes) (named-meta .bytes)
 
   dot-long : length (entryBytes dotSlot) ≡ 264
   dot-long = length-entryBytes dotSlot (dot-fits 2 (omega arith) .name)
@@ -189,8 +194,9 @@ module _ (n : ℕ) (enough : 16 ≤ n / 512) (time : Timespec) (name : List ℕ)
   dots-bytes : Bytes (entryBytes dotsSlot)
   dots-bytes = entryBytes-bytes dotsSlot (dots-fits 2 (omega arith) .nameBytes)
 
-  -- slots, superblock, map and record are put
-  module _ (c d e f g h : List ℕ) (end : lengthOf c metaFile ≡ 131072) (empty : lengthOf c node ≡ 0) (S : Begun n 14 name c)
+  -- ---- what it leaves: slots, superblock, map and record
+
+  module _ (c d e f g h : List ℕ) (end : lengthOf c metaFile ≡ 131072) (empty : lengthOf c node ≡ 0) (S : Partway n 14 name c)
       (D : Put c node 0 (entryBytes dotSlot) d)
       (E : Put d node 264 (entryBytes dotsSlot) e)
       (F : Put e metaFile 0 (superBytes rootSuper) f)
@@ -205,7 +211,7 @@ module _ (n : ℕ) (enough : 16 ≤ n / 512) (time : Timespec) (name : List ℕ)
     slot-same : (k : ℕ) → slotIn h (rootRecord time name) k ≡ slotIn e (rootRecord time name) k
     slot-same = slot-kept e h (rootRecord time name) (rootRecord time name) refl node-kept
 
-    made : Begun n 8 name h → Made n time name h
+    made : Partway n 8 name h → Made n time name h
     made B = record {
       size = B .size;
       bytes = B .bytes;
@@ -224,6 +230,7 @@ module _ (n : ℕ) (enough : 16 ≤ n / 512) (time : Timespec) (name : List ℕ)
 
   -- ---- each store has room
 
+  -- the first three are done
   record Started : Type 0 where
     first : List ℕ
     second : List ℕ
@@ -231,7 +238,7 @@ module _ (n : ℕ) (enough : 16 ≤ n / 512) (time : Timespec) (name : List ℕ)
     one : makeFile z metaFile ≡ done first
     two : cutFile first metaFile 131072 ≡ done second
     three : makeFile second node ≡ done third
-    is-begun : Begun n 14 name third
+    is-partway : Partway n 14 name third
     end : lengthOf third metaFile ≡ 131072
     empty : lengthOf third node ≡ 0
 
@@ -247,42 +254,42 @@ module _ (n : ℕ) (enough : 16 ≤ n / 512) (time : Timespec) (name : List ℕ)
         one = x .1;
         two = y .1;
         three = w .1;
-        is-begun = begun (x .0) (y .0) (w .0) (x .2) (y .2) (w .2);
-        end = begun-end (x .0) (y .0) (w .0) (x .2) (y .2) (w .2);
-        empty = begun-empty (x .0) (y .0) (w .0) (x .2) (y .2) (w .2);
+        is-partway = partway (x .0) (y .0) (w .0) (x .2) (y .2) (w .2);
+        end = partway-end (x .0) (y .0) (w .0) (x .2) (y .2) (w .2);
+        empty = partway-empty (x .0) (y .0) (w .0) (x .2) (y .2) (w .2);
       }
 
-  put-dot : (a : List ℕ) → Begun n 14 name a → Stored n 13 name a node 0 (entryBytes dotSlot)
+  -- and the five puts, each with as many blocks left as the next ones touch
+  put-dot : (a : List ℕ) → Partway n 14 name a → Stored n 13 name a node 0 (entryBytes dotSlot)
   unfolding touched
-  put-dot a B = begun-goes n 1 13 name a B node 0 264 (entryBytes dotSlot) dot-long (omega arith) dot-bytes (B .node) (omega arith)
+  put-dot a B = partway-goes n 1 13 name a B node 0 264 (entryBytes dotSlot) dot-long (omega arith) dot-bytes (B .node) (omega arith)
 
-  put-dots : (a : List ℕ) → Begun n 13 name a → Stored n 11 name a node 264 (entryBytes dotsSlot)
+  put-dots : (a : List ℕ) → Partway n 13 name a → Stored n 11 name a node 264 (entryBytes dotsSlot)
   unfolding touched
-  put-dots a B = begun-goes n 2 11 name a B node 264 264 (entryBytes dotsSlot) dots-long (omega arith) dots-bytes (B .node) (omega arith)
+  put-dots a B = partway-goes n 2 11 name a B node 264 264 (entryBytes dotsSlot) dots-long (omega arith) dots-bytes (B .node) (omega arith)
 
-  put-super : (a : List ℕ) → Begun n 11 name a → Stored n 10 name a metaFile 0 (superBytes rootSuper)
+  put-super : (a : List ℕ) → Partway n 11 name a → Stored n 10 name a metaFile 0 (superBytes rootSuper)
   unfolding touched
-  put-super a B = begun-goes n 1 10 name a B metaFile 0 16 (superBytes rootSuper) (length-superBytes rootSuper) (omega arith) (superBytes-bytes rootSuper) (B .meta) (omega arith)
+  put-super a B = partway-goes n 1 10 name a B metaFile 0 16 (superBytes rootSuper) (length-superBytes rootSuper) (omega arith) (superBytes-bytes rootSuper) (B .meta) (omega arith)
 
-  put-map : (a : List ℕ) → Begun n 10 name a → Stored n 9 name a metaFile 128 rootMap
+  put-map : (a : List ℕ) → Partway n 10 name a → Stored n 9 name a metaFile 128 rootMap
   unfolding touched
-  put-map a B = begun-goes n 1 9 name a B metaFile 128 128 rootMap length-rootMap (omega arith) rootMap-bytes (B .meta) (omega arith)
+  put-map a B = partway-goes n 1 9 name a B metaFile 128 128 rootMap length-rootMap (omega arith) rootMap-bytes (B .meta) (omega arith)
 
-  put-record : (a : List ℕ) → Begun n 9 name a → Stored n 8 name a metaFile 256 (recordBytes (rootRecord time name))
+  put-record : (a : List ℕ) → Partway n 9 name a → Stored n 8 name a metaFile 256 (recordBytes (rootRecord time name))
   unfolding touched
-  put-record a B = begun-goes n 1 8 name a B metaFile 256 112 (recordBytes (rootRecord time name)) record-long (omega arith) record-bytes (B .meta) (omega arith)
+  put-record a B = partway-goes n 1 8 name a B metaFile 256 112 (recordBytes (rootRecord time name)) record-long (omega arith) record-bytes (B .meta) (omega arith)
 
   -- so format is done
   pub format-done : (h : List ℕ) × (bind (formatSteps (zeroArena n) time name) (λ s. done (s .arena)) ≡ done h) × Made n time name h
   format-done =
       let S = started in
-      let D = put-dot (S .third) (S .is-begun) in
-      let E = put-dots (D .to) (D .begun) in
-      let F = put-super (E .to) (E .begun) in
-      let G = put-map (F .to) (F .begun) in
-      let H = put-record (G .to) (G .begun) in
-      (
+      let D = put-dot (S .third) (S .is-partway) in
+      let E = put-dots (D .to) (D .partway) in
+      let F = put-super (E .to) (E .partway) in
+      let G = put-map (F .to) (F .partway) in
+      let H = put-record (G .to) (G .partway) in (
         H .to,
         steps-are z (S .first) (S .second) (S .third) (D .to) (E .to) (F .to) (G .to) (H .to) time name (S .one) (S .two) (S .three) (D .is) (E .is) (F .is) (G .is) (H .is),
-        made (S .third) (D .to) (E .to) (F .to) (G .to) (H .to) (S .end) (S .empty) (S .is-begun) (D .put) (E .put) (F .put) (G .put) (H .put) (H .begun),
+        made (S .third) (D .to) (E .to) (F .to) (G .to) (H .to) (S .end) (S .empty) (S .is-partway) (D .put) (E .put) (F .put) (G .put) (H .put) (H .partway),
       )

@@ -1,11 +1,11 @@
 -- What format has in memory, computed: the root's id is 2, it takes row 0, and in the map that is stored every bit from 3 on is set.
-use mathlib.Core.Path.{_≡_, refl, sym, ap, _∙_}
+use mathlib.Core.Path.{_≡_, refl, sym, ap, _∙_, subst}
 use mathlib.Core.Bool.{true, false}
 use mathlib.Core.List.{List, _∷_}
 use mathlib.Core.Logic.{⊎-elim}
-use Prim.Native.Nat.{ℕ, zero, suc, _+_, _<_}
+use Prim.Native.Nat.{ℕ, zero, suc, _+_, _-_, _≤_, _<_}
 use native.Mathlib.Omega.{arith}
-use lib.ListN.{length, getD, replicate, length-replicate, getD-replicate, List·getD-eq-default}
+use lib.ListN.{length, replicate, length-replicate, getD-replicate, List·getD-eq-default}
 use Rattle.base.specs.Count.{sumTo, allTo, countTo}
 use Rattle.base.specs.Out.{Out, done}
 use Rattle.base.specs.Search.{lowest, foundBelow}
@@ -64,8 +64,10 @@ high-bits : allTo (λ i. bitAt rootMap (3 + i)) 1021 ≡ true
 unfolding rootMap allTo bitAt bitOf
 high-bits = refl
 
-pub root-high : (i : ℕ) → i < 1021 → bitAt rootMap (3 + i) ≡ true
-root-high = allTo-true (λ i. bitAt rootMap (3 + i)) 1021 high-bits
+pub root-high : (j : ℕ) → 3 ≤ j → j < 1024 → bitAt rootMap j ≡ true
+root-high j l m =
+    let e : 3 + (j - 3) ≡ j = omega arith in
+    subst (λ (k : ℕ). bitAt rootMap k ≡ true) e (allTo-true (λ i. bitAt rootMap (3 + i)) 1021 high-bits (j - 3) (omega arith))
 
 pub root-bits : setBits rootMap 1024 ≡ 1021
 unfolding rootMap setBits countTo sumTo bitAt bitOf
@@ -92,27 +94,28 @@ root-map : withBit (freshMeta .maps) 2 false ≡ rootMap
 unfolding rootMap withBit putBit bitOf
 root-map = refl
 
--- a state of format, with an arena and a table
-abbrev pub before : List ℕ → Fs
-before a = record { arena = a; table = emptyTable; meta = done freshMeta }
+-- format's state before the root is made, and with a table afterwards
+abbrev pub begins : List ℕ → Fs
+begins a = record { arena = a; table = emptyTable; meta = done freshMeta }
 
 abbrev pub holding : List ℕ → Table → Fs
 holding a t = record { arena = a; table = t; meta = done rootMeta }
 
+-- the arena, the map and the id that an allocation leaves
 allocated : List ℕ → List ℕ → ℕ → Out Allocated
 allocated a m k = done (record { state = record { arena = a; table = emptyTable; meta = done (record { super = rootSuper; maps = m }) }; id = k })
 
-take-root : (a : List ℕ) → takeBit (before a) freshMeta ≡ allocated a rootMap 2
+take-root : (a : List ℕ) → takeBit (begins a) freshMeta ≡ allocated a rootMap 2
 unfolding takeBit allocated
 take-root a = ap (λ (k : ℕ). allocated a (withBit (freshMeta .maps) k false) k) first-two ∙ ap (λ (m : List ℕ). allocated a m 2) root-map
 
-alloc-root : (a : List ℕ) → allocBlock (before a) ≡ done (record { state = holding a emptyTable; id = 2 })
+alloc-root : (a : List ℕ) → allocBlock (begins a) ≡ done (record { state = holding a emptyTable; id = 2 })
 unfolding allocBlock allocated
 alloc-root a = rw first-two (take-root a)
 
 -- ---- the row is taken
 
-pub empty-two : rowOf emptyTable 2 ≡ Nothing
+empty-two : rowOf emptyTable 2 ≡ Nothing
 unfolding rowOf lowest foundBelow
 empty-two = refl
 
@@ -124,7 +127,8 @@ empty-free = refl
 abbrev pub rootTable : DiskINode → Table
 rootTable r = takeRow emptyTable 0 2 r true
 
+-- the file is made, and the root has its row
 pub new-root : (a b : List ℕ) (time : Timespec) (name : List ℕ) → makeFile a (file 1 name) ≡ done b
-    → newNode (before a) typeDir 493 time name ≡ done (opened (holding b (rootTable (newRecord typeDir 493 time name))) 0)
+    → newNode (begins a) typeDir 493 time name ≡ done (opened (holding b (rootTable (newRecord typeDir 493 time name))) 0)
 unfolding newNode
 new-root a b time name e = rw (alloc-root a, empty-two, e, empty-free)

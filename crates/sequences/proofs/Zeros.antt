@@ -1,17 +1,16 @@
 -- The arena that format starts from: zeros alone. It is sound, every block is free, and no file is there.
-use mathlib.Core.Path.{_≡_, refl, sym, ap, _∙_, subst}
+use mathlib.Core.Path.{_≡_, sym, ap, _∙_, subst}
 use mathlib.Core.Bool.{true, false}
 use mathlib.Core.List.{List}
-use mathlib.Core.Logic.{_≢_}
 use Prim.Native.Nat.{ℕ, _+_, _*_, _<_}
 use native.Mathlib.Omega.{arith}
-use lib.ListN.{length, getD, replicate, length-replicate}
+use lib.ListN.{getD, replicate}
 use Rattle.base.specs.Count.{bit, countTo}
 use Rattle.base.proofs.Counts.{sumTo-cong, sumTo-one}
 use Rattle.base.proofs.Parts.{getD-zero-list}
 use Rattle.le.specs.Le.{Bytes}
 use Rattle.arena.specs.Blocks.{blk, blocks}
-use Rattle.arena.specs.Fields.{File, zeros, tagOf, isFree}
+use Rattle.arena.specs.Fields.{File, tagOf, isFree}
 use Rattle.arena.specs.Places.{freeCount}
 use Rattle.arena.proofs.Blocks.{length-blk, getD-blk}
 use Rattle.arena.proofs.Fields.{free-own, head-not}
