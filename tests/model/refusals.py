@@ -10,7 +10,7 @@ import sys
 
 HERE = pathlib.Path(__file__).resolve().parent
 sys.path.insert(0, str(HERE.parent / "beside_rust"))
-from scripts import FILE, FOLDER, META, TIME, Builder, model
+from scripts import FILE, FOLDER, META, TIME, Builder, model, table_bytes
 
 GATE = HERE.parent.parent / "crates" / "replay"
 # What stands before this part: the course examples, the Rust's own lines (beside_rust/sample), and each rule of the checker broken.
@@ -52,10 +52,6 @@ class Script(Builder):
     def arena(self, length):
         self.raw(b"\2" + struct.pack("<I", length), f"arena of {length} bytes")
         self.at.set_arena(bytes(length))
-
-    def table(self, data):
-        self.raw(b"\4" + data, "table")
-        self.at.set_table(data)
 
     def fresh(self, blocks=16):
         """A fresh image, and its root."""
@@ -99,12 +95,6 @@ def record(kind, links, blocks, file):
     return made.bytes()
 
 
-def table(rows, holds, stamp):
-    """A table's bytes: rows (id, dirty, record) and holds (row, stamp) from the first on."""
-    return (b"".join(struct.pack("<IB", id, dirty) + rec for id, dirty, rec in rows).ljust(117 * 34, b"\0")
-            + b"".join(struct.pack("<IQ", *hold) for hold in holds).ljust(12 * 32, b"\0") + struct.pack("<Q", stamp))
-
-
 def bad_arena(b):
     root = b.fresh()
     for length in (0, 512 * 15, 512 * 16 + 1):
@@ -126,7 +116,7 @@ def damaged(b):
 def bad_table(b):
     b.fresh()
     root = 2, 0, record(FOLDER, 2, 2, ROOT_FILE)
-    for bad in (table([], [], 0), table([root], [], 1), table([root], [(0, 1), (0, 1)], 2)):
+    for bad in (table_bytes([], [], 0), table_bytes([root], [], 1), table_bytes([root], [(0, 1), (0, 1)], 2)):
         b.table(bad)
         b.no(3, *takes_table((0, 1)))
         b.fails(2)
@@ -212,7 +202,7 @@ def last_stamp(b):
     root = b.fresh(32)
     b.close(b.create(root, "a"))
     b.close(root)
-    b.table(table([(2 ** 25, 1, record(FOLDER, 2, 3, ROOT_FILE))], [(0, 1)], 2 ** 64 - 2))
+    b.table(table_bytes([(2 ** 25, 1, record(FOLDER, 2, 3, ROOT_FILE))], [(0, 1)], 2 ** 64 - 2))
     b.no(17, ("sync",), ("unlink", (0, 1), b"a"), ("close", (0, 1)))
     b.ok(b.root())
     b.no(16, ("root",), ("find", (0, 1), b"a"), create((0, 1), b"b"))
