@@ -76,7 +76,11 @@ class Builder:
     def check(self):
         self.call("check")
 
-    # stored bytes changed from outside, the block's check mended
+    # bytes changed from outside, a block's check mended
+
+    def table(self, data, words="table"):
+        self.raw(b"\4" + data, words)
+        self.at.set_table(data)
 
     def change(self, file, pos, data, words):
         files = model.Files(model.Blocks(model.Model.cut(self.at.arena_bytes())))
@@ -113,6 +117,12 @@ class Builder:
 
     def map(self, group, data, words):
         self.change(META, 128 * (1024 * group + 1), data, words)
+
+
+def table_bytes(rows, holds, stamp):
+    """A table's bytes: rows (id, dirty, record) and holds (row, stamp) from the first on, and the next stamp."""
+    return (b"".join(struct.pack("<IB", id, dirty) + record for id, dirty, record in rows).ljust(117 * model.ROWS, b"\0")
+            + b"".join(struct.pack("<IQ", *hold) for hold in holds).ljust(12 * model.HOLDS, b"\0") + struct.pack("<Q", stamp))
 
 
 def raw(name):

@@ -1,14 +1,22 @@
 #!/usr/bin/env python3
-"""definitions.py [--write]: the list of definitions in docs/PROOFS.md, made from the comments that stand above them in specs/.
+"""definitions.py [--write]: docs/DEFINITIONS.md, the list of definitions, made from the comments that stand above them in specs/.
 
-Without --write it says whether the list is as the files have it (exit status 1 where not).
+Without --write it says whether the page is as the files have it (exit status 1 where not).
 """
 import os
 import re
 import sys
 
 TOP = os.path.dirname(os.path.dirname(os.path.dirname(os.path.abspath(__file__))))
-MARK = "<!-- definitions: made by tests/docs/definitions.py -->"
+PAGE = os.path.join(TOP, "docs", "DEFINITIONS.md")
+TITLE = """# The definitions
+
+Each with the words that stand above it in its file: the sentence of document 01, of RFC 3629 or of the Rust that it renders. "Where" is
+the file of the crate's `specs/`. What is proved with them is in [PROOFS.md](PROOFS.md).
+
+<!-- made by tests/docs/definitions.py --write: change the comments, not this page -->
+
+"""
 HEAD = re.compile(r"^(?:abbrev |unfoldable )?pub (?:(data|record) )?([^\s:]+)")
 
 
@@ -47,7 +55,7 @@ def listing():
         if not os.path.isdir(folder):
             continue
         files = [f for f in sorted(os.listdir(folder)) if f.endswith(".antt") and f != "Lib.antt"]
-        out.append(f"### {crate}\n")
+        out.append(f"## {crate}\n")
         out.append("| definition | where | what it says |\n|---|---|---|")
         for name in files:
             for what, comment in definitions(os.path.join(folder, name)):
@@ -57,15 +65,16 @@ def listing():
 
 
 def main():
-    path = os.path.join(TOP, "docs", "PROOFS.md")
-    with open(path, encoding="utf-8") as whole:
-        text = whole.read()
-    new = text.split(MARK)[0] + MARK + "\n\n" + listing()
+    new = TITLE + listing()
     if "--write" in sys.argv:
-        with open(path, "w", encoding="utf-8") as out:
+        with open(PAGE, "w", encoding="utf-8") as out:
             out.write(new)
         return 0
-    print("the list is as the files have it" if new == text else "the list is not as the files have it: run with --write")
+    text = ""
+    if os.path.exists(PAGE):
+        with open(PAGE, encoding="utf-8") as whole:
+            text = whole.read()
+    print("the page is as the files have it" if new == text else "the page is not as the files have it: run with --write")
     return 0 if new == text else 1
 
 

@@ -70,6 +70,7 @@ RUNS = (
     ("grown: A, B, B/C", lambda: grown().arena_bytes(), "pass nodes 4 unused 1018 free 20"),
     ("no byte", lambda: b"", "fail rule 1"),
     ("one byte more than 65,536", lambda: fresh(128).arena_bytes() + b"\0", "fail rule 1"),
+    ("a fresh image of 129 blocks", lambda: fresh(129).arena_bytes(), "fail rule 1"),
     ("15 blocks", lambda: bytes(512 * 15), "fail rule 1"),
     ("a byte of a payload changed, its check not", lambda: poked(512 * 2 + 100, 1), "fail rule 1"),
     ("no metadata file", lambda: bytes(512 * 16), "fail rule 3"),

@@ -1,0 +1,293 @@
+#!/usr/bin/env python3
+"""refusals.py [--write]: the last part of crates/replay/stdin, in which every reason of document 01 is answered, and its lines.
+
+Each step below says the reason that document 01 gives; the lines, sums and all, are the independent model's (replay_model.py), and the
+port is not asked. Without --write it says whether stdin and stdout end as made here (exit status 1 where not).
+"""
+import pathlib
+import struct
+import sys
+
+HERE = pathlib.Path(__file__).resolve().parent
+sys.path.insert(0, str(HERE.parent / "beside_rust"))
+from scripts import FILE, FOLDER, META, TIME, Builder, model, table_bytes
+
+GATE = HERE.parent.parent / "crates" / "replay"
+# What stands before this part: the course examples, the Rust's own lines (beside_rust/sample), and each rule of the checker broken.
+BYTES, LINES = 205_737, 5_768
+ROOT_FILE = bytes([200] * 16)
+NOBODY = (7, 7)
+# Zero bytes, and what RFC 3629 does not allow: a tail alone, a lead alone, overlong, a surrogate, beyond U+10FFFF.
+BAD_NAMES = (b"\0", b"a\0b", b"\x80", b"a\xc3", b"\xc0\xaf", b"\xed\xa0\x80", b"\xf4\x90\x80\x80")
+
+
+class Script(Builder):
+    def __init__(self):
+        super().__init__(16)
+        self.lines = []
+
+    def call(self, name, *args, words=""):
+        made = super().call(name, *args, words=words)
+        self.lines.append(self.line)
+        return made
+
+    def ok(self, made=None):
+        """The call made last was done."""
+        assert " ok" in self.line or " pass" in self.line, self.line
+        return made
+
+    def no(self, reason, *calls):
+        """Each of these calls is refused for this reason and leaves arena, table and place."""
+        for name, *args in calls:
+            before = self.at.sums()
+            self.call(name, *args)
+            words = self.line.split(" ")
+            assert words[1:3] == ["no", str(reason)] and self.line.endswith(before), (reason, args, self.line)
+            assert name != "list" or words[6] == str(args[1]), self.line
+
+    def fails(self, rule):
+        self.check()
+        assert self.line.startswith(f"check fail rule {rule} "), self.line
+
+    def arena(self, length):
+        self.raw(b"\2" + struct.pack("<I", length), f"arena of {length} bytes")
+        self.at.set_arena(bytes(length))
+
+    def fresh(self, blocks=16):
+        """A fresh image, and its root."""
+        self.arena(512 * blocks)
+        self.format()
+        return self.ok(self.root())
+
+    def again(self):
+        self.open()
+        return self.ok(self.root())
+
+
+def create(h, name, kind=FILE, file=b"f" * 16):
+    return "create", h, name, kind, 420, TIME, file
+
+
+def looks(h, name=b"a"):
+    """Every call that takes a table and leaves the arena."""
+    return (("root",), ("find", h, name), ("metadata", h), ("set", h, 420, 1, 2, TIME, TIME, TIME), ("entry", h, 0, 264),
+            ("list", h, 0, 8192))
+
+
+def changes(h, name=b"a"):
+    """Every call that takes a table and may change the arena."""
+    return (create(h, name), ("link", h, name, h), ("unlink", h, name), ("move", h, name, h, b"b"), ("sync",), ("close", h))
+
+
+def takes_table(h):
+    return looks(h) + changes(h)
+
+
+def takes_name(h, name):
+    return (("find", h, name), create(h, name), ("link", h, name, h), ("unlink", h, name), ("move", h, name, h, b"b"),
+            ("move", h, b"b", h, name))
+
+
+def record(kind, links, blocks, file):
+    """A record's bytes."""
+    made = model.new_record(kind, 493, TIME, file)
+    made.links, made.blocks = links, blocks
+    return made.bytes()
+
+
+def bad_arena(b):
+    root = b.fresh()
+    for length in (0, 512 * 15, 512 * 16 + 1):
+        b.arena(length)
+        b.no(1, ("format", TIME, ROOT_FILE), ("open",), *takes_table(root))
+        b.fails(1)
+
+
+def damaged(b):
+    root = b.fresh()
+    b.raw(b"\3" + struct.pack("<IB", 512 * 15 + 100, 1), "poke")
+    b.at.poke(512 * 15 + 100, 1)
+    b.no(2, ("open",), *takes_table(root))
+    b.fails(1)
+    b.format()
+    b.ok()
+
+
+def bad_table(b):
+    b.fresh()
+    root = 2, 0, record(FOLDER, 2, 2, ROOT_FILE)
+    for bad in (table_bytes([], [], 0), table_bytes([root], [], 1), table_bytes([root], [(0, 1), (0, 1)], 2)):
+        b.table(bad)
+        b.no(3, *takes_table((0, 1)))
+        b.fails(2)
+    b.open()
+    b.ok()
+
+
+def bad_handle(b):
+    root = b.fresh()
+    closed = b.ok(b.create(root, "a"))
+    b.close(closed)
+    for h in (closed, NOBODY, (0, 2), (0, 0), (32, 1)):
+        b.no(4, *(call for call in takes_table(h) if call[0] not in ("root", "sync")))
+    b.no(4, ("link", root, b"b", closed), ("move", root, b"a", closed, b"b"))
+    b.no(4, *takes_name(closed, b"\0"))
+
+
+def bad_name(b):
+    root = b.fresh()
+    for name in BAD_NAMES:
+        b.no(5, *takes_name(root, name))
+    b.no(5, create(root, b"\0", 5))
+
+
+def by_call(b):
+    """6 to 13, 18 and 20, each from the call that has it."""
+    root = b.fresh(32)
+    file = b.ok(b.create(root, "file"))
+    gone = b.ok(b.create(root, "gone", FOLDER))
+    full = b.ok(b.create(root, "full", FOLDER))
+    b.ok(b.create(full, "x"))
+    b.unlink(root, "gone")
+    b.ok()
+    b.no(6, create(root, b"a", 0), create(root, b"a", 5), create(file, b"a", 5))
+    b.no(7, *takes_name(file, b"a"), ("entry", file, 0, 0), ("list", file, 0, 0), ("move", root, b"file", file, b"a"))
+    b.no(7, ("move", root, b"full", root, b"file"))
+    b.no(8, *(call for call in takes_name(gone, b"a") if call[0] != "find"), ("find", gone, b".."), ("move", root, b"file", gone, b"a"))
+    for name in (b".", b"..", b""):
+        b.no(9, ("unlink", root, name), ("move", root, name, root, b"a"), ("move", root, b"file", root, name))
+    b.no(9, ("link", root, b"a", full), ("move", root, b"file", root, b"full"))
+    b.no(10, *takes_name(root, b"n" * 256))
+    b.no(11, ("find", root, b"a"), ("unlink", root, b"a"), ("move", root, b"a", root, b"b"), ("entry", root, 4, 264), ("entry", root, 4, 0))
+    b.no(12, create(root, b"file"), ("link", root, b"full", file), create(root, b""))
+    b.no(13, ("unlink", root, b"full"))
+    b.ok(b.create(root, "other", FOLDER))
+    b.no(13, ("move", root, b"other", root, b"full"))
+    b.no(20, ("entry", root, 0, 263), ("list", root, 0, 263), ("entry", root, 3, 0), ("list", root, 3, 0))
+    for field, value in (("magic", 1), ("groups", 0), ("groups", 5)):
+        b.fresh()
+        b.superblock(field, value)
+        b.no(18, ("open",))
+
+
+def taken(b):
+    root = b.fresh()
+    b.no(14, create(root, b"a", FILE, ROOT_FILE), create(root, b"a", FOLDER, ROOT_FILE))
+
+
+def links(b):
+    root = b.fresh(32)
+    for name, kind in (("a", FILE), ("c", FOLDER), ("d", FOLDER)):
+        b.close(b.create(root, name, kind))
+    b.record(3, "links", 65535)
+    b.record(4, "links", 65535)
+    root = b.again()
+    a, c = b.find(root, "a"), b.find(root, "c")
+    b.no(15, ("link", root, b"b", a), create(c, b"e", FOLDER), ("move", root, b"d", c, b"e"))
+    b.ok(b.create(c, "e"))
+
+
+def table_full(b):
+    root = b.fresh()
+    b.ok(b.create(root, "a"))
+    for _ in range(30):
+        b.ok(b.root())
+    b.no(16, ("root",), ("find", root, b"a"), create(root, b"b"))
+    b.close(root)
+    b.ok(b.root())
+
+
+def last_stamp(b):
+    """A table set from outside: the last stamps, and a dirty row whose record lies past the longest file."""
+    root = b.fresh(32)
+    b.close(b.create(root, "a"))
+    b.close(root)
+    b.table(table_bytes([(2 ** 25, 1, record(FOLDER, 2, 3, ROOT_FILE))], [(0, 1)], 2 ** 64 - 2))
+    b.no(17, ("sync",), ("unlink", (0, 1), b"a"), ("close", (0, 1)))
+    b.ok(b.root())
+    b.no(16, ("root",), ("find", (0, 1), b"a"), create((0, 1), b"b"))
+
+
+def no_space(b):
+    root = b.fresh()
+    a = b.ok(b.create(root, "a"))
+    b.ok(b.create(root, "b"))
+    c = b.ok(b.create(root, "c", FOLDER))
+    b.ok(b.create(root, "d", FOLDER))
+    b.link(root, "e", a)
+    b.ok()
+    b.no(17, ("link", root, b"f", a), create(root, b"f"), create(root, b"f", FOLDER))
+    b.move(root, "a", c, "a")
+    b.ok()
+    b.no(17, ("move", root, b"b", c, b"b"))
+    b.check()
+    b.ok()
+    root = b.fresh()
+    b.map(0, bytes(128), "clear the first map")
+    b.superblock("groups", 4)
+    b.length(META, 524288, "set the metadata file's length to 524,288")
+    b.no(17, create(root, b"a"), create(root, b"a", FOLDER))
+
+
+def stuck(b):
+    root = b.fresh()
+    b.close(b.create(root, "a"))
+    b.record(3, "type", 5)
+    root = b.again()
+    b.no(19, ("find", root, b"a"), ("unlink", root, b"a"))
+    b.record(3, "type", 0)
+    a = b.ok(b.find(root, "a"))
+    b.no(19, ("metadata", a), ("link", root, b"b", a), create(a, b"b"), ("move", root, b"a", root, b"a"))
+    b.close(a)
+    b.record(3, "type", FILE)
+    b.record(3, "file", b"m" * 16)
+    b.no(19, ("find", root, b"a"), ("unlink", root, b"a"))
+    root = b.fresh()
+    b.close(b.create(root, "a"))
+    b.superblock("unused", 2 ** 32 - 1)
+    b.no(19, ("unlink", root, b"a"))
+    b.map(0, bytes([0xF9]), "set the first map byte to 249 (0 free)")
+    b.no(19, create(root, b"b"))
+    b.map(0, bytes([0xFC]), "set the first map byte to 252 (2 free)")
+    b.no(19, ("root",), ("find", root, b"."), create(root, b"b"))
+    b.superblock("groups", 5)
+    b.no(19, ("root",), ("find", root, b"a"), ("unlink", root, b"a"), create(root, b"b"))
+    b.change((1, ROOT_FILE), 264 * 2 + 4, b"\xff", "set the first byte of slot 2's name to 255")
+    b.no(19, *takes_name(root, b"b"), ("entry", root, 2, 264), ("list", root, 0, 8192))
+    b.fresh()
+    b.record(2, "blocks", 3)
+    root = b.again()
+    b.no(19, *takes_name(root, b"b"), ("entry", root, 2, 264), ("list", root, 0, 8192))
+    b.call("set", root, 493, 0, 0, TIME, TIME, TIME)
+    b.ok()
+    b.arena(512 * 16)
+    b.no(19, ("open",), ("root",), ("sync",), ("close", root), ("find", root, b"a"))
+
+
+def made():
+    b = Script()
+    for part in (bad_arena, damaged, bad_table, bad_handle, bad_name, by_call, taken, links, table_full, last_stamp, no_space, stuck):
+        part(b)
+    b.fresh()
+    b.check()
+    b.ok()
+    text = "".join(line + "\n" for line in b.lines)
+    assert list(model.lines(bytes(b.data))) == b.lines
+    return bytes(b.data), text.encode()
+
+
+def main():
+    script, text = made()
+    files = GATE / "stdin", GATE / "stdout"
+    before = files[0].read_bytes()[:BYTES], b"".join(files[1].read_bytes().splitlines(keepends=True)[:LINES])
+    new = before[0] + script, before[1] + text
+    if "--write" in sys.argv:
+        for file, data in zip(files, new):
+            file.write_bytes(data)
+    same = all(file.read_bytes() == data for file, data in zip(files, new))
+    print(f"{len(script)} bytes, {text.count(bytes([10]))} lines: the stored script {'ends' if same else 'does not end'} with them")
+    return 0 if same else 1
+
+
+if __name__ == "__main__":
+    sys.exit(main())
