@@ -40,6 +40,7 @@ pub record Rowed (a : List ℕ) (t : Table) (c i id : ℕ) (r s : DiskINode) (u 
   pub can : canHold u ≡ canHold t
   pub clean : Cleans a u
   pub child : rowAt u c .id ≡ id
+  pub dirty : rowAt u c .dirty ≡ true
   pub own : rowAt u i .id ≡ rowAt t i .id
   pub others : (j : ℕ) → j ≢ c → j ≢ i → rowAt u j ≡ rowAt t j
   pub child-like : Like (rowAt u c .rec) r
@@ -76,6 +77,7 @@ module _ (a : List ℕ) (t : Table) (M : Midway none a t) (c i id : ℕ) (free :
           (λ d. subst (λ (x : Row). x .id ≢ 0 → x .dirty ≡ false → recordBytes (x .rec) ≡ storedBytes a (x .id)) (sym (row-apart t c row j d)) (M .fair .rule4 .clean j l))
           (eq-cases j c);
       child = ap (λ (x : Row). x .id) here;
+      dirty = ap (λ (x : Row). x .dirty) here;
       own = ap (λ (x : Row). x .id) (row-apart t c row i rows-apart);
       others = λ j d e. row-apart t c row j d;
       child-like = like-same (ap (λ (x : Row). x .rec) here);
@@ -99,6 +101,7 @@ module _ (a : List ℕ) (t : Table) (M : Midway none a t) (c i id : ℕ) (free :
           can = can-row u c _ ∙ R .can;
           clean = reset-clean u (R .formed) c used-child x a (R .clean);
           child = reset-id u (R .formed) c used-child x c ∙ R .child;
+          dirty = ap (λ (w : Row). w .dirty) (reset-here u (R .formed) c used-child x);
           own = reset-id u (R .formed) c used-child x i ∙ R .own;
           others = λ j d e. reset-apart u (R .formed) c used-child x j d ∙ R .others j d e;
           child-like = subst (λ (w : Row). Like (w .rec) y) (sym (reset-here u (R .formed) c used-child x)) L;
@@ -114,6 +117,7 @@ module _ (a : List ℕ) (t : Table) (M : Midway none a t) (c i id : ℕ) (free :
           can = can-row u i _ ∙ R .can;
           clean = reset-clean u (R .formed) i used-own x a (R .clean);
           child = reset-id u (R .formed) i used-own x c ∙ R .child;
+          dirty = ap (λ (w : Row). w .dirty) o ∙ R .dirty;
           own = reset-id u (R .formed) i used-own x i ∙ R .own;
           others = λ j d e. reset-apart u (R .formed) i used-own x j e ∙ R .others j d e;
           child-like = subst (λ (w : Row). Like (w .rec) r) (sym o) (R .child-like);
@@ -128,6 +132,14 @@ module _ (a : List ℕ) (t : Table) (M : Midway none a t) (c i id : ℕ) (free :
     pub own-rec : (b : List ℕ) → Like (recOf b u (rowAt t i .id)) s
     own-rec b = subst (λ (k : ℕ). Like (recOf b u k) s) (R .own) (subst (λ (x : DiskINode). Like x s) (sym (mid-rec b u (R .formed) i used-own)) (R .own-like))
 
+    -- the other rows have the ids that they had
+    pub ids-else : (j : ℕ) → j ≢ c → rowAt u j .id ≡ rowAt t j .id
+    ids-else j d =
+        ⊎-elim
+        (λ (e : j ≡ i). subst (λ (k : ℕ). rowAt u k .id ≡ rowAt t k .id) (sym e) (R .own))
+        (λ e. ap (λ (x : Row). x .id) (R .others j d e))
+        (eq-cases j i)
+
     -- another id has the row that it had
     row-else : (k : ℕ) → k ≢ 0 → k ≢ id → rowOf u k ≡ rowOf t k
     unfolding rowOf
@@ -135,10 +147,7 @@ module _ (a : List ℕ) (t : Table) (M : Midway none a t) (c i id : ℕ) (free :
         search-cong (isRow u k) (isRow t k) 34 (λ j l. ⊎-elim
         (λ (e : j ≡ c). subst (λ (x : ℕ). eqb (rowAt u x .id) k ≡ eqb (rowAt t x .id) k) (sym e)
         (ap (λ (n : ℕ). eqb n k) (R .child) ∙ ne-eqb id k (λ q. d (sym q)) ∙ sym (ap (λ (n : ℕ). eqb n k) was-free ∙ ne-eqb 0 k (λ q. z (sym q)))))
-        (λ n. ⊎-elim
-        (λ (e : j ≡ i). subst (λ (x : ℕ). eqb (rowAt u x .id) k ≡ eqb (rowAt t x .id) k) (sym e) (ap (λ (n : ℕ). eqb n k) (R .own)))
-        (λ e. ap (λ (x : Row). eqb (x .id) k) (R .others j n e))
-        (eq-cases j i))
+        (λ n. ap (λ (x : ℕ). eqb x k) (ids-else j n))
         (eq-cases j c))
 
     pub open-else : (k : ℕ) → k ≢ 0 → k ≢ id → isOpen u k ≡ isOpen t k
@@ -159,14 +168,3 @@ module _ (a : List ℕ) (t : Table) (M : Midway none a t) (c i id : ℕ) (free :
             let y : rowAt t j .id ≡ k = row-found t k j q .1 in
             ap (λ (x : Row). x .rec) (R .others j (λ p. z (sym y ∙ ap (λ (n : ℕ). rowAt t n .id) p ∙ was-free)) (λ p. e (sym y ∙ ap (λ (n : ℕ). rowAt t n .id) p)))
         go Nothing q = ap recordOf same
-
-    -- the rows' ids are those of t, and the new one
-    pub row-cases : (P : ℕ → Type 0) → P id → ((j : ℕ) → j < 34 → rowAt t j .id ≢ 0 → P (rowAt t j .id)) → (j : ℕ) → j < 34 → rowAt u j .id ≢ 0 → P (rowAt u j .id)
-    row-cases P new old j l z =
-        ⊎-elim
-        (λ (e : j ≡ c). subst P (sym (ap (λ (k : ℕ). rowAt u k .id) e ∙ R .child)) new)
-        (λ n. ⊎-elim
-        (λ (e : j ≡ i). subst P (sym (ap (λ (k : ℕ). rowAt u k .id) e ∙ R .own)) (old i (ui .below) (ui .node)))
-        (λ e. let q : rowAt u j .id ≡ rowAt t j .id = ap (λ (x : Row). x .id) (R .others j n e) in subst P (sym q) (old j l (λ y. z (q ∙ y))))
-        (eq-cases j i))
-        (eq-cases j c)
