@@ -17,6 +17,7 @@ use Rattle.base.proofs.Bools.{and-false, true-false}
 use Rattle.base.proofs.Counts.{sumTo-join, sumTo-one, countTo-cong, countTo-change}
 use Rattle.base.proofs.Finds.{eq-cases, countTo-some, test-at, test-no, test-yes}
 use Rattle.base.proofs.Numbers.{lt-or-le}
+use Rattle.base.proofs.Searches.{lowest-first}
 use Rattle.le.specs.Le.{Bytes}
 use Rattle.structs.proofs.Joins.{bytes-append}
 use Rattle.structs.specs.Constants.{sefsMagic}
@@ -52,7 +53,7 @@ pub record Sane (m : Meta) : Type 0 where
 abbrev pub nodeIn : Meta → ℕ → Bool
 nodeIn m k = ltb k (ids m) && (not (eqb k 0) && (not (eqb (k % 1024) 1) && not (bitAt (m .maps) k)))
 
--- n is m, with id taken; there may be a group more
+-- n is m, with id taken, the lowest that was free; there may be a group more
 pub record Taken (m n : Meta) (id : ℕ) : Type 0 where
   pub sane : Sane n
   pub more : m .super .groups ≤ n .super .groups
@@ -61,6 +62,7 @@ pub record Taken (m n : Meta) (id : ℕ) : Type 0 where
   pub apart : id % 1024 ≢ 1
   pub clear : bitAt (n .maps) id ≡ false
   pub free : id < ids m → bitAt (m .maps) id ≡ true
+  pub first : (k : ℕ) → k < id → k < ids m → bitAt (m .maps) k ≡ false
   pub others : (k : ℕ) → k ≢ id → k < ids m → bitAt (n .maps) k ≡ bitAt (m .maps) k
   pub past : (k : ℕ) → k ≢ id → ids m ≤ k → k < ids n → k % 1024 ≢ 1 → bitAt (n .maps) k ≡ true
 
@@ -121,6 +123,7 @@ module _ (m : Meta) (S : Sane m) (found : firstBit m < ids m) where
   unused-some = omega (arith, S .unused, countTo-some (bitAt (m .maps)) (ids m) at found is-set)
 
   pub bit-taken : Taken m (without m) (firstBit m)
+  unfolding firstBit
   bit-taken = record {
     sane = record {
       magic = S .magic;
@@ -139,6 +142,7 @@ module _ (m : Meta) (S : Sane m) (found : firstBit m < ids m) where
     apart = λ z. let e : at ≡ 1024 * (at / 1024) + 1 = omega arith in not-clear (1024 * (at / 1024) + 1) (S .owns (at / 1024) (omega arith)) (sym e);
     clear = bitAt-withBit-same (m .maps) at false inside;
     free = λ l. is-set;
+    first = λ k l h. lowest-first (bitAt (m .maps)) (ids m) .before k l;
     others = λ k d l. other k d;
     past = λ k d l h z. absurd (omega arith);
   }
@@ -220,6 +224,7 @@ module _ (m : Meta) (S : Sane m) (few : m .super .groups < 4) where
         apart = K .apart;
         clear = K .clear;
         free = λ l. absurd (true-false (is-set n grown-sane grown-found) (grown-before (m .maps) g (S .long) (firstBit n) l ∙ clear (firstBit n) l));
+        first = λ k l h. clear k h;
         others = λ k d l. K .others k d (omega arith) ∙ grown-before (m .maps) g (S .long) k l;
         past = λ k d l h z. K .others k d h ∙ ap (bitAt (m .maps ++ newMap)) (let e : k ≡ 1024 * g + (k - 1024 * g) = omega arith in e)
             ∙ grown-set (m .maps) g (S .long) (k - 1024 * g) (omega arith) (λ e. z (omega arith));

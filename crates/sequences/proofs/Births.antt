@@ -2,7 +2,7 @@
 -- risen. An image that was fair stays so. Rules 6 to 8 come by two steps of the tree: the node is born, unnamed, and then it is named.
 use mathlib.Core.Path.{_≡_, refl, sym, ap, _∙_, subst}
 use mathlib.Core.Bool.{true, false, not, _&&_}
-use mathlib.Core.List.{List, [], _∷_}
+use mathlib.Core.List.{List}
 use mathlib.Core.Logic.{_≢_, ⊎-elim}
 use Prim.Native.Nat.{ℕ, _+_, _*_, _%_, _≤_, _<_}
 use native.Mathlib.Omega.{arith}
@@ -16,7 +16,6 @@ use Rattle.base.proofs.Sames.{decided-yes, same-true}
 use Rattle.base.proofs.Searches.{upd-same, upd-other}
 use Rattle.base.proofs.Tests.{decides-same}
 use Rattle.base.specs.declared.Found.the-variants.{At}
-use Rattle.structs.specs.Constants.{typeDir}
 use Rattle.structs.specs.Verdict.{isFolder}
 use Rattle.structs.specs.declared.DiskEntry.{DiskEntry}
 use Rattle.structs.specs.declared.DiskINode.{DiskINode}
@@ -32,11 +31,9 @@ use Rattle.files.specs.Read.{there, lengthOf}
 use Rattle.files_laws.specs.Laws.{Kept}
 use Rattle.utf8.specs.Names.{nameOf}
 use Rattle.sefs.specs.State.{Meta}
-use Rattle.sefs.specs.Meta.{metaFile}
 use Rattle.sefs.specs.Nodes.{nodeFile}
 use Rattle.sefs.specs.Folders.{entry}
-use Rattle.rules.specs.Image.{superIn, mapsIn, idsIn, isNode, storedBytes, recOf, isOpen, slotIn}
-use Rattle.rules.specs.Rules.{Rule1}
+use Rattle.rules.specs.Image.{superIn, idsIn, isNode, recOf, isOpen, slotIn}
 use Rattle.sequences.proofs.Passing.{Used}
 use Rattle.sequences.proofs.Tables.{Like, Fair, root-node, head-there, there-head}
 use Rattle.sequences.proofs.Trees.{Tree, Tidy, folder-is, treeOf, tidy-six, tidy-seven, tidy-eight}
@@ -51,34 +48,8 @@ use Rattle.sequences.proofs.Appends.{slot-kept}
 use Rattle.sequences.proofs.NewNames.{NewName}
 use Rattle.sequences.proofs.Inits.{dot-name, dots-name}
 use Rattle.sequences.proofs.Allocs.{nodeIn, Taken, taken-is, taken-new, taken-same}
+use Rattle.sequences.proofs.NodeFiles.{Bred}
 use Rattle.sequences.proofs.Newborns.{Rowed, child-rec, own-rec, open-else, open-child, ids-else, rec-else}
-
--- ---- what the arena has then
-
--- the new node's file: a folder's has its two slots
-pub record Young (f : List ℕ) (kind id up : ℕ) (b : List ℕ) : Type 0 where
-  pub exists : there b (file 1 f) ≡ true
-  pub size : isFolder kind ≡ true → lengthOf b (file 1 f) ≡ 528
-  pub dot : isFolder kind ≡ true → (r : DiskINode) → r .file ≡ f → slotIn b r 0 ≡ entry id (46 ∷ []) typeDir
-  pub dots : isFolder kind ≡ true → (r : DiskINode) → r .file ≡ f → slotIn b r 1 ≡ entry up (46 ∷ 46 ∷ []) typeDir
-
--- the folder's file: the slots that it had, and e
-pub record Housed (a : List ℕ) (s : DiskINode) (e : DiskEntry) (b : List ℕ) : Type 0 where
-  pub exists : there b (nodeFile s) ≡ true
-  pub long : lengthOf b (nodeFile s) ≡ 264 * (s .blocks + 1)
-  pub slots : (r : DiskINode) → r .file ≡ s .file → (k : ℕ) → k < s .blocks → slotIn b r k ≡ slotIn a s k
-  pub new : (r : DiskINode) → r .file ≡ s .file → slotIn b r (s .blocks) ≡ e
-
--- superblock and maps as in memory, records as they were stored, the two files, and the others as they were
-pub record Bred (a : List ℕ) (m : Meta) (f : List ℕ) (kind id up : ℕ) (s : DiskINode) (e : DiskEntry) (b : List ℕ) : Type 0 where
-  pub fine : Rule1 b
-  pub super : superIn b ≡ m .super
-  pub maps : mapsIn b ≡ m .maps
-  pub long : lengthOf b metaFile ≡ 131072 * m .super .groups
-  pub stored : (k : ℕ) → isNode a k ≡ true → storedBytes b k ≡ storedBytes a k
-  pub young : Young f kind id up b
-  pub housed : Housed a s e b
-  pub others : (g : List ℕ) → g ≢ f → g ≢ s .file → Kept a b (file 1 g)
 
 -- slots by the file's name alone
 slot-file : (b : List ℕ) (r s : DiskINode) → r .file ≡ s .file → (k : ℕ) → slotIn b r k ≡ slotIn b s k

@@ -40,24 +40,7 @@ use Rattle.sequences.proofs.Links.{links-fit, blocks-fit}
 use Rattle.sequences.proofs.Inits.{Laid, Begun, init-law}
 use Rattle.sequences.proofs.Makes.{Ground, ground-kept}
 use Rattle.sequences.proofs.Newborns.{Rowed, used-child, child-set, own-set}
-use Rattle.sequences.proofs.Births.{Young, Housed}
-
--- files that are kept
-pub young-kept : (f : List ℕ) (kind id up : ℕ) (b c : List ℕ) → Young f kind id up b → Kept b c (file 1 f) → Young f kind id up c
-young-kept f kind id up b c Y K = record {
-  exists = K .exists ∙ Y .exists;
-  size = λ z. K .long ∙ Y .size z;
-  dot = λ z r q. slot-kept b c r r refl (subst (λ (g : List ℕ). Kept b c (file 1 g)) (sym q) K) 0 ∙ Y .dot z r q;
-  dots = λ z r q. slot-kept b c r r refl (subst (λ (g : List ℕ). Kept b c (file 1 g)) (sym q) K) 1 ∙ Y .dots z r q;
-}
-
-pub housed-kept : (a : List ℕ) (s : DiskINode) (e : DiskEntry) (b c : List ℕ) → Housed a s e b → Kept b c (nodeFile s) → Housed a s e c
-housed-kept a s e b c H K = record {
-  exists = K .exists ∙ H .exists;
-  long = K .long ∙ H .long;
-  slots = λ r q k l. slot-kept b c r r refl (subst (λ (g : List ℕ). Kept b c (file 1 g)) (sym q) K) k ∙ H .slots r q k l;
-  new = λ r q. slot-kept b c r r refl (subst (λ (g : List ℕ). Kept b c (file 1 g)) (sym q) K) (s .blocks) ∙ H .new r q;
-}
+use Rattle.sequences.proofs.NodeFiles.{Young, Housed, young-kept}
 
 -- ---- the state in between: superblock and maps in memory are m, row c is node id's with record r, row i the folder's with record s
 
@@ -142,9 +125,9 @@ module _ (a : List ℕ) (t : Table) (M : Midway none a t) (i : ℕ) (ui : Used t
 
   -- ---- a folder's two slots
 
-  begun-stage : (r s : DiskINode) (x : Fs) → Stage a t c i id m r s (Bare a (r .file)) x → isFolder (r .kind) ≡ true
+  begun-stage : (r s : DiskINode) (x : Fs) → Stage a t c i id m r s (Bare a (r .file)) x
       → (y : Fs) → Begun x c (idAt x i) y → Stage a t c i id m (withBlocks r 2) s (Raised a (r .file) (r .kind) id d) y
-  begun-stage r s x S e y B =
+  begun-stage r s x S y B =
       let L : Laid (x .arena) (r .file) id d (B .arena) =
       subst (λ (f : List ℕ). Laid (x .arena) f id d (B .arena)) (S .rows .child-like .file)
       (subst (λ (k : ℕ). Laid (x .arena) (recAt x c .file) k d (B .arena)) (S .rows .child)
@@ -175,7 +158,7 @@ module _ (a : List ℕ) (t : Table) (M : Midway none a t) (i : ℕ) (ui : Used t
       go : (b : Bool) → isFolder (r .kind) ≡ b
           → Ok (Stage a t c i id m (withBlocks r (2 * bit b)) s (Raised a (r .file) (r .kind) id (rowAt t i .id))) (λ n. n ≡ 17) (pick b (direntInit x c (idAt x i)) (done x))
       go true e =
-          ok-weaken (begun-stage r s x S e) (λ n q. q)
+          ok-weaken (begun-stage r s x S) (λ n q. q)
           (init-law x c (idAt x i)
           (omega (arith, used-child a t M c i id free ui some r s (x .table) (S .rows) .below, S .rows .fits .rows-34))
           (S .rows .fits .rows c (used-child a t M c i id free ui some r s (x .table) (S .rows) .below) .id)

@@ -11,11 +11,10 @@ use borrow.Author.Tests.{ltb-true, not-true, eqb-false}
 use Rattle.base.specs.Count.{bit}
 use Rattle.base.specs.Out.{Out, done, bind, Ok, went, said}
 use Rattle.base.proofs.Outs.{ok-bind, ok-weaken}
-use Rattle.base.proofs.Bools.{and-parts, true-false, true-T}
+use Rattle.base.proofs.Bools.{and-both, and-parts, true-false, true-T}
 use Rattle.base.proofs.Lists.{tab-cong}
 use Rattle.base.proofs.Numbers.{lt-or-le}
 use Rattle.base.proofs.Tests.{decides-leb}
-use Rattle.base.specs.declared.Found.the-variants.{At}
 use Rattle.le.specs.Le.{Bytes}
 use Rattle.structs.specs.Fits.{SuperFits, RecordFits, EntryFits}
 use Rattle.structs.specs.Layout.{recordBytes}
@@ -29,41 +28,41 @@ use Rattle.arena.specs.Fields.{file}
 use Rattle.table.specs.declared.Table.{Table}
 use Rattle.table.specs.declared.Row.{Row}
 use Rattle.table.specs.declared.Handle.{Handle}
-use Rattle.table.specs.Table.{rowAt, freeRow, canHold, addHold}
+use Rattle.table.specs.Table.{rowAt, canHold, addHold}
 use Rattle.table_laws.specs.Rules.{also, none}
 use Rattle.table_laws.proofs.Holds.{can-row, add-kept}
 use Rattle.table_laws.proofs.Spare.{first-spare}
 use Rattle.files.specs.Read.{there, lengthOf, byteAt}
-use Rattle.files_laws.specs.Laws.{Kept}
 use Rattle.files_laws.proofs.Bounds.{named-meta, named-node, legal-same}
 use Rattle.sefs.specs.State.{Fs, Meta}
-use Rattle.sefs.specs.Meta.{metaFile, syncMeta}
+use Rattle.sefs.specs.Meta.{metaFile}
 use Rattle.sefs.specs.Records.{newRecord, withLinks, withBlocks}
 use Rattle.sefs.specs.Nodes.{nodeFile, Opened, syncRow, newNode}
 use Rattle.sefs.specs.Folders.{entry}
 use Rattle.sefs.specs.Ask.{start}
 use Rattle.sefs.specs.Create.{Given, given, createSteps, callCreate}
 use Rattle.rules.specs.Image.{superIn, mapsIn, isNode, storedBytes, recOf, isFolderAt}
-use Rattle.rules.specs.Rules.{Allowed, Folder}
+use Rattle.rules.specs.Rules.{Allowed}
 use Rattle.rules.proofs.Files.{node-below}
 use Rattle.sequences.specs.Pairs.{Pair, pair, Passed}
 use Rattle.sequences.specs.Calls.{NewFits, create, does}
 use Rattle.sequences.specs.Promises.{Well}
-use Rattle.sequences.proofs.Passing.{Fine, fine, allowed, well, says-is, Used, admitted, handle-law, row-folder}
+use Rattle.sequences.proofs.Passing.{Fine, fine, allowed, well, says-is, Used, admitted, handle-law}
 use Rattle.sequences.proofs.Looks.{ensure-asks}
 use Rattle.sequences.proofs.Tables.{Fair, like-same, alike-same, image-fair}
 use Rattle.sequences.proofs.Rows.{leaves-sync}
 use Rattle.sequences.proofs.Opens.{metaIn, there-meta, meta-is, node-some, rows-at, rows-rec, rows-open, add-rows, fits-hold, fine-16}
 use Rattle.sequences.proofs.Metas.{length-mapsTo, bytes-mapsTo, kept-same, kept-then, Within, MetaPut, MetaFits, sync-meta-law}
-use Rattle.sequences.proofs.Stores.{Midway, midway-passed, passed-midway, node-apart, Synced, sync-mid, fine-17}
+use Rattle.sequences.proofs.Stores.{Midway, midway-passed, passed-midway, node-apart, sync-mid, fine-17}
 use Rattle.sequences.proofs.Drops.{mid-rec}
 use Rattle.sequences.proofs.Links.{live-folder, new-law}
 use Rattle.sequences.proofs.NewNames.{good-name, NewName, entry-fits, exists-law}
-use Rattle.sequences.proofs.Allocs.{Sane, nodeIn}
+use Rattle.sequences.proofs.Allocs.{Sane}
 use Rattle.sequences.proofs.Makes.{Makes, new-node-law}
 use Rattle.sequences.proofs.Newborns.{rows-taken, used-child, used-own}
-use Rattle.sequences.proofs.Births.{Bred, bred-fair}
-use Rattle.sequences.proofs.Breeds.{young-kept, housed-kept, Stage, Bare, Settled, named-law, birth-law, slot-law}
+use Rattle.sequences.proofs.NodeFiles.{young-kept, housed-kept, Bred}
+use Rattle.sequences.proofs.Births.{bred-fair}
+use Rattle.sequences.proofs.Breeds.{Stage, Bare, Settled, named-law, birth-law, slot-law}
 
 -- superblock and maps of a fair image
 fair-sane : (a : List ℕ) (t : Table) → Fair a t → Bytes a → Sane (metaIn a)
@@ -92,7 +91,6 @@ sane-fits m S = record {
 -- a hold on the call's own row: then it is nobody's own
 hold-mid : (a : List ℕ) (u : Table) (c : ℕ) → Midway (also none c) a u → canHold u ≡ true → Used u c → Midway none a (addHold u c .table)
 hold-mid a u c M can used =
-    let w : Table = addHold u c .table in
     let e : addHold u c .table .rows ≡ u .rows = add-rows u c in
     record {
       fair = image-fair a a u (addHold u c .table) (M .fair) (alike-same a) (M .fair .rule1)
@@ -112,8 +110,21 @@ both (said r) (said q) = said r
 
 new-fits : (kind mode : ℕ) (time : Timespec) (f : List ℕ) → NewFits kind mode time f → RecordFits (newRecord kind mode time f)
 new-fits kind mode time f F = record {
-  size = omega arith; kind = F .kind; mode = F .mode; nlinks = omega arith; blocks = omega arith; uid = omega arith; gid = omega arith; pad = omega arith;
-  atime = F .time; mtime = F .time; ctime = F .time; file = F .file; mac = named-meta .size; fileBytes = F .bytes; macBytes = named-meta .bytes;
+  size = omega arith;
+  kind = F .kind;
+  mode = F .mode;
+  nlinks = omega arith;
+  blocks = omega arith;
+  uid = omega arith;
+  gid = omega arith;
+  pad = omega arith;
+  atime = F .time;
+  mtime = F .time;
+  ctime = F .time;
+  file = F .file;
+  mac = named-meta .size;
+  fileBytes = F .bytes;
+  macBytes = named-meta .bytes;
 }
 
 module _ (a : List ℕ) (t : Table) (M : Midway none a t) (i : ℕ) (ui : Used t i)
@@ -151,7 +162,7 @@ module _ (a : List ℕ) (t : Table) (M : Midway none a t) (i : ℕ) (ui : Used t
 
   long : lengthOf a (file 1 (ri .file)) ≡ 264 * ri .blocks
   unfolding isFolderAt
-  long = subst (λ (r : DiskINode). lengthOf a (nodeFile r) ≡ 264 * r .blocks) rec-d (A .rule6 .folder d (λ x. node-d x && (ap (λ (r : DiskINode). isFolder (r .kind)) rec-d ∙ dir) x) .length)
+  long = subst (λ (r : DiskINode). lengthOf a (nodeFile r) ≡ 264 * r .blocks) rec-d (A .rule6 .folder d (and-both node-d (ap (λ (r : DiskINode). isFolder (r .kind)) rec-d ∙ dir)) .length)
 
   apart : ri .file ≢ uuid
   apart q = true-false (ap (λ (f : List ℕ). there a (file 1 f)) (sym q) ∙ was) absent
@@ -262,24 +273,20 @@ module _ (a : List ℕ) (t : Table) (M : Midway none a t) (i : ℕ) (ui : Used t
 
 -- ---- the call
 
--- a reason that is none of the three
-fine-of : (n : ℕ) → n ≢ 19 → n ≢ 2 → n ≢ 3 → Fine n
-fine-of n x y z = fine n x y z
-
 create-call : (p : Pair) → Passed p → (h : Handle) (name : List ℕ) (kind mode : ℕ) (time : Timespec) (uuid : List ℕ) → Bytes name → NewFits kind mode time uuid
     → Ok (λ (g : Given). Passed (pair (g .arena) (g .table))) Fine (callCreate (p .arena) (p .table) h name kind mode time uuid)
 unfolding callCreate
 create-call p y h name kind mode time uuid nb F =
     ok-bind (says-is (admitted a t A)) λ _ _.
     ok-bind (handle-law a t A h) λ i u.
-    ok-bind (ensure-asks (eqb (earlyReason (nameVerdict name)) 0) 5 (fine-of 5 (λ e. omega arith) (λ e. omega arith) (λ e. omega arith))) λ _ good.
-    ok-bind (ensure-asks (isType kind) 6 (fine-of 6 (λ e. omega arith) (λ e. omega arith) (λ e. omega arith))) λ _ type.
+    ok-bind (ensure-asks (eqb (earlyReason (nameVerdict name)) 0) 5 (fine 5 (λ e. omega arith) (λ e. omega arith) (λ e. omega arith))) λ _ good.
+    ok-bind (ensure-asks (isType kind) 6 (fine 6 (λ e. omega arith) (λ e. omega arith) (λ e. omega arith))) λ _ type.
     ok-bind (live-folder a t A i (u .used)) λ _ l.
-    ok-bind (ensure-asks (leb (length name) 255) 10 (fine-of 10 (λ e. omega arith) (λ e. omega arith) (λ e. omega arith))) λ _ short.
+    ok-bind (ensure-asks (leb (length name) 255) 10 (fine 10 (λ e. omega arith) (λ e. omega arith) (λ e. omega arith))) λ _ short.
     ok-bind (new-law a t A (y .typed .bytes) i (u .used) (l .0) name (good-name name good) (is-most (length name) 255 short)) λ f new.
     ok-bind (exists-law f) λ _ none.
-    ok-bind (ensure-asks (not (there a (file 1 uuid))) 14 (fine-of 14 (λ e. omega arith) (λ e. omega arith) (λ e. omega arith))) λ _ absent.
-    ok-bind (ensure-asks (not (isFolder kind && eqb (rowAt t i .rec .nlinks) 65535)) 15 (fine-of 15 (λ e. omega arith) (λ e. omega arith) (λ e. omega arith))) λ _ few.
+    ok-bind (ensure-asks (not (there a (file 1 uuid))) 14 (fine 14 (λ e. omega arith) (λ e. omega arith) (λ e. omega arith))) λ _ absent.
+    ok-bind (ensure-asks (not (isFolder kind && eqb (rowAt t i .rec .nlinks) 65535)) 15 (fine 15 (λ e. omega arith) (λ e. omega arith) (λ e. omega arith))) λ _ few.
     ok-bind (ensure-asks (canHold t) 16 fine-16) λ _ can.
     ok-weaken (λ x q. q) fine-17
     (create-law a t (passed-midway a t y) i (u .used) (l .0) (l .1) name (new none) (is-most (length name) 255 short) nb kind mode time uuid F

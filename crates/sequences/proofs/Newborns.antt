@@ -53,7 +53,7 @@ module _ (a : List ℕ) (t : Table) (M : Midway none a t) (c i id : ℕ) (free :
   was-free : rowAt t c .id ≡ 0
   was-free = row-found t 0 c free .1
 
-  pub rows-apart : i ≡ c → ⊥
+  rows-apart : i ≡ c → ⊥
   rows-apart q = ui .node (ap (λ (j : ℕ). rowAt t j .id) q ∙ was-free)
 
   -- the row is taken
