@@ -1,5 +1,6 @@
 #!/usr/bin/env python3
-"""refusals.py [--write]: the last part of crates/replay/stdin, in which every reason of document 01 is answered, and its lines.
+"""refusals.py [--write]: the last part of crates/replay/stdin, in which every reason of document 01 is answered and a folder is moved to
+another folder, and its lines.
 
 Each step below says the reason that document 01 gives; the lines, sums and all, are the independent model's (replay_model.py), and the
 port is not asked. Without --write it says whether stdin and stdout end as made here (exit status 1 where not).
@@ -264,9 +265,22 @@ def stuck(b):
     b.no(19, ("open",), ("root",), ("sync",), ("close", root), ("find", root, b"a"))
 
 
+def carried(b):
+    """The premise of demand 3 is needed: a passed pair, and one folder moved to another folder, after which rule 8 fails."""
+    root = b.fresh(32)
+    a = b.ok(b.create(root, "a", FOLDER))
+    c = b.ok(b.create(root, "c", FOLDER))
+    b.ok(b.create(a, "d", FOLDER))
+    b.check()
+    b.ok()
+    b.move(a, "d", c, "d")
+    b.ok()
+    b.fails(8)
+
+
 def made():
     b = Script()
-    for part in (bad_arena, damaged, bad_table, bad_handle, bad_name, by_call, taken, links, table_full, last_stamp, no_space, stuck):
+    for part in (bad_arena, damaged, bad_table, bad_handle, bad_name, by_call, taken, links, table_full, last_stamp, no_space, stuck, carried):
         part(b)
     b.fresh()
     b.check()
