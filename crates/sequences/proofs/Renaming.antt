@@ -10,11 +10,11 @@ use lib.Dec.{eqb}
 use Rattle.base.specs.Count.{sumTo, countTo}
 use Rattle.base.specs.Search.{pick}
 use Rattle.base.proofs.Finds.{eq-cases}
-use Rattle.base.proofs.Numbers.{lt-or-le}
 use Rattle.structs.specs.Verdict.{isFolder}
 use Rattle.structs.specs.declared.DiskEntry.{DiskEntry}
 use Rattle.utf8.specs.Names.{nameOf, zeroAt, EndedAt}
-use Rattle.sequences.proofs.Trees.{Tree, folderAt, namesOf, allNames, subsOf, parent, up, LaterIn, FolderIn, LinkedIn, RemovedIn, Lives, NamedBy, Tidy}
+use Rattle.sequences.proofs.Unnaming.{Unnames}
+use Rattle.sequences.proofs.Trees.{Tree, folderAt, namesOf, allNames, subsOf, parent, up, LaterIn, FolderIn, LinkedIn, RemovedIn, Lives, NamedBy, Tidy, names-differ}
 
 -- the tree with other slots
 abbrev pub withSlots : Tree → (ℕ → ℕ → DiskEntry) → Tree
@@ -129,13 +129,6 @@ module _ (v : Tree) (s : ℕ → ℕ → DiskEntry) (d k other : ℕ) (I : Tidy 
       go (old e q) = subst Title (sym q) (title-of k (R .later) (R .inside))
       go (same n m q) = subst (λ (z : DiskEntry). Title (z .name)) (sym q) (title-of j x y)
 
-  was : (h j : ℕ) → h ≢ j → 2 ≤ h → 2 ≤ j → h < v .blocks d → j < v .blocks d → nameOf (v .slot d h .name) ≢ nameOf (v .slot d j .name)
-  was h j n x y p q =
-      ⊎-elim
-      (λ (l : h < j). F .distinct h j x l q)
-      (λ (l : j ≤ h). λ e. F .distinct j h y (⊎-elim (λ m. m) (λ m. absurd (n (omega arith))) (lt-or-le j h)) p (sym e))
-      (lt-or-le h j)
-
   -- the new name is not another's
   not-new : (j : ℕ) → j ≢ k → 2 ≤ j → j < v .blocks d → nameOf (s d j .name) ≢ nameOf (s d k .name)
   not-new j n x y = go (now j y)
@@ -153,9 +146,9 @@ module _ (v : Tree) (s : ℕ → ℕ → DiskEntry) (d k other : ℕ) (I : Tidy 
       go (old m _) (new e) = λ z. not-new h (λ o. n (o ∙ sym e)) x p (z ∙ ap (λ (m : ℕ). nameOf (s d m .name)) e)
       go (same m _ _) (new e) = λ z. not-new h (λ o. n (o ∙ sym e)) x p (z ∙ ap (λ (m : ℕ). nameOf (s d m .name)) e)
       go (old e _) (old o _) = absurd (n (e ∙ sym o))
-      go (old e c) (same m _ o) = λ z. was k j (λ g. m (sym g)) (R .later) y (R .inside) q (ap nameOf (sym c) ∙ z ∙ ap (λ (g : DiskEntry). nameOf (g .name)) o)
-      go (same m _ o) (old e c) = λ z. was h k m x (R .later) p (R .inside) (ap (λ (g : DiskEntry). nameOf (g .name)) (sym o) ∙ z ∙ ap nameOf c)
-      go (same _ _ c) (same _ _ o) = λ z. was h j n x y p q (ap (λ (g : DiskEntry). nameOf (g .name)) (sym c) ∙ z ∙ ap (λ (g : DiskEntry). nameOf (g .name)) o)
+      go (old e c) (same m _ o) = λ z. names-differ v d F k j (λ g. m (sym g)) (R .later) y (R .inside) q (ap nameOf (sym c) ∙ z ∙ ap (λ (g : DiskEntry). nameOf (g .name)) o)
+      go (same m _ o) (old e c) = λ z. names-differ v d F h k m x (R .later) p (R .inside) (ap (λ (g : DiskEntry). nameOf (g .name)) (sym o) ∙ z ∙ ap nameOf c)
+      go (same _ _ c) (same _ _ o) = λ z. names-differ v d F h j n x y p q (ap (λ (g : DiskEntry). nameOf (g .name)) (sym c) ∙ z ∙ ap (λ (g : DiskEntry). nameOf (g .name)) o)
 
   first : (j : ℕ) → j < 2 → s d j ≡ v .slot d j
   first j l = R .still j (λ e. omega (arith, R .later)) (λ e. omega (arith, R .other-later))
@@ -194,3 +187,23 @@ module _ (v : Tree) (s : ℕ → ℕ → DiskEntry) (d k other : ℕ) (I : Tidy 
 
   pub retitled-tidy : Tidy (withSlots v s)
   retitled-tidy = titled-tidy v s (R .ids) (R .kinds) I folders
+
+-- the slot that goes may have been another
+pub unnames-slots : (v x : Tree) (s m : ℕ → ℕ → DiskEntry) (d c k : ℕ) → ((i j : ℕ) → (i ≡ d → j ≢ k) → s i j ≡ m i j) → Unnames (withSlots v m) x d c k → Unnames (withSlots v s) x d c k
+unnames-slots v x s m d c k like R = record {
+  ids = R .ids;
+  node = R .node;
+  kind = R .kind;
+  opened = R .opened;
+  slots = λ i f n j l. R .slots i f n j l ∙ sym (like i j (λ e. absurd (n e)));
+  blocks = R .blocks;
+  long = R .long;
+  still = λ j l n. R .still j l n ∙ sym (like d j (λ e. n));
+  moved = λ l. R .moved l ∙ sym (like d (v .blocks d - 1) (λ e z. omega arith));
+  fewer = R .fewer;
+  shorter = R .shorter;
+  links = R .links;
+  child = R .child;
+  own = R .own;
+  held = R .held;
+}
