@@ -1,9 +1,9 @@
 -- A slot is written over a slot of a file that it lies in: other slots, every file's length and the metadata are as they were.
 use mathlib.Core.Path.{_≡_, refl, sym, ap, _∙_, subst}
-use mathlib.Core.Bool.{Bool, true, false}
+use mathlib.Core.Bool.{true, false}
 use mathlib.Core.List.{List}
 use mathlib.Core.Logic.{_≢_, ⊎-elim}
-use Prim.Native.Nat.{ℕ, _+_, _*_, _≤_, _<_, max}
+use Prim.Native.Nat.{ℕ, _+_, _*_, _≤_, _<_}
 use native.Mathlib.Omega.{arith}
 use lib.ListN.{length}
 use Rattle.base.specs.Out.{Ok, went}
@@ -26,9 +26,9 @@ use Rattle.sefs.specs.Meta.{metaFile}
 use Rattle.sefs.specs.State.{Fs, withArena}
 use Rattle.sefs.specs.Nodes.{nodeFile, recAt}
 use Rattle.sefs.specs.Folders.{putSlot}
-use Rattle.rules.specs.Image.{run, recOf, isOpen, slotIn}
+use Rattle.rules.specs.Image.{recOf, isOpen, slotIn}
 use Rattle.sequences.proofs.Metas.{kept-same}
-use Rattle.sequences.proofs.Trees.{Tree, treeOf}
+use Rattle.sequences.proofs.Trees.{treeOf}
 use Rattle.sequences.proofs.Resets.{recs-kept, nodes-kept, ids-kept}
 use Rattle.sequences.proofs.Appends.{file-apart, slot-kept, slot-put, entry-long, put-meta, slot-new}
 use Rattle.sequences.proofs.Renaming.{withSlots}

@@ -1,18 +1,17 @@
 -- A move inside one folder: a slot gets another name; where a node is replaced, its slot goes as in unlink; then the folder's record is stored.
 use mathlib.Core.Path.{_≡_, refl, sym, ap, _∙_, subst}
-use mathlib.Core.Bool.{Bool, true, false, not}
-use mathlib.Core.List.{List, [], _∷_}
-use mathlib.Core.Logic.{_≢_, _⊎_, inl, inr, ⊎-elim}
+use mathlib.Core.Bool.{true}
+use mathlib.Core.List.{List}
+use mathlib.Core.Logic.{_≢_, ⊎-elim}
 use Prim.Native.Nat.{ℕ, _+_, _*_, _-_, _≤_, _<_}
 use native.Mathlib.Omega.{arith}
 use lib.ListN.{length}
 use Rattle.base.specs.Count.{bit}
-use Rattle.base.specs.Out.{Out, done, bind, Ok, went}
+use Rattle.base.specs.Out.{done, bind, Ok, went}
 use Rattle.base.specs.Search.{upd}
 use Rattle.base.proofs.Outs.{ok-bind, ok-weaken, above-zero}
-use Rattle.base.proofs.Bools.{and-both, true-false}
+use Rattle.base.proofs.Bools.{and-both}
 use Rattle.base.proofs.Finds.{eq-cases}
-use Rattle.base.proofs.Numbers.{lt-or-le}
 use Rattle.base.proofs.Sames.{decided-yes}
 use Rattle.base.proofs.Searches.{upd-same, upd-other}
 use Rattle.base.proofs.Tests.{decides-leb}
@@ -37,7 +36,7 @@ use Rattle.sefs.specs.State.{Fs, withArena}
 use Rattle.sefs.specs.Meta.{metaFile}
 use Rattle.sefs.specs.Nodes.{nodeFile, recAt, idAt, syncRow}
 use Rattle.sefs.specs.Slots.{Slot, slotBytes}
-use Rattle.sefs.specs.Folders.{putSlot, direntNodeRemove}
+use Rattle.sefs.specs.Folders.{direntNodeRemove}
 use Rattle.sefs.specs.Create.{After, after}
 use Rattle.sefs.specs.Move.{Replaced, none, node, renamed, removeReplaced, moveWithin}
 use Rattle.rules.specs.Image.{run, isNode, recOf, isOpen, isFolderAt, slotIn}
@@ -53,13 +52,13 @@ use Rattle.sequences.proofs.Stores.{Midway, midway-passed, sync-mid, fi
 use Rattle.sequences.proofs.Drops.{mid-rec, super-kept, maps-kept, stored-kept}
 use Rattle.sequences.proofs.Resets.{recs-kept, nodes-kept, fair-tidy, fair-by-tree}
 use Rattle.sequences.proofs.Appends.{entry-bytes, put-meta, put-there, slot-new}
-use Rattle.sequences.proofs.NewNames.{NewName, entry-fits}
+use Rattle.sequences.proofs.NewNames.{entry-fits}
 use Rattle.sequences.proofs.Removes.{Gone}
 use Rattle.sequences.proofs.Unlinks.{Less, gone-tree, unnamed-mid, removes}
 use Rattle.sequences.proofs.UnlinkCalls.{row-open, named-links}
 use Rattle.sequences.proofs.Renaming.{withSlots, Title, Retitles, retitled-tidy, unnames-slots}
-use Rattle.sequences.proofs.Renames.{long-same, slot-else, slot-field, tree-slots, Overwritten, overwrite-law}
-use Rattle.sequences.proofs.Moving.{owns, LiveFolder, Replaces, Onto, Moving}
+use Rattle.sequences.proofs.Renames.{long-same, slot-else, slot-field, tree-slots, overwrite-law}
+use Rattle.sequences.proofs.Moving.{owns, Replaces, Moving}
 
 module _ (s : Fs) (i : ℕ) (old : Slot) (name : List ℕ) (r : Replaced) (H : Moving s i i old name r) where
   abbrev a : List ℕ
