@@ -28,8 +28,9 @@ use Rattle.sefs.specs.Slots.{Slot, slotAt, findSlot}
 use Rattle.sefs.specs.Ask.{start, known}
 use Rattle.sefs.specs.Create.{After, after}
 use Rattle.sefs.specs.Move.{Replaced, none, node, moveWithin, moveBetween, moveSteps, moveOnto, replace}
+use Rattle.rules.specs.Image as image
 use Rattle.rules.specs.Image.{isNode, recOf, slotIn}
-use Rattle.rules.specs.Rules.{Allowed, Folder, Later}
+use Rattle.rules.specs.Rules.{Allowed}
 use Rattle.sequences.specs.Pairs.{pair, Passed}
 use Rattle.sequences.proofs.Passing.{Fine, Used, row-rec, row-folder, slot-is}
 use Rattle.sequences.proofs.Looks.{ensure-yes}
@@ -39,7 +40,8 @@ use Rattle.sequences.proofs.Opens.{meta-is}
 use Rattle.sequences.proofs.Stores.{Midway, passed-midway}
 use Rattle.sequences.proofs.Drops.{mid-rec}
 use Rattle.sequences.proofs.NewNames.{NewName}
-use Rattle.sequences.proofs.UnlinkCalls.{later-place, named-links, row-hit}
+use Rattle.sequences.proofs.UnlinkCalls.{later-place, row-hit}
+use Rattle.sequences.proofs.Movings.{named-links, live-later, live-named}
 use Rattle.sequences.proofs.Takes.{Gets, Got, get-law, get-more}
 use Rattle.sequences.proofs.Moving.{owns, LiveFolder, Replaces, Onto, Moving}
 use Rattle.sequences.proofs.Withins.{within-law}
@@ -61,22 +63,15 @@ module _ (between : Between) (a : List ℕ) (t : Table) (A : Allowed a t) (y : P
   abbrev Q : After → Type 0
   Q x = C → Passed (pair (x .arena) (x .table))
 
-  -- a folder's row, and its slots
-  folder-at : (k : ℕ) → LiveFolder (start a t) k → Folder a t (rowAt t k .id)
-  folder-at k l = A .rule6 .folder (rowAt t k .id) (row-folder a t A k (l .used) (l .folder))
-
+  -- a slot with a plain name is a later one, and names a node
   place : (k : ℕ) → LiveFolder (start a t) k → (l : List ℕ) → isSpecial l ≡ false → (m : ℕ) → isNamed (slotIn a (rowAt t k .rec) m .name) l ≡ true → 2 ≤ m
-  place k f l sp m e = later-place a t (rowAt t k .id) (folder-at k f) l sp m (ap (λ (r : DiskINode). isNamed (slotIn a r m .name) l) (row-rec a t A k (f .used)) ∙ e)
+  place k f l sp m e = later-place a t (rowAt t k .id) (A .rule6 .folder (rowAt t k .id) (row-folder a t A k (f .used) (f .folder))) l sp m (ap (λ (r : DiskINode). isNamed (slotIn a r m .name) l) (row-rec a t A k (f .used)) ∙ e)
 
-  later-at : (k : ℕ) → LiveFolder (start a t) k → (m : ℕ) → 2 ≤ m → m < rowAt t k .rec .blocks → Later a t (slotIn a (rowAt t k .rec) m)
-  later-at k f m x l = subst (λ (r : DiskINode). m < r .blocks → Later a t (slotIn a r m)) (row-rec a t A k (f .used)) (folder-at k f .later m x) l
-
-  -- the slot that moves names a node
-  hit-later : (e : Slot) → Hit a (rowAt t i .rec) old e → Later a t (e .entry)
-  hit-later e h = subst (Later a t) (sym (h .is)) (later-at i from (e .place) (place i from old plain-old (e .place) (h .named)) (h .inside))
+  node-at : (k : ℕ) → LiveFolder (start a t) k → (m : ℕ) → 2 ≤ m → m < rowAt t k .rec .blocks → isNode a (slotIn a (rowAt t k .rec) m .id) ≡ true
+  node-at k f m x l = live-later (start a t) (passed-midway a t y) k f m x l .node
 
   hit-node : (e : Slot) → Hit a (rowAt t i .rec) old e → isNode a (e .entry .id) ≡ true
-  hit-node e h = hit-later e h .node
+  hit-node e h = ap (λ (x : DiskEntry). isNode a (x .id)) (h .is) ∙ node-at i from (e .place) (place i from old plain-old (e .place) (h .named)) (h .inside)
 
   hits : Ok (λ (e : Slot). Hit a (rowAt t i .rec) old e × (findSlot a (rowAt t i .rec) old ≡ done e)) Fine (findSlot a (rowAt t i .rec) old)
   hits = ok-own (row-hit a t A (y .typed .bytes) i (from .used) (from .folder) old)
@@ -137,7 +132,7 @@ module _ (between : Between) (a : List ℕ) (t : Table) (A : Allowed a t) (y : P
     later = place j to name plain k named
 
     node-d : isNode a idd ≡ true
-    node-d = later-at j to k later inside .node
+    node-d = node-at j to k later inside
 
     has-name : nameOf (slotIn a (rowAt t j .rec) k .name) ≡ name
     has-name =
@@ -147,6 +142,7 @@ module _ (between : Between) (a : List ℕ) (t : Table) (A : Allowed a t) (y : P
     row-is : {own : ℕ → Type 0} (u : Table) → Midway own a u → (d : ℕ) → Used u d → (id : ℕ) → rowAt u d .id ≡ id → recOf a u id ≡ recOf a t id → rowAt u d .rec ≡ recOf a t id
     row-is u M d w id q e = sym (mid-rec a u (M .formed) d w) ∙ ap (recOf a u) q ∙ e
 
+    -- both nodes are open
     module _ (e : Slot) (hit : Hit a (rowAt t i .rec) old e) (found : findSlot a (rowAt t i .rec) old ≡ done e) (o : Opened) (D : Got a t (slotIn a (rowAt t j .rec) k .id) o)
         (w : Opened) (W : Gets (rows.also rows.none (D .row)) a (D .table) (e .entry .id) w) where
       abbrev d : ℕ
@@ -170,16 +166,15 @@ module _ (between : Between) (a : List ℕ) (t : Table) (A : Allowed a t) (y : P
       rec-c : rowAt u c .rec ≡ recOf a t (e .entry .id)
       rec-c = row-is u (W .mid) c (W .used) (e .entry .id) (W .same) (W .recs (e .entry .id) (hit-node e hit) ∙ D .recs (e .entry .id) (hit-node e hit))
 
+      -- the node that moves has links, so its opening ends with nothing stored
       links : rowAt u c .rec .nlinks ≢ 0
       links z =
-          let f = row-folder a t A i (from .used) (from .folder) in
-          let r = row-rec a t A i (from .used) in
           omega (
             arith,
             z,
             ap (λ (x : DiskINode). x .nlinks) rec-c,
-            named-links a t (fair a t A) (rowAt t i .id) (e .place) (e .entry .id) f (place i from old plain-old (e .place) (hit .named)) (omega (arith, hit .inside, ap (λ (x : DiskINode). x .blocks) r))
-                (ap (λ (x : DiskINode). slotIn a x (e .place) .id) r ∙ ap (λ (x : DiskEntry). x .id) (sym (hit .is))) (hit-node e hit),
+            named-links a t (fair a t A) (e .entry .id) (hit-node e hit) (subst (λ (x : DiskEntry). 1 ≤ image.named a t (x .id)) (sym (hit .is))
+                (live-named (start a t) (passed-midway a t y) i from (e .place) (place i from old plain-old (e .place) (hit .named)) (hit .inside))),
           )
 
       replaces : e .entry .id ≢ idd → (x : Fs) (E : Ended a t d idd x) → isFolder (rowAt u c .rec .kind) ≡ isFolder (rowAt u d .rec .kind)
@@ -208,6 +203,7 @@ module _ (between : Between) (a : List ℕ) (t : Table) (A : Allowed a t) (y : P
           (rw (ap (λ (z : Row). findSlot a (z .rec) old) (E .rows i (from .used)) ∙ found)
           (either (node d k) (E .table) (E .mid) (E .rows i (from .used)) (E .rows j (to .used)) (E .recs) e hit found (replaces apart x E (J .kinds) (J .small)))))
 
+      -- the same node: nothing changes
       both : Ok Q Fine (pick (eqb (e .entry .id) idd) (done (after (start a t))) (moveOnto (start a u) i j old name c d k))
       both = go (eqb (e .entry .id) idd) refl
         where
@@ -218,7 +214,7 @@ module _ (between : Between) (a : List ℕ) (t : Table) (A : Allowed a t) (y : P
     pub node-law : Ok (λ (x : After). C → Passed (pair (x .arena) (x .table))) Fine (replace (start a t) i j old name k)
     unfolding replace
     node-law =
-        rw (is-slot)
+        rw is-slot
         (ok-bind hits λ e h.
         ok-bind (get-law a t (passed-midway a t y) idd node-d) λ o D.
         subst (λ (z : Opened). Ok Q Fine (bind (getNode (z .state) (e .entry .id)) (λ c. bind (known (recAt (c .state) (c .row))) (λ _. bind (known (recAt (c .state) (z .row)))

@@ -10,26 +10,22 @@ use Rattle.base.specs.Count.{bit}
 use Rattle.base.specs.Out.{done, bind, Ok, went}
 use Rattle.base.specs.Search.{upd}
 use Rattle.base.proofs.Outs.{ok-bind, ok-weaken, above-zero}
-use Rattle.base.proofs.Bools.{and-both}
 use Rattle.base.proofs.Finds.{eq-cases}
-use Rattle.base.proofs.Sames.{decided-yes}
 use Rattle.base.proofs.Searches.{upd-same, upd-other}
-use Rattle.base.proofs.Tests.{decides-leb}
 use Rattle.le.specs.Le.{Bytes}
 use Rattle.structs.specs.Fits.{EntryFits}
 use Rattle.structs.specs.Layout.{entryBytes}
 use Rattle.structs.specs.Verdict.{isFolder}
 use Rattle.structs.specs.declared.DiskINode.{DiskINode}
 use Rattle.structs.specs.declared.DiskEntry.{DiskEntry}
-use Rattle.utf8.specs.Names.{nameOf, nameBytes, EndedAt}
-use Rattle.utf8.proofs.Names.{zeroAt-nameBytes, nameOf-nameBytes, stored-nameBytes, stored-says, not-special}
+use Rattle.utf8.specs.Names.{nameOf, nameBytes}
+use Rattle.utf8.proofs.Names.{not-special}
 use Rattle.arena.specs.Fields.{file}
 use Rattle.table.specs.declared.Table.{Table}
 use Rattle.table.specs.Table.{rowAt}
 use Rattle.table_laws.specs.Rules as rows
 use Rattle.sound.specs.Sound.{sound}
 use Rattle.files.specs.Read.{there, lengthOf}
-use Rattle.files.proofs.Runs.{read-done}
 use Rattle.files_laws.specs.Laws.{Put, Kept}
 use Rattle.files_laws.proofs.Bounds.{legal-same}
 use Rattle.sefs.specs.State.{Fs, withArena}
@@ -39,9 +35,7 @@ use Rattle.sefs.specs.Slots.{Slot, slotBytes}
 use Rattle.sefs.specs.Folders.{direntNodeRemove}
 use Rattle.sefs.specs.Create.{After, after}
 use Rattle.sefs.specs.Move.{Replaced, none, node, renamed, removeReplaced, moveWithin}
-use Rattle.rules.specs.Image.{run, isNode, recOf, isOpen, isFolderAt, slotIn}
-use Rattle.rules.specs.Rules.{Folder, Later}
-use Rattle.rules.proofs.Files.{node-below}
+use Rattle.rules.specs.Image.{run, isNode, recOf, isOpen, slotIn, named}
 use Rattle.sequences.specs.Pairs.{pair, Passed}
 use Rattle.sequences.proofs.Passing.{Fine, Used}
 use Rattle.sequences.proofs.Opens.{metaIn}
@@ -52,13 +46,15 @@ use Rattle.sequences.proofs.Stores.{Midway, midway-passed, sync-mid, fi
 use Rattle.sequences.proofs.Drops.{mid-rec, super-kept, maps-kept, stored-kept}
 use Rattle.sequences.proofs.Resets.{recs-kept, nodes-kept, fair-tidy, fair-by-tree}
 use Rattle.sequences.proofs.Appends.{entry-bytes, put-meta, put-there, slot-new}
-use Rattle.sequences.proofs.NewNames.{entry-fits}
 use Rattle.sequences.proofs.Removes.{Gone}
 use Rattle.sequences.proofs.Unlinks.{Less, gone-tree, unnamed-mid, removes}
-use Rattle.sequences.proofs.UnlinkCalls.{row-open, named-links}
+use Rattle.sequences.proofs.UnlinkCalls.{row-open}
 use Rattle.sequences.proofs.Renaming.{withSlots, Title, Retitles, retitled-tidy, unnames-slots}
 use Rattle.sequences.proofs.Renames.{long-same, slot-else, slot-field, tree-slots, overwrite-law}
 use Rattle.sequences.proofs.Moving.{owns, Replaces, Moving}
+use Rattle.sequences.proofs.Movings.{slot-read, named-links, live-rec, live-node, live-lives, live-there, live-long, live-kind, live-named, moves-fits, moves-ended, moves-name}
+
+-- ---- the slot has its new name
 
 module _ (s : Fs) (i : ℕ) (old : Slot) (name : List ℕ) (r : Replaced) (H : Moving s i i old name r) where
   abbrev a : List ℕ
@@ -82,63 +78,41 @@ module _ (s : Fs) (i : ℕ) (old : Slot) (name : List ℕ) (r : Replaced) (H : M
   A : Fair a t
   A = H .mid .fair
 
-  ui : Used t i
-  ui = H .from .used
-
   rec-d : recOf a t d ≡ ri
-  rec-d = mid-rec a t (H .mid .formed) i ui
-
-  node-d : isNode a d ≡ true
-  node-d = A .rule4 .node i (ui .below) (ui .node)
-
-  tree-d : folderAt (treeOf a t) d ≡ true
-  tree-d = and-both node-d (ap (λ (x : DiskINode). isFolder (x .kind)) rec-d ∙ H .from .folder)
-
-  folder-d : isFolderAt a t d ≡ true
-  unfolding isFolderAt
-  folder-d = tree-d
-
-  F : Folder a t d
-  F = A .rule6 .folder d folder-d
+  rec-d = live-rec s (H .mid) i (H .from)
 
   blocks-d : recOf a t d .blocks ≡ ri .blocks
   blocks-d = ap (λ (x : DiskINode). x .blocks) rec-d
 
-  is-there : there a (nodeFile ri) ≡ true
-  is-there = ap (λ (x : DiskINode). there a (nodeFile x)) (sym rec-d) ∙ A .rule5 .own d node-d
+  node-d : isNode a d ≡ true
+  node-d = live-node s (H .mid) i (H .from)
 
-  long-d : lengthOf a (nodeFile ri) ≡ 264 * ri .blocks
-  long-d = ap (λ (x : DiskINode). lengthOf a (nodeFile x)) (sym rec-d) ∙ F .length ∙ ap (λ (n : ℕ). 264 * n) blocks-d
+  tree-d : folderAt (treeOf a t) d ≡ true
+  tree-d = live-lives s (H .mid) i (H .from) .folder
 
-  later-slot : (k : ℕ) → 2 ≤ k → k < ri .blocks → Later a t (slotIn a ri k)
-  later-slot k x y = subst (λ (z : DiskINode). Later a t (slotIn a z k)) rec-d (F .later k x (omega (arith, blocks-d)))
+  is-there : there a (file 1 (ri .file)) ≡ true
+  is-there = live-there s (H .mid) i (H .from)
 
-  L : Later a t (old .entry)
-  L = subst (Later a t) (sym (H .is)) (later-slot pl (H .later) (H .inside))
-
-  kind-most : (k : ℕ) → 2 ≤ k → k < ri .blocks → slotIn a ri k .kind ≤ 4
-  kind-most k x y = let N = later-slot k x y in omega (arith, N .kind, A .rule5 .most (slotIn a ri k .id) (N .node))
+  long-d : lengthOf a (file 1 (ri .file)) ≡ 264 * ri .blocks
+  long-d = live-long s (H .mid) i (H .from)
 
   fits : EntryFits e
-  fits =
-      entry-fits (old .entry .id) name (old .entry .kind) (omega (arith, node-below a (old .entry .id) (L .node), A .rule3 .few))
-      (omega (arith, L .kind, A .rule5 .most (old .entry .id) (L .node))) (H .short) (H .bytes)
+  fits = moves-fits s i i old name r H
 
   room : 264 * pl + 264 ≤ lengthOf a (file 1 (ri .file))
   room = omega (arith, long-d, H .inside)
 
   title : Title (nameBytes name)
   title =
-      let q : nameOf (nameBytes name) ≡ name = nameOf-nameBytes name (H .good) (H .short) in
+      let q : nameOf (nameBytes name) ≡ name = moves-name s i i old name r H in
       let n = not-special name (H .plain) in
       record {
-        ended = subst (EndedAt (nameBytes name)) (sym (zeroAt-nameBytes name (H .good) (H .short))) (stored-says (nameBytes name) (length name) (stored-nameBytes name (H .good) (H .short)));
+        ended = moves-ended s i i old name r H;
         some = λ z. n .0 (ap length (sym q ∙ z));
         no-dot = λ z. n .1 .0 (sym q ∙ z);
         no-dots = λ z. n .1 .1 (sym q ∙ z);
       }
 
-  -- the slot with its new name is stored
   module _ (b : List ℕ) (P : Put (s .arena) (nodeFile (recAt s i)) (264 * old .place) (entryBytes (renamed (old .entry) name)) b) where
     abbrev here : ℕ → ℕ → DiskEntry
     here x j = slotIn b (recOf b t x) j
@@ -149,10 +123,12 @@ module _ (s : Fs) (i : ℕ) (old : Slot) (name : List ℕ) (r : Replaced) (H : M
     recs : (x : ℕ) → recOf b t x ≡ recOf a t x
     recs = recs-kept a b t K
 
+    -- every slot keeps its id and its type
     same-field : {X : Type 0} (q : DiskEntry → X) → q e ≡ q (old .entry) → (x j : ℕ) → q (here x j) ≡ q (slotIn a (recOf a t x) j)
     same-field q h x j =
         slot-field a (ri .file) pl e fits is-there room b P q ri refl (h ∙ ap q (H .is)) (recOf b t x) j ∙ ap (λ (z : DiskINode). q (slotIn a z j)) (recs x)
 
+    -- every other slot is as it was
     slot-other : (x j : ℕ) → (recOf a t x .file ≡ ri .file → j ≢ pl) → here x j ≡ slotIn a (recOf a t x) j
     slot-other x j n =
         slot-else a (ri .file) pl e fits is-there room b P (recOf b t x) j (λ z. n (ap (λ (y : DiskINode). y .file) (sym (recs x)) ∙ z)) ∙ ap (λ (z : DiskINode). slotIn a z j) (recs x)
@@ -163,6 +139,7 @@ module _ (s : Fs) (i : ℕ) (old : Slot) (name : List ℕ) (r : Replaced) (H : M
     not-file : (x : ℕ) → folderAt (treeOf a t) x ≡ true → x ≢ d → recOf a t x .file ≢ ri .file
     not-file x f n q = n (A .rule5 .distinct x d (folder-is (treeOf a t) x f) node-d (q ∙ ap (λ (z : DiskINode). z .file) (sym rec-d)))
 
+    -- slots that are those of the image, but that one may have another name
     module _ (slots : ℕ → ℕ → DiskEntry) (other : ℕ) (is-later : 2 ≤ other) (apart : other ≢ pl)
         (same : (x j : ℕ) → (x ≡ d → j ≢ other) → slots x j ≡ here x j)
         (id : slots d other .id ≡ here d other .id) (kind : slots d other .kind ≡ here d other .kind)
@@ -205,45 +182,37 @@ module _ (s : Fs) (i : ℕ) (old : Slot) (name : List ℕ) (r : Replaced) (H : M
     there-same : (g : List ℕ) → there b (file 1 g) ≡ there a (file 1 g)
     there-same = put-there a (ri .file) pl e fits is-there b P
 
-    -- no other has the name
+    -- where no other has the name, that is all
     pub renamed-mid : ((j : ℕ) → 2 ≤ j → j < recAt s i .blocks → nameOf (slotIn (s .arena) (recAt s i) j .name) ≢ nameOf (nameBytes name)) → Midway (owns r) b (s .table)
-    renamed-mid fresh =
-        record {
-          fair = fair-by-tree a b t t A
-              (record { length = legal-same a b (P .size) ∙ A .rule1 .length; sound = sounds })
-              K there-same (λ j. refl) (A .rule4 .clean) (λ x n. ap (λ (z : DiskINode). z .kind) (recs x)) (λ x n. ap (λ (z : DiskINode). z .file) (recs x))
-              (subst Tidy (sym (tree-slots a (ri .file) pl e fits is-there room b P t))
-              (retitled-tidy (treeOf a t) here d pl (ri .blocks) (fair-tidy a t A) tree-d
-              (retitles here (ri .blocks) (omega (arith, H .inside, H .later)) (λ z. omega (arith, H .inside)) (λ x j n. refl) refl refl (λ l. absurd (omega (arith, blocks-d))) (λ j x y n. fresh j x y))));
-          formed = H .mid .formed;
-          bytes = bytes;
-          fits = H .mid .fits;
-        }
+    renamed-mid fresh = record {
+      fair = fair-by-tree a b t t A
+          (record { length = legal-same a b (P .size) ∙ A .rule1 .length; sound = sounds })
+          K there-same (λ j. refl) (A .rule4 .clean) (λ x n. ap (λ (z : DiskINode). z .kind) (recs x)) (λ x n. ap (λ (z : DiskINode). z .file) (recs x))
+          (subst Tidy (sym (tree-slots a (ri .file) pl e fits is-there room b P t))
+          (retitled-tidy (treeOf a t) here d pl (ri .blocks) (fair-tidy a t A) tree-d
+          (retitles here (ri .blocks) (omega (arith, H .inside, H .later)) (λ z. omega (arith, H .inside)) (λ x j n. refl) refl refl (λ l. absurd (omega (arith, blocks-d))) (λ j x y n. fresh j x y))));
+      formed = H .mid .formed;
+      bytes = bytes;
+      fits = H .mid .fits;
+    }
 
     metas : s .meta ≡ done (metaIn b)
     metas = H .meta ∙ λ x. done (record { super = sym (super-kept a b K) x; maps = sym (maps-kept a b K) x })
 
     last : slotBytes b ri (ri .blocks - 1) ≡ done (run b (nodeFile ri) (264 * (ri .blocks - 1)) 264)
-    unfolding slotBytes slotIn
     last =
-        rw (
-          read-done b (nodeFile ri) (264 * (ri .blocks - 1)) 264 (there-same (ri .file) ∙ is-there) (omega (arith, long-same a (ri .file) pl e fits is-there room b P (ri .file), long-d, H .inside)),
-          decided-yes (decides-leb (slotIn b ri (ri .blocks - 1) .kind) 4)
-              (omega (
-                arith,
-                slot-field a (ri .file) pl e fits is-there room b P (λ z. z .kind) ri refl (ap (λ (z : DiskEntry). z .kind) (H .is)) ri (ri .blocks - 1),
-                kind-most (ri .blocks - 1) (omega (arith, H .inside, H .later)) (omega (arith, H .inside)),
-              )),
-        )
+        slot-read b ri (ri .blocks - 1) (there-same (ri .file) ∙ is-there) (omega (arith, long-same a (ri .file) pl e fits is-there room b P (ri .file), long-d, H .inside))
+        (omega (
+          arith,
+          slot-field a (ri .file) pl e fits is-there room b P (λ z. z .kind) ri refl (ap (λ (z : DiskEntry). z .kind) (H .is)) ri (ri .blocks - 1),
+          live-kind s (H .mid) i (H .from) (ri .blocks - 1) (omega (arith, H .inside, H .later)) (omega (arith, H .inside)),
+        ))
 
 -- ---- with a node that is replaced
 
 module _ (s : Fs) (i : ℕ) (old : Slot) (name : List ℕ) (c k : ℕ) (H : Moving s i i old name (node c k)) where
   R : Replaces s i old name c k
   R = H .onto
-
-  named : isNode (s .arena) (idAt s c) ≡ true
-  named = H .mid .fair .rule4 .node c (R .used .below) (R .used .node)
 
   rec-c : recOf (s .arena) (s .table) (idAt s c) ≡ recAt s c
   rec-c = mid-rec (s .arena) (s .table) (H .mid .formed) c (R .used)
@@ -261,7 +230,8 @@ module _ (s : Fs) (i : ℕ) (old : Slot) (name : List ℕ) (c k : ℕ) (H : Movi
   links : 1 + bit (isFolder (recAt s c .kind)) ≤ recAt s c .nlinks
   links =
       subst (λ (x : DiskINode). 1 + bit (isFolder (x .kind)) ≤ x .nlinks) rec-c
-      (named-links (s .arena) (s .table) (H .mid .fair) (idAt s i) k (idAt s c) (folder-d s i old name (node c k) H) (R .later) inside (ap (λ (z : DiskEntry). z .id) (slots-d k) ∙ R .names) named)
+      (named-links (s .arena) (s .table) (H .mid .fair) (idAt s c) (H .mid .fair .rule4 .node c (R .used .below) (R .used .node))
+      (subst (λ (x : ℕ). 1 ≤ named (s .arena) (s .table) x) (R .names) (live-named s (H .mid) i (H .from) k (R .later) (R .inside))))
 
   places : k ≢ old .place
   places q = R .apart (sym (R .names) ∙ ap (λ (x : ℕ). slotIn (s .arena) (recAt s i) x .id) q ∙ ap (λ (z : DiskEntry). z .id) (sym (H .is)))
@@ -269,7 +239,7 @@ module _ (s : Fs) (i : ℕ) (old : Slot) (name : List ℕ) (c k : ℕ) (H : Movi
   -- with any slots, it may go where it names the node
   may : (slots : ℕ → ℕ → DiskEntry) → slots (idAt s i) k .id ≡ idAt s c → MayGo (withSlots (treeOf (s .arena) (s .table)) slots) (idAt s i) (idAt s c) k
   may slots e = record {
-    lives = record { folder = tree-d s i old name (node c k) H; links = λ z. H .from .links (ap (λ (x : DiskINode). x .nlinks) (sym (rec-d s i old name (node c k) H)) ∙ z) };
+    lives = let l = live-lives s (H .mid) i (H .from) in record { folder = l .folder; links = l .links };
     later = R .later;
     inside = inside;
     names = e;
@@ -280,9 +250,11 @@ module _ (s : Fs) (i : ℕ) (old : Slot) (name : List ℕ) (c k : ℕ) (H : Movi
   distinct j x y n z =
       names-differ (treeOf (s .arena) (s .table)) (idAt s i) (fair-tidy (s .arena) (s .table) (H .mid .fair) .folder (idAt s i) (tree-d s i old name (node c k) H)) j k n x (R .later)
       (omega (arith, blocks-d s i old name (node c k) H)) inside
-      (ap (λ (e : DiskEntry). nameOf (e .name)) (slots-d j) ∙ z ∙ nameOf-nameBytes name (H .good) (H .short) ∙ sym (R .named) ∙ ap (λ (e : DiskEntry). nameOf (e .name)) (sym (slots-d k)))
+      (ap (λ (e : DiskEntry). nameOf (e .name)) (slots-d j) ∙ z ∙ moves-name s i i old name (node c k) H ∙ sym (R .named) ∙ ap (λ (e : DiskEntry). nameOf (e .name)) (sym (slots-d k)))
 
   module _ (b : List ℕ) (P : Put (s .arena) (nodeFile (recAt s i)) (264 * old .place) (entryBytes (renamed (old .entry) name)) b) where
+    -- Two slots have the name now, so the image's tree is not tidy. With the old name for the slot that goes it would be, and what is left then is
+    -- the same.
     abbrev m : Tree
     m = treeOf b (s .table)
 
