@@ -1,0 +1,123 @@
+-- The call of move: what it asks before its steps. A move that is done from one folder to another is of no folder, as the promise says.
+use mathlib.Core.Path.{_≡_, sym, _∙_, subst}
+use mathlib.Core.Bool.{Bool, true, false, not, _&&_}
+use mathlib.Core.List.{List}
+use mathlib.Core.Logic.{_≢_}
+use Prim.Native.Nat.{ℕ, _≤_, _<_}
+use native.Mathlib.Omega.{arith}
+use lib.Dec.{eqb, leb}
+use lib.ListN.{length}
+use borrow.Author.Tests.{ne-eqb, not-true}
+use Rattle.base.specs.Out.{Out, done, bind, kept, Ok, went, said, _>>=_}
+use Rattle.base.proofs.Outs.{ok-bind, ok-weaken}
+use Rattle.base.proofs.Bools.{true-T}
+use Rattle.base.proofs.Finds.{search-at}
+use Rattle.base.proofs.Tests.{decides-leb}
+use Rattle.base.specs.Search.{lowest, foundBelow}
+use Rattle.base.specs.declared.Found.{Found}
+use Rattle.base.specs.declared.Found.the-variants.{At, Nothing}
+use Rattle.le.specs.Le.{Bytes}
+use Rattle.structs.specs.Verdict.{isFolder}
+use Rattle.structs.specs.declared.DiskINode.{DiskINode}
+use Rattle.utf8.specs.Names.{GoodName, isNamed, isSpecial, nameVerdict, earlyReason}
+use Rattle.table.specs.declared.Table.{Table}
+use Rattle.table.specs.declared.Handle.{Handle}
+use Rattle.table.specs.Table.{rowAt, liveRow}
+use Rattle.sefs.specs.Slots.{Slot, lookup, findSlot}
+use Rattle.sefs.specs.Ask.{start, byHandle}
+use Rattle.sefs.specs.Create.{After}
+use Rattle.sefs.specs.Move.{moveTo, callMove}
+use Rattle.rules.specs.Image.{recOf, slotIn}
+use Rattle.rules.specs.Rules.{Allowed}
+use Rattle.sequences.specs.Pairs.{Pair, pair, Passed}
+use Rattle.sequences.specs.Calls.{move, does, moves}
+use Rattle.sequences.specs.Promises.{Plain, Well}
+use Rattle.sequences.proofs.Steps.{says-ensure}
+use Rattle.sequences.proofs.Passing.{Fine, fine, allowed, well, says-is, ok-is, Used, Reaches, admitted, handle-law, row-rec, row-folder}
+use Rattle.sequences.proofs.Looks.{ensure-asks}
+use Rattle.sequences.proofs.Finds.{lookup-is}
+use Rattle.sequences.proofs.NewNames.{good-name, NewName, new-name}
+use Rattle.sequences.proofs.Links.{live-folder}
+use Rattle.sequences.proofs.Moving.{LiveFolder}
+use Rattle.sequences.proofs.MoveSteps.{Between, none-law, node-law}
+
+-- whether the old name leads to a folder, of another folder than the target
+abbrev carried : Pair → Handle → List ℕ → Handle → Out Bool
+carried p h old target = do
+  i ← byHandle (p .table) h
+  j ← byHandle (p .table) target
+  s ← findSlot (p .arena) (rowAt (p .table) i .rec) old
+  done (not (eqb (rowAt (p .table) i .id) (rowAt (p .table) j .id)) && isFolder (recOf (p .arena) (p .table) (s .entry .id) .kind))
+
+-- where it does not, what moves between two folders is no folder
+not-carried : (p : Pair) (h : Handle) (old : List ℕ) (target : Handle) (i j : ℕ) → liveRow (p .table) h ≡ At i → liveRow (p .table) target ≡ At j
+    → (e : Slot) → findSlot (p .arena) (rowAt (p .table) i .rec) old ≡ done e → rowAt (p .table) i .id ≢ rowAt (p .table) j .id
+    → kept false (carried p h old target) ≡ false → isFolder (recOf (p .arena) (p .table) (e .entry .id) .kind) ≡ false
+not-carried p h old target i j u v e f n z =
+    let q : kept false (carried p h old target) ≡ isFolder (recOf (p .arena) (p .table) (e .entry .id) .kind) = rw (u, v, f, ne-eqb (rowAt (p .table) i .id) (rowAt (p .table) j .id) n) in
+    sym q ∙ z
+
+-- what a lookup tells
+data Looked (a : List ℕ) (r : DiskINode) (name : List ℕ) : Found → Type 0 where
+  here : (k : ℕ) → k < r .blocks → isNamed (slotIn a r k .name) name ≡ true → Looked a r name (At k)
+  new : NewName a r name → Looked a r name Nothing
+
+look-law : (a : List ℕ) (t : Table) (A : Allowed a t) → Bytes a → (j : ℕ) → Used t j → isFolder (rowAt t j .rec .kind) ≡ true → (name : List ℕ) → GoodName name → length name ≤ 255
+    → Ok (Looked a (rowAt t j .rec) name) Fine (lookup a (rowAt t j .rec) name)
+look-law a t A b j u f name g s =
+    subst (λ (r : DiskINode). Ok (Looked a r name) Fine (lookup a r name)) (row-rec a t A j u)
+    (ok-weaken (λ x q. by x q) (λ n q. q) (ok-is (lookup-is a t A b (rowAt t j .id) (row-folder a t A j u f) name)))
+  where
+    by : (x : Found)
+        → x ≡ foundBelow (lowest (λ k. isNamed (slotIn a (recOf a t (rowAt t j .id)) k .name) name) (recOf a t (rowAt t j .id) .blocks)) (recOf a t (rowAt t j .id) .blocks)
+        → Looked a (recOf a t (rowAt t j .id)) name x
+    by (At k) e = let h = search-at (λ k. isNamed (slotIn a (recOf a t (rowAt t j .id)) k .name) name) (recOf a t (rowAt t j .id) .blocks) k (sym e) in here k (h .0) (h .1)
+    by Nothing e = new (new-name a t (rowAt t j .id) (A .rule6 .folder (rowAt t j .id) (row-folder a t A j u f)) name g s (sym e))
+
+move-call : Between → (p : Pair) → Passed p → (h : Handle) (old : List ℕ) (target : Handle) (name : List ℕ) → Bytes name
+    → Ok (λ (x : After). kept false (carried p h old target) ≡ false → Passed (pair (x .arena) (x .table))) Fine (callMove (p .arena) (p .table) h old target name)
+unfolding callMove
+move-call between p y h old target name nb =
+    ok-bind (says-is (admitted a t A)) λ _ _.
+    ok-bind (handle-law a t A h) λ i u.
+    ok-bind (handle-law a t A target) λ j v.
+    ok-bind (says-ensure (eqb (earlyReason (nameVerdict old)) 0) 5 (fine 5 (λ e. omega arith) (λ e. omega arith) (λ e. omega arith))) λ _ _.
+    ok-bind (ensure-asks (eqb (earlyReason (nameVerdict name)) 0) 5 (fine 5 (λ e. omega arith) (λ e. omega arith) (λ e. omega arith))) λ _ good.
+    ok-bind (live-folder a t A i (u .used)) λ _ from.
+    ok-bind (ensure-asks (not (isSpecial old)) 9 (fine 9 (λ e. omega arith) (λ e. omega arith) (λ e. omega arith))) λ _ plain-old.
+    ok-bind (ensure-asks (not (isSpecial name)) 9 (fine 9 (λ e. omega arith) (λ e. omega arith) (λ e. omega arith))) λ _ plain.
+    ok-bind (says-ensure (leb (length old) 255) 10 (fine 10 (λ e. omega arith) (λ e. omega arith) (λ e. omega arith))) λ _ _.
+    ok-bind (ensure-asks (leb (length name) 255) 10 (fine 10 (λ e. omega arith) (λ e. omega arith) (λ e. omega arith))) λ _ short.
+    ok-bind (live-folder a t A j (v .used)) λ _ to.
+    ok-bind (look-law a t A (y .typed .bytes) j (v .used) (to .0) name (good-name name good) (is-short short)) λ f l.
+    goes i j u v (record { used = u .used; folder = from .0; links = from .1 }) (record { used = v .used; folder = to .0; links = to .1 })
+    (not-true (isSpecial old) plain-old) (good-name name good) (not-true (isSpecial name) plain) (is-short short) f l
+  where
+    a : List ℕ
+    a = p .arena
+
+    t : Table
+    t = p .table
+
+    A : Allowed (p .arena) (p .table)
+    A = allowed p y
+
+    is-short : leb (length name) 255 ≡ true → length name ≤ 255
+    is-short e = decides-leb (length name) 255 .right (true-T (leb (length name) 255) e)
+
+    goes : (i j : ℕ) → Reaches (p .table) h i → Reaches (p .table) target j → LiveFolder (start (p .arena) (p .table)) i → LiveFolder (start (p .arena) (p .table)) j
+        → isSpecial old ≡ false → GoodName name → isSpecial name ≡ false → length name ≤ 255 → (f : Found) → Looked (p .arena) (rowAt (p .table) j .rec) name f
+        → Ok (λ (x : After). kept false (carried p h old target) ≡ false → Passed (pair (x .arena) (x .table))) Fine (moveTo (start (p .arena) (p .table)) i j old name f)
+    goes i j u v from to plain-old good plain short f (here k l e) =
+        node-law between (p .arena) (p .table) A y i j from to old name plain-old good plain short nb (kept false (carried p h old target) ≡ false) (not-carried p h old target i j (u .live) (v .live)) k l e
+    goes i j u v from to plain-old good plain short f (new N) =
+        none-law between (p .arena) (p .table) A y i j from to old name plain-old good plain short nb (kept false (carried p h old target) ≡ false) (not-carried p h old target i j (u .live) (v .live)) N
+
+pub keeps-move : Between → (p : Pair) (h : Handle) (old : List ℕ) (target : Handle) (name : List ℕ) → Passed p → Plain (move h old target name) p → Well (move h old target name) p
+unfolding does moves
+keeps-move between p h old target name y P = well (move h old target name) p y (by (move-call between p y h old target name (P .fits .3)) (P .leaves))
+  where
+    by : {o : Out After} → Ok (λ (x : After). kept false (carried p h old target) ≡ false → Passed (pair (x .arena) (x .table))) Fine o
+        → kept false (bind o (λ _. carried p h old target)) ≡ false → Ok Passed Fine (bind o (λ x. done (pair (x .arena) (x .table))))
+    by (went q) e = went (q e)
+    by (said f) e = said f
