@@ -51,6 +51,7 @@ use Rattle.sequences.proofs.Passing.{Fine, fine, allowed, well, says-is
 use Rattle.sequences.proofs.Looks.{ensure-asks}
 use Rattle.sequences.proofs.Tables.{Fair, like-same, alike-same, image-fair}
 use Rattle.sequences.proofs.Rows.{leaves-sync}
+use Rattle.sequences.proofs.Holding.{hold-mid}
 use Rattle.sequences.proofs.Opens.{metaIn, there-meta, meta-is, node-some, rows-at, rows-rec, rows-open, add-rows, fits-hold, fine-16}
 use Rattle.sequences.proofs.Metas.{length-mapsTo, bytes-mapsTo, kept-same, kept-then, Within, MetaPut, MetaFits, sync-meta-law}
 use Rattle.sequences.proofs.Stores.{Midway, midway-passed, passed-midway, node-apart, sync-mid, fine-17}
@@ -87,21 +88,6 @@ sane-fits m S = record {
   unused = omega (arith, S .unused, S .few, setBits-le (m .maps) (1024 * m .super .groups));
   groups = omega (arith, S .few);
 }
-
--- a hold on the call's own row: then it is nobody's own
-hold-mid : (a : List ℕ) (u : Table) (c : ℕ) → Midway (also none c) a u → canHold u ≡ true → Used u c → Midway none a (addHold u c .table)
-hold-mid a u c M can used =
-    let e : addHold u c .table .rows ≡ u .rows = add-rows u c in
-    record {
-      fair = image-fair a a u (addHold u c .table) (M .fair) (alike-same a) (M .fair .rule1)
-          (λ j l. subst (λ (x : Row). x .id ≢ 0 → isNode a (x .id) ≡ true) (sym (rows-at u (addHold u c .table) e j)) (M .fair .rule4 .node j l))
-          (λ j l. subst (λ (x : Row). x .id ≢ 0 → x .dirty ≡ false → recordBytes (x .rec) ≡ storedBytes a (x .id)) (sym (rows-at u (addHold u c .table) e j)) (M .fair .rule4 .clean j l))
-          (λ k n. like-same (rows-rec a u (addHold u c .table) e k))
-          (λ k n z o. rows-open u (addHold u c .table) e k ∙ o);
-      formed = add-kept u c (M .formed) can (used .below) (used .node);
-      bytes = M .bytes;
-      fits = fits-hold u c (M .fits) can (used .below);
-    }
 
 -- two things known of one outcome
 both : {A : Type 0} {P Q : A → Type 0} {R S : ℕ → Type 0} {o : Out A} → Ok P R o → Ok Q S o → Ok (λ x. P x × Q x) R o
