@@ -31,7 +31,7 @@ use Rattle.table.specs.Zero.{zeroRow}
 use Rattle.table.specs.Table.{rowAt, isRow, rowOf, withRow, withDirty, freeRowAt}
 use Rattle.table_bytes.specs.Fits.{RowFits, TableFits}
 use Rattle.table_laws.specs.Rules.{Formed, also}
-use Rattle.table_laws.proofs.Finds.{row-found, row-missing}
+use Rattle.table_laws.proofs.Finds.{row-found, row-missing, row-same}
 use Rattle.table_laws.proofs.Rows.{row-here, row-apart, dirty-kept, free-kept}
 use Rattle.files.specs.Read.{there, lengthOf}
 use Rattle.files.specs.Store.{putFile}
@@ -61,6 +61,7 @@ pub record Ground (g c : ℕ) (a : List ℕ) : Type 0 where
   pub exists : there a metaFile ≡ true
   pub long : lengthOf a metaFile ≡ 131072 * g
   pub groups : superIn a .groups ≡ g
+  pub few : g ≤ 4
   pub known : isUsed (metaIn a) c ≡ true
 
 -- a record of that type with links and a file
@@ -154,6 +155,7 @@ pub record Rested (own : ℕ → Type 0) (g c kd : ℕ) (s : Fs) (d : Fs) : Type
   pub hold : Holding own g c kd d
   pub ids : (j : ℕ) → rowAt (d .table) j .id ≡ rowAt (s .table) j .id
   pub recs : (j : ℕ) → rowAt (d .table) j .rec ≡ rowAt (s .table) j .rec
+  pub rec : recOf (d .arena) (d .table) c ≡ recOf (s .arena) (s .table) c
   pub holds : d .table .holds ≡ s .table .holds
   pub same : metaIn (d .arena) ≡ metaIn (s .arena)
   pub files : (f : List ℕ) → there (d .arena) (file 1 f) ≡ there (s .arena) (file 1 f)
@@ -200,18 +202,30 @@ module _ {own : ℕ → Type 0} (g c kd : ℕ) (s : Fs) (H : Holding own g c kd 
       exists = W .there;
       long = W .long ∙ H .ground .long;
       groups = ap (λ (x : SuperBlock). x .groups) super ∙ H .ground .groups;
+      few = H .ground .few;
       known = ap (λ (m : Meta). isUsed m c) same ∙ H .ground .known;
     }
 
     abbrev row : Row
     row = record { id = idAt s i; dirty = false; rec = recAt s i }
 
-    row-same : {X : Type 0} (q : Row → X) → q (record { id = idAt s i; dirty = false; rec = recAt s i }) ≡ q (rowAt (s .table) i) → (j : ℕ) → q (rowAt (withDirty (s .table) i false) j) ≡ q (rowAt (s .table) j)
-    row-same q h j =
+    field-same : {X : Type 0} (q : Row → X) → q (record { id = idAt s i; dirty = false; rec = recAt s i }) ≡ q (rowAt (s .table) i) → (j : ℕ) → q (rowAt (withDirty (s .table) i false) j) ≡ q (rowAt (s .table) j)
+    field-same q h j =
         ⊎-elim
         (λ (e : j ≡ i). ap (λ (k : ℕ). q (rowAt (withDirty (s .table) i false) k)) e ∙ ap q (row-here (s .table) i row (omega (arith, used .below, H .fits .rows-34))) ∙ h ∙ ap (λ (k : ℕ). q (rowAt (s .table) k)) (sym e))
         (λ d. ap q (row-apart (s .table) i row j d))
         (eq-cases j i)
+
+    elsewhere : rowOf (s .table) c ≡ Nothing → storedBytes b c ≡ storedBytes (s .arena) c
+    elsewhere e = put-records (s .arena) id (Z .some) (Z .off) src long b P c (λ q. row-missing (s .table) c e i (used .below) (sym q))
+
+    same-rec : recOf b (withDirty (s .table) i false) c ≡ recOf (s .arena) (s .table) c
+    unfolding recOf
+    same-rec = ap (recBy b (withDirty (s .table) i false) c) (row-same (withDirty (s .table) i false) (s .table) c (λ j l. field-same (λ x. x .id) refl j)) ∙ go (rowOf (s .table) c) refl
+      where
+        go : (f : Found) → rowOf (s .table) c ≡ f → recBy b (withDirty (s .table) i false) c f ≡ recBy (s .arena) (s .table) c f
+        go (At j) e = field-same (λ x. x .rec) refl j
+        go Nothing e = ap recordOf (elsewhere e)
 
     stored-holds : Rested own g c kd s (withTable (withArena s b) (withDirty (s .table) i false))
     stored-holds = record {
@@ -223,9 +237,10 @@ module _ {own : ℕ → Type 0} (g c kd : ℕ) (s : Fs) (H : Holding own g c kd 
           refl
           (λ e. alive-in (s .arena) b kd (recAt s i) (W .files (recAt s i .file) .exists) (holding-own g c kd s H i used e))
           (W .files (recOf (s .arena) (s .table) c .file) .exists)
-          (λ e. put-records (s .arena) id (Z .some) (Z .off) src long b P c (λ q. row-missing (s .table) c e i (used .below) (sym q))));
-      ids = row-same (λ x. x .id) refl;
-      recs = row-same (λ x. x .rec) refl;
+          elsewhere);
+      ids = field-same (λ x. x .id) refl;
+      recs = field-same (λ x. x .rec) refl;
+      rec = same-rec;
       holds = refl;
       same = same;
       files = λ f. W .files f .exists;
@@ -237,7 +252,7 @@ module _ {own : ℕ → Type 0} (g c kd : ℕ) (s : Fs) (H : Holding own g c kd 
     where
       go : (d : Bool) → Ok (Rested own g c kd s) (λ r. r ≡ 17) (pick d (storeRow s i) (done s))
       go true = ok-bind (within-put (s .arena) (s .arena) (ground-within g c (s .arena) (H .ground)) (128 * id) src src-bytes end) λ b P. went (stored-holds b P)
-      go false = went (record { hold = H; ids = λ j. refl; recs = λ j. refl; holds = refl; same = refl; files = λ f. refl })
+      go false = went (record { hold = H; ids = λ j. refl; recs = λ j. refl; rec = refl; holds = refl; same = refl; files = λ f. refl })
 
 -- ---- a row of another node is freed
 
