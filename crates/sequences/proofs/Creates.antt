@@ -51,7 +51,7 @@ use Rattle.sequences.proofs.Passing.{Fine, fine, allowed, well, says-is
 use Rattle.sequences.proofs.Looks.{ensure-asks}
 use Rattle.sequences.proofs.Tables.{Fair, like-same, alike-same, image-fair}
 use Rattle.sequences.proofs.Rows.{leaves-sync}
-use Rattle.sequences.proofs.Holding.{hold-mid}
+use Rattle.sequences.proofs.HeldNodes.{hold-mid}
 use Rattle.sequences.proofs.Opens.{metaIn, there-meta, meta-is, node-some, rows-at, rows-rec, rows-open, add-rows, fits-hold, fine-16}
 use Rattle.sequences.proofs.Metas.{length-mapsTo, bytes-mapsTo, kept-same, kept-then, Within, MetaPut, MetaFits, sync-meta-law}
 use Rattle.sequences.proofs.Stores.{Midway, midway-passed, passed-midway, node-apart, sync-mid, fine-17}
