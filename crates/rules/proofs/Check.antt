@@ -46,7 +46,7 @@ module _ (a : List ℕ) (t : Table) where
       let below : (r : ℕ) → r < suc n → RuleAt r a t = rules-to n (omega arith) (λ j lt. h j (omega arith)) in
       below-suc (λ (r : ℕ). RuleAt r a t) (suc n) below (decides-at n (omega arith) below .right (h n (omega arith)))
 
-  rule-of : Allowed a t → (r : ℕ) → RuleAt r a t
+  pub rule-of : Allowed a t → (r : ℕ) → RuleAt r a t
   unfolding RuleAt
   rule-of h zero = tt
   rule-of h (suc zero) = h .rule1

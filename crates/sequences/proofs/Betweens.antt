@@ -1,52 +1,51 @@
 -- A move between two folders never sticks, whatever moves; and where a file moves, the pair passes afterwards.
-use mathlib.Core.Path.{_≡_, refl, sym, ap, _∙_, subst}
+use mathlib.Core.Path.{refl, _≡_, sym, ap, _∙_, subst}
+use Rattle.sefs_laws.proofs.Clear.{Clear, clear, clear-17}
 use mathlib.Core.Bool.{Bool, true, false, not, _&&_}
 use mathlib.Core.List.{List}
 use mathlib.Core.Logic.{_≢_}
-use Prim.Native.Nat.{ℕ, _+_, _*_, _-_, _%_, _≤_, _<_}
+use Prim.Native.Nat.{ℕ, _+_, _-_, _%_, _≤_, _<_}
 use native.Mathlib.Omega.{arith}
-use lib.Dec.{eqb, ltb, leb}
+use lib.Dec.{eqb, ltb}
 use borrow.Author.Tests.{ltb-true, ne-eqb}
-use Rattle.base.specs.Out.{Out, done, bind, guard, Ok, went, said}
+use Rattle.base.specs.Out.{done, bind, Ok, went}
 use Rattle.base.proofs.Outs.{ok-bind, ok-weaken, ok-guard}
 use Rattle.base.proofs.Bools.{and-both, and-parts, true-false}
 use Rattle.base.proofs.Sames.{decided-yes}
 use Rattle.base.proofs.Tests.{decides-leb}
 use Rattle.base.specs.Search.{pick}
 use Rattle.structs.specs.Verdict.{isFolder}
-use Rattle.structs.specs.declared.DiskINode.{DiskINode}
 use Rattle.maps.specs.Maps.{bitAt}
-use Rattle.table.specs.declared.Table.{Table}
 use Rattle.table.specs.declared.Row.{Row}
 use Rattle.table.specs.Table.{rowAt}
-use Rattle.table_laws.specs.Rules as rules
-use Rattle.sefs.specs.State.{Fs, withTable}
-use Rattle.sefs.specs.Meta.{ids, isUsed}
+use Rattle.sefs.specs.State.{Fs}
+use Rattle.sefs.specs.Meta.{isUsed}
 use Rattle.sefs.specs.Records.{withLinks}
 use Rattle.sefs.specs.Nodes.{Opened, recAt, idAt, setRec, getNode, syncRow, release}
 use Rattle.sefs.specs.Slots.{Slot}
-use Rattle.sefs.specs.Folders.{direntAppend, direntRemove, nlinksDec, nlinksInc}
-use Rattle.sefs.specs.Ask.{start}
+use Rattle.sefs.specs.Folders.{nlinksInc}
 use Rattle.sefs.specs.Create.{After, after}
 use Rattle.sefs.specs.Move.{Replaced, none, node, removeReplaced, renamed, moveDots, moveLinks, moveBetween}
 use Rattle.rules.specs.Image.{superIn, mapsIn, idsIn, isNode, recOf}
 use Rattle.sequences.specs.Pairs.{pair, Passed}
-use Rattle.sequences.proofs.Passing.{Fine, fine, Used}
-use Rattle.sequences.proofs.Opens.{metaIn, meta-is}
-use Rattle.sequences.proofs.Stores.{Midway, midway-passed, sync-mid, fine-17}
-use Rattle.sequences.proofs.Drops.{release-law}
-use Rattle.sequences.proofs.Resets.{reset-apart, reset-id, reset-used}
-use Rattle.sequences.proofs.Appends.{append-law}
-use Rattle.sequences.proofs.Links.{links-fit}
-use Rattle.sequences.proofs.Unlinks.{dec-is}
-use Rattle.sequences.proofs.Takes.{Got, get-law}
-use Rattle.sequences.proofs.Moving.{Moving}
-use Rattle.sequences.proofs.Movings.{live-there, moves-node, moves-fits, moves-kind, moves-most}
-use Rattle.sequences.proofs.Holding.{Seat, Holding, holding-own, holding-set, holding-sync}
-use Rattle.sequences.proofs.HoldingSteps.{Reached, get-holds, last-holds}
-use Rattle.sequences.proofs.BetweenSlots.{node-seat, Carrying, carry-law}
-use Rattle.sequences.proofs.Settling.{ok-when, movedKind, Settled, state-is, settle-none}
-use Rattle.sequences.proofs.Replacing.{replace-law}
+use Rattle.image.specs.Midway.{Used, metaIn, Midway}
+use Rattle.image.proofs.Nodes.{meta-is}
+use Rattle.sequences.proofs.Passing.{midway-passed}
+use Rattle.image.proofs.Stores.{sync-mid}
+use Rattle.image.proofs.Drops.{release-law}
+use Rattle.image.proofs.Resets.{reset-id, reset-used}
+use Rattle.image.proofs.Appends.{append-law}
+use Rattle.image.proofs.Records.{links-fit}
+use Rattle.image.proofs.Unlinks.{dec-is}
+use Rattle.image.proofs.Takes.{Got, get-law}
+use Rattle.image.proofs.Moving.{Moving}
+use Rattle.image.proofs.Movings.{live-there, moves-node, moves-fits, moves-kind, moves-most}
+use Rattle.image.proofs.Holding.{Seat, Holding, holding-own, holding-set, holding-sync}
+use Rattle.image.proofs.HoldingSteps.{Reached, get-holds, last-holds}
+use Rattle.image.proofs.BetweenSlots.{node-seat, Carrying, carry-law}
+use Rattle.image.proofs.Settling.{ok-when, movedKind, Settled, state-is, settle-none}
+use Rattle.image.proofs.Replacing.{replace-law}
+use Rattle.table_laws.specs.Rules as rules
 
 -- an id that the maps know, and that is none of a map's, is a node
 used-node : (a : List ℕ) (x : ℕ) → isUsed (metaIn a) x ≡ true → x % 1024 ≢ 1 → isNode a x ≡ true
@@ -90,11 +89,11 @@ module _ (g c kd i j : ℕ) (most : kd ≤ 4) (rows : i ≡ j → ⊥) where
     used-2 : (m : ℕ) → Used (x .table) m → Used (x2 .table) m
     used-2 m w = reset-used (x1 .table) (H1 .formed) j (used-1 j (Y .to)) (withLinks (recAt x1 j) (recAt x1 j .nlinks + 1)) m (used-1 m w)
 
-    dots : isFolder kd ≡ true → Ok (Ready g c kd i j row) Fine (moveDots x i j)
+    dots : isFolder kd ≡ true → Ok (Ready g c kd i j row) Clear (moveDots x i j)
     unfolding moveDots nlinksInc
     dots dir =
         rw (dec-is x i (omega arith))
-        (ok-guard (ltb (recAt x1 j .nlinks) 65535) 15 (fine 15 (λ e. omega arith) (λ e. omega arith) (λ e. omega arith)) λ q.
+        (ok-guard (ltb (recAt x1 j .nlinks) 65535) 15 (clear 15 refl) λ q.
         let few : recAt x1 j .nlinks < 65535 = ltb-true (recAt x1 j .nlinks) 65535 q in
         went (record {
           hold = holding-set g c kd x1 H1 j (used-1 j (Y .to)) (withLinks (recAt x1 j) (recAt x1 j .nlinks + 1))
@@ -107,29 +106,29 @@ module _ (g c kd i j : ℕ) (most : kd ≤ 4) (rows : i ≡ j → ⊥) where
               ∙ reset-id (x .table) (Y .hold .formed) i (Y .from) (withLinks (recAt x i) (recAt x i .nlinks - 1)) row ∙ Y .same;
         }))
 
-    links-law : Ok (Ready g c kd i j row) Fine (moveLinks x i j row)
+    links-law : Ok (Ready g c kd i j row) Clear (moveLinks x i j row)
     unfolding moveLinks
     links-law = rw (kind, decided-yes (decides-leb kd 4) most) (go (isFolder kd) refl)
       where
-        go : (b : Bool) → isFolder kd ≡ b → Ok (Ready g c kd i j row) Fine (pick b (moveDots x i j) (done x))
+        go : (b : Bool) → isFolder kd ≡ b → Ok (Ready g c kd i j row) Clear (pick b (moveDots x i j) (done x))
         go true e = dots e
         go false e = went Y
 
   -- ---- the records are stored, and the node is let go
 
-  sync-law : (row : ℕ) (x : Fs) → Ready g c kd i j row x → (m : ℕ) → Used (x .table) m → Ok (Ready g c kd i j row) Fine (syncRow x m)
+  sync-law : (row : ℕ) (x : Fs) → Ready g c kd i j row x → (m : ℕ) → Used (x .table) m → Ok (Ready g c kd i j row) Clear (syncRow x m)
   sync-law row x Y m w =
       ok-weaken
       (λ d h.
       let S = h .0 in
       let still : (n : ℕ) → Used (x .table) n → Used (d .table) n = λ n u. record { below = u .below; node = λ z. u .node (sym (S .ids n) ∙ z) } in
       record { hold = S .hold; mid = λ f. h .1 f .mid; from = still i (Y .from); to = still j (Y .to); used = still row (Y .used); same = S .ids row ∙ Y .same })
-      fine-17
+      clear-17
       (ok-when (isFolder kd) (holding-sync g c kd x (Y .hold) m w) (λ f. sync-mid x (Y .mid f) m w))
 
-  end-law : (row : ℕ) (x : Fs) → Ready g c kd i j row x → Ok (λ (d : Fs). isFolder kd ≡ false → Passed (pair (d .arena) (d .table))) Fine (release x row)
+  end-law : (row : ℕ) (x : Fs) → Ready g c kd i j row x → Ok (λ (d : Fs). isFolder kd ≡ false → Passed (pair (d .arena) (d .table))) Clear (release x row)
   end-law row x Y =
-      ok-weaken (λ d h f. midway-passed (d .arena) (d .table) (h .1 f .mid)) fine-17
+      ok-weaken (λ d h f. midway-passed (d .arena) (d .table) (h .1 f .mid)) clear-17
       (ok-when (isFolder kd) (last-holds g c kd x (Y .hold) row (Y .used) (Y .same)) (λ f. release-law x row (Y .mid f) (Y .used) (Y .hold .meta)))
 
 -- ---- from the settled state on
@@ -154,10 +153,10 @@ module _ (s : Fs) (i j : ℕ) (old : Slot) (name : List ℕ) (r : Replaced) (M :
   rows q = apart (ap (λ (x : ℕ). idAt s x) q)
 
   module _ (z : Fs) (Z : Settled s i j old z) where
-    gets : Ok (λ (o : Opened). Reached g c kd z o × (isFolder kd ≡ false → Got (z .arena) (z .table) c o)) Fine (getNode z c)
+    gets : Ok (λ (o : Opened). Reached g c kd z o × (isFolder kd ≡ false → Got (z .arena) (z .table) c o)) Clear (getNode z c)
     gets =
-        ok-when (isFolder kd) (ok-weaken (λ o h. h) fine-17 (get-holds g c kd most seat z (Z .hold))) λ f.
-        subst (λ (y : Fs). Ok (Got (z .arena) (z .table) c) Fine (getNode y c)) (state-is z (Z .hold .meta ∙ sym (meta-is (z .arena) (z .table) (Z .mid f .fair))))
+        ok-when (isFolder kd) (ok-weaken (λ o h. h) clear-17 (get-holds g c kd most seat z (Z .hold))) λ f.
+        subst (λ (y : Fs). Ok (Got (z .arena) (z .table) c) Clear (getNode y c)) (state-is z (Z .hold .meta ∙ sym (meta-is (z .arena) (z .table) (Z .mid f .fair))))
         (get-law (z .arena) (z .table) (Z .mid f) c (used-node (z .arena) c (Z .hold .ground .known) (seat .off)))
 
     module _ (o : Opened) (R : Reached g c kd z o) (T : isFolder kd ≡ false → Got (z .arena) (z .table) c o) where
@@ -177,7 +176,7 @@ module _ (s : Fs) (i j : ℕ) (old : Slot) (name : List ℕ) (r : Replaced) (M :
       links : 2 ≤ recAt (o .state) i .nlinks
       links = subst (λ (y : Fs). 2 ≤ recAt y i .nlinks) (sym (R .is)) (subst (λ (y : Row). 2 ≤ y .rec .nlinks) (sym (R .rows i (Z .from))) (Z .from-links))
 
-    rest : Ok (λ (x : After). isFolder kd ≡ false → Passed (pair (x .arena) (x .table))) Fine
+    rest : Ok (λ (x : After). isFolder kd ≡ false → Passed (pair (x .arena) (x .table))) Clear
         (bind (getNode z c) (λ o. bind (moveLinks (o .state) i j (o .row)) (λ s. bind (syncRow s i) (λ s. bind (syncRow s j) (λ s. bind (release s (o .row)) (λ s. done (after s)))))))
     rest =
         ok-bind gets λ o h.
@@ -193,10 +192,10 @@ replaced-law s i j old name none M apart x X = went (settle-none s i j old name 
 replaced-law s i j old name (node d k) M apart x X = replace-law s i j old name d k M apart x X
 
 pub between-law : (s : Fs) (i j : ℕ) (old : Slot) (name : List ℕ) (r : Replaced) → Moving s i j old name r → rowAt (s .table) i .id ≢ rowAt (s .table) j .id
-    → Ok (λ (x : After). isFolder (recOf (s .arena) (s .table) (old .entry .id) .kind) ≡ false → Passed (pair (x .arena) (x .table))) Fine (moveBetween s i j old name r)
+    → Ok (λ (x : After). isFolder (recOf (s .arena) (s .table) (old .entry .id) .kind) ≡ false → Passed (pair (x .arena) (x .table))) Clear (moveBetween s i j old name r)
 unfolding moveBetween
 between-law s i j old name r M apart =
-    ok-bind (ok-weaken (λ x A. A) fine-17 (append-law s j (renamed (old .entry) name) (moves-fits s i j old name r M) (live-there s (M .mid) j (M .to)))) λ x A.
-    ok-bind (ok-weaken (λ x X. X) fine-17 (carry-law s i j old name r M apart x A)) λ x X.
-    ok-bind (ok-weaken (λ z Z. Z) fine-17 (replaced-law s i j old name r M apart x X)) λ z Z.
+    ok-bind (ok-weaken (λ x A. A) clear-17 (append-law s j (renamed (old .entry) name) (moves-fits s i j old name r M) (live-there s (M .mid) j (M .to)))) λ x A.
+    ok-bind (ok-weaken (λ x X. X) clear-17 (carry-law s i j old name r M apart x A)) λ x X.
+    ok-bind (ok-weaken (λ z Z. Z) clear-17 (replaced-law s i j old name r M apart x X)) λ z Z.
     rest s i j old name r M apart z Z

@@ -1,5 +1,6 @@
 -- Create: the node's steps, then superblock and maps, the two records, and a hold on the new row.
-use mathlib.Core.Path.{_≡_, refl, sym, ap, _∙_, subst}
+use mathlib.Core.Path.{refl, _≡_, sym, ap, _∙_, subst}
+use Rattle.sefs_laws.proofs.Clear.{Clear, clear, clear-17}
 use mathlib.Core.Bool.{Bool, true, false, not, _&&_}
 use mathlib.Core.List.{List}
 use mathlib.Core.Logic.{_≢_, ⊎-elim}
@@ -17,7 +18,6 @@ use Rattle.base.proofs.Numbers.{lt-or-le}
 use Rattle.base.proofs.Tests.{decides-leb}
 use Rattle.le.specs.Le.{Bytes}
 use Rattle.structs.specs.Fits.{SuperFits, RecordFits, EntryFits}
-use Rattle.structs.specs.Layout.{recordBytes}
 use Rattle.structs.specs.Verdict.{isFolder, isType}
 use Rattle.structs.specs.declared.DiskEntry.{DiskEntry}
 use Rattle.structs.specs.declared.DiskINode.{DiskINode}
@@ -26,11 +26,10 @@ use Rattle.utf8.specs.Names.{nameVerdict, earlyReason}
 use Rattle.maps.proofs.Bits.{setBits-le}
 use Rattle.arena.specs.Fields.{file}
 use Rattle.table.specs.declared.Table.{Table}
-use Rattle.table.specs.declared.Row.{Row}
 use Rattle.table.specs.declared.Handle.{Handle}
 use Rattle.table.specs.Table.{rowAt, canHold, addHold}
 use Rattle.table_laws.specs.Rules.{also, none}
-use Rattle.table_laws.proofs.Holds.{can-row, add-kept}
+use Rattle.table_laws.proofs.Holds.{can-row}
 use Rattle.table_laws.proofs.Spare.{first-spare}
 use Rattle.files.specs.Read.{there, lengthOf, byteAt}
 use Rattle.files_laws.proofs.Bounds.{named-meta, named-node, legal-same}
@@ -47,23 +46,24 @@ use Rattle.rules.proofs.Files.{node-below}
 use Rattle.sequences.specs.Pairs.{Pair, pair, Passed}
 use Rattle.sequences.specs.Calls.{NewFits, create, does}
 use Rattle.sequences.specs.Promises.{Well}
-use Rattle.sequences.proofs.Passing.{Fine, fine, allowed, well, says-is, Used, admitted, handle-law}
-use Rattle.sequences.proofs.Looks.{ensure-asks}
-use Rattle.sequences.proofs.Tables.{Fair, like-same, alike-same, image-fair}
-use Rattle.sequences.proofs.Rows.{leaves-sync}
-use Rattle.sequences.proofs.HeldNodes.{hold-mid}
-use Rattle.sequences.proofs.Opens.{metaIn, there-meta, meta-is, node-some, rows-at, rows-rec, rows-open, add-rows, fits-hold, fine-16}
-use Rattle.sequences.proofs.Metas.{length-mapsTo, bytes-mapsTo, kept-same, kept-then, Within, MetaPut, MetaFits, sync-meta-law}
-use Rattle.sequences.proofs.Stores.{Midway, midway-passed, passed-midway, node-apart, sync-mid, fine-17}
-use Rattle.sequences.proofs.Drops.{mid-rec}
-use Rattle.sequences.proofs.Links.{live-folder, new-law}
-use Rattle.sequences.proofs.NewNames.{good-name, NewName, entry-fits, exists-law}
-use Rattle.sequences.proofs.Allocs.{Sane}
-use Rattle.sequences.proofs.Makes.{Makes, new-node-law}
-use Rattle.sequences.proofs.Newborns.{rows-taken, used-child, used-own}
-use Rattle.sequences.proofs.NodeFiles.{young-kept, housed-kept, Bred}
-use Rattle.sequences.proofs.Births.{bred-fair}
-use Rattle.sequences.proofs.Breeds.{Stage, Bare, Settled, named-law, birth-law, slot-law}
+use Rattle.sequences.proofs.Passing.{allowed, well, midway-passed, passed-midway}
+use Rattle.sefs_laws.proofs.Says.{says-is, ensure-asks}
+use Rattle.image.specs.Midway.{Used, Fair, metaIn, Midway}
+use Rattle.image.proofs.Handles.{admitted, handle-law}
+use Rattle.sefs_laws.proofs.Rows.{leaves-sync}
+use Rattle.image.proofs.Holds.{hold-mid}
+use Rattle.image.proofs.Nodes.{there-meta, meta-is, node-some}
+use Rattle.image.proofs.Metas.{length-mapsTo, bytes-mapsTo, kept-same, kept-then, Within, MetaPut, MetaFits, sync-meta-law}
+use Rattle.image.proofs.Stores.{node-apart, sync-mid}
+use Rattle.image.proofs.Drops.{mid-rec}
+use Rattle.sequences.proofs.Asks.{live-folder, new-law}
+use Rattle.image.proofs.NewNames.{good-name, NewName, entry-fits, exists-law}
+use Rattle.image.proofs.Allocs.{Sane}
+use Rattle.image.proofs.Makes.{Makes, new-node-law}
+use Rattle.image.proofs.Newborns.{rows-taken, used-child, used-own}
+use Rattle.image.proofs.NodeFiles.{young-kept, housed-kept, Bred}
+use Rattle.image.proofs.Births.{bred-fair}
+use Rattle.image.proofs.Breeds.{Stage, Bare, Settled, named-law, birth-law, slot-law}
 
 -- superblock and maps of a fair image
 fair-sane : (a : List ℕ) (t : Table) → Fair a t → Bytes a → Sane (metaIn a)
@@ -260,21 +260,21 @@ module _ (a : List ℕ) (t : Table) (M : Midway none a t) (i : ℕ) (ui : Used t
 -- ---- the call
 
 create-call : (p : Pair) → Passed p → (h : Handle) (name : List ℕ) (kind mode : ℕ) (time : Timespec) (uuid : List ℕ) → Bytes name → NewFits kind mode time uuid
-    → Ok (λ (g : Given). Passed (pair (g .arena) (g .table))) Fine (callCreate (p .arena) (p .table) h name kind mode time uuid)
+    → Ok (λ (g : Given). Passed (pair (g .arena) (g .table))) Clear (callCreate (p .arena) (p .table) h name kind mode time uuid)
 unfolding callCreate
 create-call p y h name kind mode time uuid nb F =
     ok-bind (says-is (admitted a t A)) λ _ _.
     ok-bind (handle-law a t A h) λ i u.
-    ok-bind (ensure-asks (eqb (earlyReason (nameVerdict name)) 0) 5 (fine 5 (λ e. omega arith) (λ e. omega arith) (λ e. omega arith))) λ _ good.
-    ok-bind (ensure-asks (isType kind) 6 (fine 6 (λ e. omega arith) (λ e. omega arith) (λ e. omega arith))) λ _ type.
+    ok-bind (ensure-asks (eqb (earlyReason (nameVerdict name)) 0) 5 (clear 5 refl)) λ _ good.
+    ok-bind (ensure-asks (isType kind) 6 (clear 6 refl)) λ _ type.
     ok-bind (live-folder a t A i (u .used)) λ _ l.
-    ok-bind (ensure-asks (leb (length name) 255) 10 (fine 10 (λ e. omega arith) (λ e. omega arith) (λ e. omega arith))) λ _ short.
+    ok-bind (ensure-asks (leb (length name) 255) 10 (clear 10 refl)) λ _ short.
     ok-bind (new-law a t A (y .typed .bytes) i (u .used) (l .0) name (good-name name good) (is-most (length name) 255 short)) λ f new.
     ok-bind (exists-law f) λ _ none.
-    ok-bind (ensure-asks (not (there a (file 1 uuid))) 14 (fine 14 (λ e. omega arith) (λ e. omega arith) (λ e. omega arith))) λ _ absent.
-    ok-bind (ensure-asks (not (isFolder kind && eqb (rowAt t i .rec .nlinks) 65535)) 15 (fine 15 (λ e. omega arith) (λ e. omega arith) (λ e. omega arith))) λ _ few.
-    ok-bind (ensure-asks (canHold t) 16 fine-16) λ _ can.
-    ok-weaken (λ x q. q) fine-17
+    ok-bind (ensure-asks (not (there a (file 1 uuid))) 14 (clear 14 refl)) λ _ absent.
+    ok-bind (ensure-asks (not (isFolder kind && eqb (rowAt t i .rec .nlinks) 65535)) 15 (clear 15 refl)) λ _ few.
+    ok-bind (ensure-asks (canHold t) 16 (clear 16 refl)) λ _ can.
+    ok-weaken (λ x q. q) clear-17
     (create-law a t (passed-midway a t y) i (u .used) (l .0) (l .1) name (new none) (is-most (length name) 255 short) nb kind mode time uuid F
     (ltb-true 0 kind (and-parts (ltb 0 kind) (leb kind 4) type .0)) (is-most kind 4 (and-parts (ltb 0 kind) (leb kind 4) type .1))
     (not-true (there a (file 1 uuid)) absent) (below i (u .used) few) can)

@@ -1,5 +1,6 @@
 -- The steps of move, from what the call has asked: where the new name is not there, and where it is a node's, which goes.
-use mathlib.Core.Path.{_≡_, refl, sym, ap, _∙_, subst}
+use mathlib.Core.Path.{refl, _≡_, sym, ap, _∙_, subst}
+use Rattle.sefs_laws.proofs.Clear.{Clear}
 use mathlib.Core.Bool.{Bool, true, false}
 use mathlib.Core.List.{List}
 use mathlib.Core.Logic.{_≢_, ⊎-elim}
@@ -21,36 +22,38 @@ use Rattle.utf8.proofs.Names.{named-decides, not-special, asked-own}
 use Rattle.table.specs.declared.Table.{Table}
 use Rattle.table.specs.declared.Row.{Row}
 use Rattle.table.specs.Table.{rowAt}
-use Rattle.table_laws.specs.Rules as rows
 use Rattle.sefs.specs.State.{Fs}
 use Rattle.sefs.specs.Nodes.{Opened, recAt, getNode, release}
 use Rattle.sefs.specs.Slots.{Slot, slotAt, findSlot}
 use Rattle.sefs.specs.Ask.{start, known}
 use Rattle.sefs.specs.Create.{After, after}
 use Rattle.sefs.specs.Move.{Replaced, none, node, moveWithin, moveBetween, moveSteps, moveOnto, replace}
-use Rattle.rules.specs.Image as image
 use Rattle.rules.specs.Image.{isNode, recOf, slotIn}
 use Rattle.rules.specs.Rules.{Allowed}
 use Rattle.sequences.specs.Pairs.{pair, Passed}
-use Rattle.sequences.proofs.Passing.{Fine, Used, row-rec, row-folder, slot-is}
-use Rattle.sequences.proofs.Looks.{ensure-yes}
-use Rattle.sequences.proofs.Tables.{fair}
-use Rattle.sequences.proofs.Finds.{Hit}
-use Rattle.sequences.proofs.Opens.{meta-is}
-use Rattle.sequences.proofs.Stores.{Midway, passed-midway}
-use Rattle.sequences.proofs.Drops.{mid-rec}
-use Rattle.sequences.proofs.NewNames.{NewName}
-use Rattle.sequences.proofs.UnlinkCalls.{later-place, row-hit}
-use Rattle.sequences.proofs.Movings.{named-links, live-later, live-named}
-use Rattle.sequences.proofs.Takes.{Gets, Got, get-law, get-more}
-use Rattle.sequences.proofs.Moving.{owns, LiveFolder, Replaces, Onto, Moving}
+use Rattle.image.specs.Midway.{Used, Midway}
+use Rattle.image.proofs.Handles.{row-rec, row-folder}
+use Rattle.image.proofs.Slots.{slot-is}
+use Rattle.sefs_laws.proofs.Says.{ensure-yes}
+use Rattle.image.proofs.Images.{fair}
+use Rattle.image.proofs.Lookups.{Hit}
+use Rattle.image.proofs.Nodes.{meta-is}
+use Rattle.sequences.proofs.Passing.{passed-midway}
+use Rattle.image.proofs.Drops.{mid-rec}
+use Rattle.image.proofs.NewNames.{NewName}
+use Rattle.image.proofs.Hits.{later-place, row-hit}
+use Rattle.image.proofs.Movings.{named-links, live-later, live-named}
+use Rattle.image.proofs.Takes.{Gets, Got, get-law, get-more}
+use Rattle.image.proofs.Moving.{owns, LiveFolder, Replaces, Onto, Moving}
 use Rattle.sequences.proofs.Withins.{within-law}
-use Rattle.sequences.proofs.MoveAsks.{mid-type, judge-law, Ended, ends-law}
+use Rattle.image.proofs.MoveAsks.{mid-type, judge-law, Ended, ends-law}
+use Rattle.table_laws.specs.Rules as rows
+use Rattle.rules.specs.Image as image
 
 -- a move between two folders keeps, of what is no folder
 abbrev pub Between : Type 0
 Between = (s : Fs) (i j : ℕ) (old : Slot) (name : List ℕ) (r : Replaced) → Moving s i j old name r → rowAt (s .table) i .id ≢ rowAt (s .table) j .id
-    → Ok (λ (x : After). isFolder (recOf (s .arena) (s .table) (old .entry .id) .kind) ≡ false → Passed (pair (x .arena) (x .table))) Fine (moveBetween s i j old name r)
+    → Ok (λ (x : After). isFolder (recOf (s .arena) (s .table) (old .entry .id) .kind) ≡ false → Passed (pair (x .arena) (x .table))) Clear (moveBetween s i j old name r)
 
 -- an outcome, with what it is
 ok-own : {A : Type 0} {Q : A → Type 0} {R : ℕ → Type 0} {m : Out A} → Ok Q R m → Ok (λ x. Q x × (m ≡ done x)) R m
@@ -73,7 +76,7 @@ module _ (between : Between) (a : List ℕ) (t : Table) (A : Allowed a t) (y : P
   hit-node : (e : Slot) → Hit a (rowAt t i .rec) old e → isNode a (e .entry .id) ≡ true
   hit-node e h = ap (λ (x : DiskEntry). isNode a (x .id)) (h .is) ∙ node-at i from (e .place) (place i from old plain-old (e .place) (h .named)) (h .inside)
 
-  hits : Ok (λ (e : Slot). Hit a (rowAt t i .rec) old e × (findSlot a (rowAt t i .rec) old ≡ done e)) Fine (findSlot a (rowAt t i .rec) old)
+  hits : Ok (λ (e : Slot). Hit a (rowAt t i .rec) old e × (findSlot a (rowAt t i .rec) old ≡ done e)) Clear (findSlot a (rowAt t i .rec) old)
   hits = ok-own (row-hit a t A (y .typed .bytes) i (from .used) (from .folder) old)
 
   -- ---- the steps, from a table with the same two rows
@@ -104,10 +107,10 @@ module _ (between : Between) (a : List ℕ) (t : Table) (A : Allowed a t) (y : P
       onto = onto;
     }
 
-    either : Ok Q Fine (pick (eqb (rowAt u i .id) (rowAt u j .id)) (moveWithin (start a u) i e name r) (moveBetween (start a u) i j e name r))
+    either : Ok Q Clear (pick (eqb (rowAt u i .id) (rowAt u j .id)) (moveWithin (start a u) i e name r) (moveBetween (start a u) i j e name r))
     either = go (eqb (rowAt u i .id) (rowAt u j .id)) refl
       where
-        go : (b : Bool) → eqb (rowAt u i .id) (rowAt u j .id) ≡ b → Ok Q Fine (pick b (moveWithin (start a u) i e name r) (moveBetween (start a u) i j e name r))
+        go : (b : Bool) → eqb (rowAt u i .id) (rowAt u j .id) ≡ b → Ok Q Clear (pick b (moveWithin (start a u) i e name r) (moveBetween (start a u) i j e name r))
         go true q =
             let z : i ≡ j = M .formed .one-row i j (from .used .below) (to .used .below) (live i row-i from .used .node) (eqb-true (rowAt u i .id) (rowAt u j .id) q) in
             ok-weaken (λ x p c. p) (λ n p. p) (within-law (start a u) i e name r (subst (λ (x : ℕ). Moving (start a u) i x e name r) (sym z) begins))
@@ -118,7 +121,7 @@ module _ (between : Between) (a : List ℕ) (t : Table) (A : Allowed a t) (y : P
             (λ n p. p)
             (between (start a u) i j e name r begins d)
 
-  pub none-law : NewName a (rowAt t j .rec) name → Ok (λ (x : After). C → Passed (pair (x .arena) (x .table))) Fine (moveSteps (start a t) i j old name none)
+  pub none-law : NewName a (rowAt t j .rec) name → Ok (λ (x : After). C → Passed (pair (x .arena) (x .table))) Clear (moveSteps (start a t) i j old name none)
   unfolding moveSteps
   none-law N = ok-bind hits λ e h. either none t (passed-midway a t y) refl refl (λ k n. refl) e (h .0) (h .1) N
 
@@ -193,34 +196,34 @@ module _ (between : Between) (a : List ℕ) (t : Table) (A : Allowed a t) (y : P
             small = subst (λ (z : DiskINode). isFolder (z .kind) ≡ true → z .blocks ≤ 2) (sym same) small;
           }
 
-      onto-law : e .entry .id ≢ idd → Ok Q Fine (moveOnto (start a u) i j old name c d k)
+      onto-law : e .entry .id ≢ idd → Ok Q Clear (moveOnto (start a u) i j old name c d k)
       unfolding moveOnto moveSteps
       onto-law apart =
           ok-bind (judge-law a t A (y .typed .bytes) u d idd rec-d node-d (rowAt u c .rec .kind)) λ x J.
-          subst (λ (z : Fs). Ok Q Fine (bind (release z c) (λ s. moveSteps s i j old name (node d k)))) (sym (J .is))
+          subst (λ (z : Fs). Ok Q Clear (bind (release z c) (λ s. moveSteps s i j old name (node d k)))) (sym (J .is))
           (ok-bind (ends-law a t idd (e .entry .id) o D w W apart links) λ x E.
-          subst (λ (z : Fs). Ok Q Fine (moveSteps z i j old name (node d k))) (sym (E .is))
+          subst (λ (z : Fs). Ok Q Clear (moveSteps z i j old name (node d k))) (sym (E .is))
           (rw (ap (λ (z : Row). findSlot a (z .rec) old) (E .rows i (from .used)) ∙ found)
           (either (node d k) (E .table) (E .mid) (E .rows i (from .used)) (E .rows j (to .used)) (E .recs) e hit found (replaces apart x E (J .kinds) (J .small)))))
 
       -- the same node: nothing changes
-      both : Ok Q Fine (pick (eqb (e .entry .id) idd) (done (after (start a t))) (moveOnto (start a u) i j old name c d k))
+      both : Ok Q Clear (pick (eqb (e .entry .id) idd) (done (after (start a t))) (moveOnto (start a u) i j old name c d k))
       both = go (eqb (e .entry .id) idd) refl
         where
-          go : (b : Bool) → eqb (e .entry .id) idd ≡ b → Ok Q Fine (pick b (done (after (start a t))) (moveOnto (start a u) i j old name c d k))
+          go : (b : Bool) → eqb (e .entry .id) idd ≡ b → Ok Q Clear (pick b (done (after (start a t))) (moveOnto (start a u) i j old name c d k))
           go true q = went (λ z. y)
           go false q = onto-law (eqb-false (e .entry .id) idd q)
 
-    pub node-law : Ok (λ (x : After). C → Passed (pair (x .arena) (x .table))) Fine (replace (start a t) i j old name k)
+    pub node-law : Ok (λ (x : After). C → Passed (pair (x .arena) (x .table))) Clear (replace (start a t) i j old name k)
     unfolding replace
     node-law =
         rw is-slot
         (ok-bind hits λ e h.
         ok-bind (get-law a t (passed-midway a t y) idd node-d) λ o D.
-        subst (λ (z : Opened). Ok Q Fine (bind (getNode (z .state) (e .entry .id)) (λ c. bind (known (recAt (c .state) (c .row))) (λ _. bind (known (recAt (c .state) (z .row)))
+        subst (λ (z : Opened). Ok Q Clear (bind (getNode (z .state) (e .entry .id)) (λ c. bind (known (recAt (c .state) (c .row))) (λ _. bind (known (recAt (c .state) (z .row)))
         (λ _. pick (eqb (e .entry .id) idd) (done (after (start a t))) (moveOnto (c .state) i j old name (c .row) (z .row) k)))))) (sym (D .is))
         (ok-bind (get-more a (D .table) (D .mid) (D .row) (λ m q. ⊎-elim (λ z. absurd z) (λ z. z) q) (e .entry .id) (hit-node e (h .0))) λ w W.
-        subst (λ (z : Opened). Ok Q Fine (bind (known (recAt (z .state) (z .row))) (λ _. bind (known (recAt (z .state) (D .row)))
+        subst (λ (z : Opened). Ok Q Clear (bind (known (recAt (z .state) (z .row))) (λ _. bind (known (recAt (z .state) (D .row)))
         (λ _. pick (eqb (e .entry .id) idd) (done (after (start a t))) (moveOnto (z .state) i j old name (z .row) (D .row) k))))) (sym (W .is))
         (ok-bind (ensure-yes 19 (mid-type a (W .table) (W .mid) (W .row) (W .used))) λ _ _.
         ok-bind (ensure-yes 19 (mid-type a (W .table) (W .mid) (D .row) (used-d e (h .0) (h .1) o D w W))) λ _ _.

@@ -1,10 +1,10 @@
 -- The call of move: what it asks before its steps. A move that is done from one folder to another is of no folder, as the promise says.
-use mathlib.Core.Path.{_≡_, sym, _∙_, subst}
+use mathlib.Core.Path.{refl, _≡_, sym, _∙_, subst}
+use Rattle.sefs_laws.proofs.Clear.{Clear, clear}
 use mathlib.Core.Bool.{Bool, true, false, not, _&&_}
 use mathlib.Core.List.{List}
 use mathlib.Core.Logic.{_≢_}
 use Prim.Native.Nat.{ℕ, _≤_, _<_}
-use native.Mathlib.Omega.{arith}
 use lib.Dec.{eqb, leb}
 use lib.ListN.{length}
 use borrow.Author.Tests.{ne-eqb, not-true}
@@ -32,13 +32,14 @@ use Rattle.rules.specs.Rules.{Allowed}
 use Rattle.sequences.specs.Pairs.{Pair, pair, Passed}
 use Rattle.sequences.specs.Calls.{move, does, moves}
 use Rattle.sequences.specs.Promises.{Plain, Well}
-use Rattle.sequences.proofs.Steps.{says-ensure}
-use Rattle.sequences.proofs.Passing.{Fine, fine, allowed, well, says-is, ok-is, Used, Reaches, admitted, handle-law, row-rec, row-folder}
-use Rattle.sequences.proofs.Looks.{ensure-asks}
-use Rattle.sequences.proofs.Finds.{lookup-is}
-use Rattle.sequences.proofs.NewNames.{good-name, NewName, new-name}
-use Rattle.sequences.proofs.Links.{live-folder}
-use Rattle.sequences.proofs.Moving.{LiveFolder}
+use Rattle.sefs_laws.proofs.Says.{says-ensure, says-is, ok-is, ensure-asks}
+use Rattle.sequences.proofs.Passing.{allowed, well}
+use Rattle.image.specs.Midway.{Used}
+use Rattle.image.proofs.Handles.{Reaches, admitted, handle-law, row-rec, row-folder}
+use Rattle.image.proofs.Lookups.{lookup-is}
+use Rattle.image.proofs.NewNames.{good-name, NewName, new-name}
+use Rattle.sequences.proofs.Asks.{live-folder}
+use Rattle.image.proofs.Moving.{LiveFolder}
 use Rattle.sequences.proofs.MoveSteps.{Between, none-law, node-law}
 
 -- whether the old name leads to a folder, of another folder than the target
@@ -63,9 +64,9 @@ data Looked (a : List ℕ) (r : DiskINode) (name : List ℕ) : Found → Type 0 
   new : NewName a r name → Looked a r name Nothing
 
 look-law : (a : List ℕ) (t : Table) (A : Allowed a t) → Bytes a → (j : ℕ) → Used t j → isFolder (rowAt t j .rec .kind) ≡ true → (name : List ℕ) → GoodName name → length name ≤ 255
-    → Ok (Looked a (rowAt t j .rec) name) Fine (lookup a (rowAt t j .rec) name)
+    → Ok (Looked a (rowAt t j .rec) name) Clear (lookup a (rowAt t j .rec) name)
 look-law a t A b j u f name g s =
-    subst (λ (r : DiskINode). Ok (Looked a r name) Fine (lookup a r name)) (row-rec a t A j u)
+    subst (λ (r : DiskINode). Ok (Looked a r name) Clear (lookup a r name)) (row-rec a t A j u)
     (ok-weaken (λ x q. by x q) (λ n q. q) (ok-is (lookup-is a t A b (rowAt t j .id) (row-folder a t A j u f) name)))
   where
     by : (x : Found)
@@ -75,19 +76,19 @@ look-law a t A b j u f name g s =
     by Nothing e = new (new-name a t (rowAt t j .id) (A .rule6 .folder (rowAt t j .id) (row-folder a t A j u f)) name g s (sym e))
 
 move-call : Between → (p : Pair) → Passed p → (h : Handle) (old : List ℕ) (target : Handle) (name : List ℕ) → Bytes name
-    → Ok (λ (x : After). kept false (carried p h old target) ≡ false → Passed (pair (x .arena) (x .table))) Fine (callMove (p .arena) (p .table) h old target name)
+    → Ok (λ (x : After). kept false (carried p h old target) ≡ false → Passed (pair (x .arena) (x .table))) Clear (callMove (p .arena) (p .table) h old target name)
 unfolding callMove
 move-call between p y h old target name nb =
     ok-bind (says-is (admitted a t A)) λ _ _.
     ok-bind (handle-law a t A h) λ i u.
     ok-bind (handle-law a t A target) λ j v.
-    ok-bind (says-ensure (eqb (earlyReason (nameVerdict old)) 0) 5 (fine 5 (λ e. omega arith) (λ e. omega arith) (λ e. omega arith))) λ _ _.
-    ok-bind (ensure-asks (eqb (earlyReason (nameVerdict name)) 0) 5 (fine 5 (λ e. omega arith) (λ e. omega arith) (λ e. omega arith))) λ _ good.
+    ok-bind (says-ensure (eqb (earlyReason (nameVerdict old)) 0) 5 (clear 5 refl)) λ _ _.
+    ok-bind (ensure-asks (eqb (earlyReason (nameVerdict name)) 0) 5 (clear 5 refl)) λ _ good.
     ok-bind (live-folder a t A i (u .used)) λ _ from.
-    ok-bind (ensure-asks (not (isSpecial old)) 9 (fine 9 (λ e. omega arith) (λ e. omega arith) (λ e. omega arith))) λ _ plain-old.
-    ok-bind (ensure-asks (not (isSpecial name)) 9 (fine 9 (λ e. omega arith) (λ e. omega arith) (λ e. omega arith))) λ _ plain.
-    ok-bind (says-ensure (leb (length old) 255) 10 (fine 10 (λ e. omega arith) (λ e. omega arith) (λ e. omega arith))) λ _ _.
-    ok-bind (ensure-asks (leb (length name) 255) 10 (fine 10 (λ e. omega arith) (λ e. omega arith) (λ e. omega arith))) λ _ short.
+    ok-bind (ensure-asks (not (isSpecial old)) 9 (clear 9 refl)) λ _ plain-old.
+    ok-bind (ensure-asks (not (isSpecial name)) 9 (clear 9 refl)) λ _ plain.
+    ok-bind (says-ensure (leb (length old) 255) 10 (clear 10 refl)) λ _ _.
+    ok-bind (ensure-asks (leb (length name) 255) 10 (clear 10 refl)) λ _ short.
     ok-bind (live-folder a t A j (v .used)) λ _ to.
     ok-bind (look-law a t A (y .typed .bytes) j (v .used) (to .0) name (good-name name good) (is-short short)) λ f l.
     goes i j u v (record { used = u .used; folder = from .0; links = from .1 }) (record { used = v .used; folder = to .0; links = to .1 })
@@ -107,7 +108,7 @@ move-call between p y h old target name nb =
 
     goes : (i j : ℕ) → Reaches (p .table) h i → Reaches (p .table) target j → LiveFolder (start (p .arena) (p .table)) i → LiveFolder (start (p .arena) (p .table)) j
         → isSpecial old ≡ false → GoodName name → isSpecial name ≡ false → length name ≤ 255 → (f : Found) → Looked (p .arena) (rowAt (p .table) j .rec) name f
-        → Ok (λ (x : After). kept false (carried p h old target) ≡ false → Passed (pair (x .arena) (x .table))) Fine (moveTo (start (p .arena) (p .table)) i j old name f)
+        → Ok (λ (x : After). kept false (carried p h old target) ≡ false → Passed (pair (x .arena) (x .table))) Clear (moveTo (start (p .arena) (p .table)) i j old name f)
     goes i j u v from to plain-old good plain short f (here k l e) =
         node-law between (p .arena) (p .table) A y i j from to old name plain-old good plain short nb (kept false (carried p h old target) ≡ false) (not-carried p h old target i j (u .live) (v .live)) k l e
     goes i j u v from to plain-old good plain short f (new N) =
@@ -117,7 +118,7 @@ pub keeps-move : Between → (p : Pair) (h : Handle) (old : List ℕ) (target : 
 unfolding does moves
 keeps-move between p h old target name y P = well (move h old target name) p y (by (move-call between p y h old target name (P .fits .3)) (P .leaves))
   where
-    by : {o : Out After} → Ok (λ (x : After). kept false (carried p h old target) ≡ false → Passed (pair (x .arena) (x .table))) Fine o
-        → kept false (bind o (λ _. carried p h old target)) ≡ false → Ok Passed Fine (bind o (λ x. done (pair (x .arena) (x .table))))
+    by : {o : Out After} → Ok (λ (x : After). kept false (carried p h old target) ≡ false → Passed (pair (x .arena) (x .table))) Clear o
+        → kept false (bind o (λ _. carried p h old target)) ≡ false → Ok Passed Clear (bind o (λ x. done (pair (x .arena) (x .table))))
     by (went q) e = went (q e)
     by (said f) e = said f

@@ -1,5 +1,6 @@
 -- A move inside one folder: a slot gets another name; where a node is replaced, its slot goes as in unlink; then the folder's record is stored.
-use mathlib.Core.Path.{_≡_, refl, sym, ap, _∙_, subst}
+use mathlib.Core.Path.{refl, _≡_, sym, ap, _∙_, subst}
+use Rattle.sefs_laws.proofs.Clear.{Clear, clear-17}
 use mathlib.Core.Bool.{true}
 use mathlib.Core.List.{List}
 use mathlib.Core.Logic.{_≢_, ⊎-elim}
@@ -23,7 +24,6 @@ use Rattle.utf8.proofs.Names.{not-special}
 use Rattle.arena.specs.Fields.{file}
 use Rattle.table.specs.declared.Table.{Table}
 use Rattle.table.specs.Table.{rowAt}
-use Rattle.table_laws.specs.Rules as rows
 use Rattle.sound.specs.Sound.{sound}
 use Rattle.files.specs.Read.{there, lengthOf}
 use Rattle.files_laws.specs.Laws.{Put, Kept}
@@ -37,22 +37,22 @@ use Rattle.sefs.specs.Create.{After, after}
 use Rattle.sefs.specs.Move.{Replaced, none, node, renamed, removeReplaced, moveWithin}
 use Rattle.rules.specs.Image.{run, isNode, recOf, isOpen, slotIn, named}
 use Rattle.sequences.specs.Pairs.{pair, Passed}
-use Rattle.sequences.proofs.Passing.{Fine, Used}
-use Rattle.sequences.proofs.Opens.{metaIn}
-use Rattle.sequences.proofs.Tables.{Fair}
-use Rattle.sequences.proofs.Trees.{Tree, Tidy, treeOf, folderAt, folder-is, names-differ}
-use Rattle.sequences.proofs.Unnaming.{Unnames, MayGo, unnames-tidy}
-use Rattle.sequences.proofs.Stores.{Midway, midway-passed, sync-mid, fine-17}
-use Rattle.sequences.proofs.Drops.{mid-rec, super-kept, maps-kept, stored-kept}
-use Rattle.sequences.proofs.Resets.{recs-kept, nodes-kept, fair-tidy, fair-by-tree}
-use Rattle.sequences.proofs.Appends.{entry-bytes, put-meta, put-there, slot-new}
-use Rattle.sequences.proofs.Removes.{Gone}
-use Rattle.sequences.proofs.Unlinks.{Less, gone-tree, unnamed-mid, removes}
-use Rattle.sequences.proofs.UnlinkCalls.{row-open}
-use Rattle.sequences.proofs.Renaming.{withSlots, Title, Retitles, retitled-tidy, unnames-slots}
-use Rattle.sequences.proofs.Renames.{long-same, slot-else, slot-field, tree-slots, overwrite-law}
-use Rattle.sequences.proofs.Moving.{owns, Replaces, Moving}
-use Rattle.sequences.proofs.Movings.{slot-read, named-links, live-rec, live-node, live-lives, live-there, live-long, live-kind, live-named, moves-fits, moves-ended, moves-name}
+use Rattle.image.specs.Midway.{Used, metaIn, Fair, treeOf, Midway}
+use Rattle.tree.specs.Tree.{Tree, Tidy, folderAt}
+use Rattle.tree.proofs.Trees.{folder-is, names-differ}
+use Rattle.tree.proofs.Unnaming.{Unnames, MayGo, unnames-tidy}
+use Rattle.sequences.proofs.Passing.{midway-passed}
+use Rattle.image.proofs.Stores.{sync-mid}
+use Rattle.image.proofs.Drops.{mid-rec, super-kept, maps-kept, stored-kept}
+use Rattle.image.proofs.Resets.{recs-kept, nodes-kept, fair-tidy, fair-by-tree, row-open}
+use Rattle.image.proofs.Appends.{entry-bytes, put-meta, put-there, slot-new}
+use Rattle.image.proofs.Removes.{Gone}
+use Rattle.image.proofs.Unlinks.{Less, gone-tree, unnamed-mid, removes}
+use Rattle.tree.proofs.Renaming.{withSlots, Title, Retitles, retitled-tidy, unnames-slots}
+use Rattle.image.proofs.Renames.{long-same, slot-else, slot-field, tree-slots, overwrite-law}
+use Rattle.image.proofs.Moving.{owns, Replaces, Moving}
+use Rattle.image.proofs.Movings.{slot-read, named-links, live-rec, live-node, live-lives, live-there, live-long, live-kind, live-named, moves-fits, moves-ended, moves-name}
+use Rattle.table_laws.specs.Rules as rows
 
 -- ---- the slot has its new name
 
@@ -326,17 +326,17 @@ module _ (s : Fs) (i : ℕ) (old : Slot) (name : List ℕ) (c k : ℕ) (H : Movi
 -- ---- the steps
 
 -- the folder's record is stored
-stored : (s : Fs) (i : ℕ) → Midway rows.none (s .arena) (s .table) → Used (s .table) i → Ok (λ (x : After). Passed (pair (x .arena) (x .table))) Fine (bind (syncRow s i) (λ s. done (after s)))
-stored s i M u = ok-bind (ok-weaken (λ x Z. Z) fine-17 (sync-mid s M i u)) λ x Z. went (midway-passed (x .arena) (x .table) (Z .mid))
+stored : (s : Fs) (i : ℕ) → Midway rows.none (s .arena) (s .table) → Used (s .table) i → Ok (λ (x : After). Passed (pair (x .arena) (x .table))) Clear (bind (syncRow s i) (λ s. done (after s)))
+stored s i M u = ok-bind (ok-weaken (λ x Z. Z) clear-17 (sync-mid s M i u)) λ x Z. went (midway-passed (x .arena) (x .table) (Z .mid))
 
-pub within-law : (s : Fs) (i : ℕ) (old : Slot) (name : List ℕ) (r : Replaced) → Moving s i i old name r → Ok (λ (x : After). Passed (pair (x .arena) (x .table))) Fine (moveWithin s i old name r)
+pub within-law : (s : Fs) (i : ℕ) (old : Slot) (name : List ℕ) (r : Replaced) → Moving s i i old name r → Ok (λ (x : After). Passed (pair (x .arena) (x .table))) Clear (moveWithin s i old name r)
 unfolding moveWithin
 within-law s i old name r H =
-    ok-bind (ok-weaken (λ x Q. Q) fine-17 (overwrite-law s i (old .place) (renamed (old .entry) name) (fits s i old name r H) (is-there s i old name r H))) λ x Q.
-    subst (λ (y : Fs). Ok (λ (x : After). Passed (pair (x .arena) (x .table))) Fine (bind (removeReplaced y i r) (λ s. bind (syncRow s i) (λ s. done (after s))))) (sym (Q .is))
+    ok-bind (ok-weaken (λ x Q. Q) clear-17 (overwrite-law s i (old .place) (renamed (old .entry) name) (fits s i old name r H) (is-there s i old name r H))) λ x Q.
+    subst (λ (y : Fs). Ok (λ (x : After). Passed (pair (x .arena) (x .table))) Clear (bind (removeReplaced y i r) (λ s. bind (syncRow s i) (λ s. done (after s))))) (sym (Q .is))
     (rest r H (Q .arena) (Q .put))
   where
     rest : (r : Replaced) → Moving s i i old name r → (b : List ℕ) → Put (s .arena) (nodeFile (recAt s i)) (264 * old .place) (entryBytes (renamed (old .entry) name)) b
-        → Ok (λ (x : After). Passed (pair (x .arena) (x .table))) Fine (bind (removeReplaced (withArena s b) i r) (λ s. bind (syncRow s i) (λ s. done (after s))))
+        → Ok (λ (x : After). Passed (pair (x .arena) (x .table))) Clear (bind (removeReplaced (withArena s b) i r) (λ s. bind (syncRow s i) (λ s. done (after s))))
     rest none H b P = stored (withArena s b) i (renamed-mid s i old name none H b P (H .onto .fresh)) (H .from .used)
-    rest (node c k) H b P = ok-bind (ok-weaken (λ x E. E) fine-17 (gone s i old name c k H b P)) λ x E. stored x i (E .0) (E .1)
+    rest (node c k) H b P = ok-bind (ok-weaken (λ x E. E) clear-17 (gone s i old name c k H b P)) λ x E. stored x i (E .0) (E .1)

@@ -1,0 +1,357 @@
+-- A node's row goes: its record is stored, and at links 0 the node goes too. Close and every release of a call's own opening are this.
+use mathlib.Core.Path.{_≡_, refl, sym, ap, _∙_, subst}
+use mathlib.Core.Bool.{Bool, true, false, not}
+use mathlib.Core.List.{List, _++_}
+use mathlib.Core.Logic.{_≢_, ⊎-elim}
+use Prim.Native.Nat.{ℕ, zero, suc, _+_, _*_, _/_, _≤_, _<_}
+use native.Mathlib.Omega.{arith}
+use lib.Dec.{eqb}
+use lib.ListN.{length, getD}
+use borrow.Author.Tests.{lt-ltb, ne-eqb, eqb-true, eqb-false}
+use mir.Facts.{sfits-lit}
+use Rattle.base.specs.Out.{done, bind, Ok, went}
+use Rattle.base.proofs.Outs.{ok-bind, ok-weaken}
+use Rattle.base.proofs.Bools.{true-false}
+use Rattle.base.proofs.Finds.{eq-cases, search-cong, search-none}
+use Rattle.base.proofs.Lists.{tab-cong}
+use Rattle.base.specs.Search.{pick}
+use Rattle.base.specs.declared.Found.{Found}
+use Rattle.base.specs.declared.Found.the-variants.{At, Nothing}
+use Rattle.le.specs.Le.{Bytes}
+use Rattle.structs.specs.Fits.{RecordFits, TimeFits}
+use Rattle.structs.specs.Layout.{superOf, recordOf, recordBytes}
+use Rattle.structs.proofs.Layouts.{superOf-fits, recordOf-recordBytes}
+use Rattle.structs.specs.declared.DiskINode.{DiskINode}
+use Rattle.structs.specs.declared.SuperBlock.{SuperBlock}
+use Rattle.maps.specs.Maps.{withBit}
+use Rattle.maps.proofs.Bits.{length-withBit, withBit-bytes, setBits-le}
+use Rattle.arena.specs.Fields.{File, file}
+use Rattle.table.specs.declared.Table.{Table}
+use Rattle.table.specs.declared.Row.{Row}
+use Rattle.table.specs.declared.Hold.{Hold}
+use Rattle.table.specs.Zero.{zeroTime, zeroRecord, zeroRow, zeroHold}
+use Rattle.table.specs.Table.{rowAt, holdAt, isRow, rowOf, freeRowAt, rowUsed}
+use Rattle.table_bytes.specs.Fits.{TableFits}
+use Rattle.table_laws.specs.Rules.{Formed, also}
+use Rattle.table_laws.proofs.Rules.{row-is, holder-of, of-holder}
+use Rattle.table_laws.proofs.Finds.{row-found}
+use Rattle.table_laws.proofs.Rows.{row-here, row-apart, free-kept, formed-held}
+use Rattle.files.specs.Read.{there, lengthOf, byteAt}
+use Rattle.files.specs.Store.{dropFile}
+use Rattle.files_laws.specs.Laws.{Kept, Drop, DropRefused}
+use Rattle.files_laws.proofs.Bounds.{named-meta, legal-same}
+use Rattle.sefs.specs.State.{Fs, Meta, withArena, withMeta}
+use Rattle.sefs.specs.Meta.{metaFile, mapAt, freeBlock}
+use Rattle.sefs.specs.Nodes.{nodeFile, recAt, idAt, noRow, freeNode, dropNode, release}
+use Rattle.rules.specs.Image.{run, superIn, mapsTo, mapsIn, idsIn, isNode, storedBytes, recBy, recOf, isOpen}
+use Rattle.rules.proofs.Files.{node-below}
+use Rattle.image.specs.Midway.{Used, metaIn, Midway}
+use Rattle.image.proofs.Slots.{run-bytes}
+use Rattle.image.proofs.Images.{like-same, alike-same, image-fair}
+use Rattle.image.proofs.Records.{fits-row}
+use Rattle.image.proofs.Nodes.{there-meta, used-is, node-some}
+use Rattle.image.proofs.Metas.{length-mapsTo, bytes-mapsTo, kept-same, kept-then, Within, MetaPut, MetaFits, node-other, sync-meta-law}
+use Rattle.image.proofs.Freed.{oneMore, freed-fair}
+use Rattle.image.proofs.Stores.{node-apart, Synced, sync-mid}
+use Rattle.files_laws.specs.Laws as laws
+use Rattle.files_laws.proofs.Drop as drops
+
+-- ---- what a kept metadata file keeps
+
+module _ (a b : List ℕ) (K : Kept a b metaFile) where
+  run-kept : (pos n : ℕ) → run b metaFile pos n ≡ run a metaFile pos n
+  run-kept pos n = tab-cong (byteAt b metaFile) (byteAt a metaFile) pos pos n (λ i l. K .byte (pos + i))
+
+  pub super-kept : superIn b ≡ superIn a
+  unfolding superIn
+  super-kept = ap superOf (run-kept 0 16)
+
+  mapsTo-kept : (n : ℕ) → mapsTo b n ≡ mapsTo a n
+  unfolding mapsTo
+  mapsTo-kept zero = refl
+  mapsTo-kept (suc n) = λ x. mapsTo-kept n x ++ run-kept (mapAt n) 128 x
+
+  pub maps-kept : mapsIn b ≡ mapsIn a
+  unfolding mapsIn
+  maps-kept = ap (λ (x : SuperBlock). mapsTo b (x .groups)) super-kept ∙ mapsTo-kept (superIn a .groups)
+
+  pub stored-kept : (id : ℕ) → storedBytes b id ≡ storedBytes a id
+  unfolding storedBytes
+  stored-kept id = run-kept (128 * id) 112
+
+-- ---- a free row fits
+
+pub zero-fits : RecordFits zeroRecord
+zero-fits = record {
+  size = omega arith;
+  kind = omega arith;
+  mode = omega arith;
+  nlinks = omega arith;
+  blocks = omega arith;
+  uid = omega arith;
+  gid = omega arith;
+  pad = omega arith;
+  atime = time;
+  mtime = time;
+  ctime = time;
+  file = named-meta .size;
+  mac = named-meta .size;
+  fileBytes = named-meta .bytes;
+  macBytes = named-meta .bytes;
+}
+  where
+    time : TimeFits zeroTime
+    time = record { sec = sfits-lit tt; nsec = sfits-lit tt }
+
+-- the record of a row in use is its id's
+pub mid-rec : {own : ℕ → Type 0} (a : List ℕ) (t : Table) → Formed own t → (i : ℕ) → Used t i → recOf a t (rowAt t i .id) ≡ rowAt t i .rec
+unfolding recOf
+mid-rec a t O i u = ap (recBy a t (rowAt t i .id)) (row-is t O i (u .below) (u .node))
+
+-- superblock and maps can be stored when an id is freed
+module _ (a : List ℕ) (y : Bytes a) (some : 1 ≤ superIn a .groups) (end : lengthOf a metaFile ≡ 131072 * superIn a .groups)
+    (spare : superIn a .unused + 1 < 4294967296) (id : ℕ) (below : id < idsIn a) where
+  pub freed-inside : id / 8 < length (mapsIn a)
+  unfolding mapsIn
+  freed-inside = omega (arith, length-mapsTo a (superIn a .groups))
+
+  pub freed-fits : MetaFits a (record { super = oneMore (superIn a); maps = withBit (mapsIn a) id true })
+  unfolding superIn mapsIn
+  freed-fits =
+      let F = superOf-fits (run a metaFile 0 16) (run-bytes a metaFile 0 16 y) in
+      record {
+        fits = record { magic = F .magic; blocks = F .blocks; unused = spare; groups = F .groups };
+        some = some;
+        bytes = withBit-bytes (mapsIn a) id true freed-inside (bytes-mapsTo a y (superIn a .groups));
+        long = length-withBit (mapsIn a) id true freed-inside ∙ length-mapsTo a (superIn a .groups);
+        end = end;
+      }
+
+-- no live hold names row i
+abbrev pub Unheld : Table → ℕ → Type 0
+Unheld t i = (n : ℕ) → n < 32 → (holdAt t n .stamp ≡ 0 → ⊥) → holdAt t n .row ≡ i → ⊥
+
+-- ---- a row in use, clean and not held, becomes free
+
+module _ {own : ℕ → Type 0} (a : List ℕ) (t : Table) (i : ℕ) (M : Midway (also own i) a t) (used : Used t i) (clean : rowAt t i .dirty ≡ false) (unheld : Unheld t i) where
+  abbrev id : ℕ
+  id = rowAt t i .id
+
+  abbrev w : Table
+  w = freeRowAt t i
+
+  here : (j : ℕ) → j ≡ i → rowAt w j ≡ zeroRow
+  here j q = ap (rowAt w) q ∙ row-here t i zeroRow (omega (arith, used .below, M .fits .rows-34))
+
+  else : (j : ℕ) → (j ≡ i → ⊥) → rowAt w j ≡ rowAt t j
+  else j d = row-apart t i zeroRow j d
+
+  split : (Q : Row → Type 0) (j : ℕ) → (j ≡ i → Q zeroRow) → ((j ≡ i → ⊥) → Q (rowAt t j)) → Q (rowAt w j)
+  split Q j f g = ⊎-elim (λ e. subst Q (sym (here j e)) (f e)) (λ d. subst Q (sym (else j d)) (g d)) (eq-cases j i)
+
+  -- two rows in use have two ids
+  ids-apart : (j : ℕ) → j < 34 → (j ≡ i → ⊥) → rowAt t j .id ≢ id
+  ids-apart j l d q = d (sym (M .formed .one-row i j (used .below) l (used .node) (sym q)))
+
+  own-row : rowOf w id ≡ Nothing
+  unfolding rowOf
+  own-row =
+      sym (search-none (isRow w id) 34 (λ j l. split (λ (x : Row). eqb (x .id) id ≡ false) j (λ e. ne-eqb 0 id (λ z. used .node (sym z))) (λ d. ne-eqb (rowAt t j .id) id (ids-apart j l d))))
+
+  other-row : (k : ℕ) → k ≢ 0 → k ≢ id → rowOf w k ≡ rowOf t k
+  unfolding rowOf
+  other-row k z d =
+      search-cong (isRow w k) (isRow t k) 34
+      (λ j l. split (λ (x : Row). eqb (x .id) k ≡ eqb (rowAt t j .id) k) j
+      (λ e. ne-eqb 0 k (λ q. z (sym q)) ∙ sym (ne-eqb (rowAt t j .id) k (λ q. d (sym q ∙ ap (λ (m : ℕ). rowAt t m .id) e))))
+      (λ m. refl))
+
+  n : isNode a id ≡ true
+  n = M .fair .rule4 .node i (used .below) (used .node)
+
+  rec-is : recOf a t id ≡ rowAt t i .rec
+  rec-is = mid-rec a t (M .formed) i used
+
+  -- another node has the record that it had, in an arena with the same stored bytes for it
+  other-rec : (b : List ℕ) → ((k : ℕ) → isNode a k ≡ true → storedBytes b k ≡ storedBytes a k) → (k : ℕ) → isNode a k ≡ true → k ≢ id → recOf b w k ≡ recOf a t k
+  unfolding recOf
+  other-rec b same k m d = ap (recBy b w k) (other-row k (node-some a t (M .fair) k m) d) ∙ go (rowOf t k) refl
+    where
+      go : (f : Found) → rowOf t k ≡ f → recBy b w k f ≡ recBy a t k f
+      go (At j) e = ap (λ (x : Row). x .rec) (else j (λ q. d (sym (row-found t k j e .1) ∙ ap (λ (m : ℕ). rowAt t m .id) q)))
+      go Nothing e = ap recordOf (same k m)
+
+  own-rec : recOf a w id ≡ recOf a t id
+  unfolding recOf
+  own-rec =
+      ap (recBy a w id) own-row ∙ ap recordOf (sym (M .fair .rule4 .clean i (used .below) (used .node) clean))
+      ∙ recordOf-recordBytes (rowAt t i .rec) (M .fits .rows i (used .below) .rec) ∙ sym rec-is
+
+  other-open : (k : ℕ) → isNode a k ≡ true → k ≢ id → isOpen t k ≡ true → isOpen w k ≡ true
+  unfolding isOpen
+  other-open k m d o = ap (λ (f : Found). not (noRow f)) (other-row k (node-some a t (M .fair) k m) d) ∙ o
+
+  w-formed : Formed own w
+  w-formed = free-kept t i (M .formed) (used .below) unheld
+
+  w-fits : TableFits w
+  w-fits = fits-row t (M .fits) i zeroRow (record { id = omega arith; rec = zero-fits })
+
+  -- every node has the record that it had
+  pub row-recs : (k : ℕ) → isNode a k ≡ true → recOf a (freeRowAt t i) k ≡ recOf a t k
+  row-recs k m =
+      ⊎-elim
+      (λ (e : k ≡ id). subst (λ (j : ℕ). recOf a w j ≡ recOf a t j) (sym e) own-rec)
+      (λ d. other-rec a (λ x y. refl) k m d)
+      (eq-cases k id)
+
+  -- with links, that is all
+  pub row-dropped : rowAt t i .rec .nlinks ≢ 0 → Midway own a (freeRowAt t i)
+  row-dropped links = record {
+    fair = image-fair a a t w (M .fair) (alike-same a) (M .fair .rule1)
+        (λ j l. split (λ (x : Row). x .id ≢ 0 → isNode a (x .id) ≡ true) j (λ e z. absurd (z refl)) (λ d. M .fair .rule4 .node j l))
+        (λ j l. split (λ (x : Row). x .id ≢ 0 → x .dirty ≡ false → recordBytes (x .rec) ≡ storedBytes a (x .id)) j (λ e z. absurd (z refl)) (λ d. M .fair .rule4 .clean j l))
+        (λ k m. like-same (row-recs k m))
+        (λ k m z o. ⊎-elim
+        (λ (e : k ≡ id). absurd (links (ap (λ (r : DiskINode). r .nlinks) (sym rec-is) ∙ ap (λ (j : ℕ). recOf a t j .nlinks) (sym e) ∙ z)))
+        (λ d. other-open k m d o)
+        (eq-cases k id));
+    formed = w-formed;
+    bytes = M .bytes;
+    fits = w-fits;
+  }
+
+  -- ---- at links 0 the node is freed
+
+  abbrev left : Meta
+  left = record { super = oneMore (superIn a); maps = withBit (mapsIn a) id true }
+
+  module _ (nil : rowAt t i .rec .nlinks ≡ 0) where
+    none-links : recOf a t id .nlinks ≡ 0
+    none-links = ap (λ (r : DiskINode). r .nlinks) rec-is ∙ nil
+
+    few-unused : superIn a .unused + 1 < 4294967296
+    few-unused = omega (arith, M .fair .rule3 .unused, setBits-le (mapsIn a) (idsIn a), M .fair .rule3 .few)
+
+    left-fits : MetaFits a left
+    left-fits = freed-fits a (M .bytes) (M .fair .rule3 .some) (M .fair .rule3 .length) few-unused id (node-below a id n)
+
+    within-own : Within a a
+    within-own = record { size = refl; bytes = M .bytes; sound = M .fair .rule1 .sound; there = there-meta a t (M .fair); long = refl; files = λ f. kept-same a (file 1 f) }
+
+    -- b has the superblock and the maps, c has the file no more
+    module _ (b : List ℕ) (P : MetaPut a left b) (c : List ℕ) (D : Drop b (nodeFile (rowAt t i .rec)) c) where
+      meta-kept : Kept b c metaFile
+      meta-kept = D .others metaFile (λ e. node-other (rowAt t i .rec .file) (sym e))
+
+      stored-same : (k : ℕ) → isNode a k ≡ true → storedBytes c k ≡ storedBytes a k
+      stored-same k m = stored-kept b c meta-kept k ∙ P .stored k (node-some a t (M .fair) k m) (node-apart a k m)
+
+      file-is : rowAt t i .rec .file ≡ recOf a t id .file
+      file-is = ap (λ (r : DiskINode). r .file) (sym rec-is)
+
+      pub node-dropped : Midway own c (freeRowAt t i)
+      node-dropped = record {
+        fair = freed-fair a c t w (M .fair) id n none-links
+            (super-kept b c meta-kept ∙ P .super) (maps-kept b c meta-kept ∙ P .maps) (meta-kept .long ∙ P .within .long)
+            (ap (λ (r : DiskINode). there c (nodeFile r)) rec-is ∙ D .gone)
+            (λ f d. kept-then a b c (file 1 f) (P .within .files f) (D .others (file 1 f) (λ e. d (ap (λ (g : File). g .name) (sym e) ∙ file-is))))
+            (other-rec c stored-same)
+            other-open
+            (record { length = legal-same b c (D .size) ∙ legal-same a b (P .within .size) ∙ M .fair .rule1 .length; sound = D .keeps (P .within .sound) })
+            (λ j l. split (λ (x : Row). x .id ≢ 0 → (isNode a (x .id) ≡ true) × (x .id ≢ id)) j (λ e z. absurd (z refl)) (λ d z. (M .fair .rule4 .node j l z, ids-apart j l d)))
+            (λ j l. split (λ (x : Row). x .id ≢ 0 → x .dirty ≡ false → recordBytes (x .rec) ≡ storedBytes c (x .id)) j (λ e z. absurd (z refl))
+            (λ d z q. M .fair .rule4 .clean j l z q ∙ sym (stored-same (rowAt t j .id) (M .fair .rule4 .node j l z))));
+        formed = w-formed;
+        bytes = D .bytes (P .within .bytes);
+        fits = w-fits;
+      }
+
+-- ---- the steps
+
+-- the id is freed in memory
+free-block-is : {own : ℕ → Type 0} (s : Fs) (i : ℕ) (M : Midway (also own i) (s .arena) (s .table)) → Used (s .table) i → s .meta ≡ done (metaIn (s .arena))
+    → freeBlock s (idAt s i) ≡ done (withMeta s (record { super = oneMore (superIn (s .arena)); maps = withBit (mapsIn (s .arena)) (rowAt (s .table) i .id) true }))
+unfolding freeBlock
+free-block-is s i M u e =
+    rw (
+      e,
+      used-is (s .arena) (s .table) (M .fair) (rowAt (s .table) i .id) (M .fair .rule4 .node i (u .below) (u .node)),
+      lt-ltb (superIn (s .arena) .unused + 1) 4294967296 (omega (arith, M .fair .rule3 .unused, setBits-le (mapsIn (s .arena)) (idsIn (s .arena)), M .fair .rule3 .few)),
+    )
+
+pub drop-file : (b : List ℕ) (f : File) → there b f ≡ true → Ok (Drop b f) (λ r. r ≡ 17) (dropFile b f)
+drop-file b f e = ok-weaken (λ c D. D) (λ r q. why q) (drops.drop-law b f)
+  where
+    why : {r : ℕ} → DropRefused b f r → r ≡ 17
+    why (laws.missing q) = absurd (true-false e q)
+
+free-law : {own : ℕ → Type 0} (s : Fs) (i : ℕ) → Midway (also own i) (s .arena) (s .table) → Used (s .table) i → rowAt (s .table) i .dirty ≡ false → Unheld (s .table) i
+    → rowAt (s .table) i .rec .nlinks ≡ 0 → s .meta ≡ done (metaIn (s .arena))
+    → Ok (λ (d : Fs). Midway own (d .arena) (freeRowAt (d .table) i) × (d .table ≡ s .table)) (λ r. r ≡ 17) (freeNode s i)
+unfolding freeNode
+free-law {own = own} s i M u clean unheld nil e =
+    rw (free-block-is s i M u e)
+    (ok-bind (sync-meta-law (s .arena) m (within-own (s .arena) (s .table) i M u clean unheld nil) (left-fits (s .arena) (s .table) i M u clean unheld nil) x refl refl) λ d h.
+    ends d (h .0) (h .2))
+  where
+    m : Meta
+    m = record { super = oneMore (superIn (s .arena)); maps = withBit (mapsIn (s .arena)) (rowAt (s .table) i .id) true }
+
+    x : Fs
+    x = withMeta s (record { super = oneMore (superIn (s .arena)); maps = withBit (mapsIn (s .arena)) (rowAt (s .table) i .id) true })
+
+    n : isNode (s .arena) (rowAt (s .table) i .id) ≡ true
+    n = M .fair .rule4 .node i (u .below) (u .node)
+
+    is-there : there (s .arena) (nodeFile (rowAt (s .table) i .rec)) ≡ true
+    is-there = ap (λ (r : DiskINode). there (s .arena) (nodeFile r)) (sym (mid-rec (s .arena) (s .table) (M .formed) i u)) ∙ M .fair .rule5 .own (rowAt (s .table) i .id) n
+
+    ends : (d : Fs) → d .table ≡ s .table → MetaPut (s .arena) (record { super = oneMore (superIn (s .arena)); maps = withBit (mapsIn (s .arena)) (rowAt (s .table) i .id) true }) (d .arena)
+        → Ok (λ (d : Fs). Midway own (d .arena) (freeRowAt (d .table) i) × (d .table ≡ s .table)) (λ r. r ≡ 17) (bind (dropFile (d .arena) (nodeFile (recAt d i))) (λ c. done (withArena d c)))
+    ends d q P =
+        let r : rowAt (d .table) i .rec ≡ rowAt (s .table) i .rec = ap (λ (y : Table). rowAt y i .rec) q in
+        ok-bind (drop-file (d .arena) (nodeFile (recAt d i)) (ap (λ (y : DiskINode). there (d .arena) (nodeFile y)) r ∙ P .within .files (rowAt (s .table) i .rec .file) .exists ∙ is-there)) λ c D.
+        went (
+          subst (λ (y : Table). Midway own c (freeRowAt y i)) (sym q)
+              (node-dropped (s .arena) (s .table) i M u clean unheld nil (d .arena) P c (subst (λ (y : DiskINode). Drop (d .arena) (nodeFile y) c) r D)),
+          q,
+        )
+
+-- what is left then: the other rows have the ids that they had
+pub record Dropped (own : ℕ → Type 0) (s : Fs) (i : ℕ) (d : Fs) : Type 0 where
+  pub mid : Midway own (d .arena) (d .table)
+  pub ids : (j : ℕ) → (j ≡ i → ⊥) → rowAt (d .table) j .id ≡ rowAt (s .table) j .id
+
+-- 000's Drop of a node that nobody holds
+pub drop-law : {own : ℕ → Type 0} (s : Fs) (i : ℕ) → Midway (also own i) (s .arena) (s .table) → Used (s .table) i → Unheld (s .table) i → s .meta ≡ done (metaIn (s .arena))
+    → Ok (Dropped own s i) (λ r. r ≡ 17) (dropNode s i)
+unfolding dropNode
+drop-law {own = own} s i M u unheld e =
+    ok-bind (sync-mid s M i u) λ d S.
+    ok-bind (links d S (eqb (recAt d i .nlinks) 0) refl) λ z h.
+    went (record { mid = h .0; ids = λ j n. ap (λ (x : Row). x .id) (row-apart (z .table) i zeroRow j n) ∙ ap (λ (x : Table). rowAt x j .id) (h .1) ∙ S .ids j })
+  where
+    used : (d : Fs) → Synced (also own i) s i d → Used (d .table) i
+    used d S = record { below = u .below; node = λ z. u .node (sym (S .ids i) ∙ z) }
+
+    still : (d : Fs) → Synced (also own i) s i d → Unheld (d .table) i
+    still d S = subst (λ (h : List Hold). (n : ℕ) → n < 32 → (getD h n zeroHold .stamp ≡ 0 → ⊥) → getD h n zeroHold .row ≡ i → ⊥) (sym (S .holds)) unheld
+
+    meta : (d : Fs) → Synced (also own i) s i d → d .meta ≡ done (metaIn (d .arena))
+    meta d S = S .meta ∙ e ∙ λ x. done (record { super = sym (S .super) x; maps = sym (S .maps) x })
+
+    links : (d : Fs) → Synced (also own i) s i d → (b : Bool) → eqb (recAt d i .nlinks) 0 ≡ b
+        → Ok (λ (z : Fs). Midway own (z .arena) (freeRowAt (z .table) i) × (z .table ≡ d .table)) (λ r. r ≡ 17) (pick b (freeNode d i) (done d))
+    links d S true q = free-law d i (S .mid) (used d S) (S .clean) (still d S) (eqb-true (recAt d i .nlinks) 0 q) (meta d S)
+    links d S false q = went (row-dropped (d .arena) (d .table) i (S .mid) (used d S) (S .clean) (still d S) (eqb-false (recAt d i .nlinks) 0 q), refl)
+
+-- a call's own opening ends
+pub release-law : {own : ℕ → Type 0} (s : Fs) (i : ℕ) → Midway (also own i) (s .arena) (s .table) → Used (s .table) i → s .meta ≡ done (metaIn (s .arena))
+    → Ok (Dropped own s i) (λ r. r ≡ 17) (release s i)
+unfolding release
+release-law {own = own} s i M u e = go (rowUsed (s .table) i) refl
+  where
+    go : (b : Bool) → rowUsed (s .table) i ≡ b → Ok (Dropped own s i) (λ r. r ≡ 17) (pick b (done s) (dropNode s i))
+    go true q = went (record { mid = record { fair = M .fair; formed = formed-held (s .table) i (holder-of (s .table) i q) (M .formed); bytes = M .bytes; fits = M .fits }; ids = λ j n. refl })
+    go false q = drop-law s i M u (λ n l v z. true-false (of-holder (s .table) i (record { hold = n; is-hold = l; live = v; names = z })) q) e

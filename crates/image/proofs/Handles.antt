@@ -1,0 +1,70 @@
+-- What an image that is allowed gives to a call: it is admitted, and a live handle's row is a node's.
+use mathlib.Core.Bool.{true}
+use mathlib.Core.Path.{_≡_, refl, subst, ap, _∙_}
+use mathlib.Core.List.{List}
+use Prim.Native.Nat.{ℕ, _≤_}
+use borrow.Author.Tests.{lt-ltb}
+use Rattle.base.specs.Out.{done, Ok, went, said}
+use Rattle.base.proofs.Bools.{and-both}
+use Rattle.base.proofs.Tests.{decides-leb}
+use Rattle.base.proofs.Sames.{decided-yes}
+use Rattle.base.specs.declared.Found.{Found}
+use Rattle.base.specs.declared.Found.the-variants.{At, Nothing}
+use Rattle.structs.specs.Verdict.{isFolder, isType}
+use Rattle.structs.specs.declared.DiskINode.{DiskINode}
+use Rattle.table.specs.declared.Table.{Table}
+use Rattle.table.specs.declared.Handle.{Handle}
+use Rattle.table.specs.Table.{rowAt, liveRow}
+use Rattle.table_laws.specs.Rules.{WellFormed}
+use Rattle.table_laws.proofs.Rules.{well-formed, row-is}
+use Rattle.table_laws.proofs.Handles.{live-means, live-used}
+use Rattle.sefs.specs.Ask.{admitArena, admit, orBadHandle, byHandle}
+use Rattle.rules.specs.Image.{isNode, recBy, recOf, isFolderAt}
+use Rattle.rules.specs.Rules.{Allowed}
+use Rattle.sefs_laws.proofs.Clear.{Clear, clear}
+use Rattle.image.specs.Midway.{Used}
+
+-- the handle is live on row i
+pub record Reaches (t : Table) (h : Handle) (i : ℕ) : Type 0 where
+  pub live : liveRow t h ≡ At i
+  pub used : Used t i
+
+module _ (a : List ℕ) (t : Table) (A : Allowed a t) where
+  -- 1, 2, 3 can't come
+  pub admitted : admit a t ≡ done tt
+  unfolding admit admitArena
+  admitted = rw (A .rule1 .length, A .rule1 .sound, A .rule2 .formed)
+
+  pub formed : WellFormed t
+  formed = well-formed t .0 (A .rule2 .formed)
+
+  -- a handle is live on a row in use, or the reason is 4
+  pub handle-law : (h : Handle) → Ok (Reaches t h) Clear (byHandle t h)
+  handle-law h = go (liveRow t h) refl
+    where
+      go : (f : Found) → liveRow t h ≡ f → Ok (Reaches t h) Clear (orBadHandle f)
+      go (At i) e =
+          let l = live-means t h i .0 e in
+          went (record { live = e; used = record { below = l .is-row; node = live-used t h i formed l } })
+      go Nothing e = said (clear 4 refl)
+
+  module _ (i : ℕ) (u : Used t i) where
+    pub row-node : isNode a (rowAt t i .id) ≡ true
+    row-node = A .rule4 .node i (u .below) (u .node)
+
+    pub row-rec : recOf a t (rowAt t i .id) ≡ rowAt t i .rec
+    unfolding recOf
+    row-rec = ap (recBy a t (rowAt t i .id)) (row-is t formed i (u .below) (u .node))
+
+    pub row-least : 1 ≤ rowAt t i .rec .kind
+    row-least = subst (λ (r : DiskINode). 1 ≤ r .kind) row-rec (A .rule5 .least (rowAt t i .id) row-node)
+
+    pub row-most : rowAt t i .rec .kind ≤ 4
+    row-most = subst (λ (r : DiskINode). r .kind ≤ 4) row-rec (A .rule5 .most (rowAt t i .id) row-node)
+
+    pub row-type : isType (rowAt t i .rec .kind) ≡ true
+    row-type = and-both (lt-ltb 0 (rowAt t i .rec .kind) row-least) (decided-yes (decides-leb (rowAt t i .rec .kind) 4) row-most)
+
+    pub row-folder : isFolder (rowAt t i .rec .kind) ≡ true → isFolderAt a t (rowAt t i .id) ≡ true
+    unfolding isFolderAt
+    row-folder e = and-both row-node (ap (λ (r : DiskINode). isFolder (r .kind)) row-rec ∙ e)

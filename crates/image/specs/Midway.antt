@@ -1,0 +1,60 @@
+-- What holds of an image in the middle of a call, and the words in which the laws of the steps are said.
+use mathlib.Core.List.{List}
+use mathlib.Core.Logic.{_≢_}
+use Prim.Native.Nat.{ℕ, _<_}
+use Rattle.le.specs.Le.{Bytes}
+use Rattle.table.specs.declared.Table.{Table}
+use Rattle.table.specs.Table.{rowAt}
+use Rattle.table_bytes.specs.Fits.{TableFits}
+use Rattle.files.specs.Read.{lengthOf}
+use Rattle.sefs.specs.State.{Meta}
+use Rattle.sefs.specs.Nodes.{nodeFile}
+use Rattle.rules.specs.Image.{superIn, mapsIn, idsIn, isNode, recOf, isOpen, slotIn}
+use Rattle.rules.specs.Rules.{Rule1, Rule3, Rule4, Rule5, Rule6, Rule7, Rule8}
+use Rattle.table_laws.specs.Rules.{Formed}
+use Rattle.tree.specs.Tree.{Tree}
+
+-- ---- superblock and maps
+
+abbrev pub metaIn : List ℕ → Meta
+metaIn a = record { super = superIn a; maps = mapsIn a }
+
+-- ---- admission, handles, rows
+
+-- row i is in use
+pub record Used (t : Table) (i : ℕ) : Type 0 where
+  pub below : i < 34
+  pub node : rowAt t i .id ≢ 0
+
+-- ---- what holds of the image in the middle of a call too: all rules but that the table is well formed
+
+pub record Fair (a : List ℕ) (t : Table) : Type 0 where
+  pub rule1 : Rule1 a
+  pub rule3 : Rule3 a
+  pub rule4 : Rule4 a t
+  pub rule5 : Rule5 a t
+  pub rule6 : Rule6 a t
+  pub rule7 : Rule7 a t
+  pub rule8 : Rule8 a t
+
+-- ---- in the middle of a call: the table is well formed but for the call's own rows
+
+pub record Midway (own : ℕ → Type 0) (a : List ℕ) (t : Table) : Type 0 where
+  pub fair : Fair a t
+  pub formed : Formed own t
+  pub bytes : Bytes a
+  pub fits : TableFits t
+
+-- ---- an image's tree
+
+abbrev pub treeOf : List ℕ → Table → Tree
+treeOf a t = record {
+  ids = idsIn a;
+  node = isNode a;
+  kind = λ i. recOf a t i .kind;
+  links = λ i. recOf a t i .nlinks;
+  blocks = λ i. recOf a t i .blocks;
+  long = λ i. lengthOf a (nodeFile (recOf a t i));
+  slot = λ i k. slotIn a (recOf a t i) k;
+  opened = isOpen t;
+}

@@ -1,0 +1,209 @@
+-- For each public call: whatever satisfies its contract from a passed pair leaves a passed pair, and answers none of the three reasons.
+use mathlib.Core.Path.{_≡_, refl, sym, ap, _∙_, subst}
+use mathlib.Core.Bool.{Bool, true, false}
+use mathlib.Core.List.{List}
+use Prim.Native.Nat.{ℕ, _<_, _^_}
+use lib.ListN.{length}
+use Rattle.base.proofs.Bools.{true-false}
+use Rattle.base.specs.Out.{Out, done, refused, bind, answer, kept}
+use Rattle.structs.specs.declared.Timespec.{Timespec}
+use Rattle.table.specs.declared.Table.{Table}
+use Rattle.table.specs.declared.Handle.{Handle}
+use Rattle.table.specs.declared.Added.{Added}
+use Rattle.table.specs.Table.{emptyTable}
+use Rattle.sefs.specs.declared.Metadata.{Metadata}
+use Rattle.sefs.specs.Open.{callRoot, callFind}
+use Rattle.sefs.specs.Create.{After, Given, callFormat, callCreate, callLink}
+use Rattle.sefs.specs.Unlink.{callUnlink}
+use Rattle.sefs.specs.Move.{callMove}
+use Rattle.sefs.specs.Read.{callMetadata, callSet, callEntry, callListing}
+use Rattle.sefs.specs.Close.{callSync, callClose}
+use Rattle.le.specs.Le.{Bytes}
+use Rattle.structs.specs.Fits.{TimeFits}
+use Rattle.calls.specs.Answers.{answerOf, answerNumber, gotOf, gotNumber, heldTable, toldOf, toldNumber, listedOf, listedNumber}
+use Rattle.calls.specs.declared.After as answered
+use Rattle.calls.specs.declared.Given as handed
+use Rattle.calls.specs.declared.Answer.{Answer}
+use Rattle.calls.specs.declared.Answer.the-variants as answers
+use Rattle.calls.specs.declared.Told.{Told}
+use Rattle.calls.specs.declared.Listed.{Listed}
+use Rattle.calls_steps.specs.Ends.{Returned}
+use Rattle.calls_create.specs.Held.{ReturnedHeld}
+use Rattle.calls_format.specs.Format.{formatted}
+use Rattle.calls_open.specs.Opens.{Gives}
+use Rattle.sequences.specs.Pairs.{Pair, pair, Passed}
+use Rattle.sequences.specs.Calls.{Call, root, find, create, link, unlink, move, metadata, setMetadata, getEntry, listing, sync, close, Fits, HandleFits, NewFits, SetFits, does, reasonOf, next, carries}
+use Rattle.sequences.specs.Promises.{Keeps, Well, Fresh}
+use Rattle.sequences.proofs.Sequences.{keeps}
+use Rattle.sequences.proofs.Fresh.{fresh}
+use Rattle.promised.specs.Promised.{Stays}
+
+-- ---- from what is promised of the definition
+
+-- where the definition's outcome is known, the pair and the number are
+stays : (c : Call) (p q : Pair) (n : ℕ) → Well c p → next c p ≡ q → reasonOf c p ≡ n → Stays (q .arena) (q .table) n
+stays c p q n w e r = record {
+  not-stuck = λ z. w .not-stuck (r ∙ z);
+  not-damaged = λ z. w .not-damaged (r ∙ z);
+  not-malformed = λ z. w .not-malformed (r ∙ z);
+  passes = subst Passed e (w .passes);
+}
+
+-- a call's own outcome o, and the pair that it leaves
+module _ {A : Type 0} (c : Call) (p : Pair) (f : A → Pair) (w : Well c p) where
+  stays-done : (x : A) → does c p ≡ done (f x) → Stays (f x .arena) (f x .table) 0
+  stays-done x e = stays c p (f x) 0 w (ap (kept p) e) (ap answer e)
+
+  stays-refused : (n : ℕ) → does c p ≡ refused n → Stays (p .arena) (p .table) n
+  stays-refused n e = stays c p p n w (ap (kept p) e) (ap answer e)
+
+abbrev left : After → Pair
+left x = pair (x .arena) (x .table)
+
+-- calls that change the arena
+by-return : (c : Call) (p : Pair) (o : Out After) → Well c p → does c p ≡ bind o (λ x. done (left x))
+    → (b : List ℕ) (r : answered.After) → Returned (p .table) o (p .arena) b r → Stays b (r .table) (answerNumber (r .answer))
+by-return c p (done x) w e b r R =
+    subst (λ (b : List ℕ). Stays b (r .table) (answerNumber (r .answer))) (sym (R .arena))
+    (subst (λ (r : answered.After). Stays (x .arena) (r .table) (answerNumber (r .answer))) (sym (R .answer)) (stays-done c p left w x e))
+by-return c p (refused n) w e b r R =
+    subst (λ (b : List ℕ). Stays b (r .table) (answerNumber (r .answer))) (sym (R .arena))
+    (subst (λ (r : answered.After). Stays (p .arena) (r .table) (answerNumber (r .answer))) (sym (R .answer)) (stays-refused c p left w n e))
+
+-- calls that change the arena and make a hold
+by-held : (c : Call) (p : Pair) (o : Out Given) → Well c p → does c p ≡ bind o (λ x. done (pair (x .arena) (x .table)))
+    → (b : List ℕ) (r : handed.Given) → ReturnedHeld (p .table) o (p .arena) b r → Stays b (r .table) (gotNumber (r .answer))
+by-held c p (done x) w e b r R =
+    subst (λ (b : List ℕ). Stays b (r .table) (gotNumber (r .answer))) (sym (R .arena))
+    (subst (λ (r : handed.Given). Stays (x .arena) (r .table) (gotNumber (r .answer))) (sym (R .answer)) (stays-done c p (λ (x : Given). pair (x .arena) (x .table)) w x e))
+by-held c p (refused n) w e b r R =
+    subst (λ (b : List ℕ). Stays b (r .table) (gotNumber (r .answer))) (sym (R .arena))
+    (subst (λ (r : handed.Given). Stays (p .arena) (r .table) (gotNumber (r .answer))) (sym (R .answer)) (stays-refused c p (λ (x : Given). pair (x .arena) (x .table)) w n e))
+
+-- calls that make a hold and keep the arena
+by-gift : (c : Call) (p : Pair) (o : Out Added) → Well c p → does c p ≡ bind o (λ x. done (pair (p .arena) (x .table)))
+    → (r : handed.Given) → Gives (p .table) o r → Stays (p .arena) (r .table) (gotNumber (r .answer))
+by-gift c p (done x) w e r R =
+    subst (λ (u : Table). Stays (p .arena) u (gotNumber (r .answer))) (sym (R .1))
+    (subst (λ (g : _). Stays (p .arena) (x .table) (gotNumber g)) (sym (R .0)) (stays-done c p (λ (x : Added). pair (p .arena) (x .table)) w x e))
+by-gift c p (refused n) w e r R =
+    subst (λ (u : Table). Stays (p .arena) u (gotNumber (r .answer))) (sym (R .1))
+    (subst (λ (g : _). Stays (p .arena) (p .table) (gotNumber g)) (sym (R .0)) (stays-refused c p (λ (x : Added). pair (p .arena) (x .table)) w n e))
+
+-- calls that change nothing
+by-none : {A : Type 0} (c : Call) (p : Pair) (o : Out A) → Well c p → does c p ≡ bind o (λ _. done p) → Stays (p .arena) (p .table) (answer o)
+by-none {A} c p (done x) w e = stays-done {A = A} c p (λ (y : A). p) w x e
+by-none {A} c p (refused n) w e = stays-refused {A = A} c p (λ (y : A). p) w n e
+
+told-number : (o : Out Metadata) → toldNumber (toldOf o) ≡ answer o
+told-number (done x) = refl
+told-number (refused n) = refl
+
+answer-number : {A : Type 0} (o : Out A) → answerNumber (answerOf o) ≡ answer o
+answer-number (done x) = refl
+answer-number (refused n) = refl
+
+listed-number : (o : Out (List ℕ)) → listedNumber (listedOf o) ≡ answer o
+listed-number (done x) = refl
+listed-number (refused n) = refl
+
+-- ---- one law a call
+
+module _ (p : Pair) (y : Passed p) where
+  -- a call that fits and carries no folder
+  held : (c : Call) → Fits c → carries p c ≡ false → Well c p
+  unfolding Keeps
+  held c f e = keeps p c y (record { fits = f; leaves = e })
+
+  pub root-keeps : (r : handed.Given) → Gives (p .table) (callRoot (p .arena) (p .table)) r → Stays (p .arena) (r .table) (gotNumber (r .answer))
+  unfolding does
+  root-keeps = by-gift root p (callRoot (p .arena) (p .table)) (held root tt refl) refl
+
+  module _ (h : Handle) (H : HandleFits h) where
+    pub find-keeps : (name : List ℕ) → Bytes name → (r : handed.Given) → Gives (p .table) (callFind (p .arena) (p .table) h name) r → Stays (p .arena) (r .table) (gotNumber (r .answer))
+    unfolding does
+    find-keeps name n = by-gift (find h name) p (callFind (p .arena) (p .table) h name) (held (find h name) (H, n) refl) refl
+
+    pub create-keeps : (name : List ℕ) → Bytes name → (kind mode : ℕ) (time : Timespec) (file : List ℕ) → NewFits kind mode time file → (b : List ℕ) (r : handed.Given)
+        → ReturnedHeld (p .table) (callCreate (p .arena) (p .table) h name kind mode time file) (p .arena) b r → Stays b (r .table) (gotNumber (r .answer))
+    unfolding does
+    create-keeps name n kind mode time file N =
+        by-held (create h name kind mode time file) p (callCreate (p .arena) (p .table) h name kind mode time file) (held (create h name kind mode time file) (H, n, N) refl) refl
+
+    pub link-keeps : (name : List ℕ) → Bytes name → (child : Handle) → HandleFits child → (b : List ℕ) (r : answered.After)
+        → Returned (p .table) (callLink (p .arena) (p .table) h name child) (p .arena) b r → Stays b (r .table) (answerNumber (r .answer))
+    unfolding does
+    link-keeps name n child C = by-return (link h name child) p (callLink (p .arena) (p .table) h name child) (held (link h name child) (H, n, C) refl) refl
+
+    pub unlink-keeps : (name : List ℕ) → Bytes name → (b : List ℕ) (r : answered.After)
+        → Returned (p .table) (callUnlink (p .arena) (p .table) h name) (p .arena) b r → Stays b (r .table) (answerNumber (r .answer))
+    unfolding does
+    unlink-keeps name n = by-return (unlink h name) p (callUnlink (p .arena) (p .table) h name) (held (unlink h name) (H, n) refl) refl
+
+    -- "and move no folder to another folder"
+    pub move-keeps : (old : List ℕ) → Bytes old → (target : Handle) → HandleFits target → (name : List ℕ) → Bytes name → carries p (move h old target name) ≡ false
+        → (b : List ℕ) (r : answered.After)
+        → Returned (p .table) (callMove (p .arena) (p .table) h old target name) (p .arena) b r → Stays b (r .table) (answerNumber (r .answer))
+    unfolding does
+    move-keeps old o target T name n e =
+        by-return (move h old target name) p (callMove (p .arena) (p .table) h old target name) (held (move h old target name) (H, o, T, n) e) refl
+
+    pub metadata-keeps : (r : Told) → r ≡ toldOf (callMetadata (p .arena) (p .table) h) → Stays (p .arena) (p .table) (toldNumber r)
+    unfolding does
+    metadata-keeps r e =
+        let o : Out Metadata = callMetadata (p .arena) (p .table) h in
+        subst (Stays (p .arena) (p .table)) (sym (ap toldNumber e ∙ told-number o)) (by-none (metadata h) p (callMetadata (p .arena) (p .table) h) (held (metadata h) H refl) refl)
+
+    pub set-metadata-keeps : (mode uid gid : ℕ) (atime mtime ctime : Timespec) → SetFits mode uid gid atime mtime ctime → (r : answered.After)
+        → (r .answer ≡ answerOf (callSet (p .arena) (p .table) h mode uid gid atime mtime ctime))
+        → (r .table ≡ kept (p .table) (callSet (p .arena) (p .table) h mode uid gid atime mtime ctime))
+        → Stays (p .arena) (r .table) (answerNumber (r .answer))
+    unfolding does
+    set-metadata-keeps mode uid gid atime mtime ctime S r =
+        go (callSet (p .arena) (p .table) h mode uid gid atime mtime ctime) (held (setMetadata h mode uid gid atime mtime ctime) (H, S) refl) refl
+      where
+        go : (o : Out Table) → Well (setMetadata h mode uid gid atime mtime ctime) p → does (setMetadata h mode uid gid atime mtime ctime) p ≡ bind o (λ t. done (pair (p .arena) t))
+            → (r .answer ≡ answerOf o) → (r .table ≡ kept (p .table) o) → Stays (p .arena) (r .table) (answerNumber (r .answer))
+        go (done t) w e i j =
+            subst (λ (u : Table). Stays (p .arena) u (answerNumber (r .answer))) (sym j)
+            (subst (λ (g : Answer). Stays (p .arena) t (answerNumber g)) (sym i) (stays-done (setMetadata h mode uid gid atime mtime ctime) p (λ (t : Table). pair (p .arena) t) w t e))
+        go (refused n) w e i j =
+            subst (λ (u : Table). Stays (p .arena) u (answerNumber (r .answer))) (sym j)
+            (subst (λ (g : Answer). Stays (p .arena) (p .table) (answerNumber g)) (sym i) (stays-refused (setMetadata h mode uid gid atime mtime ctime) p (λ (t : Table). pair (p .arena) t) w n e))
+
+    module _ (k room : ℕ) (K : k < 2 ^ 64) (R : room < 2 ^ 64) where
+      pub get-entry-keeps : (r : Answer) → r ≡ answerOf (callEntry (p .arena) (p .table) h k room) → Stays (p .arena) (p .table) (answerNumber r)
+      unfolding does
+      get-entry-keeps r e =
+          subst (Stays (p .arena) (p .table)) (sym (ap answerNumber e ∙ answer-number (callEntry (p .arena) (p .table) h k room)))
+          (by-none (getEntry h k room) p (callEntry (p .arena) (p .table) h k room) (held (getEntry h k room) (H, K, R) refl) refl)
+
+      pub listing-keeps : (r : Listed) → r ≡ listedOf (callListing (p .arena) (p .table) h k room) → Stays (p .arena) (p .table) (listedNumber r)
+      unfolding does
+      listing-keeps r e =
+          subst (Stays (p .arena) (p .table)) (sym (ap listedNumber e ∙ listed-number (callListing (p .arena) (p .table) h k room)))
+          (by-none (listing h k room) p (callListing (p .arena) (p .table) h k room) (held (listing h k room) (H, K, R) refl) refl)
+
+    pub close-keeps : (b : List ℕ) (r : answered.After) → Returned (p .table) (callClose (p .arena) (p .table) h) (p .arena) b r → Stays b (r .table) (answerNumber (r .answer))
+    unfolding does
+    close-keeps = by-return (close h) p (callClose (p .arena) (p .table) h) (held (close h) H refl) refl
+
+  pub sync-keeps : (b : List ℕ) (r : answered.After) → Returned (p .table) (callSync (p .arena) (p .table)) (p .arena) b r → Stays b (r .table) (answerNumber (r .answer))
+  unfolding does
+  sync-keeps = by-return sync p (callSync (p .arena) (p .table)) (held sync tt refl) refl
+
+isDone : Answer → Bool
+isDone answers.Done = true
+isDone (answers.Refused n) = false
+
+-- a format that is done leaves a passed pair
+pub format-fresh : (a : List ℕ) (time : Timespec) (file : List ℕ) → Bytes a → TimeFits time → length file ≡ 16 → Bytes file
+    → (b : List ℕ) (r : answered.After) → Returned emptyTable (formatted (callFormat a time file)) a b r → r .answer ≡ answers.Done → Passed (pair b (r .table))
+unfolding Fresh
+format-fresh a time file A T L F b r = go (callFormat a time file) refl
+  where
+    go : (o : Out (List ℕ)) → callFormat a time file ≡ o → Returned emptyTable (formatted o) a b r → r .answer ≡ answers.Done → Passed (pair b (r .table))
+    go (done x) e R z =
+        subst (λ (b : List ℕ). Passed (pair b (r .table))) (sym (R .arena))
+        (subst (λ (r : answered.After). Passed (pair x (r .table))) (sym (R .answer)) (fresh a time file A T L F x e))
+    go (refused n) e R z = absurd (true-false refl (ap isDone (sym z ∙ ap (λ (x : answered.After). x .answer) (R .answer))))

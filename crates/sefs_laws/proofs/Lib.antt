@@ -1,0 +1,3 @@
+pub mod Clear
+pub mod Rows
+pub mod Says

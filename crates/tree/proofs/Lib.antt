@@ -1,0 +1,6 @@
+pub mod Born
+pub mod Naming
+pub mod Redirects
+pub mod Renaming
+pub mod Trees
+pub mod Unnaming
