@@ -207,7 +207,6 @@ module _ (s : Fs) (i j : ℕ) (old : Slot) (name : List ℕ) (d k : ℕ) (M : Mo
             settle-node s i j old name d k M y2 (recAt s j .blocks) C B L2 S2 (X .meta)
             (λ z. links-c (sym (else-2 c d-not-c) ∙ z))
             (omega (arith, else-2 (idAt s i) i-not-d, links-i))
-            (omega (arith, else-2 (idAt s j) (λ z. d-not-j s i j old name d k M (sym z)), links-j))
             fair
         go true q =
             let f : isFolder (recAt s d .kind) ≡ true = ap isFolder (sym kind-2) ∙ q in
@@ -218,7 +217,6 @@ module _ (s : Fs) (i j : ℕ) (old : Slot) (name : List ℕ) (d k : ℕ) (M : Mo
             (λ w. links-c (sym (else-4 c d-not-c w) ∙ z))
             (eq-cases c (idAt s j)))
             (omega (arith, else-4 (idAt s i) i-not-d apart, links-i))
-            (omega (arith, here-4, links-j))
             (λ no-dir. absurd (true-false f (sym (M .onto .kinds) ∙ no-dir))))
 
   last : slotBytes (x .arena) (recAt x j) (recAt x j .blocks - 1) ≡ done (run (x .arena) (nodeFile (recAt x j)) (264 * (recAt x j .blocks - 1)) 264)

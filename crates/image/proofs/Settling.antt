@@ -61,7 +61,6 @@ pub record Settled (s : Fs) (i j : ℕ) (old : Slot) (z : Fs) : Type 0 where
   pub from : Used (z .table) i
   pub to : Used (z .table) j
   pub from-links : 2 ≤ recAt z i .nlinks
-  pub to-links : 1 ≤ recAt z j .nlinks
 
 -- a state by its parts
 pub state-is : (x : Fs) {m : Out Meta} → x .meta ≡ m → record { arena = x .arena; table = x .table; meta = m } ≡ x
@@ -103,7 +102,6 @@ module _ (s : Fs) (i j : ℕ) (old : Slot) (name : List ℕ) (M : Moving s i j o
       let B : ℕ → ℕ = at (idAt s i) (recAt s i .blocks - 1) (at (idAt s j) (recAt s j .blocks + 1) (slotsOf s)) in
       let B1 : ℕ → ℕ = at (idAt s j) (recAt s j .blocks + 1) (slotsOf s) in
       let row-i = counts-row (s .arena) (s .table) B (linksOf s) (x .table) (X .rows) i (M .from .used) in
-      let row-j = counts-row (s .arena) (s .table) B (linksOf s) (x .table) (X .rows) j (M .to .used) in
       record {
         hold = subst (Holding rules.none (superIn (s .arena) .groups) c (movedKind s old)) (state-is x (X .meta))
             (holding-carried s i j old name none M (recAt s j .blocks) (recAt s j .blocks + 1) (x .arena) (X .files) B (linksOf s) (x .table) (X .rows)
@@ -117,7 +115,6 @@ module _ (s : Fs) (i j : ℕ) (old : Slot) (name : List ℕ) (M : Moving s i j o
         from = counts-used (s .arena) (s .table) B (linksOf s) (x .table) (X .rows) i (M .from .used);
         to = counts-used (s .arena) (s .table) B (linksOf s) (x .table) (X .rows) j (M .to .used);
         from-links = omega (arith, row-i .1, live-links s (M .mid) i (M .from), ap (λ (y : DiskINode). y .nlinks) (live-rec s (M .mid) i (M .from)));
-        to-links = omega (arith, row-j .1, live-links s (M .mid) j (M .to), ap (λ (y : DiskINode). y .nlinks) rec-j);
       }
 
 -- ---- the replaced node is let go
@@ -145,7 +142,7 @@ module _ (s : Fs) (i j : ℕ) (old : Slot) (name : List ℕ) (d k : ℕ) (M : Mo
   module _ (y : Fs) (l : ℕ)
       (C : Carried (s .arena) (recAt s i .file) (recAt s i .blocks - 1) (old .place) (recAt s j .file) (recAt s j .blocks) k l (renamed (old .entry) name) (y .arena))
       (B L : ℕ → ℕ) (S : Counts (owns (node d k)) (s .arena) (s .table) B L (y .table)) (meta : y .meta ≡ s .meta)
-      (own-links : L (old .entry .id) ≢ 0) (from-links : 2 ≤ L (idAt s i)) (to-links : 1 ≤ L (idAt s j))
+      (own-links : L (old .entry .id) ≢ 0) (from-links : 2 ≤ L (idAt s i))
       (fair : isFolder (movedKind s old) ≡ false → Midway (owns (node d k)) (y .arena) (y .table)) where
     H : Holding (owns (node d k)) g (old .entry .id) (movedKind s old) y
     H = subst (Holding (owns (node d k)) g (old .entry .id) (movedKind s old)) (state-is y meta)
@@ -177,7 +174,6 @@ module _ (s : Fs) (i j : ℕ) (old : Slot) (name : List ℕ) (d k : ℕ) (M : Mo
     ends z h =
         let E = h .0 in
         let row-i = counts-row (s .arena) (s .table) B L (y .table) S i (M .from .used) in
-        let row-j = counts-row (s .arena) (s .table) B L (y .table) S j (M .to .used) in
         let di : i ≡ d → ⊥ = λ q. d-not-i (ap (λ (x : ℕ). idAt s x) (sym q)) in
         let dj : j ≡ d → ⊥ = λ q. d-not-j (ap (λ (x : ℕ). idAt s x) (sym q)) in
         record {
@@ -186,7 +182,6 @@ module _ (s : Fs) (i j : ℕ) (old : Slot) (name : List ℕ) (d k : ℕ) (M : Mo
           from = record { below = M .from .used .below; node = λ q. M .from .used .node (sym (S .ids i) ∙ sym (E .ids i di) ∙ q) };
           to = record { below = M .to .used .below; node = λ q. M .to .used .node (sym (S .ids j) ∙ sym (E .ids j dj) ∙ q) };
           from-links = omega (arith, ap (λ (x : DiskINode). x .nlinks) (E .recs i di), row-i .1, from-links);
-          to-links = omega (arith, ap (λ (x : DiskINode). x .nlinks) (E .recs j dj), row-j .1, to-links);
         }
 
     pub settle-node : Ok (Settled s i j old) (λ n. n ≡ 17) (release y d)

@@ -64,10 +64,10 @@ record Ready (g c kd i j row : ℕ) (x : Fs) : Type 0 where
   used : Used (x .table) row
   same : idAt x row ≡ c
 
-module _ (g c kd i j : ℕ) (most : kd ≤ 4) (rows : i ≡ j → ⊥) where
+module _ (g c kd i j : ℕ) where
   -- ---- links
 
-  module _ (row : ℕ) (x : Fs) (Y : Ready g c kd i j row x) (links : 2 ≤ recAt x i .nlinks) where
+  module _ (most : kd ≤ 4) (row : ℕ) (x : Fs) (Y : Ready g c kd i j row x) (links : 2 ≤ recAt x i .nlinks) where
     abbrev x1 : Fs
     x1 = setRec x i (withLinks (recAt x i) (recAt x i .nlinks - 1))
 
@@ -133,7 +133,7 @@ module _ (g c kd i j : ℕ) (most : kd ≤ 4) (rows : i ≡ j → ⊥) where
 
 -- ---- from the settled state on
 
-module _ (s : Fs) (i j : ℕ) (old : Slot) (name : List ℕ) (r : Replaced) (M : Moving s i j old name r) (apart : idAt s i ≢ idAt s j) where
+module _ (s : Fs) (i j : ℕ) (old : Slot) (name : List ℕ) (r : Replaced) (M : Moving s i j old name r) where
   abbrev g : ℕ
   g = superIn (s .arena) .groups
 
@@ -148,9 +148,6 @@ module _ (s : Fs) (i j : ℕ) (old : Slot) (name : List ℕ) (r : Replaced) (M :
 
   seat : Seat g c
   seat = node-seat s (M .mid) c (moves-node s i j old name r M)
-
-  rows : i ≡ j → ⊥
-  rows q = apart (ap (λ (x : ℕ). idAt s x) q)
 
   module _ (z : Fs) (Z : Settled s i j old z) where
     gets : Ok (λ (o : Opened). Reached g c kd z o × (isFolder kd ≡ false → Got (z .arena) (z .table) c o)) Clear (getNode z c)
@@ -180,10 +177,10 @@ module _ (s : Fs) (i j : ℕ) (old : Slot) (name : List ℕ) (r : Replaced) (M :
         (bind (getNode z c) (λ o. bind (moveLinks (o .state) i j (o .row)) (λ s. bind (syncRow s i) (λ s. bind (syncRow s j) (λ s. bind (release s (o .row)) (λ s. done (after s)))))))
     rest =
         ok-bind gets λ o h.
-        ok-bind (links-law g c kd i j most rows (o .row) (o .state) (ready o (h .0) (h .1)) (links o (h .0) (h .1))) λ x Y.
-        ok-bind (sync-law g c kd i j most rows (o .row) x Y i (Y .from)) λ x Y.
-        ok-bind (sync-law g c kd i j most rows (o .row) x Y j (Y .to)) λ x Y.
-        ok-bind (end-law g c kd i j most rows (o .row) x Y) λ x p. went p
+        ok-bind (links-law g c kd i j most (o .row) (o .state) (ready o (h .0) (h .1)) (links o (h .0) (h .1))) λ x Y.
+        ok-bind (sync-law g c kd i j (o .row) x Y i (Y .from)) λ x Y.
+        ok-bind (sync-law g c kd i j (o .row) x Y j (Y .to)) λ x Y.
+        ok-bind (end-law g c kd i j (o .row) x Y) λ x p. went p
 
 -- the replaced node goes, if there is one
 replaced-law : (s : Fs) (i j : ℕ) (old : Slot) (name : List ℕ) (r : Replaced) → Moving s i j old name r → idAt s i ≢ idAt s j → (x : Fs) → Carrying s i j old name r x
@@ -198,4 +195,4 @@ between-law s i j old name r M apart =
     ok-bind (ok-weaken (λ x A. A) clear-17 (append-law s j (renamed (old .entry) name) (moves-fits s i j old name r M) (live-there s (M .mid) j (M .to)))) λ x A.
     ok-bind (ok-weaken (λ x X. X) clear-17 (carry-law s i j old name r M apart x A)) λ x X.
     ok-bind (ok-weaken (λ z Z. Z) clear-17 (replaced-law s i j old name r M apart x X)) λ z Z.
-    rest s i j old name r M apart z Z
+    rest s i j old name r M z Z

@@ -45,22 +45,18 @@ use Rattle.image.proofs.Hits.{later-place, row-hit}
 use Rattle.image.proofs.Movings.{named-links, live-later, live-named}
 use Rattle.image.proofs.Takes.{Gets, Got, get-law, get-more}
 use Rattle.image.proofs.Moving.{owns, LiveFolder, Replaces, Onto, Moving}
+use Rattle.sequences.proofs.Betweens.{between-law}
 use Rattle.sequences.proofs.Withins.{within-law}
 use Rattle.image.proofs.MoveAsks.{mid-type, judge-law, Ended, ends-law}
 use Rattle.table_laws.specs.Rules as rows
 use Rattle.rules.specs.Image as image
-
--- a move between two folders keeps, of what is no folder
-abbrev pub Between : Type 0
-Between = (s : Fs) (i j : ℕ) (old : Slot) (name : List ℕ) (r : Replaced) → Moving s i j old name r → rowAt (s .table) i .id ≢ rowAt (s .table) j .id
-    → Ok (λ (x : After). isFolder (recOf (s .arena) (s .table) (old .entry .id) .kind) ≡ false → Passed (pair (x .arena) (x .table))) Clear (moveBetween s i j old name r)
 
 -- an outcome, with what it is
 ok-own : {A : Type 0} {Q : A → Type 0} {R : ℕ → Type 0} {m : Out A} → Ok Q R m → Ok (λ x. Q x × (m ≡ done x)) R m
 ok-own (went q) = went (q, refl)
 ok-own (said r) = said r
 
-module _ (between : Between) (a : List ℕ) (t : Table) (A : Allowed a t) (y : Passed (pair a t)) (i j : ℕ) (from : LiveFolder (start a t) i) (to : LiveFolder (start a t) j)
+module _ (a : List ℕ) (t : Table) (A : Allowed a t) (y : Passed (pair a t)) (i j : ℕ) (from : LiveFolder (start a t) i) (to : LiveFolder (start a t) j)
     (old name : List ℕ) (plain-old : isSpecial old ≡ false) (good : GoodName name) (plain : isSpecial name ≡ false) (short : length name ≤ 255) (nb : Bytes name)
     (C : Type 0) (leaves : (e : Slot) → findSlot a (rowAt t i .rec) old ≡ done e → rowAt t i .id ≢ rowAt t j .id → C → isFolder (recOf a t (e .entry .id) .kind) ≡ false) where
   abbrev Q : After → Type 0
@@ -119,7 +115,7 @@ module _ (between : Between) (a : List ℕ) (t : Table) (A : Allowed a t) (y : P
             ok-weaken
             (λ x p c. p (ap (λ (z : DiskINode). isFolder (z .kind)) (recs (e .entry .id) (hit-node e hit)) ∙ leaves e found (λ z. d (ap (λ (x : Row). x .id) row-i ∙ z ∙ ap (λ (x : Row). x .id) (sym row-j))) c))
             (λ n p. p)
-            (between (start a u) i j e name r begins d)
+            (between-law (start a u) i j e name r begins d)
 
   pub none-law : NewName a (rowAt t j .rec) name → Ok (λ (x : After). C → Passed (pair (x .arena) (x .table))) Clear (moveSteps (start a t) i j old name none)
   unfolding moveSteps

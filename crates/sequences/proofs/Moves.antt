@@ -40,7 +40,7 @@ use Rattle.image.proofs.Lookups.{lookup-is}
 use Rattle.image.proofs.NewNames.{good-name, NewName, new-name}
 use Rattle.sequences.proofs.Asks.{live-folder}
 use Rattle.image.proofs.Moving.{LiveFolder}
-use Rattle.sequences.proofs.MoveSteps.{Between, none-law, node-law}
+use Rattle.sequences.proofs.MoveSteps.{none-law, node-law}
 
 -- whether the old name leads to a folder, of another folder than the target
 abbrev carried : Pair → Handle → List ℕ → Handle → Out Bool
@@ -75,10 +75,10 @@ look-law a t A b j u f name g s =
     by (At k) e = let h = search-at (λ k. isNamed (slotIn a (recOf a t (rowAt t j .id)) k .name) name) (recOf a t (rowAt t j .id) .blocks) k (sym e) in here k (h .0) (h .1)
     by Nothing e = new (new-name a t (rowAt t j .id) (A .rule6 .folder (rowAt t j .id) (row-folder a t A j u f)) name g s (sym e))
 
-move-call : Between → (p : Pair) → Passed p → (h : Handle) (old : List ℕ) (target : Handle) (name : List ℕ) → Bytes name
+move-call : (p : Pair) → Passed p → (h : Handle) (old : List ℕ) (target : Handle) (name : List ℕ) → Bytes name
     → Ok (λ (x : After). kept false (carried p h old target) ≡ false → Passed (pair (x .arena) (x .table))) Clear (callMove (p .arena) (p .table) h old target name)
 unfolding callMove
-move-call between p y h old target name nb =
+move-call p y h old target name nb =
     ok-bind (says-is (admitted a t A)) λ _ _.
     ok-bind (handle-law a t A h) λ i u.
     ok-bind (handle-law a t A target) λ j v.
@@ -110,13 +110,13 @@ move-call between p y h old target name nb =
         → isSpecial old ≡ false → GoodName name → isSpecial name ≡ false → length name ≤ 255 → (f : Found) → Looked (p .arena) (rowAt (p .table) j .rec) name f
         → Ok (λ (x : After). kept false (carried p h old target) ≡ false → Passed (pair (x .arena) (x .table))) Clear (moveTo (start (p .arena) (p .table)) i j old name f)
     goes i j u v from to plain-old good plain short f (here k l e) =
-        node-law between (p .arena) (p .table) A y i j from to old name plain-old good plain short nb (kept false (carried p h old target) ≡ false) (not-carried p h old target i j (u .live) (v .live)) k l e
+        node-law (p .arena) (p .table) A y i j from to old name plain-old good plain short nb (kept false (carried p h old target) ≡ false) (not-carried p h old target i j (u .live) (v .live)) k l e
     goes i j u v from to plain-old good plain short f (new N) =
-        none-law between (p .arena) (p .table) A y i j from to old name plain-old good plain short nb (kept false (carried p h old target) ≡ false) (not-carried p h old target i j (u .live) (v .live)) N
+        none-law (p .arena) (p .table) A y i j from to old name plain-old good plain short nb (kept false (carried p h old target) ≡ false) (not-carried p h old target i j (u .live) (v .live)) N
 
-pub keeps-move : Between → (p : Pair) (h : Handle) (old : List ℕ) (target : Handle) (name : List ℕ) → Passed p → Plain (move h old target name) p → Well (move h old target name) p
+pub keeps-move : (p : Pair) (h : Handle) (old : List ℕ) (target : Handle) (name : List ℕ) → Passed p → Plain (move h old target name) p → Well (move h old target name) p
 unfolding does moves
-keeps-move between p h old target name y P = well (move h old target name) p y (by (move-call between p y h old target name (P .fits .3)) (P .leaves))
+keeps-move p h old target name y P = well (move h old target name) p y (by (move-call p y h old target name (P .fits .3)) (P .leaves))
   where
     by : {o : Out After} → Ok (λ (x : After). kept false (carried p h old target) ≡ false → Passed (pair (x .arena) (x .table))) Clear o
         → kept false (bind o (λ _. carried p h old target)) ≡ false → Ok Passed Clear (bind o (λ x. done (pair (x .arena) (x .table))))
