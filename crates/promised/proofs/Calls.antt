@@ -199,7 +199,7 @@ isDone (answers.Refused n) = false
 -- a format that is done leaves a passed pair
 pub format-fresh : (a : List ℕ) (time : Timespec) (file : List ℕ) → Bytes a → TimeFits time → length file ≡ 16 → Bytes file
     → (b : List ℕ) (r : answered.After) → Returned emptyTable (formatted (callFormat a time file)) a b r → r .answer ≡ answers.Done → Passed (pair b (r .table))
-unfolding Fresh
+unfolding Fresh isDone
 format-fresh a time file A T L F b r = go (callFormat a time file) refl
   where
     go : (o : Out (List ℕ)) → callFormat a time file ≡ o → Returned emptyTable (formatted o) a b r → r .answer ≡ answers.Done → Passed (pair b (r .table))

@@ -3,7 +3,7 @@ use mathlib.Core.Path.{_≡_, refl, sym, ap, _∙_, subst}
 use mathlib.Core.Bool.{Bool, true, false}
 use mathlib.Core.List.{List}
 use mathlib.Core.Logic.{_≢_, ⊎-elim}
-use Prim.Native.Nat.{ℕ, _+_, _-_, _<_, _≤_}
+use Prim.Native.Nat.{ℕ, suc, _-_, _<_, _≤_}
 use native.Mathlib.Omega.{arith}
 use lib.Dec.{eqb}
 use borrow.Author.Tests.{eq-eqb, ne-eqb}
@@ -34,7 +34,7 @@ module _ (a : List ℕ) (t : Table) where
   pass-is = refl
 
   -- a number past 8 is no rule's, and says nothing
-  past : (n : ℕ) → RuleAt (9 + n) a t
+  past : (n : ℕ) → RuleAt (suc (suc (suc (suc (suc (suc (suc (suc (suc n))))))))) a t
   unfolding RuleAt
   past n = tt
 
@@ -65,7 +65,7 @@ module _ (a : List ℕ) (t : Table) where
         let c = check-fail a t n (f .1) (λ z. f .0 (f .1 ∙ z)) in
         record {
           least = ⊎-elim (λ (z : n ≡ 0). absurd (f .0 (f .1 ∙ z))) (λ d. omega arith) (eq-cases n 0);
-          most = ⊎-elim (λ l. omega arith) (λ g. absurd (c .1 (subst (λ (k : ℕ). RuleAt k a t) (let z : 9 + (n - 9) ≡ n = omega arith in z) (past (n - 9))))) (lt-or-le n 9);
+          most = ⊎-elim (λ l. omega arith) (λ g. absurd (c .1 (subst (λ (k : ℕ). RuleAt k a t) (let z : suc (suc (suc (suc (suc (suc (suc (suc (suc (n - 9))))))))) ≡ n = omega arith in z) (past (n - 9))))) (lt-or-le n 9);
           below = c .0;
           fails = c .1;
         }
