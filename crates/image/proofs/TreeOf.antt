@@ -9,14 +9,10 @@ use Rattle.structs.specs.Verdict.{isFolder}
 use Rattle.table.specs.declared.Table.{Table}
 use Rattle.rules.specs.Image.{idsIn, isNode, recOf, isFolderAt, namesIn, named, subfolders, parentOf, climb}
 use Rattle.rules.specs.Rules.{Rule6, Linked, Removed, Rule7, Rule8}
-use Rattle.tree.specs.Tree.{folderAt, namesOf, allNames, subsOf, parent, up, LinkedIn, RemovedIn, Lives, Tidy}
+use Rattle.tree.specs.Tree.{namesOf, allNames, subsOf, parent, up, LinkedIn, RemovedIn, Lives, Tidy}
 use Rattle.image.specs.Midway.{treeOf}
 
 module _ (a : List ℕ) (t : Table) where
-  pub folder-tree : (i : ℕ) → isFolderAt a t i ≡ folderAt (treeOf a t) i
-  unfolding isFolderAt
-  folder-tree i = refl
-
   pub named-tree : (x : ℕ) → named a t x ≡ allNames (treeOf a t) x
   unfolding named namesIn allNames namesOf isFolderAt
   named-tree x = refl
@@ -24,10 +20,6 @@ module _ (a : List ℕ) (t : Table) where
   pub subs-tree : (i : ℕ) → subfolders a (recOf a t i) ≡ subsOf (treeOf a t) i
   unfolding subfolders subsOf
   subs-tree i = refl
-
-  pub parent-tree : (i : ℕ) → parentOf a t i ≡ parent (treeOf a t) i
-  unfolding parentOf
-  parent-tree i = refl
 
   pub climb-tree : (i n : ℕ) → climb a t i n ≡ up (treeOf a t) i n
   unfolding climb up parentOf

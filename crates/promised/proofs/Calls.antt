@@ -20,7 +20,7 @@ use Rattle.sefs.specs.Read.{callMetadata, callSet, callEntry, callListing}
 use Rattle.sefs.specs.Close.{callSync, callClose}
 use Rattle.le.specs.Le.{Bytes}
 use Rattle.structs.specs.Fits.{TimeFits}
-use Rattle.calls.specs.Answers.{answerOf, answerNumber, gotOf, gotNumber, heldTable, toldOf, toldNumber, listedOf, listedNumber}
+use Rattle.calls.specs.Answers.{answerOf, answerNumber, gotNumber, toldOf, toldNumber, listedOf, listedNumber}
 use Rattle.calls.specs.declared.After as answered
 use Rattle.calls.specs.declared.Given as handed
 use Rattle.calls.specs.declared.Answer.{Answer}

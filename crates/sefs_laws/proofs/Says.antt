@@ -149,10 +149,6 @@ module _ (R : ℕ → Type 0) (stuck : R 19) where
   unfolding findSlot
   says-find none a r name = says-then (says-lookup a r name) λ f. says-then (says-found none f) λ k. says-then (says-slot a r k) λ e. says-done
 
-  pub says-dec : (s : Fs) (i : ℕ) → Says R (nlinksDec s i)
-  unfolding nlinksDec
-  says-dec s i = says-guard (ltb 0 (recAt s i .nlinks)) 19 stuck says-done
-
 -- ---- steps that store, or change what is in memory
 
 -- superblock and maps, where a step needs them, stick or are there
@@ -172,9 +168,6 @@ goes-pick false m o s u = u
 pub goes-guard : {A : Type 0} {Q : A → Type 0} {R : ℕ → Type 0} (b : Bool) (n : ℕ) {m : Out A} → R n → Ok Q R m → Ok Q R (guard b n m)
 goes-guard true n r s = s
 goes-guard false n r s = said r
-
-pub goes-says : {A : Type 0} {Q : A → Type 0} {R : ℕ → Type 0} {m : Out A} → Ok Q R m → Says R m
-goes-says o = ok-weaken (λ x _. tt) (λ n r. r) o
 
 pub says-make : {R : ℕ → Type 0} → R 17 → (a : List ℕ) (f : File) → Says R (makeFile a f)
 unfolding makeFile claim

@@ -3,7 +3,7 @@ use Prim.Native.Nat.{ℕ, _+_, _<_}
 use native.Mathlib.Omega.{arith}
 use mathlib.Core.Path.{_≡_, refl, sym, _∙_, ap}
 use mathlib.Core.Bool.{true, not, _&&_}
-use mathlib.Core.Logic.{_⊎_, ⊎-elim, _↔_}
+use mathlib.Core.Logic.{⊎-elim, _↔_}
 use lib.ListN.{length}
 use lib.Seq.{set-out}
 use lib.Dec.{eqb, ltb}
@@ -78,10 +78,6 @@ handle-one t g h r s a b e =
     let q : g .stamp ≡ h .stamp = sym (a .stamp) ∙ ap (λ (n : ℕ). holdAt t n .stamp) e ∙ b .stamp in
     λ x. record { hold = e x; stamp = q x }
 
--- live handles that differ have different holds
-pub handles-apart : (t : Table) (g h : Handle) (r s : ℕ) → Live t g r → Live t h s → (g ≡ h → ⊥) → g .hold ≡ h .hold → ⊥
-handles-apart t g h r s a b d e = d (handle-one t g h r s a b e)
-
 -- a live handle's row is in use, and its stamp was given
 pub live-used : {own : ℕ → Type 0} (t : Table) (h : Handle) (r : ℕ) → Formed own t → Live t h r → rowAt t r .id ≡ 0 → ⊥
 live-used t h r w v z = w .in-use (h .hold) (v .is-hold) (λ q. v .given (sym (v .stamp) ∙ q)) (ap (λ (k : ℕ). rowAt t k .id) (v .names) ∙ z)
@@ -106,12 +102,6 @@ add-live t row w can l =
     let e = hold-here t (g .at) (new t row) (omega (arith, w .holds-32, g .is-hold)) in
     rw (g .is)
     (record { is-hold = g .is-hold; given = λ z. omega (arith, w .next-one, z); stamp = rw e refl; names = rw e refl; is-row = l })
-
--- it is nobody's: no live handle has its hold
-pub add-own : (t : Table) (row : ℕ) (h : Handle) (r : ℕ) → canHold t ≡ true → Live t h r → h .hold ≡ addHold t row .handle .hold → ⊥
-add-own t row h r can v =
-    let g = add-gives t row can in
-    rw (g .is) (λ q. v .given (sym (v .stamp) ∙ ap (λ (m : ℕ). holdAt t m .stamp) q ∙ g .was-free))
 
 -- the stamp at n, when another hold was put there: that hold's, or what it was
 put-stamp : (P : ℕ → Type 0) (t : Table) (n : ℕ) (x : Hold) → P (x .stamp) → P (holdAt t n .stamp) → P (holdAt (withHold t n x) n .stamp)

@@ -5,6 +5,4 @@ pub mod Rows
 pub mod Holds
 pub mod Keeps
 pub mod Handles
-pub mod History
 pub mod Spare
-pub mod Examples

@@ -13,11 +13,9 @@ use Rattle.base.proofs.Counts.{pigeon}
 use Rattle.base.proofs.Numbers.{lt-or-le}
 use Rattle.base.proofs.Searches.{lowest-first, lowest-hit, lowest-at-most}
 use Rattle.table.specs.declared.Table.{Table}
-use Rattle.table.specs.declared.Row.{Row}
-use Rattle.table.specs.Table.{rowAt, holdAt, withRow, namesRow, freeRow}
+use Rattle.table.specs.Table.{rowAt, holdAt, namesRow, freeRow}
 use Rattle.table_laws.specs.Rules.{Holder, Formed, WellFormed}
 use Rattle.table_laws.proofs.Finds.{row-there}
-use Rattle.table_laws.proofs.Rows.{row-apart}
 
 -- the numbers without k, in order
 skip : ℕ → ℕ → ℕ
@@ -89,9 +87,3 @@ spare-row t k w only = let f = free-apart t k w only in row-there t 0 (f .at) (f
 -- so it does between calls
 pub first-spare : (t : Table) → WellFormed t → (i : ℕ) × (freeRow t ≡ At i)
 first-spare t w = spare-row t 0 w (λ j o. absurd o)
-
--- and once more, whatever was put into one of its rows
-pub second-spare : (t : Table) → WellFormed t → (i : ℕ) (r : Row) → (j : ℕ) × (freeRow (withRow t i r) ≡ At j)
-second-spare t w i r =
-    let f = free-apart t i w (λ j o. absurd o) in
-    row-there (withRow t i r) 0 (f .at) (f .is-row) (ap (λ (x : Row). x .id) (row-apart t i r (f .at) (f .apart)) ∙ f .free)

@@ -1,0 +1,80 @@
+-- A handle that was closed stays closed: no stamp is given twice.
+use mathlib.Core.Path.{_≡_, subst}
+use mathlib.Core.List.{[], _∷_}
+use Prim.Native.Nat.{ℕ, _<_}
+use native.Mathlib.Omega.{arith}
+use Rattle.base.specs.Out.{Out, kept, Ok, went, said}
+use Rattle.base.proofs.Outs.{ok-bind, ok-done}
+use Rattle.table.specs.declared.Table.{Table}
+use Rattle.table.specs.declared.Handle.{Handle}
+use Rattle.table.specs.Table.{liveRow, addHold, closeHold}
+use Rattle.base.specs.declared.Found.the-variants.{Nothing}
+use Rattle.table_laws.specs.Rules.{Live}
+use Rattle.table_laws.proofs.Handles.{dead-nothing, live-below, add-dead, close-dead, close-ends}
+use Rattle.table_laws.proofs.Holds.{add-cases, close-cases}
+use Rattle.sefs_laws.proofs.Rows.{Any, Changes, Takes, Frees}
+use Rattle.image.proofs.Handles.{formed}
+use Rattle.sequences.specs.Pairs.{Pair, Passed}
+use Rattle.sequences.specs.Calls.{Call, does, next}
+use Rattle.sequences.specs.Promises.{ends, goes, Spent, Closed, Ended}
+use Rattle.sequences.proofs.Passing.{allowed}
+use Rattle.sequences.proofs.Tables.{keeps-close, keeps-table}
+
+module _ (h : Handle) where
+  -- rows do not matter
+  spent-changes : Changes (λ t. Spent t h)
+  spent-changes t i r e q s = record { some = s .some; given = s .given; gone = s .gone }
+
+  spent-takes : Takes (λ t. Spent t h)
+  spent-takes t i r e s = record { some = s .some; given = s .given; gone = s .gone }
+
+  spent-frees : Frees (λ t. Spent t h)
+  spent-frees t i e s = record { some = s .some; given = s .given; gone = s .gone }
+
+  -- a new hold's stamp is the next, which was not given
+  spent-adds : (t : Table) (row : ℕ) → Spent t h → Spent (addHold t row .table) h
+  spent-adds t row s = record {
+    some = s .some;
+    given = add-cases (λ u. h .stamp < u .next) t row (s .given) (λ g. omega (arith, s .given));
+    gone = add-dead t row h (λ v e. s .gone e) (s .given) (s .some);
+  }
+
+  spent-closes : (t : Table) (k : ℕ) → Spent t h → Spent (closeHold t k .table) h
+  spent-closes t k s = record {
+    some = s .some;
+    given = close-cases (λ u. h .stamp < u .next) t k (s .given) (λ g. s .given);
+    gone = close-dead t k h (λ v e. s .gone e) (s .some);
+  }
+
+  spent-does : (c : Call) (p : Pair) → Spent (p .table) h → Spent (next c p .table) h
+  spent-does c p s = stays (keeps-table (λ t. Spent t h) spent-changes spent-takes spent-frees spent-adds c p (λ g e i l s. spent-closes (p .table) (g .hold) s) s)
+    where
+      stays : {o : Out Pair} → Ok (λ (q : Pair). Spent (q .table) h) Any o → Spent (kept p o .table) h
+      stays (went q) = q
+      stays (said r) = s
+
+  -- its own close
+  spent-own : (p : Pair) → Passed p → (i : ℕ) → Live (p .table) h i → Spent (closeHold (p .table) (h .hold) .table) h
+  spent-own p y i l =
+      let w = formed (p .arena) (p .table) (allowed p y) in
+      let b : h .stamp < p .table .next = live-below (p .table) h i w l in
+      record {
+        some = l .given;
+        given = close-cases (λ u. h .stamp < u .next) (p .table) (h .hold) b (λ g. b);
+        gone = close-ends (p .table) h w (l .is-hold) (l .given);
+      }
+
+pub closed : Closed
+unfolding Closed does
+closed p q h y e =
+    ok-done (subst (Ok (λ (x : Pair). Spent (x .table) h) Any) e
+    (ok-bind (keeps-close (λ t. Spent t h) (spent-changes h) (spent-takes h) (spent-frees h) (spent-adds h) (p .arena) (p .table) h (spent-own h p y)) λ x s. went s))
+
+pub ended : Ended
+unfolding Ended
+ended p [] h s = ends
+ended p (c ∷ l) h s = goes (spent-does h c p s) (ended (next c p) l h (spent-does h c p s))
+
+-- it is live nowhere, so every call with it is refused with 4
+pub spent-dead : (t : Table) (h : Handle) → Spent t h → liveRow t h ≡ Nothing
+spent-dead t h s = dead-nothing t h (λ v e. s .gone e)
