@@ -115,9 +115,6 @@ module _ {own : ℕ → Type 0} (t : Table) (w : Formed own t) (i : ℕ) (in34 :
       (λ j d o. o)
       (λ n. w .held i in34 live)
 
-  pub record-kept : (rec : DiskINode) → (rowAt t i .id ≡ 0 → ⊥) → Formed own (withRecord t i rec)
-  record-kept rec live = change-row _ live refl
-
   pub dirty-kept : (dirty : Bool) → (rowAt t i .id ≡ 0 → ⊥) → Formed own (withDirty t i dirty)
   dirty-kept dirty live = change-row _ live refl
 
