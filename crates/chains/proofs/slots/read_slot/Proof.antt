@@ -1,11 +1,11 @@
--- `fsck_read::read_slot`: a run of the node's file.
+-- `chains::read_slot`: a run of the node's file.
 use Prim.Native.Nat.{_*_}
 use lib.ListN.{length}
 use Rattle.sefs.specs.Nodes.{nodeFile}
-use Rattle.fsck_read.proofs.Files.{run-long}
+use Rattle.chains.proofs.Files.{run-long}
 use borrow.Author.Needs.{needs}
-use Rattle.fsck_read.proofs.read_slot.Statement.{statement}
-use Rattle.fsck_read.proofs.read_slot.Tie as tie
+use Rattle.chains.proofs.slots.read_slot.Statement.{statement}
+use Rattle.chains.proofs.slots.read_slot.Tie as tie
 
 mul-read-run : tie.Need-mul-read-run
 mul-read-run c = search needs

@@ -1,10 +1,10 @@
--- `fsck_read::read_run`: one part, or two.
+-- `chains::read_run`: one part, or two.
 use native.Mathlib.Omega.{arith}
 use Rattle.arena.specs.Fields.{file}
-use Rattle.fsck_read.proofs.Files.{run-one, run-two}
+use Rattle.chains.proofs.Files.{run-one, run-two}
 use borrow.Author.Needs.{needs}
-use Rattle.fsck_read.proofs.read_run.Statement.{statement}
-use Rattle.fsck_read.proofs.read_run.Tie as tie
+use Rattle.chains.proofs.read_run.Statement.{statement}
+use Rattle.chains.proofs.read_run.Tie as tie
 
 sub-least : tie.Need-sub-least
 sub-least c = search needs

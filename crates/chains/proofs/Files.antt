@@ -17,10 +17,13 @@ use Rattle.arena.specs.Fields.{File, numberOf}
 use Rattle.arena.specs.Places.{headOf, dataOf}
 use Rattle.sound.specs.Sound.{sound}
 use Rattle.sound.specs.Chain.{isKey}
-use Rattle.files.specs.Read.{there, lengthOf, present, byteAt}
+use Rattle.files.specs.Read.{there, lengthOf, present, byteAt, readFile}
 use Rattle.files_laws.proofs.Views.{byteIn, byte-in, there-at, there-hit, there-of, there-none, length-here, present-at, present-hit, present-of, present-none, byte-here, byte-none}
 use Rattle.files_laws.proofs.Parts.{sound-tidy}
-use Rattle.rules.specs.Image.{run}
+
+-- n bytes of a file from pos on
+abbrev pub run : List ℕ → File → ℕ → ℕ → List ℕ
+run a f pos n = tab (byteAt a f) pos n
 
 -- a block ends in the arena
 pub block-end : (a : List ℕ) (k : ℕ) → k < blocks a → 512 * k + 512 ≤ length a

@@ -1,13 +1,13 @@
--- `fsck_read::length_of`: the head that the chain leads to, or none.
+-- `chains::length_of`: the head that the chain leads to, or none.
 use mathlib.Core.Path.{ap, _∙_}
 use Prim.Native.Nat.{ℕ, _+_}
 use native.Mathlib.Omega.{arith}
 use Rattle.arena.specs.Blocks.{blk}
 use Rattle.arena.specs.Fields.{file}
-use Rattle.fsck_read.proofs.Files.{length-found, length-missing}
+use Rattle.chains.proofs.Files.{length-found, length-missing}
 use borrow.Author.Needs.{needs}
-use Rattle.fsck_read.proofs.length_of.Statement.{statement}
-use Rattle.fsck_read.proofs.length_of.Tie as tie
+use Rattle.chains.proofs.length_of.Statement.{statement}
+use Rattle.chains.proofs.length_of.Tie as tie
 
 find-requires : tie.Need-find-requires
 find-requires c κs = search needs
@@ -15,7 +15,7 @@ find-requires c κs = search needs
 returns : tie.Need-returns
 returns c =
     let s = c .before .before .before .before .before .before in
-    length-missing (s .args .arena .now) (s .pre .fine) (file (s .args .which) (s .args .name .now)) (c .before .find .result) (c .before .find .ensures .0) (c .if1 .taken)
+    (length-missing (s .args .arena .now) (s .pre .fine) (file (s .args .which) (s .args .name .now)) (c .before .find .result) (c .before .find .ensures .0) (c .if1 .taken), omega arith)
 
 sub-o : tie.Need-sub-o
 sub-o c = search needs
@@ -49,9 +49,11 @@ unfolding blk
 returns-2 c =
     let e = c .before .before .before in
     let f = e .before in
-    let s = f .before .before .before .before .before in
-    ap (λ (x : ℕ). x + 1) (c .index .ensures ∙ c .before .u32-at .ensures)
-    ∙ length-found (s .args .arena .now) (s .pre .fine) (file (s .args .which) (s .args .name .now)) (f .find .result) (f .find .ensures .0) (omega (arith, e .if1 .left))
+    let s = f .before .before .before .before .before in (
+      ap (λ (x : ℕ). x + 1) (c .index .ensures ∙ c .before .u32-at .ensures)
+          ∙ length-found (s .args .arena .now) (s .pre .fine) (file (s .args .which) (s .args .name .now)) (f .find .result) (f .find .ensures .0) (omega (arith, e .if1 .left)),
+      omega arith,
+    )
 
 pub length-of-spec : {M : Type 1} → statement M
 length-of-spec =

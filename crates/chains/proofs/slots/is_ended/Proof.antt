@@ -1,9 +1,9 @@
--- `folders::slots::is_ended`: by the verdict on the name.
+-- `chains::slots::is_ended`: by the verdict on the name.
 use Rattle.sefs.specs.Slots.{isEnded}
 use mathlib.Core.Path.{ap, sym, _∙_}
 use borrow.Author.Needs.{needs}
-use Rattle.folders.proofs.slots.is_ended.Statement.{statement}
-use Rattle.folders.proofs.slots.is_ended.Tie as tie
+use Rattle.chains.proofs.slots.is_ended.Statement.{statement}
+use Rattle.chains.proofs.slots.is_ended.Tie as tie
 
 stored-name-requires : tie.Need-stored-name-requires
 stored-name-requires c κs = search needs

@@ -1,12 +1,12 @@
--- `fsck_read::read_part`: the bytes of the block that the chain leads to, or zeros.
+-- `chains::read_part`: the bytes of the block that the chain leads to, or zeros.
 use mathlib.Core.Path.{refl, _∙_}
 use native.Mathlib.Omega.{arith}
 use lib.ListN.{length}
 use Rattle.arena.specs.Fields.{file}
-use Rattle.fsck_read.proofs.Files.{part-found, part-missing}
+use Rattle.chains.proofs.Files.{part-found, part-missing}
 use borrow.Author.Needs.{needs}
-use Rattle.fsck_read.proofs.read_part.Statement.{statement}
-use Rattle.fsck_read.proofs.read_part.Tie as tie
+use Rattle.chains.proofs.read_part.Statement.{statement}
+use Rattle.chains.proofs.read_part.Tie as tie
 
 cast-find : tie.Need-cast-find
 cast-find c = search needs

@@ -1,6 +1,6 @@
 -- Slots, read and looked for.
 use mathlib.Core.Path.{_≡_, refl, ap, _∙_, subst}
-use mathlib.Core.Bool.{true, false}
+use mathlib.Core.Bool.{Bool, true, false}
 use mathlib.Core.Logic.{⊎-elim}
 use mathlib.Core.List.{List}
 use Prim.Native.Nat.{ℕ, zero, suc, _+_, _*_, _≤_, _<_}
@@ -8,7 +8,7 @@ use native.Mathlib.Nat.{eq-or-lt-of-le, le-of-suc-le-suc}
 use native.Mathlib.Numerals.{add-one}
 use native.Mathlib.Omega.{arith}
 use borrow.Author.Tests.{lt-ltb, le-ltb, lt-leb, le-leb}
-use Rattle.base.specs.Out.{done, refused, Went, well, ill}
+use Rattle.base.specs.Out.{Out, done, refused, bind, guard, ensure, Went, well, ill}
 use Rattle.base.specs.Parts.{part}
 use Rattle.base.specs.Search.{foundBelow}
 use Rattle.base.proofs.Outs.{went-is, went-has, went-not, went-stop, above-zero}
@@ -21,6 +21,7 @@ use Rattle.utf8.specs.Names.{storedName, isNamed}
 use Rattle.files.specs.Read.{readFile}
 use Rattle.sefs.specs.Nodes.{nodeFile}
 use Rattle.sefs.specs.Slots.{Slot, slotBytes, isEnded, slotAt, lookTo, lookup, findSlot}
+use Rattle.sefs.specs.Read.{namedSlot}
 
 -- ---- one slot
 
@@ -39,18 +40,37 @@ module _ (a : List ℕ) (r : DiskINode) (k : ℕ) where
   unfolding slotBytes entryOf
   bytes-done {l} g z h = well (rw (went-is g z, le-leb (leAt l 260 4) 4 h)) (went-has g z)
 
-  pub slot-stop : {l : List ℕ} {P : Type 0} {x : ℕ} (v : DiskEntry) (Q : Type 0) → (x ≡ 0 → ⊥) → Went (slotBytes a r k) l P x → Went (slotAt a r k) v Q x
-  unfolding slotAt
-  slot-stop v Q z g = went-stop _ v z g
+module _ {P : Type 0} (a : List ℕ) (r : DiskINode) (k : ℕ) {l : List ℕ} {n : ℕ} (g : Went (slotBytes a r k) l P n) where
+  pub named-stop : (n ≡ 0 → ⊥) → Went (namedSlot a r k) l P n
+  unfolding namedSlot
+  named-stop z = ill (above-zero n z) (rw (went-not g z))
+
+  pub named-done : n ≡ 0 → isEnded (storedName (part l 4 260)) ≡ true → Went (namedSlot a r k) l P 0
+  unfolding namedSlot entryOf
+  named-done z b = well (rw (went-is g z, b)) (went-has g z)
 
   -- its name is not ended, or is not UTF-8
-  pub slot-stuck : {l : List ℕ} {P : Type 0} {x : ℕ} (v : DiskEntry) (Q : Type 0) → Went (slotBytes a r k) l P x → x ≡ 0 → isEnded (storedName (part l 4 260)) ≡ false → Went (slotAt a r k) v Q 19
-  unfolding slotAt entryOf
-  slot-stuck v Q g z h = ill {r = 19} (omega arith) (rw (went-is g z, h))
+  pub named-stuck : n ≡ 0 → isEnded (storedName (part l 4 260)) ≡ false → Went (namedSlot a r k) l P 19
+  unfolding namedSlot entryOf
+  named-stuck z b = ill {r = 19} (omega arith) (rw (went-is g z, b))
 
-  pub slot-done : {l : List ℕ} {P : Type 0} {x : ℕ} → Went (slotBytes a r k) l P x → x ≡ 0 → isEnded (storedName (part l 4 260)) ≡ true → Went (slotAt a r k) (entryOf l) P 0
-  unfolding slotAt entryOf
-  slot-done g z h = well (rw (went-is g z, h)) (went-has g z)
+-- a slot whose name is looked at, by its fields
+slot-is : (a : List ℕ) (r : DiskINode) (k : ℕ) → slotAt a r k ≡ bind (namedSlot a r k) (λ l. done (entryOf l))
+unfolding slotAt namedSlot
+slot-is a r k = go (slotBytes a r k)
+  where
+    test : (l : List ℕ) (b : Bool) → guard b 19 (done (entryOf l)) ≡ bind (bind (ensure b 19) (λ _. done l)) (λ l. done (entryOf l))
+    test l true = refl
+    test l false = refl
+
+    go : (o : Out (List ℕ)) → bind o (λ l. guard (isEnded (storedName (entryOf l .name))) 19 (done (entryOf l)))
+        ≡ bind (bind o (λ l. bind (ensure (isEnded (storedName (entryOf l .name))) 19) (λ _. done l))) (λ l. done (entryOf l))
+    go (done l) = test l (isEnded (storedName (entryOf l .name)))
+    go (refused n) = refl
+
+pub slot-named : {P : Type 0} (a : List ℕ) (r : DiskINode) (k : ℕ) {l : List ℕ} {n : ℕ} → Went (namedSlot a r k) l P n → Went (slotAt a r k) (entryOf l) P n
+slot-named a r k (well e p) = well (slot-is a r k ∙ rw e) p
+slot-named a r k (ill h e) = ill h (slot-is a r k ∙ rw e)
 
 -- ---- lookups
 
