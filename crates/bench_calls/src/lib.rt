@@ -69,7 +69,7 @@ pub extern "C" fn call_root(arena: &[u8], table: &mut [u8]) -> u32 {
     if table.len() != 4370 {
         return 255;
     }
-    let g = calls_open::root(arena, read_table(&table[..]));
+    let g = calls_find::root(arena, read_table(&table[..]));
     of_given(table, g)
 }
 
@@ -85,7 +85,7 @@ pub extern "C" fn call_find(
         return 255;
     }
     let h = handle(hold, stamp);
-    let g = calls_open::find(arena, read_table(&table[..]), h, name);
+    let g = calls_find::find(arena, read_table(&table[..]), h, name);
     of_given(table, g)
 }
 
@@ -194,7 +194,7 @@ pub extern "C" fn call_metadata(arena: &[u8], table: &[u8], hold: u32, stamp: u6
         return 255;
     }
     let h = handle(hold, stamp);
-    let t = calls_look::metadata(arena, read_table(table), h);
+    let t = calls_metadata::metadata(arena, read_table(table), h);
     of_told(t)
 }
 
@@ -214,7 +214,7 @@ pub extern "C" fn call_set(
     }
     let h = handle(hold, stamp);
     let z = time(0, 0);
-    let a = calls_look::set_metadata(arena, read_table(&table[..]), h, mode, uid, gid, z, z, z);
+    let a = calls_metadata::set_metadata(arena, read_table(&table[..]), h, mode, uid, gid, z, z, z);
     of_after(table, a)
 }
 
@@ -233,7 +233,7 @@ pub extern "C" fn call_entry(
         return 255;
     }
     let h = handle(hold, stamp);
-    let a = calls_look::get_entry(arena, read_table(table), h, k, out);
+    let a = calls_entry::get_entry(arena, read_table(table), h, k, out);
     of_answer(a)
 }
 
@@ -250,6 +250,6 @@ pub extern "C" fn call_list(
         return 255;
     }
     let h = handle(hold, stamp);
-    let l = calls_look::list_from(arena, read_table(table), h, next, out);
+    let l = calls_list::list_from(arena, read_table(table), h, next, out);
     of_listed(l)
 }

@@ -4,7 +4,7 @@ use mathlib.Core.Bool.{Bool, true, false, _&&_}
 use mathlib.Core.List.{List}
 use Prim.Native.Nat.{ℕ, zero, suc, _<_, _≤_, _*_}
 use native.Mathlib.Omega.{arith}
-use lib.ListN.{length}
+use lib.ListN.{length, replicate, getD-replicate}
 use lib.Dec.{eqb, ltb, leb}
 use Rattle.base.specs.Out.{Out, done, refused, bind, ensure, answer, Ok, went, said, Went, well, ill}
 use Rattle.base.specs.Reasons.{badTable, badHandle}
@@ -12,7 +12,7 @@ use Rattle.base.specs.Search.{pick, foundBelow}
 use Rattle.base.specs.declared.Found.{Found}
 use Rattle.base.specs.declared.Found.the-variants.{At, Nothing}
 use Rattle.base.proofs.Bools.{bool-cases}
-use Rattle.base.proofs.Outs.{ok-bind, bind-assoc, went-is, went-not, went-weaken}
+use Rattle.base.proofs.Outs.{ok-bind, bind-assoc, above-zero, went-is, went-has, went-not, went-weaken}
 use Rattle.base.proofs.Searches.{at-found}
 use Rattle.structs.specs.declared.DiskINode.{DiskINode}
 use Rattle.utf8.specs.Names.{earlyReason}
@@ -22,10 +22,15 @@ use Rattle.table.specs.declared.Table.{Table}
 use Rattle.table.specs.declared.Handle.{Handle}
 use Rattle.table.specs.Table.{holdAt, isLive, liveRow}
 use Rattle.table.specs.Formed.{wellFormed}
-use Rattle.arena.specs.Blocks.{legal}
+use Rattle.arena.specs.Blocks.{legal, blocks}
+use Rattle.arena.proofs.Blocks.{legal-is}
 use Rattle.sound.specs.Sound.{sound}
+use Rattle.sound.specs.Chain.{Chains, firsts, nexts}
+use Rattle.sound.proofs.Chains.{length-firsts, length-nexts}
 use Rattle.sefs.specs.Ask.{admitArena, admit, byHandle, orBadHandle, known, folder, notRemoved, liveFolder}
-use Rattle.calls.specs.Asked.{admitIf, firstOf, reached, Reached}
+use Rattle.sefs.specs.Read.{readable}
+use Rattle.chains.specs.Led.{Led}
+use Rattle.calls.specs.Asked.{admitIf, firstOf, reached, Reached, reachedTwo, Blank}
 
 -- a refusal has a reason's number, and no reason's number is 0
 abbrev pub Asks : {A : Type 0} → Out A → Type 0
@@ -100,6 +105,20 @@ module _ (r : DiskINode) (n : ℕ) where
   pub folder-next : n ≡ answer (folder r) → n ≡ 0 → answer (notRemoved r) ≡ answer (bind (folder r) (λ _. notRemoved r))
   folder-next e z = answer-next (folder r) (λ _. notRemoved r) (asks-ensure (eqb (r .kind) 2) 7 (omega arith)) n e z
 
+pub asks-readable : (r : DiskINode) → Asks (readable r)
+unfolding readable
+asks-readable r = asks-then (asks-ensure (leb (r .kind) 4) 19 (omega arith)) (λ _. asks-ensure (eqb (r .kind) 2) 7 (omega arith))
+
+-- a type above 4, and then 7
+module _ (r : DiskINode) where
+  pub readable-stop : leb (r .kind) 4 ≡ false → 19 ≡ answer (readable r)
+  unfolding readable
+  readable-stop e = rw e
+
+  pub readable-next : leb (r .kind) 4 ≡ true → answer (folder r) ≡ answer (readable r)
+  unfolding readable
+  readable-next e = rw e
+
 -- those of an arena and a table
 module _ (a : List ℕ) (formed : Bool) (n : ℕ) where
   pub admit-stop : n ≡ answer (admitArena a) → (n ≡ 0 → ⊥) → n ≡ answer (admitIf a formed)
@@ -169,3 +188,55 @@ module _ {A : Type 0} {P : Type 0} (a : List ℕ) (t : Table) (h : Handle) (f : 
   pub call-next : r ≡ 0 → bind (admit a t) (λ _. bind (byHandle t h) f) ≡ f row
   unfolding reached
   call-next z = sym (bind-assoc (admit a t) (λ _. byHandle t h) f) ∙ rw (went-is g z)
+
+-- ---- the first questions, with the chains
+
+-- an array of zeros
+pub blank : Blank (replicate 8192 0)
+blank = record { size = refl; zeros = λ h l. getD-replicate 8192 h 0 0 (omega arith) }
+
+module _ (a : List ℕ) (e : legal a ≡ true) where
+  pub arena-damaged : (P : Type 0) → sound a ≡ false → Went (admitArena a) tt P 2
+  unfolding admitArena
+  arena-damaged P f = ill {r = 2} (omega arith) (rw (e, f))
+
+  pub arena-led : (c : List ℕ) → length c ≡ 8192 → sound a ≡ true → Chains a (firsts c) (nexts c) (blocks a) → Went (admitArena a) tt (Led a (firsts c) (nexts c)) 0
+  unfolding admitArena
+  arena-led c n f k =
+      well (rw (e, f)) (record { whole = e; most = legal-is a e .most; starts = length-firsts c n; links = length-nexts c n; chains = k; fine = f })
+
+pub arena-illegal : (a : List ℕ) (P : Type 0) → legal a ≡ false → Went (admitArena a) tt P 1
+unfolding admitArena
+arena-illegal a P f = ill {r = 1} (omega arith) (rw f)
+
+module _ {P : Type 0} (a : List ℕ) (t : Table) {n : ℕ} (g : Went (admitArena a) tt P n) where
+  pub admit-not : (Q : Type 0) → (n ≡ 0 → ⊥) → Went (admit a t) tt Q n
+  unfolding admit
+  admit-not Q z = ill (above-zero n z) (rw (went-not g z))
+
+  pub admit-formed : n ≡ 0 → wellFormed t ≡ true → Went (admit a t) tt P 0
+  unfolding admit
+  admit-formed z f = well (rw (went-is g z, f)) (went-has g z)
+
+  pub admit-ill : n ≡ 0 → wellFormed t ≡ false → Went (admit a t) tt P 3
+  unfolding admit
+  admit-ill z f = ill {r = 3} (omega arith) (rw (went-is g z, f))
+
+module _ {P : Type 0} (a : List ℕ) (t : Table) (h : Handle) {n : ℕ} (g : Went (admit a t) tt P n) where
+  pub reach-not : (row : ℕ) (Q : Type 0) → (n ≡ 0 → ⊥) → Went (reached a t h) row Q n
+  unfolding reached
+  reach-not row Q z = ill (above-zero n z) (rw (went-not g z))
+
+  pub reach-by : {row r : ℕ} → n ≡ 0 → Went (byHandle t h) row (row < 34) r → Went (reached a t h) row (P × (row < 34)) r
+  unfolding reached
+  reach-by z b = rw (went-is g z) (went-weaken (λ l. (went-has g z, l)) b)
+
+module _ {P : Type 0} (a : List ℕ) (t : Table) (h k : Handle) {i n : ℕ} (g : Went (reached a t h) i (P × (i < 34)) n) where
+  pub two-not : (v : ℕ × ℕ) (Q : Type 0) → (n ≡ 0 → ⊥) → Went (reachedTwo a t h k) v Q n
+  unfolding reachedTwo
+  two-not v Q z = ill (above-zero n z) (rw (went-not g z))
+
+  pub two-by : {j r : ℕ} → n ≡ 0 → Went (byHandle t k) j (j < 34) r → Went (reachedTwo a t h k) (i, j) (P × ((i < 34) × (j < 34))) r
+  unfolding reachedTwo
+  two-by z (well e l) = let p = went-has g z in well (rw (went-is g z, e)) (p .0, (p .1, l))
+  two-by z (ill l e) = ill l (rw (went-is g z, e))

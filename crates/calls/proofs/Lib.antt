@@ -1,2 +1,4 @@
 pub mod Asks
 pub mod Answers
+pub mod Outputs
+pub mod General

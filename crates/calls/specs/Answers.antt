@@ -1,7 +1,8 @@
 -- The calls' answers: the case that an outcome gives, and document 01's number for every case, 0 where the call was done.
+use mathlib.Core.Path.{_≡_}
 use mathlib.Core.Bool.{Bool, true, false}
 use mathlib.Core.List.{List}
-use Prim.Native.Nat.{ℕ, _/_}
+use Prim.Native.Nat.{ℕ, _/_, _<_}
 use lib.ListN.{length}
 use lib.Dec.{eqb}
 use Rattle.base.specs.Out.{Out, done, refused}
@@ -74,6 +75,12 @@ listedNumber (listeds.Refused n) = n
 abbrev pub laid : List ℕ → Out (List ℕ) → List ℕ
 laid out (done l) = paste out 0 l
 laid out (refused n) = out
+
+-- code that lays an outcome's bytes over the start of an output answers r: 0 where the n bytes are there, or the reason, and the output is
+-- as it was
+pub data Laid (o : Out (List ℕ)) (out now : List ℕ) (n : ℕ) : ℕ → Type 0 where
+  lay : {l : List ℕ} → o ≡ done l → length l ≡ n → now ≡ paste out 0 l → Laid o out now n 0
+  leave : {r : ℕ} → 0 < r → o ≡ refused r → now ≡ out → Laid o out now n r
 
 -- ---- an answer with a table
 

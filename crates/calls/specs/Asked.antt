@@ -3,6 +3,7 @@ use mathlib.Core.Path.{_≡_}
 use mathlib.Core.Bool.{Bool, true}
 use mathlib.Core.List.{List}
 use Prim.Native.Nat.{ℕ, zero, suc, _<_}
+use lib.ListN.{length, getD}
 use Rattle.base.specs.Out.{Out, done, refused, ensure, _>>=_}
 use Rattle.base.specs.Reasons.{badTable}
 use Rattle.table.specs.declared.Table.{Table}
@@ -31,3 +32,15 @@ reached a t h = do
 pub record Reached (a : List ℕ) (row : ℕ) : Type 0 where
   pub legal : legal a ≡ true
   pub below : row < 34
+
+-- the same with two handles, and the rows of both
+unfoldable pub reachedTwo : List ℕ → Table → Handle → Handle → Out (ℕ × ℕ)
+reachedTwo a t h k = do
+  i ← reached a t h
+  j ← byHandle t k
+  done (i, j)
+
+-- where the chains go: two arrays of 4,096, and the first is zero
+pub record Blank (c : List ℕ) : Type 0 where
+  pub size : length c ≡ 8192
+  pub zeros : (h : ℕ) → h < 4096 → getD c h 0 ≡ 0

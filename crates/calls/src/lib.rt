@@ -1,12 +1,15 @@
 // What a call answers, and what it asks before its steps: the reasons that every call can give, and those about folders and names.
 // A question answers 0, or the number of the reason that refuses the call.
+pub mod led;
+
 ghost use mathlib.Core.Path.{_≡_};
-ghost use Prim.Native.Nat.{_<_};
+ghost use Prim.Native.Nat.{ℕ, _<_};
 ghost use lib.ListN.{length};
 ghost use Rattle.base.specs.Out.{Went, answer};
 ghost use Rattle.table.specs.Table.{addHold};
 ghost use Rattle.sefs.specs.Ask.{admitArena, byHandle, goodName, notLong, notSpecial, liveFolder, notRemoved};
 ghost use Rattle.sefs.specs.Ask.{known as knownType, folder as isFolder};
+ghost use Rattle.sefs.specs.Read.{readable as readableAs};
 ghost use Rattle.mem.specs.Mem.{tableIn, Whole};
 ghost use Rattle.calls.specs.Answers.{doneWith, refusedWith, notGiven, notHanded, addedAs, afterOf, givenOf};
 ghost use Rattle.calls.specs.Asked.{admitIf, firstOf, reached, Reached};
@@ -241,6 +244,23 @@ pub fn live_folder(rec: DiskINode) -> u8
         return r;
     }
     not_removed(rec)
+}
+
+// What get entry and the listing ask of a folder: a type above 4 sticks before 7; type 0 is 7.
+pub fn readable(rec: DiskINode) -> u8
+    ensures { λ r. ⌜ r ≡ answer (readableAs rec) ⌝ }
+{
+    if rec.kind > 4 {
+        return 19;
+    }
+    folder(rec)
+}
+
+// A count as a place: its bound is known here.
+pub fn long(x: u32) -> u64
+    ensures { λ r. ⌜ (r ≡ x) × (r < 4294967296) ⌝ }
+{
+    x as u64
 }
 
 // ---- handles

@@ -35,7 +35,7 @@ use Rattle.sefs.specs.Folders.{entry, direntAppend, nlinksInc}
 use Rattle.sefs.specs.Ask.{admit, byHandle, goodName, notLong, known, liveFolder, orExists, start}
 use Rattle.sefs.specs.Create.{After, linkSteps, callLink}
 use Rattle.mem.specs.State.{fsOf, Ready, Still, Stepped}
-use Rattle.folders.proofs.Lookups.{lookup-is}
+use Rattle.chains.proofs.Lookups.{lookup-is}
 use Rattle.calls.proofs.Asks.{Asks, asks-ensure, asks-then, asks-live, asked-not, asked-done, asked-went, answer-stop, answer-next}
 use Rattle.calls_steps.specs.Ends.{ending}
 use Rattle.calls_link.specs.Link.{linkAsk, linkChild, linkMoves, linkWork}

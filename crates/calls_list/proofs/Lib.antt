@@ -1,2 +1,4 @@
-pub mod Ones
+pub mod Turns
+pub mod Listings
 pub mod Places
+pub mod Ones

@@ -1,13 +1,192 @@
-// The listing by a place that the caller lends: the call moves it on by the slots written.
+// The listing: from a slot on by its number, and by a place that the caller lends, which the call moves on by the slots written. It changes no byte
+// of the arena, and reads it by the chains of `sound`.
+mod slots;
+
 ghost use mathlib.Core.Path.{_≡_};
+ghost use Prim.Native.Nat.{ℕ, _+_, _*_, _-_, _≤_};
 ghost use lib.ListN.{length};
-ghost use Rattle.sefs.specs.Read.{callListing};
-ghost use Rattle.calls.specs.Answers.{listedOf, laid};
+ghost use Rattle.base.specs.Out.{answer};
+ghost use Rattle.sefs.specs.Nodes.{nodeFile};
+ghost use Rattle.sefs.specs.Read.{callListing, listTo};
+ghost use Rattle.chains.specs.Led.{Led, endOf};
+ghost use Rattle.mem.specs.Mem.{tableIn, Whole};
+ghost use Rattle.calls.specs.Answers.{listedOf, laid, Laid};
+ghost use Rattle.calls.specs.Asked.{Blank};
+ghost use Rattle.calls_list.specs.List.{listAsk, listIn, listedAs};
 ghost use Rattle.calls_list.specs.Place.{listAt, placeAfter, movedAs};
+use base::least;
 use calls::Listed;
-use calls_look::list_from;
+use calls::led::reach;
+use calls::long;
+use calls::readable;
+use chains::slots::end_of;
+use mem::put_table;
+use mem::rec_at;
+use slots::list_check;
+use slots::list_write;
+use structs::DiskINode;
 use table::Handle;
 use table::Table;
+
+fn list_ask(rec: DiskINode, next: u64, room: usize) -> u8
+    ensures { λ r. ⌜ r ≡ answer (listAsk rec next room) ⌝ }
+{
+    let r = readable(rec);
+    if r != 0 {
+        return r;
+    }
+    if (next < long(rec.blocks)) & (room < 264) {
+        return 20;
+    }
+    0
+}
+
+// How many slots there are from `next` on: none past the end.
+fn slots_left(blocks: u64, next: u64) -> usize
+    ensures { λ r. ⌜ r ≡ blocks - next ⌝ }
+{
+    if next < blocks {
+        return (blocks - next) as usize;
+    }
+    0
+}
+
+// The n slots from `at` on go to the output's start, once they are known to be readable.
+fn write_slots(
+    arena: &[u8],
+    first: &[u16],
+    next: &[u16],
+    slot: &mut [u8],
+    rec: DiskINode,
+    at: usize,
+    n: usize,
+    out: &mut [u8],
+) -> u8
+    requires { ⌜ Led (now arena) (now first) (now next) ⌝ }
+    requires { ⌜ (length (now slot) ≡ 264) × ((at + n ≤ 4294967295) × (264 * n ≤ length (now out))) ⌝ }
+    ensures { λ r. ⌜ Laid (listTo (now (arena .entry)) rec at n) (now (out .entry)) (now (out .exit)) (264 * n) r ⌝ }
+{
+    let end = end_of(arena, first, next, rec);
+    let r = list_check(arena, first, next, slot, rec, end, at, n);
+    if r != 0 {
+        return r;
+    }
+    list_write(arena, first, next, rec, end, at, n, out);
+    0
+}
+
+fn read_slots(
+    arena: &[u8],
+    first: &[u16],
+    next: &[u16],
+    rec: DiskINode,
+    at: usize,
+    n: usize,
+    out: &mut [u8],
+) -> u8
+    requires { ⌜ Led (now arena) (now first) (now next) ⌝ }
+    requires { ⌜ (at + n ≤ 4294967295) × (264 * n ≤ length (now out)) ⌝ }
+    ensures { λ r. ⌜ Laid (listTo (now (arena .entry)) rec at n) (now (out .entry)) (now (out .exit)) (264 * n) r ⌝ }
+{
+    let mut slot = [0u8; 264];
+    write_slots(arena, first, next, &mut slot, rec, at, n, out)
+}
+
+// No slot is read where there are none to list: `at` may be any number then.
+fn list_some(
+    arena: &[u8],
+    first: &[u16],
+    next: &[u16],
+    rec: DiskINode,
+    at: u64,
+    n: usize,
+    out: &mut [u8],
+) -> u8
+    requires { ⌜ Led (now arena) (now first) (now next) ⌝ }
+    requires { ⌜ (n ≤ 4294967295 - at) × (264 * n ≤ length (now out)) ⌝ }
+    ensures { λ r. ⌜ Laid (listTo (now (arena .entry)) rec at n) (now (out .entry)) (now (out .exit)) (264 * n) r ⌝ }
+{
+    if n == 0 {
+        return 0;
+    }
+    read_slots(arena, first, next, rec, at as usize, n, out)
+}
+
+fn as_listed(reason: u8, n: usize) -> Listed
+    ensures { λ r. ⌜ r ≡ listedAs reason n ⌝ }
+{
+    if reason == 0 {
+        return Listed::Slots(n);
+    }
+    Listed::Refused(reason)
+}
+
+fn list_in(
+    arena: &[u8],
+    first: &[u16],
+    next: &[u16],
+    rec: DiskINode,
+    at: u64,
+    out: &mut [u8],
+) -> Listed
+    requires { ⌜ Led (now arena) (now first) (now next) ⌝ }
+    ensures { λ r. ⌜ r ≡ listedOf (listIn (now (arena .entry)) rec at (length (now (out .entry)))) ⌝ }
+    ensures { λ _. ⌜ now (out .exit) ≡ laid (now (out .entry)) (listIn (now (arena .entry)) rec at (length (now (out .entry)))) ⌝ }
+{
+    let room = out.len();
+    let r = list_ask(rec, at, room);
+    if r != 0 {
+        return Listed::Refused(r);
+    }
+    let left = slots_left(long(rec.blocks), at);
+    let n = least(left, room / 264);
+    let r = list_some(arena, first, next, rec, at, n, out);
+    as_listed(r, n)
+}
+
+// The call, with the place where the chains go.
+fn list_led(
+    arena: &[u8],
+    chains: &mut [u16],
+    mem: &[u8],
+    h: Handle,
+    at: u64,
+    out: &mut [u8],
+) -> Listed
+    requires { ⌜ Blank (now chains) × Whole (now mem) ⌝ }
+    ensures { λ r. ⌜ r ≡ listedOf (callListing (now (arena .entry)) (tableIn (now (mem .entry))) h at (length (now (out .entry)))) ⌝ }
+    ensures { λ _. ⌜ now (out .exit) ≡ laid (now (out .entry)) (callListing (now (arena .entry)) (tableIn (now (mem .entry))) h at (length (now (out .entry)))) ⌝ }
+{
+    let b = reach(arena, chains, mem, h);
+    if b.reason != 0 {
+        return Listed::Refused(b.reason);
+    }
+    let c = &chains[..];
+    let rec = rec_at(mem, b.row);
+    list_in(arena, &c[..4096], &c[4096..8192], rec, at, out)
+}
+
+// The call on the table in memory.
+fn listing_on(arena: &[u8], mem: &[u8], h: Handle, at: u64, out: &mut [u8]) -> Listed
+    requires { ⌜ Whole (now mem) ⌝ }
+    ensures { λ r. ⌜ r ≡ listedOf (callListing (now (arena .entry)) (tableIn (now (mem .entry))) h at (length (now (out .entry)))) ⌝ }
+    ensures { λ _. ⌜ now (out .exit) ≡ laid (now (out .entry)) (callListing (now (arena .entry)) (tableIn (now (mem .entry))) h at (length (now (out .entry)))) ⌝ }
+{
+    let mut chains = [0u16; 8192];
+    list_led(arena, &mut chains, mem, h, at, out)
+}
+
+// The slots from `next` on, as stored: as many as there are and as the output takes.
+pub fn list_from(arena: &[u8], t: Table, h: Handle, next: u64, out: &mut [u8]) -> Listed
+    ensures { λ r. ⌜ r ≡ listedOf (callListing (now (arena .entry)) t h next (length (now (out .entry)))) ⌝ }
+    ensures { λ _. ⌜ now (out .exit) ≡ laid (now (out .entry)) (callListing (now (arena .entry)) t h next (length (now (out .entry)))) ⌝ }
+{
+    let mut mem = [0u8; 4899];
+    put_table(&mut mem, t);
+    listing_on(arena, &mem, h, next, out)
+}
+
+// ---- by a place
 
 // Where a listing goes on: the folder's handle, and the slot that comes next.
 #[repr(C)]

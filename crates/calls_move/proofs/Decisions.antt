@@ -18,7 +18,7 @@ use Rattle.sefs.specs.Create.{After}
 use Rattle.sefs.specs.Move.{replace, moveTo}
 use Rattle.mem.specs.Mem.{tableIn, Whole}
 use Rattle.mem.specs.State.{fsOf, Stepped}
-use Rattle.folders.proofs.Lookups.{lookup-is}
+use Rattle.chains.proofs.Lookups.{lookup-is}
 use Rattle.calls_steps.proofs.Steps.{rec-of}
 use Rattle.calls_move.specs.declared.Course.{Course}
 use Rattle.calls_move.specs.declared.Course.the-variants.{Same, Refused}

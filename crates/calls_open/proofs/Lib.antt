@@ -1,3 +1,2 @@
-pub mod General
 pub mod Opens
 pub mod Ones

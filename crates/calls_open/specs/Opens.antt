@@ -1,32 +1,17 @@
--- The calls that open, in the parts that the code has.
-use mathlib.Core.Path.{_≡_}
-use mathlib.Core.Bool.{Bool, not, _&&_}
+-- The call open, once the arena is admitted.
+use mathlib.Core.Bool.{Bool, _&&_}
 use mathlib.Core.List.{List}
 use Prim.Native.Nat.{ℕ}
 use lib.Dec.{eqb, ltb}
 use Rattle.base.specs.Out.{Out, done, ensure, _>>=_}
-use Rattle.base.specs.Reasons.{dirRemoved, tableFull, wrongFs}
+use Rattle.base.specs.Reasons.{wrongFs}
 use Rattle.structs.specs.Constants.{sefsMagic}
 use Rattle.structs.specs.Layout.{superOf}
-use Rattle.structs.specs.declared.DiskINode.{DiskINode}
 use Rattle.structs.specs.declared.SuperBlock.{SuperBlock}
-use Rattle.utf8.specs.Names.{isDots}
 use Rattle.table.specs.declared.Table.{Table}
-use Rattle.table.specs.declared.Added.{Added}
-use Rattle.table.specs.Table.{emptyTable, canHold}
+use Rattle.table.specs.Table.{emptyTable}
 use Rattle.files.specs.Read.{readFile}
-use Rattle.sefs.specs.Ask.{start, goodName, known, folder, notLong}
 use Rattle.sefs.specs.Meta.{metaFile, loadMaps}
-use Rattle.sefs.specs.Open.{holdNode}
-use Rattle.sefs.specs.Slots.{findSlot}
-use Rattle.calls.specs.Answers.{gotOf, heldTable}
-use Rattle.calls.specs.declared.Given.{Given}
-
--- a call that makes a hold answers what its outcome says, with the outcome's table
-abbrev pub Gives : Table → Out Added → Given → Type 0
-Gives t o r = (r .answer ≡ gotOf o) × (r .table ≡ heldTable t o)
-
--- ---- open, once the arena is admitted
 
 -- 18 where it does not hold: the magic, and 1 to 4 groups
 abbrev pub isSefs : SuperBlock → Bool
@@ -38,43 +23,3 @@ openRead a = do
   _ ← ensure (isSefs (superOf l)) wrongFs
   m ← loadMaps a (superOf l .groups)
   done emptyTable
-
--- ---- 16, then the opening
-
-unfoldable pub giveNode : List ℕ → Table → ℕ → Out Added
-giveNode a t id = do
-  _ ← ensure (canHold t) tableFull
-  holdNode (start a t) id
-
--- ---- find, once the handle's row is known
-
--- 8: only `..` of a removed folder
-abbrev pub notOrphan : DiskINode → List ℕ → Out Unit
-notOrphan r name = ensure (not (isDots name && eqb (r .nlinks) 0)) dirRemoved
-
-unfoldable pub findName : DiskINode → List ℕ → Out Unit
-findName r name = do
-  _ ← notLong name
-  notOrphan r name
-
-unfoldable pub findFolder : DiskINode → List ℕ → Out Unit
-findFolder r name = do
-  _ ← known r
-  _ ← folder r
-  findName r name
-
-unfoldable pub findAsk : DiskINode → List ℕ → Out Unit
-findAsk r name = do
-  _ ← goodName name
-  findFolder r name
-
--- the id in the slot with that name
-unfoldable pub findId : List ℕ → DiskINode → List ℕ → Out ℕ
-findId a r name = do
-  s ← findSlot a r name
-  done (s .entry .id)
-
-unfoldable pub findIn : List ℕ → DiskINode → List ℕ → Out ℕ
-findIn a r name = do
-  _ ← findAsk r name
-  findId a r name

@@ -29,7 +29,7 @@ use Rattle.sefs.specs.Ask.{goodName, notLong, notSpecial, known}
 use Rattle.mem.specs.Mem.{tableIn}
 use Rattle.mem.specs.State.{fsOf, Stepped}
 use Rattle.folders.proofs.States.{stepped-next}
-use Rattle.folders.proofs.Lookups.{lookup-is}
+use Rattle.chains.proofs.Lookups.{lookup-is}
 use Rattle.calls.proofs.Asks.{Asks, asks-ensure}
 use Rattle.calls_steps.specs.Steps.{noSlot, syncTwo}
 

@@ -1,19 +1,18 @@
-// A folder's slots, read (000's read_direntry and the lookups). A slot's 264 bytes go to a buffer that the caller lends.
+// A folder's slots, read after a store (000's read_direntry and the lookups). A slot's 264 bytes go to a buffer that the caller lends.
 ghost use mathlib.Core.Path.{_≡_};
 ghost use Prim.Native.Nat.{_<_, _≤_};
 ghost use lib.ListN.{length};
 ghost use Rattle.base.specs.Out.{Went, done};
 ghost use Rattle.structs.specs.Layout.{entryOf};
-ghost use Rattle.utf8.specs.Names.{storedName};
 ghost use Rattle.overlay.specs.View.{view, Fine};
-ghost use Rattle.sefs.specs.Slots.{slotBytes, isEnded, slotAt, lookTo, findSlot};
+ghost use Rattle.sefs.specs.Slots.{slotBytes, slotAt, lookTo, findSlot};
 use base::index;
+use chains::slots::Looked;
+use chains::slots::is_ended;
 use files::read::read;
 use le::u32_at;
 use structs::DiskINode;
-use utf8::StoredName;
 use utf8::is_named;
-use utf8::stored_name;
 
 // The 264 bytes of slot k. A type above 4 sticks, whoever reads it.
 pub fn slot_bytes<'a>(
@@ -37,17 +36,6 @@ pub fn slot_bytes<'a>(
     0
 }
 
-// Whether a name is ended and is UTF-8.
-fn is_ended(name: &[u8]) -> bool
-    ensures { λ r. ⌜ r ≡ isEnded (storedName (now (name .entry))) ⌝ }
-{
-    let s = stored_name(name);
-    match s {
-        StoredName::Ended(_) => true,
-        StoredName::Broken => false,
-    }
-}
-
 // Slot k, where its name is looked at: one with no zero or not UTF-8 sticks.
 pub fn slot_at<'a>(arena: &'a [u8], work: &'a [u8], rec: DiskINode, k: usize, slot: &mut [u8]) -> u8
     requires { ⌜ Fine (now arena) (now work) × ((k ≤ 4294967295) × (length (now slot) ≡ 264)) ⌝ }
@@ -61,13 +49,6 @@ pub fn slot_at<'a>(arena: &'a [u8], work: &'a [u8], rec: DiskINode, k: usize, sl
         return 0;
     }
     19
-}
-
-// The place of a slot that was looked for, where the reason is 0. The slot is in the lent buffer.
-#[repr(C)]
-pub struct Looked {
-    pub reason: u8,
-    pub place: usize,
 }
 
 // The first slot with that name, or the count of slots where there is none; the empty name means `.`. Slots after it are not read.

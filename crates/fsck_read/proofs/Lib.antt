@@ -1,4 +1,3 @@
-pub mod Files
 pub mod Nodes
 pub mod Loads
 pub mod Rows

@@ -1,8 +1,8 @@
--- What the rules are given: an arena with the chains that lead to its blocks, and superblock and maps in memory.
+-- What the rules are given beside the arena and its chains: superblock and maps in memory.
 use mathlib.Core.Path.{_≡_}
-use mathlib.Core.Bool.{Bool, true, not, _&&_}
+use mathlib.Core.Bool.{Bool, not, _&&_}
 use mathlib.Core.List.{List}
-use Prim.Native.Nat.{ℕ, _+_, _*_, _≤_}
+use Prim.Native.Nat.{ℕ, _+_, _*_}
 use lib.Dec.{eqb, leb}
 use lib.ListN.{length, getD}
 use Rattle.base.specs.Count.{allTo}
@@ -10,21 +10,9 @@ use Rattle.base.specs.Parts.{part}
 use Rattle.structs.specs.Constants.{sefsMagic}
 use Rattle.structs.specs.declared.SuperBlock.{SuperBlock}
 use Rattle.maps.specs.Maps.{bitAt}
-use Rattle.arena.specs.Blocks.{blocks, legal}
-use Rattle.sound.specs.Sound.{sound}
-use Rattle.sound.specs.Chain.{Chains}
 use Rattle.mem.specs.Mem.{Whole}
 use Rattle.mem.specs.Mem as memory
 use Rattle.rules.specs.Image.{superIn, mapsTo, mapsIn}
-
--- a sound arena, and the chains that lead to its blocks
-pub record Led (a first next : List ℕ) : Type 0 where
-  pub whole : legal a ≡ true
-  pub most : blocks a ≤ 4096
-  pub starts : length first ≡ 4096
-  pub links : length next ≡ 4096
-  pub chains : Chains a first next (blocks a)
-  pub fine : sound a ≡ true
 
 -- superblock and maps are in memory
 pub record Loaded (m : List ℕ) : Type 0 where

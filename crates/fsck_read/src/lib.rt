@@ -1,29 +1,24 @@
-// What the checker reads: files of a sound arena, by way of the chains that `sound` left; superblock, maps and records (rules 3 and 4).
+// What the checker reads first: superblock, maps and records (rules 3 and 4).
 ghost use mathlib.Core.Path.{_≡_};
 ghost use mathlib.Core.Bool.{true, _||_};
 ghost use mathlib.Core.List.{List};
-ghost use Prim.Native.Nat.{ℕ, suc, _+_, _*_, _<_, _≤_, _%_};
+ghost use Prim.Native.Nat.{ℕ, _*_, _<_, _≤_};
 ghost use lib.ListN.{length};
 ghost use Rattle.base.specs.Count.{bit, allTo};
 ghost use Rattle.base.specs.Decides.{same};
-ghost use Rattle.base.specs.Search.{pick};
 ghost use Rattle.structs.specs.Layout.{recordOf, recordBytes};
 ghost use Rattle.table.specs.Table.{rowAt};
-ghost use Rattle.arena.specs.Fields.{file};
-ghost use Rattle.files.specs.Read.{there, lengthOf};
 ghost use Rattle.sefs.specs.Meta.{metaFile};
-ghost use Rattle.sefs.specs.Nodes.{nodeFile};
 ghost use Rattle.mem.specs.Mem.{tableIn};
 ghost use Rattle.mem.specs.Mem as memory;
 ghost use Rattle.rules.specs.Image.{run, superIn, idsIn, isNode, storedBytes, recOf, isOpen, nodeCount};
 ghost use Rattle.rules.specs.Tests.{test3, test4, rowAllowed};
-ghost use Rattle.fsck_read.specs.Given.{Led, Loaded, Of, superFine, Put, Mapped, mapsClear};
+ghost use Rattle.chains.specs.Led.{Led};
+ghost use Rattle.fsck_read.specs.Given.{Loaded, Of, superFine, Put, Mapped, mapsClear};
 use base::Found;
-use base::clear;
-use base::copy;
 use base::index;
-use base::least;
-use le::u32_at;
+use chains::length_of;
+use chains::read_run;
 use mem::bit_at;
 use mem::dirty_at;
 use mem::find_row;
@@ -31,7 +26,6 @@ use mem::id_at;
 use mem::put_flag;
 use mem::rec_at;
 use mem::super_at;
-use sound::chain::find;
 use structs::DiskINode;
 use structs::SEFS_MAGIC;
 use structs::SuperBlock;
@@ -39,64 +33,6 @@ use structs::disk_inode_at;
 use structs::put_super_block;
 use structs::super_block_at;
 use utf8::equal;
-
-// One more than the file's length, or 0 where the file is not there.
-pub fn length_of(arena: &[u8], first: &[u16], next: &[u16], which: u8, name: &[u8; 16]) -> usize
-    requires { ⌜ Led (now arena) (now first) (now next) ⌝ }
-    ensures { λ r. ⌜ r ≡ pick (there (now (arena .entry)) (file which (now (name .entry)))) (suc (lengthOf (now (arena .entry)) (file which (now (name .entry))))) 0 ⌝ }
-{
-    let c = find(arena, first, next, true, which, name, 0);
-    if c == 0 {
-        return 0;
-    }
-    let o = 512 * (c - 1);
-    index(u32_at(&arena[o..o + 512], 20)) + 1
-}
-
-// The bytes of one block of the file from p on, as many as out takes.
-fn read_part(
-    arena: &[u8],
-    first: &[u16],
-    next: &[u16],
-    which: u8,
-    name: &[u8; 16],
-    p: usize,
-    out: &mut [u8],
-)
-    requires { ⌜ Led (now arena) (now first) (now next) ⌝ }
-    requires { ⌜ (p < 2061584302080) × (p % 480 + length (now out) ≤ 480) ⌝ }
-    ensures { λ _. ⌜ now (out .exit) ≡ run (now (arena .entry)) (file which (now (name .entry))) p (length (now (out .entry))) ⌝ }
-{
-    let c = find(arena, first, next, false, which, name, (p / 480) as u32);
-    if c == 0 {
-        clear(out);
-        return;
-    }
-    let s = 512 * (c - 1) + 24 + p % 480;
-    let e = s + out.len();
-    copy(out, &arena[s..e]);
-}
-
-// A run of at most 480 bytes that lies below the length.
-pub fn read_run(
-    arena: &[u8],
-    first: &[u16],
-    next: &[u16],
-    which: u8,
-    name: &[u8; 16],
-    pos: usize,
-    out: &mut [u8],
-)
-    requires { ⌜ Led (now arena) (now first) (now next) ⌝ }
-    requires { ⌜ (pos < 2061584301600) × (length (now out) ≤ 480) ⌝ }
-    ensures { λ _. ⌜ now (out .exit) ≡ run (now (arena .entry)) (file which (now (name .entry))) pos (length (now (out .entry))) ⌝ }
-{
-    let m = least(480 - pos % 480, out.len());
-    read_part(arena, first, next, which, name, pos, &mut out[0..m]);
-    if m < out.len() {
-        read_part(arena, first, next, which, name, pos + m, &mut out[m..]);
-    }
-}
 
 fn read_meta(arena: &[u8], first: &[u16], next: &[u16], pos: usize, out: &mut [u8])
     requires { ⌜ Led (now arena) (now first) (now next) ⌝ }
@@ -346,20 +282,4 @@ pub fn is_open(mem: &[u8], id: usize) -> bool
         Found::At(_) => true,
         Found::Nothing => false,
     }
-}
-
-pub fn read_slot(
-    arena: &[u8],
-    first: &[u16],
-    next: &[u16],
-    rec: DiskINode,
-    k: usize,
-    slot: &mut [u8],
-)
-    requires { ⌜ Led (now arena) (now first) (now next) ⌝ }
-    requires { ⌜ (k < 4294967296) × (length (now slot) ≡ 264) ⌝ }
-    ensures { λ _. ⌜ now (slot .exit) ≡ run (now (arena .entry)) (nodeFile rec) (264 * k) 264 ⌝ }
-{
-    let file = rec.file;
-    read_run(arena, first, next, 1, &file, 264 * k, slot);
 }

@@ -36,7 +36,7 @@ pub fn fresh(arena: &mut [u8; 8192]) -> World {
 
 // Nothing is open but the root.
 pub fn begin(arena: &[u8; 8192]) -> World {
-    let g = calls_open::root(arena, table::empty());
+    let g = calls_find::root(arena, table::empty());
     let a = g.answer;
     let t = g.table;
     let h = handle(a);

@@ -28,9 +28,9 @@ use Rattle.sefs.specs.Meta.{metaFile, newMap, ids, firstBit, isUsed, superWith,
 use Rattle.sefs.specs.Nodes.{opened, openIn, openAt, getNode}
 use Rattle.mem.specs.Mem.{tableIn, superIn, mapsIn, Whole, Tabled, Mapped}
 use Rattle.mem.specs.State.{fsOf, Still, Stepped}
-use Rattle.nodes.specs.Steps.{metaOf}
+use Rattle.nodes.specs.Steps.{metaOf, fsAt}
 use Rattle.nodes.proofs.Bytes.{meta-is, meta-none, meta-has}
-use Rattle.nodes.proofs.Steps.{fs-tabled, fs-mapped, did-mapped, did-stops}
+use Rattle.nodes.proofs.Steps.{at-tabled, fs-mapped, did-mapped, did-stops}
 
 -- ---- rows
 
@@ -38,24 +38,23 @@ pub row-below : (t : Table) (id i : ℕ) → rowOf t id ≡ At i → i < 34
 unfolding rowOf
 row-below t id i e = at-found (lowest (isRow t id) 34) 34 i e .1
 
-pub opened-in : (m n : List ℕ) (i id : ℕ) (rec : DiskINode) (dirty : Bool) → rowOf (tableIn m) 0 ≡ At i → Tabled m n (takeRow (tableIn m) i id rec dirty) → (a w : List ℕ) → Went (openIn (fsOf a w m) id rec dirty (freeRow (tableIn m))) (opened (fsOf a w n) i) (Whole n × (i < 34)) 0
-unfolding fsOf
-opened-in m n i id rec dirty e c a w =
-    well (rw e (ap (λ (s : Fs). done (opened s i)) (sym (fs-tabled a w c)))) (c .whole, row-below (tableIn m) 0 i e)
+pub opened-in : (m n : List ℕ) (i id : ℕ) (rec : DiskINode) (dirty : Bool) → rowOf (tableIn m) 0 ≡ At i → Tabled m n (takeRow (tableIn m) i id rec dirty) → (a : List ℕ) → Went (openIn (fsAt a m) id rec dirty (freeRow (tableIn m))) (opened (fsAt a n) i) (Whole n × (i < 34)) 0
+opened-in m n i id rec dirty e c a =
+    well (rw e (ap (λ (s : Fs). done (opened s i)) (sym (at-tabled a c)))) (c .whole, row-below (tableIn m) 0 i e)
 
 -- ---- a node is asked for
 
-pub get-none : (a w m : List ℕ) (id : ℕ) → eqb (getD m 4370 0) 1 ≡ false → getNode (fsOf a w m) id ≡ refused 19
-unfolding getNode fsOf
-get-none a w m id h = rw (meta-none m h)
+pub get-none : (a m : List ℕ) (id : ℕ) → eqb (getD m 4370 0) 1 ≡ false → getNode (fsAt a m) id ≡ refused 19
+unfolding getNode
+get-none a m id h = rw (meta-none m h)
 
-pub get-unused : (a w m : List ℕ) (id : ℕ) → getD m 4370 0 ≡ 1 → isUsed (metaOf m) id ≡ false → getNode (fsOf a w m) id ≡ refused 19
-unfolding getNode fsOf
-get-unused a w m id h u = rw (meta-is m h, u)
+pub get-unused : (a m : List ℕ) (id : ℕ) → getD m 4370 0 ≡ 1 → isUsed (metaOf m) id ≡ false → getNode (fsAt a m) id ≡ refused 19
+unfolding getNode
+get-unused a m id h u = rw (meta-is m h, u)
 
-pub get-used : (a w m : List ℕ) (id : ℕ) → getD m 4370 0 ≡ 1 → isUsed (metaOf m) id ≡ true → getNode (fsOf a w m) id ≡ openAt (fsOf a w m) id (rowOf (tableIn m) id)
-unfolding getNode fsOf
-get-used a w m id h u = rw (meta-is m h, u)
+pub get-used : (a m : List ℕ) (id : ℕ) → getD m 4370 0 ≡ 1 → isUsed (metaOf m) id ≡ true → getNode (fsAt a m) id ≡ openAt (fsAt a m) id (rowOf (tableIn m) id)
+unfolding getNode
+get-used a m id h u = rw (meta-is m h, u)
 
 -- ---- an id is taken
 

@@ -30,22 +30,22 @@ use Rattle.sefs.specs.Meta.{Allocated, metaFile, syncMeta, allocBlock, freeBloc
 use Rattle.sefs.specs.Nodes.{Opened, opened, nodeFile, recAt, openIn, noRow, loadNode, newNode, storeRow, syncRow, freeNode, dropNode, release}
 use Rattle.mem.specs.Mem.{tableIn, Whole, Tabled}
 use Rattle.mem.specs.State.{fsOf, Still, Stepped}
-use Rattle.nodes.specs.Steps.{madeNode, removeNode}
+use Rattle.nodes.specs.Steps.{fsAt, madeNode, removeNode}
 use Rattle.nodes.proofs.Bytes.{row-bytes}
 use Rattle.nodes.proofs.Steps.{fs-tabled, did-step, did-tabled, did-stops, still-then, step-next, mem-next}
 
 -- ---- a node is opened
 
-pub open-none : (m : List ℕ) (id : ℕ) (rec : DiskINode) (dirty : Bool) → rowOf (tableIn m) 0 ≡ Nothing → (a w : List ℕ) → openIn (fsOf a w m) id rec dirty (freeRow (tableIn m)) ≡ refused 19
-open-none m id rec dirty e a w = rw e
+pub open-none : (m : List ℕ) (id : ℕ) (rec : DiskINode) (dirty : Bool) → rowOf (tableIn m) 0 ≡ Nothing → (a : List ℕ) → openIn (fsAt a m) id rec dirty (freeRow (tableIn m)) ≡ refused 19
+open-none m id rec dirty e a = rw e
 
-module _ (a w m : List ℕ) (id r : ℕ) (l : List ℕ) (g : Went (readFile (view a w) metaFile (128 * id) 112) l Unit r) where
-  pub load-stop : (v : Opened) (P : Type 0) → (r ≡ 0 → ⊥) → Went (loadNode (fsOf a w m) id) v P r
-  unfolding loadNode fsOf
+module _ (a m : List ℕ) (id r : ℕ) (l : List ℕ) (g : Went (readFile a metaFile (128 * id) 112) l Unit r) where
+  pub load-stop : (v : Opened) (P : Type 0) → (r ≡ 0 → ⊥) → Went (loadNode (fsAt a m) id) v P r
+  unfolding loadNode
   load-stop v P z = ill (above-zero r z) (rw (went-not g z))
 
-  pub load-is : r ≡ 0 → loadNode (fsOf a w m) id ≡ guard (leb (recordOf l .kind) 4) 19 (guard (there (view a w) (nodeFile (recordOf l))) 19 (openIn (fsOf a w m) id (recordOf l) false (freeRow (tableIn m))))
-  unfolding loadNode fsOf
+  pub load-is : r ≡ 0 → loadNode (fsAt a m) id ≡ guard (leb (recordOf l .kind) 4) 19 (guard (there a (nodeFile (recordOf l))) 19 (openIn (fsAt a m) id (recordOf l) false (freeRow (tableIn m))))
+  unfolding loadNode
   load-is z = rw (went-is g z)
 
 -- ---- a node is made

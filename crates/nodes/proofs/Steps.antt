@@ -22,14 +22,18 @@ use Rattle.sefs.specs.State.{Fs, Meta, withArena, withTable, withMeta}
 use Rattle.sefs.specs.Meta.{metaFile, mapAt, storeMaps, syncMeta}
 use Rattle.mem.specs.Mem.{superIn, mapsIn, Whole, Tabled, Mapped}
 use Rattle.mem.specs.State.{fsOf, Still, Stepped}
+use Rattle.nodes.specs.Steps.{fsAt}
 use Rattle.nodes.proofs.Common.{row-stops}
 use Rattle.nodes.proofs.Bytes.{meta-is, meta-none, super-part}
 
 -- ---- a change in memory
 
+pub at-tabled : (a : List ℕ) {m n : List ℕ} {t : Table} → Tabled m n t → fsAt a n ≡ withTable (fsAt a m) t
+at-tabled a c = λ x. record { arena = a; table = c .table x; meta = c .meta x }
+
 pub fs-tabled : (a w : List ℕ) {m n : List ℕ} {t : Table} → Tabled m n t → fsOf a w n ≡ withTable (fsOf a w m) t
 unfolding fsOf
-fs-tabled a w c = λ x. record { arena = view a w; table = c .table x; meta = c .meta x }
+fs-tabled a w c = at-tabled (view a w) c
 
 pub fs-mapped : (a w : List ℕ) {m n : List ℕ} {y : Meta} → Mapped m n y → fsOf a w n ≡ withMeta (fsOf a w m) y
 unfolding fsOf

@@ -21,7 +21,7 @@ ghost use Rattle.sefs.specs.Records.{newRecord};
 ghost use Rattle.sefs.specs.Nodes.{opened as openedAs, nodeFile, openIn, loadNode, getNode, noRow, newNode, storeRow, syncRow, freeNode, dropNode};
 ghost use Rattle.sefs.specs.Nodes.{release as releaseNode};
 ghost use Rattle.mem.specs.Mem.{tableIn, Whole};
-ghost use Rattle.nodes.specs.Steps.{madeNode, removeNode};
+ghost use Rattle.nodes.specs.Steps.{fsAt, madeNode, removeNode};
 ghost use Rattle.mem.specs.State.{fsOf, Ready, Still, Stepped};
 use base::Found;
 use base::index;
@@ -56,9 +56,9 @@ pub struct Opened {
 }
 
 // A node takes the lowest free row. (There is one: an operation's own openings are two at the most.)
-fn open_in(mem: &mut [u8], id: u32, rec: DiskINode, dirty: bool) -> Opened
+pub fn open_in(mem: &mut [u8], id: u32, rec: DiskINode, dirty: bool) -> Opened
     requires { ⌜ Whole (now mem) ⌝ }
-    ensures { λ r. ⌜ ((a w : List ℕ) → Went (openIn (fsOf a w (now (mem .entry))) id rec dirty (freeRow (tableIn (now (mem .entry))))) (openedAs (fsOf a w (now (mem .exit))) (r .row)) (Whole (now (mem .exit)) × (r .row < 34)) (r .reason)) ⌝ }
+    ensures { λ r. ⌜ ((a : List ℕ) → Went (openIn (fsAt a (now (mem .entry))) id rec dirty (freeRow (tableIn (now (mem .entry))))) (openedAs (fsAt a (now (mem .exit))) (r .row)) (Whole (now (mem .exit)) × (r .row < 34)) (r .reason)) ⌝ }
 {
     let f = find_row(&mem[..], 0);
     match f {

@@ -51,7 +51,7 @@ fn read_meta<'a>(arena: &'a [u8], work: &'a [u8], pos: usize, out: &mut [u8]) ->
 }
 
 // Group g's map is block 1024g + 1, and a block has 128 bytes.
-fn map_at(g: usize) -> usize
+pub fn map_at(g: usize) -> usize
     requires { ⌜ g < 4 ⌝ }
     ensures { λ r. ⌜ r ≡ mapAt g ⌝ }
 {

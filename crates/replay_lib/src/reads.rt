@@ -39,7 +39,7 @@ pub fn call_root(desk: &mut [u8], arena: &[u8], text: &mut [u8], w: usize) -> us
     requires { ⌜ (length (now desk) ≡ 4387) × (w + 400 ≤ length (now text)) ⌝ }
     ensures { λ r. ⌜ r ≤ w + 400 ⌝ }
 {
-    let g = calls_open::root(arena, read_table(&desk[..]));
+    let g = calls_find::root(arena, read_table(&desk[..]));
     put_given(desk, text, w, g)
 }
 
@@ -68,7 +68,7 @@ pub fn call_find(
     let h = handle_at(script, at + 1);
     let s = at + 15;
     let e = name_end(script, at + 13);
-    let g = calls_open::find(arena, read_table(&desk[..]), h, &script[s..e]);
+    let g = calls_find::find(arena, read_table(&desk[..]), h, &script[s..e]);
     put_given(desk, text, w, g)
 }
 
@@ -87,14 +87,14 @@ pub fn call_metadata(
     ensures { λ r. ⌜ r ≤ w + 400 ⌝ }
 {
     let h = handle_at(script, at + 1);
-    let t = calls_look::metadata(arena, read_table(desk), h);
+    let t = calls_metadata::metadata(arena, read_table(desk), h);
     put_told(text, w, t)
 }
 
 fn set(script: &[u8], at: usize, desk: &[u8], arena: &[u8]) -> After
     requires { ⌜ (at + 79 ≤ length (now script)) × (length (now desk) ≡ 4387) ⌝ }
 {
-    calls_look::set_metadata(
+    calls_metadata::set_metadata(
         arena,
         read_table(desk),
         handle_at(script, at + 1),
@@ -149,7 +149,7 @@ fn put_entry(
 {
     let h = handle_at(script, at + 1);
     let k = u64_at(script, at + 13);
-    let a = calls_look::get_entry(arena, read_table(desk), h, k, out);
+    let a = calls_entry::get_entry(arena, read_table(desk), h, k, out);
     put_answer(text, w, a)
 }
 

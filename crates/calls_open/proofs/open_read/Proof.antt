@@ -5,7 +5,6 @@ use borrow.Author.Tests.{not-true, not-false}
 use Rattle.base.specs.Parts.{part}
 use Rattle.base.proofs.Outs.{went-is}
 use Rattle.structs.specs.declared.SuperBlock.{SuperBlock}
-use Rattle.overlay.specs.View.{view}
 use Rattle.calls_open.specs.Opens.{isSefs}
 use Rattle.calls_open.proofs.Opens.{few-groups, read-stop, read-other, read-maps}
 use borrow.Author.Needs.{needs}
@@ -19,9 +18,7 @@ same-length : tie.Need-same-length
 same-length c = search needs
 
 returns : tie.Need-returns
-returns c =
-    let s = c .before .before .before .before .before .before .before .before .args in
-    read-stop (view (s .arena .now) (s .work .now)) _ _ (c .before .before .before .load-super .ensures .0) (c .if1 .taken)
+returns c = read-stop (c .before .before .before .before .before .before .before .before .before .args .arena .now) _ _ (c .before .before .before .load-super .ensures .0) (c .if1 .taken)
 
 super-block-at-requires : tie.Need-super-block-at-requires
 super-block-at-requires c κs = search needs
@@ -33,28 +30,21 @@ same-length-2 : tie.Need-same-length-2
 same-length-2 c = search needs
 
 returns-2 : tie.Need-returns-2
-returns-2 c =
-    let s = c .before .before .before .before .before .before .before .before .before .before .before .before .args in
-    let m = c .before .before .before .before .before .before .before .load-super .last .1 .1 .0 in
-    read-other (view (s .arena .now) (s .work .now)) (part m 4371 4387) (went-is (c .before .before .before .before .before .before .before .load-super .ensures .0) (c .before .before .before .before .if1 .left)) (ap (λ (b : SuperBlock). isSefs b) (sym (c .before .before .super-block-at .ensures)) ∙ (sym (c .before .is-sefs .ensures) ∙ not-true _ (c .if2 .taken)))
+returns-2 c = read-other (c .before .before .before .before .before .before .before .before .before .before .before .before .before .args .arena .now) (part (c .before .before .before .before .before .before .before .load-super .last .1 .1 .1 .0) 4371 4387) (went-is (c .before .before .before .before .before .before .before .load-super .ensures .0) (c .before .before .before .before .if1 .left)) (ap (λ (b : SuperBlock). isSefs b) (sym (c .before .before .super-block-at .ensures)) ∙ (sym (c .before .is-sefs .ensures) ∙ not-true _ (c .if2 .taken)))
 
 index-requires : tie.Need-index-requires
 index-requires c κs = search needs
 
 load-maps-requires : tie.Need-load-maps-requires
 load-maps-requires c κs =
-    let s = c .before .before .before .before .before .before .before .before .before .before .before .before .before .before in
     let f = few-groups (c .before .before .before .before .super-block-at .result) (sym (c .before .before .before .is-sefs .ensures) ∙ not-false _ (c .before .before .if2 .left)) in
-    (s .pre .0, (c .before .before .before .before .before .before .before .before .before .load-super .kept .1 .1 .0 ∙ s .pre .1, omega (arith, f, c .index .ensures)))
+    (c .before .before .before .before .before .before .before .before .before .before .before .before .before .before .before .pre .0, (c .before .before .before .before .before .before .before .before .before .load-super .kept .1 .1 .1 .0 ∙ c .before .before .before .before .before .before .before .before .before .before .before .before .before .before .before .pre .1, omega (arith, f, c .index .ensures)))
 
 same-length-3 : tie.Need-same-length-3
 same-length-3 c = search needs
 
 returns-3 : tie.Need-returns-3
-returns-3 c =
-    let s = c .before .before .before .before .before .before .before .before .before .before .before .before .before .before .before .before .before .args in
-    let m = c .before .before .before .before .before .before .before .before .before .before .before .before .load-super .last .1 .1 .0 in
-    read-maps (view (s .arena .now) (s .work .now)) (part m 4371 4387) (went-is (c .before .before .before .before .before .before .before .before .before .before .before .before .load-super .ensures .0) (c .before .before .before .before .before .before .before .before .before .if1 .left)) _ (c .before .before .before .index .result) _ (ap (λ (b : SuperBlock). isSefs b) (sym (c .before .before .before .before .before .before .before .super-block-at .ensures)) ∙ (sym (c .before .before .before .before .before .before .is-sefs .ensures) ∙ not-false _ (c .before .before .before .before .before .if2 .left))) (c .before .before .before .index .ensures ∙ ap (λ (b : SuperBlock). b .groups) (c .before .before .before .before .before .before .before .super-block-at .ensures)) (c .before .before .load-maps .ensures .0)
+returns-3 c = read-maps (c .before .before .before .before .before .before .before .before .before .before .before .before .before .before .before .before .before .before .args .arena .now) (part (c .before .before .before .before .before .before .before .before .before .before .before .before .load-super .last .1 .1 .1 .0) 4371 4387) (went-is (c .before .before .before .before .before .before .before .before .before .before .before .before .load-super .ensures .0) (c .before .before .before .before .before .before .before .before .before .if1 .left)) _ (c .before .before .before .index .result) _ (ap (λ (b : SuperBlock). isSefs b) (sym (c .before .before .before .before .before .before .before .super-block-at .ensures)) ∙ (sym (c .before .before .before .before .before .before .is-sefs .ensures) ∙ not-false _ (c .before .before .before .before .before .if2 .left))) (c .before .before .before .index .ensures ∙ ap (λ (b : SuperBlock). b .groups) (c .before .before .before .before .before .before .before .super-block-at .ensures)) (c .before .before .load-maps .ensures .0)
 
 pub open-read-spec : {M : Type 1} → statement M
 open-read-spec =

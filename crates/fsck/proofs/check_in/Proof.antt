@@ -8,7 +8,7 @@ use Rattle.arena.proofs.Blocks.{legal-is}
 use Rattle.sound.specs.Chain.{firsts}
 use Rattle.sound.proofs.Chains.{length-firsts, length-nexts}
 use Rattle.mem.specs.Mem.{tableIn}
-use Rattle.fsck_read.specs.Given.{Led}
+use Rattle.chains.specs.Led.{Led}
 use Rattle.fsck.proofs.Verdicts.{verdict-sound, verdict-table, verdict-on}
 use borrow.Author.Needs.{needs}
 use Rattle.fsck.proofs.check_in.Statement.{statement}

@@ -16,7 +16,7 @@ length-of-requires c κs = search needs
 returns : tie.Need-returns
 returns c =
     let s = c .before .before .before .before .before .before .before in
-    (three-short (s .args .arena .now) (c .before .length-of .result) (c .before .length-of .ensures) (c .if1 .taken), λ e. absurd (true≢false (sym e)))
+    (three-short (s .args .arena .now) (c .before .length-of .result) (c .before .length-of .ensures .0) (c .if1 .taken), λ e. absurd (true≢false (sym e)))
 
 read-super-requires : tie.Need-read-super-requires
 read-super-requires c κs = search needs
@@ -32,7 +32,7 @@ returns-2 c =
     let s = c .before .before .before .before .before .before .before .before .before .before in
     let l = c .before .before .before .before in
     let r = c .before .before in
-    (three-super (s .args .arena .now) (l .length-of .result) (l .length-of .ensures) (r .read-super .result) (r .read-super .ensures) (sym (c .before .super-ok .ensures) ∙ not-true _ (c .if2 .taken)), λ e. absurd (true≢false (sym e)))
+    (three-super (s .args .arena .now) (l .length-of .result) (l .length-of .ensures .0) (r .read-super .result) (r .read-super .ensures) (sym (c .before .super-ok .ensures) ∙ not-true _ (c .if2 .taken)), λ e. absurd (true≢false (sym e)))
 
 index-requires : tie.Need-index-requires
 index-requires c κs = search needs
@@ -83,8 +83,8 @@ returns-3 c =
     let few : q .index .result ≤ 4 = omega (arith, o .1 .0, q .index .ensures) in
     let M = p .before .before .before .before .load-maps .ensures in
     let k = c .before in (
-      three-count (s .args .arena .now) (n .length-of .result) (n .length-of .ensures) (b .read-super .result) (b .read-super .ensures) (q .index .result) (q .index .ensures) (s .args .mem .now) _ _ M (p .put-super .ensures) few (k .count-set .result) (k .before .index2 .result) f (k .before .index2 .ensures ∙ sym (q .index .ensures)) (k .count-set .ensures),
-      λ _. three-given (s .args .arena .now) (n .length-of .result) (n .length-of .ensures) (b .read-super .result) (b .read-super .ensures) (q .index .result) (q .index .ensures) (s .args .mem .now) _ _ M (p .put-super .ensures) few,
+      three-count (s .args .arena .now) (n .length-of .result) (n .length-of .ensures .0) (b .read-super .result) (b .read-super .ensures) (q .index .result) (q .index .ensures) (s .args .mem .now) _ _ M (p .put-super .ensures) few (k .count-set .result) (k .before .index2 .result) f (k .before .index2 .ensures ∙ sym (q .index .ensures)) (k .count-set .ensures),
+      λ _. three-given (s .args .arena .now) (n .length-of .result) (n .length-of .ensures .0) (b .read-super .result) (b .read-super .ensures) (q .index .result) (q .index .ensures) (s .args .mem .now) _ _ M (p .put-super .ensures) few,
     )
 
 pub rule3-spec : {M : Type 1} → statement M

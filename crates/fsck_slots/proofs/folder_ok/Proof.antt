@@ -29,7 +29,7 @@ add-if2 c = search needs
 returns-2 : tie.Need-returns-2
 returns-2 c =
     let s = c .before .before .before .before .before .before .before .before .before .before .before in
-    folder-length (s .args .arena .now) (tableIn (s .args .mem .now)) (s .args .id) (s .args .rec) (omega (arith, c .before .before .before .before .before .if1 .left)) (c .before .index .result) (c .before .index .ensures) (c .before .before .length-of .result) (c .before .before .length-of .ensures) (c .if2 .taken)
+    folder-length (s .args .arena .now) (tableIn (s .args .mem .now)) (s .args .id) (s .args .rec) (omega (arith, c .before .before .before .before .before .if1 .left)) (c .before .index .result) (c .before .index .ensures) (c .before .before .length-of .result) (c .before .before .length-of .ensures .0) (c .if2 .taken)
 
 first-slots-requires : tie.Need-first-slots-requires
 first-slots-requires c κs = search needs
@@ -37,7 +37,7 @@ first-slots-requires c κs = search needs
 returns-3 : tie.Need-returns-3
 returns-3 c =
     let s = c .before .before .before .before .before .before .before .before .before .before .before .before .before in
-    folder-start (s .args .arena .now) (tableIn (s .args .mem .now)) (s .args .id) (s .args .rec) (omega (arith, c .before .before .before .before .before .before .before .if1 .left)) (c .before .before .before .index .result) (c .before .before .before .index .ensures) (c .before .before .before .before .length-of .result) (c .before .before .before .before .length-of .ensures) (c .before .before .if2 .left)
+    folder-start (s .args .arena .now) (tableIn (s .args .mem .now)) (s .args .id) (s .args .rec) (omega (arith, c .before .before .before .before .before .before .before .if1 .left)) (c .before .before .before .index .result) (c .before .before .before .index .ensures) (c .before .before .before .before .length-of .result) (c .before .before .before .before .length-of .ensures .0) (c .before .before .if2 .left)
     (c .before .first-slots .result) (c .before .first-slots .ensures) (not-true _ (c .if3 .taken))
 
 index-requires-2 : tie.Need-index-requires-2
@@ -55,7 +55,7 @@ later-slots-requires c κs =
 returns-4 : tie.Need-returns-4
 returns-4 c =
     let s = c .before .before .before .before .before .before .before .before .before .before .before .before .before .before .before in
-    folder-rest (s .args .arena .now) (tableIn (s .args .mem .now)) (s .args .id) (s .args .rec) (omega (arith, c .before .before .before .before .before .before .before .before .before .if1 .left)) (c .before .index2 .result) (c .before .index2 .ensures) (c .before .before .before .before .before .before .length-of .result) (c .before .before .before .before .before .before .length-of .ensures)
+    folder-rest (s .args .arena .now) (tableIn (s .args .mem .now)) (s .args .id) (s .args .rec) (omega (arith, c .before .before .before .before .before .before .before .before .before .if1 .left)) (c .before .index2 .result) (c .before .index2 .ensures) (c .before .before .before .before .before .before .length-of .result) (c .before .before .before .before .before .before .length-of .ensures .0)
     (omega (arith, c .before .before .before .before .if2 .left, c .before .before .before .before .before .index .ensures, c .before .index2 .ensures))
     (c .before .before .before .first-slots .result) (c .before .before .before .first-slots .ensures) (c .later-slots .result) (not-false _ (c .before .before .if3 .left)) (c .later-slots .ensures)
 

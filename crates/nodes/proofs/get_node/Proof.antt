@@ -5,7 +5,9 @@ use lib.ListN.{getD}
 use borrow.Author.Tests.{not-true, not-false, eqb-true}
 use borrow.Author.Needs.{needs}
 use Rattle.base.specs.Out.{well, ill}
+use Rattle.overlay.specs.View.{view}
 use Rattle.mem.specs.Mem.{tableIn}
+use Rattle.mem.specs.State.{fsOf}
 use Rattle.nodes.proofs.Ids.{row-below, get-none, get-unused, get-used}
 use Rattle.nodes.proofs.get_node.Statement.{statement}
 use Rattle.nodes.proofs.get_node.Tie as tie
@@ -17,7 +19,8 @@ same-length : tie.Need-same-length
 same-length c = search needs
 
 returns : tie.Need-returns
-returns c = ill {r = 19} (omega arith) (get-none (c .before .before .before .before .before .before .args .arena .now) (c .before .before .before .before .before .before .args .work .now) (c .before .before .before .before .before .before .args .mem .now) (c .before .before .before .before .before .before .args .id) (sym (c .before .has-meta .ensures) ∙ not-true _ (c .if1 .taken)))
+unfolding fsOf
+returns c = ill {r = 19} (omega arith) (get-none (view (c .before .before .before .before .before .before .args .arena .now) (c .before .before .before .before .before .before .args .work .now)) (c .before .before .before .before .before .before .args .mem .now) (c .before .before .before .before .before .before .args .id) (sym (c .before .has-meta .ensures) ∙ not-true _ (c .if1 .taken)))
 
 is-used-requires : tie.Need-is-used-requires
 is-used-requires c κs =
@@ -28,9 +31,10 @@ same-length-2 : tie.Need-same-length-2
 same-length-2 c = search needs
 
 returns-2 : tie.Need-returns-2
+unfolding fsOf
 returns-2 c =
     let m = c .before .before .before .before .before .before .before .before .before .args .mem .now in
-    ill {r = 19} (omega arith) (get-unused (c .before .before .before .before .before .before .before .before .before .args .arena .now) (c .before .before .before .before .before .before .before .before .before .args .work .now) m (c .before .before .before .before .before .before .before .before .before .args .id) (eqb-true (getD m 4370 0) 1 (sym (c .before .before .before .before .has-meta .ensures) ∙ not-false _ (c .before .before .before .if1 .left))) (sym (c .before .is-used .ensures) ∙ not-true _ (c .if2 .taken)))
+    ill {r = 19} (omega arith) (get-unused (view (c .before .before .before .before .before .before .before .before .before .args .arena .now) (c .before .before .before .before .before .before .before .before .before .args .work .now)) m (c .before .before .before .before .before .before .before .before .before .args .id) (eqb-true (getD m 4370 0) 1 (sym (c .before .before .before .before .has-meta .ensures) ∙ not-false _ (c .before .before .before .if1 .left))) (sym (c .before .is-used .ensures) ∙ not-true _ (c .if2 .taken)))
 
 find-row-requires : tie.Need-find-row-requires
 find-row-requires c κs = search needs
@@ -48,21 +52,23 @@ same-length-3 : tie.Need-same-length-3
 same-length-3 c = search needs
 
 returns-3 : tie.Need-returns-3
+unfolding fsOf
 returns-3 c =
     let s = c .before .before .before .before .before .before .before .before .before .before .before .before .before .before in
     let m = s .args .mem .now in
     let e = sym (c .before .before .before .find-row .ensures) ∙ c .before .f .given .1 in
-    rw (get-used (s .args .arena .now) (s .args .work .now) m (s .args .id) (eqb-true (getD m 4370 0) 1 (sym (c .before .before .before .before .before .before .before .before .before .has-meta .ensures) ∙ not-false _ (c .before .before .before .before .before .before .before .before .if1 .left))) (sym (c .before .before .before .before .before .before .is-used .ensures) ∙ not-false _ (c .before .before .before .before .before .if2 .left)), e)
+    rw (get-used (view (s .args .arena .now) (s .args .work .now)) m (s .args .id) (eqb-true (getD m 4370 0) 1 (sym (c .before .before .before .before .before .before .before .before .before .has-meta .ensures) ∙ not-false _ (c .before .before .before .before .before .before .before .before .if1 .left))) (sym (c .before .before .before .before .before .before .is-used .ensures) ∙ not-false _ (c .before .before .before .before .before .if2 .left)), e)
     (well refl (s .pre .whole, row-below (tableIn m) (s .args .id) (c .before .f .given .0 .0) e))
 
 same-length-4 : tie.Need-same-length-4
 same-length-4 c = search needs
 
 returns-4 : tie.Need-returns-4
+unfolding fsOf
 returns-4 c =
     let s = c .before .before .before .before .before .before .before .before .before .before .before .before .before .before .before .before .before in
     let m = s .args .mem .now in
-    rw (get-used (s .args .arena .now) (s .args .work .now) m (s .args .id) (eqb-true (getD m 4370 0) 1 (sym (c .before .before .before .before .before .before .before .before .before .before .before .before .has-meta .ensures) ∙ not-false _ (c .before .before .before .before .before .before .before .before .before .before .before .if1 .left))) (sym (c .before .before .before .before .before .before .before .before .before .is-used .ensures) ∙ not-false _ (c .before .before .before .before .before .before .before .before .if2 .left)), sym (c .before .before .before .before .before .before .find-row .ensures) ∙ c .before .before .before .before .enum-told .given .1) (c .before .before .load-node .ensures)
+    rw (get-used (view (s .args .arena .now) (s .args .work .now)) m (s .args .id) (eqb-true (getD m 4370 0) 1 (sym (c .before .before .before .before .before .before .before .before .before .before .before .before .has-meta .ensures) ∙ not-false _ (c .before .before .before .before .before .before .before .before .before .before .before .if1 .left))) (sym (c .before .before .before .before .before .before .before .before .before .is-used .ensures) ∙ not-false _ (c .before .before .before .before .before .before .before .before .if2 .left)), sym (c .before .before .before .before .before .before .find-row .ensures) ∙ c .before .before .before .before .enum-told .given .1) (c .before .before .load-node .ensures)
 
 pub get-node-spec : {M : Type 1} → statement M
 get-node-spec =

@@ -9,6 +9,7 @@ use Rattle.structs.specs.Layout.{recordOf}
 use Rattle.overlay.specs.View.{view}
 use Rattle.files.specs.Read.{readFile}
 use Rattle.sefs.specs.Meta.{metaFile}
+use Rattle.mem.specs.State.{fsOf}
 use Rattle.nodes.proofs.Common.{ok-refused, went-answer}
 use Rattle.nodes.proofs.Loads.{read-ok}
 use Rattle.nodes.proofs.Nodes.{load-stop, load-is}
@@ -31,11 +32,12 @@ read-requires : tie.Need-read-requires
 read-requires c κs = search needs
 
 returns : tie.Need-returns
+unfolding fsOf
 returns c =
     let s = c .before .before .before .before .before .before .before .before .before in
     let l = c .before .before .read .last .1 .1 .1 .1 .1 .0 in
     let g = went-answer (readFile (view (s .args .arena .now) (s .args .work .now)) metaFile (128 * s .args .id) 112) l (replicate 112 0) Unit (c .before .before .read .result) (λ n q. omega (arith, ok-refused (read-ok (view (s .args .arena .now) (s .args .work .now)) metaFile (128 * s .args .id) 112) n q)) (rw (c .before .before .before .before .index .ensures) at (c .before .before .read .ensures .0)) (rw (c .before .before .before .before .index .ensures) at (c .before .before .read .ensures .1)) tt in
-    load-stop (s .args .arena .now) (s .args .work .now) (s .args .mem .now) (s .args .id) (c .before .before .read .result) l g _ _ (c .if1 .taken)
+    load-stop (view (s .args .arena .now) (s .args .work .now)) (s .args .mem .now) (s .args .id) (c .before .before .read .result) l g _ _ (c .if1 .taken)
 
 slice-aggregate-disk-inode-at : tie.Need-slice-aggregate-disk-inode-at
 slice-aggregate-disk-inode-at c = search needs
@@ -50,12 +52,13 @@ same-length : tie.Need-same-length
 same-length c = search needs
 
 returns-2 : tie.Need-returns-2
+unfolding fsOf
 returns-2 c =
     let s = c .before .before .before .before .before .before .before .before .before .before .before .before .before .before .before in
     let l = c .before .before .before .before .before .before .before .before .read .last .1 .1 .1 .1 .1 .0 in
     let g = went-answer (readFile (view (s .args .arena .now) (s .args .work .now)) metaFile (128 * s .args .id) 112) l (replicate 112 0) Unit (c .before .before .before .before .before .before .before .before .read .result) (λ n q. omega (arith, ok-refused (read-ok (view (s .args .arena .now) (s .args .work .now)) metaFile (128 * s .args .id) 112) n q)) (rw (c .before .before .before .before .before .before .before .before .before .before .index .ensures) at (c .before .before .before .before .before .before .before .before .read .ensures .0)) (rw (c .before .before .before .before .before .before .before .before .before .before .index .ensures) at (c .before .before .before .before .before .before .before .before .read .ensures .1)) tt in
     let e : c .before .before .before .disk-inode-at .result ≡ recordOf l = c .before .before .before .disk-inode-at .ensures ∙ ap recordOf (part-whole l 112 (search needs)) in
-    rw (load-is (s .args .arena .now) (s .args .work .now) (s .args .mem .now) (s .args .id) (c .before .before .before .before .before .before .before .before .read .result) l g (c .before .before .before .before .before .before .if1 .left), ← e) (c .before .before .open-read .ensures)
+    rw (load-is (view (s .args .arena .now) (s .args .work .now)) (s .args .mem .now) (s .args .id) (c .before .before .before .before .before .before .before .before .read .result) l g (c .before .before .before .before .before .before .if1 .left), ← e) (c .before .before .open-read .ensures)
 
 pub load-node-spec : {M : Type 1} → statement M
 load-node-spec =

@@ -3,6 +3,8 @@ use mathlib.Core.Path.{_∙_, sym}
 use native.Mathlib.Omega.{arith}
 use borrow.Author.Tests.{not-true, not-false}
 use borrow.Author.Needs.{needs}
+use Rattle.overlay.specs.View.{view}
+use Rattle.mem.specs.State.{fsOf}
 use Rattle.base.specs.Out.{ill}
 use Rattle.nodes.proofs.Nodes.{made-not, made-stop, made-next}
 use Rattle.nodes.proofs.make_node.Statement.{statement}
@@ -49,9 +51,10 @@ same-length-5 : tie.Need-same-length-5
 same-length-5 c = search needs
 
 returns-3 : tie.Need-returns-3
+unfolding fsOf
 returns-3 c =
     let s = c .before .before .before .before .before .before .before .before .before .before .before .before .before .before .before .before .before in
-    made-next (s .args .arena .now) (s .args .work .now) (s .args .mem .now) (s .args .id) (s .args .kind) (s .args .mode) (s .args .time) (s .args .t8) (sym (c .before .before .before .before .before .before .before .before .before .before .before .before .is-new .ensures) ∙ not-false _ (c .before .before .before .before .before .before .before .before .before .before .before .if1 .left)) (c .before .before .before .before .before .before .before .before .make .last .1 .0) (c .before .before .before .before .before .before .before .before .make .result) (c .before .before .before .before .before .before .before .before .make .ensures) (c .before .before .open-in .last .0) _ _ (c .before .before .before .before .before .if2 .left) (rw (c .before .before .before .new-record .ensures) at (c .before .before .open-in .ensures (s .args .arena .now) (c .before .before .before .before .before .before .before .before .make .last .1 .0)))
+    made-next (s .args .arena .now) (s .args .work .now) (s .args .mem .now) (s .args .id) (s .args .kind) (s .args .mode) (s .args .time) (s .args .t8) (sym (c .before .before .before .before .before .before .before .before .before .before .before .before .is-new .ensures) ∙ not-false _ (c .before .before .before .before .before .before .before .before .before .before .before .if1 .left)) (c .before .before .before .before .before .before .before .before .make .last .1 .0) (c .before .before .before .before .before .before .before .before .make .result) (c .before .before .before .before .before .before .before .before .make .ensures) (c .before .before .open-in .last .0) _ _ (c .before .before .before .before .before .if2 .left) (rw (c .before .before .before .new-record .ensures) at (c .before .before .open-in .ensures (view (s .args .arena .now) (c .before .before .before .before .before .before .before .before .make .last .1 .0))))
 
 pub make-node-spec : {M : Type 1} → statement M
 make-node-spec =

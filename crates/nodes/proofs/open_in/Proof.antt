@@ -35,7 +35,7 @@ same-length-2 c = search needs
 returns-2 : tie.Need-returns-2
 returns-2 c =
     let s = c .before .before .before .before .before in
-    λ a w. ill {r = 19} (omega arith) (open-none (s .args .mem .now) (s .args .id) (s .args .rec) (s .args .dirty) (sym (c .before .before .find-row .ensures) ∙ c .enum-told .given .1) a w)
+    λ a. ill {r = 19} (omega arith) (open-none (s .args .mem .now) (s .args .id) (s .args .rec) (s .args .dirty) (sym (c .before .before .find-row .ensures) ∙ c .enum-told .given .1) a)
 
 pub open-in-spec : {M : Type 1} → statement M
 open-in-spec =

@@ -4,6 +4,8 @@ use native.Mathlib.Omega.{arith}
 use borrow.Author.Tests.{le-leb, lt-leb, not-true, not-false}
 use borrow.Author.Needs.{needs}
 use Rattle.base.specs.Out.{ill}
+use Rattle.overlay.specs.View.{view}
+use Rattle.mem.specs.State.{fsOf}
 use Rattle.nodes.proofs.open_read.Statement.{statement}
 use Rattle.nodes.proofs.open_read.Tie as tie
 
@@ -25,9 +27,10 @@ same-length : tie.Need-same-length
 same-length c = search needs
 
 returns-3 : tie.Need-returns-3
+unfolding fsOf
 returns-3 c =
     let s = c .before .before .before .before .before .before .before .before .before .before .before .before in
-    rw (le-leb (s .args .rec .kind) 4 (c .before .before .before .before .before .before .before .if1 .left), sym (c .before .before .before .before .before .has-file .ensures) ∙ not-false _ (c .before .before .before .before .if2 .left)) (c .before .before .open-in .ensures (s .args .arena .now) (s .args .work .now))
+    rw (le-leb (s .args .rec .kind) 4 (c .before .before .before .before .before .before .before .if1 .left), sym (c .before .before .before .before .before .has-file .ensures) ∙ not-false _ (c .before .before .before .before .if2 .left)) (c .before .before .open-in .ensures (view (s .args .arena .now) (s .args .work .now)))
 
 pub open-read-spec : {M : Type 1} → statement M
 open-read-spec =

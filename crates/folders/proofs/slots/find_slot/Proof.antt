@@ -1,7 +1,7 @@
 -- `folders::slots::find_slot`: by what the lookup found.
 use Prim.Native.Nat.{_<_}
 use Rattle.base.proofs.Outs.{went-has}
-use Rattle.folders.proofs.Lookups.{find-stop, find-none, find-at}
+use Rattle.chains.proofs.Lookups.{find-stop, find-none, find-at}
 use native.Mathlib.Omega.{arith}
 use borrow.Author.Needs.{needs}
 use Rattle.folders.proofs.slots.find_slot.Statement.{statement}

@@ -2,7 +2,7 @@
 use Prim.Native.Nat.{_≤_, _-_, _<_}
 use Rattle.base.proofs.Outs.{went-is, went-has}
 use Rattle.base.specs.Out.{done}
-use Rattle.folders.proofs.Lookups.{look-none, look-miss, look-ends, look-at, look-all}
+use Rattle.chains.proofs.Lookups.{look-none, look-miss, look-ends, look-at, look-all}
 use Rattle.overlay.specs.View.{view}
 use Rattle.sefs.specs.Slots.{lookTo}
 use Rattle.structs.specs.Layout.{entryOf}

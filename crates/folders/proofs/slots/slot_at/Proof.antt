@@ -1,5 +1,5 @@
 -- `folders::slots::slot_at`: the slot, then the test of its name.
-use Rattle.folders.proofs.Lookups.{slot-stop, slot-stuck, slot-done}
+use Rattle.chains.proofs.Lookups.{named-stop, named-stuck, named-done, slot-named}
 use mathlib.Core.Path.{sym, _∙_}
 use borrow.Author.Needs.{needs}
 use Rattle.folders.proofs.slots.slot_at.Statement.{statement}
@@ -14,7 +14,7 @@ same-length c = search needs
 returns : tie.Need-returns
 returns c =
     let s = c .before .before .before .before .before .before .before .before in
-    slot-stop _ (s .args .rec) (s .args .k) _ _ (c .if1 .taken) (c .before .before .before .slot-bytes .ensures)
+    slot-named _ (s .args .rec) (s .args .k) (named-stop _ (s .args .rec) (s .args .k) (c .before .before .before .slot-bytes .ensures) (c .if1 .taken))
 
 sub-is-ended : tie.Need-sub-is-ended
 sub-is-ended c = search needs
@@ -34,7 +34,7 @@ same-length-2 c = search needs
 returns-2 : tie.Need-returns-2
 returns-2 c =
     let s = c .before .before .before .before .before .before .before .before .before .before .before .before in
-    slot-done _ (s .args .rec) (s .args .k) (c .before .before .before .before .before .before .before .slot-bytes .ensures) (c .before .before .before .before .if1 .left) (sym (c .before .is-ended .ensures) ∙ c .if2 .taken)
+    slot-named _ (s .args .rec) (s .args .k) (named-done _ (s .args .rec) (s .args .k) (c .before .before .before .before .before .before .before .slot-bytes .ensures) (c .before .before .before .before .if1 .left) (sym (c .before .is-ended .ensures) ∙ c .if2 .taken))
 
 same-length-3 : tie.Need-same-length-3
 same-length-3 c = search needs
@@ -42,7 +42,7 @@ same-length-3 c = search needs
 returns-3 : tie.Need-returns-3
 returns-3 c =
     let s = c .before .before .before .before .before .before .before .before .before .before .before .before in
-    slot-stuck _ (s .args .rec) (s .args .k) _ _ (c .before .before .before .before .before .before .before .slot-bytes .ensures) (c .before .before .before .before .if1 .left) (sym (c .before .is-ended .ensures) ∙ c .if2 .left)
+    slot-named _ (s .args .rec) (s .args .k) (named-stuck _ (s .args .rec) (s .args .k) (c .before .before .before .before .before .before .before .slot-bytes .ensures) (c .before .before .before .before .if1 .left) (sym (c .before .is-ended .ensures) ∙ c .if2 .left))
 
 pub slot-at-spec : {M : Type 1} → statement M
 slot-at-spec =

@@ -2,7 +2,7 @@
 use Prim.Native.Nat.{_*_}
 use Rattle.arena.specs.Fields.{file}
 use Rattle.folders.proofs.Common.{read-went}
-use Rattle.folders.proofs.Lookups.{bytes-stop, bytes-stuck, bytes-done}
+use Rattle.chains.proofs.Lookups.{bytes-stop, bytes-stuck, bytes-done}
 use native.Mathlib.Omega.{arith}
 use borrow.Author.Needs.{needs}
 use Rattle.folders.proofs.slots.slot_bytes.Statement.{statement}

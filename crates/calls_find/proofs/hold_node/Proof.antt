@@ -1,0 +1,21 @@
+-- `calls_find::hold_node`: the hold on what was opened.
+use Rattle.base.proofs.Outs.{went-has}
+use Rattle.calls_find.proofs.Finds.{handed}
+use borrow.Author.Needs.{needs}
+use Rattle.calls_find.proofs.hold_node.Statement.{statement}
+use Rattle.calls_find.proofs.hold_node.Tie as tie
+
+open-node-requires : tie.Need-open-node-requires
+open-node-requires c κs = search needs
+
+hand-requires : tie.Need-hand-requires
+hand-requires c κs = λ z. went-has (c .before .before .before .open-node .ensures) z
+
+same-length : tie.Need-same-length
+same-length c = search needs
+
+returns : tie.Need-returns
+returns c = handed (c .before .before .hand .ensures .0) (c .before .before .hand .ensures .1) (c .before .before .before .before .before .before .open-node .ensures)
+
+pub hold-node-spec : {M : Type 1} → statement M
+hold-node-spec = tie.close (tie.spec open-node-requires hand-requires same-length returns)

@@ -1,0 +1,241 @@
+// The calls that open a node: root and find. They change no byte of the arena, and read it by the chains of `sound`.
+ghost use mathlib.Core.Path.{_≡_};
+ghost use Prim.Native.Nat.{_<_};
+ghost use lib.ListN.{length};
+ghost use Rattle.base.specs.Out.{Went, answer};
+ghost use Rattle.table.specs.Table.{addHold};
+ghost use Rattle.sefs.specs.Ask.{start};
+ghost use Rattle.sefs.specs.Open.{callRoot, callFind, holdNode};
+ghost use Rattle.chains.specs.Led.{Led};
+ghost use Rattle.mem.specs.Mem.{tableIn, Whole};
+ghost use Rattle.table.specs.Table.{rowAt};
+ghost use Rattle.calls.specs.Answers.{addedAs};
+ghost use Rattle.calls.specs.Asked.{Blank};
+ghost use Rattle.calls_find.specs.Finds.{Gives, giveNode, giveNamed, notOrphan, findName, findFolder, findAsk, findId, findIn};
+use calls::Given;
+use calls::Handed;
+use calls::folder;
+use calls::good_name;
+use calls::hand;
+use calls::known;
+use calls::led::admit;
+use calls::led::reach;
+use calls::not_handed;
+use calls::not_long;
+use calls::settle_held;
+use chains::slots::find_slot;
+use holds::can_hold;
+use le::u32_at;
+use mem::put_table;
+use mem::rec_at;
+use nodes::Opened;
+use nodes_read::get_node;
+use nodes_read::meta::load_meta;
+use structs::DiskINode;
+use table::Handle;
+use table::Table;
+use utf8::is_dots;
+
+// ---- a node opened, with a hold of its own
+
+fn open_node(arena: &[u8], first: &[u16], next: &[u16], mem: &mut [u8], id: u32) -> Opened
+    requires { ⌜ Led (now arena) (now first) (now next) ⌝ }
+    requires { ⌜ length (now mem) ≡ 4899 ⌝ }
+    ensures { λ r. ⌜ Went (holdNode (start (now (arena .entry)) (tableIn (now (mem .entry)))) id) (addHold (tableIn (now (mem .exit))) (r .row)) (Whole (now (mem .exit)) × (r .row < 34)) (r .reason) ⌝ }
+{
+    load_meta(arena, first, next, mem);
+    get_node(arena, first, next, mem, id)
+}
+
+fn hold_node(arena: &[u8], first: &[u16], next: &[u16], mem: &mut [u8], id: u32) -> Handed
+    requires { ⌜ Led (now arena) (now first) (now next) ⌝ }
+    requires { ⌜ length (now mem) ≡ 4899 ⌝ }
+    ensures { λ r. ⌜ Went (holdNode (start (now (arena .entry)) (tableIn (now (mem .entry)))) id) (addedAs (r .handle) (tableIn (now (mem .exit)))) Unit (r .reason) ⌝ }
+{
+    let o = open_node(arena, first, next, mem, id);
+    hand(mem, o.reason, o.row)
+}
+
+// 16 where no hold can be given.
+fn give_node(arena: &[u8], first: &[u16], next: &[u16], mem: &mut [u8], id: u32) -> Handed
+    requires { ⌜ Led (now arena) (now first) (now next) ⌝ }
+    requires { ⌜ Whole (now mem) ⌝ }
+    ensures { λ r. ⌜ Went (giveNode (now (arena .entry)) (tableIn (now (mem .entry))) id) (addedAs (r .handle) (tableIn (now (mem .exit)))) Unit (r .reason) ⌝ }
+{
+    if !can_hold(&mem[..]) {
+        return not_handed(16);
+    }
+    hold_node(arena, first, next, mem, id)
+}
+
+// ---- root
+
+// The call, with the place where the chains go; so below, too.
+fn root_led(arena: &[u8], chains: &mut [u16], mem: &mut [u8]) -> Handed
+    requires { ⌜ Blank (now chains) × Whole (now mem) ⌝ }
+    ensures { λ r. ⌜ Went (callRoot (now (arena .entry)) (tableIn (now (mem .entry)))) (addedAs (r .handle) (tableIn (now (mem .exit)))) Unit (r .reason) ⌝ }
+{
+    let r = admit(arena, chains, &mem[..]);
+    if r != 0 {
+        return not_handed(r);
+    }
+    let c = &chains[..];
+    give_node(arena, &c[..4096], &c[4096..8192], mem, 2)
+}
+
+// The call on the table in memory; so below, too.
+fn root_on(arena: &[u8], mem: &mut [u8]) -> Handed
+    requires { ⌜ Whole (now mem) ⌝ }
+    ensures { λ r. ⌜ Went (callRoot (now (arena .entry)) (tableIn (now (mem .entry)))) (addedAs (r .handle) (tableIn (now (mem .exit)))) Unit (r .reason) ⌝ }
+{
+    let mut chains = [0u16; 8192];
+    root_led(arena, &mut chains, mem)
+}
+
+pub fn root(arena: &[u8], t: Table) -> Given
+    ensures { λ r. ⌜ Gives t (callRoot (now (arena .entry)) t) r ⌝ }
+{
+    let mut mem = [0u8; 4899];
+    put_table(&mut mem, t);
+    let h = root_on(arena, &mut mem);
+    settle_held(t, &mem, h)
+}
+
+// ---- find
+
+// 8, for exactly `..`.
+fn not_orphan(rec: DiskINode, name: &[u8]) -> u8
+    ensures { λ r. ⌜ r ≡ answer (notOrphan rec (now (name .entry))) ⌝ }
+{
+    if is_dots(name) & (rec.nlinks == 0) {
+        return 8;
+    }
+    0
+}
+
+fn find_name(rec: DiskINode, name: &[u8]) -> u8
+    ensures { λ r. ⌜ r ≡ answer (findName rec (now (name .entry))) ⌝ }
+{
+    let r = not_long(name);
+    if r != 0 {
+        return r;
+    }
+    not_orphan(rec, name)
+}
+
+fn find_folder(rec: DiskINode, name: &[u8]) -> u8
+    ensures { λ r. ⌜ r ≡ answer (findFolder rec (now (name .entry))) ⌝ }
+{
+    let r = known(rec);
+    if r != 0 {
+        return r;
+    }
+    let r = folder(rec);
+    if r != 0 {
+        return r;
+    }
+    find_name(rec, name)
+}
+
+fn find_ask(rec: DiskINode, name: &[u8]) -> u8
+    ensures { λ r. ⌜ r ≡ answer (findAsk rec (now (name .entry))) ⌝ }
+{
+    let r = good_name(name);
+    if r != 0 {
+        return r;
+    }
+    find_folder(rec, name)
+}
+
+// The id in the slot with that name, where the reason is 0.
+struct Named {
+    reason: u8,
+    id: u32,
+}
+
+fn id_in(
+    arena: &[u8],
+    first: &[u16],
+    next: &[u16],
+    slot: &mut [u8],
+    rec: DiskINode,
+    name: &[u8],
+) -> Named
+    requires { ⌜ Led (now arena) (now first) (now next) ⌝ }
+    requires { ⌜ length (now slot) ≡ 264 ⌝ }
+    ensures { λ r. ⌜ Went (findId (now (arena .entry)) rec (now (name .entry))) (r .id) Unit (r .reason) ⌝ }
+{
+    let p = find_slot(arena, first, next, rec, name, slot);
+    Named {
+        reason: p.reason,
+        id: u32_at(&slot[..], 0),
+    }
+}
+
+fn find_id(arena: &[u8], first: &[u16], next: &[u16], rec: DiskINode, name: &[u8]) -> Named
+    requires { ⌜ Led (now arena) (now first) (now next) ⌝ }
+    ensures { λ r. ⌜ Went (findId (now (arena .entry)) rec (now (name .entry))) (r .id) Unit (r .reason) ⌝ }
+{
+    let mut slot = [0u8; 264];
+    id_in(arena, first, next, &mut slot, rec, name)
+}
+
+fn find_in(arena: &[u8], first: &[u16], next: &[u16], rec: DiskINode, name: &[u8]) -> Named
+    requires { ⌜ Led (now arena) (now first) (now next) ⌝ }
+    ensures { λ r. ⌜ Went (findIn (now (arena .entry)) rec (now (name .entry))) (r .id) Unit (r .reason) ⌝ }
+{
+    let r = find_ask(rec, name);
+    if r != 0 {
+        return Named { reason: r, id: 0 };
+    }
+    find_id(arena, first, next, rec, name)
+}
+
+// The node that the name leads to, in the folder of row i.
+fn give_named(
+    arena: &[u8],
+    first: &[u16],
+    next: &[u16],
+    mem: &mut [u8],
+    i: usize,
+    name: &[u8],
+) -> Handed
+    requires { ⌜ Led (now arena) (now first) (now next) ⌝ }
+    requires { ⌜ Whole (now mem) × (i < 34) ⌝ }
+    ensures { λ r. ⌜ Went (giveNamed (now (arena .entry)) (tableIn (now (mem .entry))) (rowAt (tableIn (now (mem .entry))) i .rec) (now (name .entry))) (addedAs (r .handle) (tableIn (now (mem .exit)))) Unit (r .reason) ⌝ }
+{
+    let n = find_in(arena, first, next, rec_at(&mem[..], i), name);
+    if n.reason != 0 {
+        return not_handed(n.reason);
+    }
+    give_node(arena, first, next, mem, n.id)
+}
+
+fn find_led(arena: &[u8], chains: &mut [u16], mem: &mut [u8], h: Handle, name: &[u8]) -> Handed
+    requires { ⌜ Blank (now chains) × Whole (now mem) ⌝ }
+    ensures { λ r. ⌜ Went (callFind (now (arena .entry)) (tableIn (now (mem .entry))) h (now (name .entry))) (addedAs (r .handle) (tableIn (now (mem .exit)))) Unit (r .reason) ⌝ }
+{
+    let b = reach(arena, chains, &mem[..], h);
+    if b.reason != 0 {
+        return not_handed(b.reason);
+    }
+    let c = &chains[..];
+    give_named(arena, &c[..4096], &c[4096..8192], mem, b.row, name)
+}
+
+fn find_on(arena: &[u8], mem: &mut [u8], h: Handle, name: &[u8]) -> Handed
+    requires { ⌜ Whole (now mem) ⌝ }
+    ensures { λ r. ⌜ Went (callFind (now (arena .entry)) (tableIn (now (mem .entry))) h (now (name .entry))) (addedAs (r .handle) (tableIn (now (mem .exit)))) Unit (r .reason) ⌝ }
+{
+    let mut chains = [0u16; 8192];
+    find_led(arena, &mut chains, mem, h, name)
+}
+
+pub fn find(arena: &[u8], t: Table, h: Handle, name: &[u8]) -> Given
+    ensures { λ r. ⌜ Gives t (callFind (now (arena .entry)) t h (now (name .entry))) r ⌝ }
+{
+    let mut mem = [0u8; 4899];
+    put_table(&mut mem, t);
+    let r = find_on(arena, &mut mem, h, name);
+    settle_held(t, &mem, r)
+}

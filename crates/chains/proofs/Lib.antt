@@ -1,0 +1,3 @@
+pub mod Files
+pub mod Ends
+pub mod Lookups

@@ -1,0 +1,61 @@
+-- `chains::slots::named_slot`: the bytes, and then the name.
+use mathlib.Core.Path.{sym, _∙_}
+use Rattle.chains.proofs.Lookups.{named-stop, named-done, named-stuck}
+use borrow.Author.Needs.{needs}
+use Rattle.chains.proofs.slots.named_slot.Statement.{statement}
+use Rattle.chains.proofs.slots.named_slot.Tie as tie
+
+slot-bytes-requires : tie.Need-slot-bytes-requires
+slot-bytes-requires c κs = search needs
+
+same-length : tie.Need-same-length
+same-length c = search needs
+
+returns : tie.Need-returns
+returns c =
+    let s = c .before .before .before .before .before .before .before .before .before in
+    named-stop _ (s .args .rec) (s .args .k) (c .before .before .before .slot-bytes .ensures) (c .if1 .taken)
+
+sub-is-ended : tie.Need-sub-is-ended
+sub-is-ended c = search needs
+
+part-is-ended-start : tie.Need-part-is-ended-start
+part-is-ended-start c = search needs
+
+part-is-ended-end : tie.Need-part-is-ended-end
+part-is-ended-end c = search needs
+
+is-ended-requires : tie.Need-is-ended-requires
+is-ended-requires c κs = search needs
+
+same-length-2 : tie.Need-same-length-2
+same-length-2 c = search needs
+
+returns-2 : tie.Need-returns-2
+returns-2 c =
+    let s = c .before .before .before .before .before .before .before .before .before .before .before .before .before in
+    named-done _ (s .args .rec) (s .args .k) (c .before .before .before .before .before .before .before .slot-bytes .ensures) (c .before .before .before .before .if1 .left) (sym (c .before .is-ended .ensures) ∙ c .if2 .taken)
+
+same-length-3 : tie.Need-same-length-3
+same-length-3 c = search needs
+
+returns-3 : tie.Need-returns-3
+returns-3 c =
+    let s = c .before .before .before .before .before .before .before .before .before .before .before .before .before in
+    named-stuck _ (s .args .rec) (s .args .k) (c .before .before .before .before .before .before .before .slot-bytes .ensures) (c .before .before .before .before .if1 .left) (sym (c .before .is-ended .ensures) ∙ c .if2 .left)
+
+pub named-slot-spec : {M : Type 1} → statement M
+named-slot-spec =
+    tie.close
+    (tie.spec
+    slot-bytes-requires
+    same-length
+    returns
+    sub-is-ended
+    part-is-ended-start
+    part-is-ended-end
+    is-ended-requires
+    same-length-2
+    returns-2
+    same-length-3
+    returns-3)
