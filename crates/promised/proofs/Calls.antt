@@ -30,7 +30,7 @@ use Rattle.calls.specs.declared.Listed.{Listed}
 use Rattle.calls_steps.specs.Ends.{Returned}
 use Rattle.calls_create.specs.Held.{ReturnedHeld}
 use Rattle.calls_format.specs.Format.{formatted}
-use Rattle.calls_open.specs.Opens.{Gives}
+use Rattle.calls_find.specs.Finds.{Gives}
 use Rattle.sequences.specs.Pairs.{Pair, pair, Passed}
 use Rattle.sequences.specs.Calls.{Call, root, find, create, link, unlink, move, metadata, setMetadata, getEntry, listing, sync, close, Fits, HandleFits, NewFits, SetFits, does, reasonOf, next, carries}
 use Rattle.sequences.specs.Promises.{Keeps, Well, Fresh}
