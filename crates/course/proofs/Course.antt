@@ -1,19 +1,24 @@
 -- The course examples: a row each, from the states that the calls were computed to leave, and the table.
-use mathlib.Core.Path.{_≡_, refl, _∙_}
-use mathlib.Core.List.{List, [], _∷_}
+use mathlib.Core.Path.{_≡_, refl, ap, sym, _∙_}
+use mathlib.Core.List.{List, [], _∷_, _++_}
 use Prim.Native.Nat.{ℕ, zero, suc, _*_}
 use native.Mathlib.Omega.{arith}
 use lib.IntN.{negsuc}
 use lib.ListN.{replicate}
-use Rattle.base.specs.Out.{Out, done, bind, _>>=_}
+use Rattle.base.specs.Out.{Out, done, answer, bind, _>>=_}
+use Rattle.base.proofs.Outs.{bind-assoc}
+use Rattle.structs.specs.Constants.{typeFile, typeDir}
 use Rattle.structs.specs.Layout.{recordOf, entryOf}
 use Rattle.utf8.specs.Names.{nameOf}
 use Rattle.files.specs.Read.{lengthOf}
 use Rattle.sefs.specs.Meta.{metaFile}
-use Rattle.course.specs.Course.{Fact, id, unused, mapByte, used, links, slot, rootLength, metaLength, check, answers, number, stopped, facts, stored, usedTo, usedIn, idOf, imageFacts, linksOf, slotsFrom, groupRead, rootFile, freshRow, fileRow, folderRow, unlinkRow, groupRow, checkRow, longRow, emptyRow, minusRow, table, expected}
+use Rattle.sefs.specs.Create.{After, Given}
+use Rattle.sefs.specs.Unlink.{callUnlink}
+use Rattle.course.specs.Course.{Fact, id, unused, mapByte, used, links, slot, rootLength, metaLength, check, answers, number, stopped, facts, stored, usedTo, usedIn, idOf, imageFacts, linksOf, slotsFrom, fileRead, folderRead, goneRead, groupRead, rootFile, epoch, uuid, freshRow, fileRow, folderRow, unlinkRow, groupRow, checkRow, longRow, emptyRow, minusRow, table, expected}
 use Rattle.course.proofs.Near.{readNear, read-near}
-use Rattle.course.proofs.States.{freshArena, fileArena, fileGiven, folderArena, folderGiven, cSlots, cMeta, cArena, fourTable, cWorld, goneSlots, goneArena, goneAfter, groupMeta, groupArena, groupGiven}
-use Rattle.course.proofs.Steps.{computed, fresh-is, begun-is, file-made, folder-made, long-made, longer-made, empty-made, a-filed, b-filed, c-filed, gone-is, full-is, opened-full, group-made}
+use Rattle.course.proofs.Calls.{createNear, unlinkNear}
+use Rattle.course.proofs.States.{handle, rootTable, freshArena, cSlots, cMeta, cArena, cWorld, fullArena}
+use Rattle.course.proofs.Steps.{computed, fresh-is, begun-is, fresh-made, a-filed, b-filed, c-filed, gone-near, full-is, opened-full, full-made}
 
 -- ---- records and slots, read with less work
 
@@ -39,51 +44,74 @@ slots-near a k zero = refl
 slots-near a k (suc n) =
     λ j. bind (read-near a rootFile (264 * k) 264 (omega arith) j) (λ l. bind (slots-near a (suc k) n j) (λ r. done (slot k (nameOf (entryOf l .name)) ∷ r)))
 
+unfoldable folderNear : Given → Out (List Fact)
+folderNear g = do
+  r ← linksNear (g .arena) 2
+  b ← linksNear (g .arena) 3
+  done (idOf g ∷ r ∷ b ∷ usedIn (g .arena) ∷ [])
+
+folder-near : folderRead ≡ folderNear
+unfolding folderRead folderNear
+folder-near = λ j g. bind (links-near (g .arena) 2 j) (λ r. bind (links-near (g .arena) 3 j) (λ b. done (idOf g ∷ r ∷ b ∷ usedIn (g .arena) ∷ [])))
+
+unfoldable goneNear : After → Out (List Fact)
+goneNear u = do
+  r ← slotsNear (u .arena) 2 2
+  done (r ++ (rootLength (lengthOf (u .arena) rootFile) ∷ []))
+
+gone-read-near : goneRead ≡ goneNear
+unfolding goneRead goneNear
+gone-read-near = λ j u. bind (slots-near (u .arena) 2 2 j) (λ r. done (r ++ (rootLength (lengthOf (u .arena) rootFile) ∷ [])))
+
 -- ---- the facts of each state
 
 fresh-facts : imageFacts freshArena ≡ done (unused 1021 ∷ mapByte 0 248 ∷ used (0 ∷ 1 ∷ 2 ∷ 3 ∷ 4 ∷ []) ∷ [])
 unfolding computed imageFacts stored usedTo freshArena
 fresh-facts = refl
 
-file-facts : imageFacts (fileGiven .arena) ≡ done (unused 1020 ∷ mapByte 0 240 ∷ used (0 ∷ 1 ∷ 2 ∷ 3 ∷ 4 ∷ 5 ∷ 6 ∷ []) ∷ [])
-unfolding computed imageFacts stored usedTo fileArena fileGiven
+file-facts : bind (createNear freshArena rootTable (handle 0 1) (65 ∷ []) typeFile 420 epoch (uuid 2)) fileRead
+    ≡ done (id 3 ∷ unused 1020 ∷ mapByte 0 240 ∷ used (0 ∷ 1 ∷ 2 ∷ 3 ∷ 4 ∷ 5 ∷ 6 ∷ []) ∷ [])
+unfolding computed createNear rootTable freshArena fileRead imageFacts stored usedTo
 file-facts = refl
 
-file-id : idOf fileGiven ≡ id 3
-unfolding computed fileGiven
-file-id = refl
+folder-facts : bind (createNear freshArena rootTable (handle 0 1) (66 ∷ []) typeDir 420 epoch (uuid 2)) folderNear
+    ≡ done (id 3 ∷ links 2 3 ∷ links 3 2 ∷ used (0 ∷ 1 ∷ 2 ∷ 3 ∷ 4 ∷ 5 ∷ 6 ∷ 7 ∷ 8 ∷ []) ∷ [])
+unfolding computed createNear rootTable freshArena linksNear folderNear usedTo
+folder-facts = refl
 
-root-links : linksNear (folderGiven .arena) 2 ≡ done (links 2 3)
-unfolding computed linksNear folderArena folderGiven
-root-links = refl
-
-folder-links : linksNear (folderGiven .arena) 3 ≡ done (links 3 2)
-unfolding computed linksNear folderArena folderGiven
-folder-links = refl
-
-folder-id : idOf folderGiven ≡ id 3
-unfolding computed folderGiven
-folder-id = refl
-
-folder-used : usedIn (folderGiven .arena) ≡ used (0 ∷ 1 ∷ 2 ∷ 3 ∷ 4 ∷ 5 ∷ 6 ∷ 7 ∷ 8 ∷ [])
-unfolding computed usedTo folderArena folderGiven
-folder-used = refl
-
-before-slots : slotsNear (cWorld .arena) 2 3 ≡ done (slot 2 (97 ∷ []) ∷ slot 3 (98 ∷ []) ∷ slot 4 (99 ∷ []) ∷ [])
+before-facts : slotsNear (cWorld .arena) 2 3 ≡ done (slot 2 (97 ∷ []) ∷ slot 3 (98 ∷ []) ∷ slot 4 (99 ∷ []) ∷ [])
 unfolding computed slotsNear cSlots cMeta cArena cWorld
-before-slots = refl
+before-facts = refl
 
-after-slots : slotsNear (goneAfter .arena) 2 2 ≡ done (slot 2 (99 ∷ []) ∷ slot 3 (98 ∷ []) ∷ [])
-unfolding computed slotsNear cMeta goneSlots goneArena goneAfter
-after-slots = refl
+gone-facts : bind (unlinkNear (cWorld .arena) (cWorld .table) (handle 0 1) (97 ∷ [])) goneNear
+    ≡ done (slot 2 (99 ∷ []) ∷ slot 3 (98 ∷ []) ∷ rootLength 1056 ∷ [])
+unfolding computed unlinkNear slotsNear goneNear cSlots cMeta cArena cWorld
+gone-facts = refl
 
-after-length : lengthOf (goneAfter .arena) rootFile ≡ 1056
-unfolding computed cMeta goneSlots goneArena goneAfter
-after-length = refl
+-- the unlink, and what it leaves
+gone-is : (before : List Fact) → bind (callUnlink (cWorld .arena) (cWorld .table) (cWorld .root) (97 ∷ [])) (λ u. bind (goneRead u) (λ now. done (before ++ now)))
+    ≡ done (before ++ (slot 2 (99 ∷ []) ∷ slot 3 (98 ∷ []) ∷ rootLength 1056 ∷ []))
+gone-is before =
+    rw (gone-near, gone-read-near)
+    (sym (bind-assoc (unlinkNear (cWorld .arena) (cWorld .table) (handle 0 1) (97 ∷ [])) goneNear (λ now. done (before ++ now)))
+    ∙ ap (λ (o : Out (List Fact)). bind o (λ now. done (before ++ now))) gone-facts)
 
-group-facts : groupRead groupGiven ≡ done (id 1024 ∷ unused 1022 ∷ mapByte 1 252 ∷ metaLength 262144 ∷ [])
-unfolding computed groupRead stored groupMeta groupArena groupGiven
+group-facts : bind (createNear fullArena rootTable (handle 0 1) (65 ∷ []) typeFile 420 epoch (uuid 2)) groupRead
+    ≡ done (id 1024 ∷ unused 1022 ∷ mapByte 1 252 ∷ metaLength 262144 ∷ [])
+unfolding computed createNear rootTable fullArena groupRead stored
 group-facts = refl
+
+long-facts : answer (createNear freshArena rootTable (handle 0 1) (replicate 255 97) typeFile 420 epoch (uuid 2)) ≡ 0
+unfolding computed createNear rootTable freshArena
+long-facts = refl
+
+longer-facts : answer (createNear freshArena rootTable (handle 0 1) (replicate 256 97) typeFile 420 epoch (uuid 2)) ≡ 10
+unfolding computed createNear rootTable freshArena
+longer-facts = refl
+
+empty-facts : answer (createNear freshArena rootTable (handle 0 1) [] typeFile 420 epoch (uuid 2)) ≡ 12
+unfolding computed createNear rootTable freshArena
+empty-facts = refl
 
 -- ---- the rows
 
@@ -93,20 +121,20 @@ fresh-row = rw (fresh-is, fresh-facts)
 
 file-row : facts fileRow ≡ id 3 ∷ unused 1020 ∷ mapByte 0 240 ∷ used (0 ∷ 1 ∷ 2 ∷ 3 ∷ 4 ∷ 5 ∷ 6 ∷ []) ∷ []
 unfolding facts fileRow
-file-row = rw (begun-is, file-made, file-facts, file-id)
+file-row = rw (begun-is, fresh-made) (ap facts file-facts)
 
 folder-row : facts folderRow ≡ id 3 ∷ links 2 3 ∷ links 3 2 ∷ used (0 ∷ 1 ∷ 2 ∷ 3 ∷ 4 ∷ 5 ∷ 6 ∷ 7 ∷ 8 ∷ []) ∷ []
 unfolding facts folderRow
-folder-row = rw (begun-is, folder-made, links-near (folderGiven .arena) 2, root-links, links-near (folderGiven .arena) 3, folder-links, folder-id, folder-used)
+folder-row = rw (begun-is, fresh-made, folder-near) (ap facts folder-facts)
 
 unlink-row : facts unlinkRow ≡ slot 2 (97 ∷ []) ∷ slot 3 (98 ∷ []) ∷ slot 4 (99 ∷ []) ∷ slot 2 (99 ∷ []) ∷ slot 3 (98 ∷ []) ∷ rootLength 1056 ∷ []
 unfolding facts unlinkRow
-unlink-row =
-    rw (begun-is, a-filed, b-filed, c-filed, slots-near (cWorld .arena) 2 3, before-slots, gone-is, slots-near (goneAfter .arena) 2 2, after-slots, after-length)
+unlink-row = rw (begun-is, a-filed, b-filed, c-filed, slots-near (cWorld .arena) 2 3, before-facts)
+    (ap facts (gone-is (slot 2 (97 ∷ []) ∷ slot 3 (98 ∷ []) ∷ slot 4 (99 ∷ []) ∷ [])))
 
 group-row : facts groupRow ≡ id 1024 ∷ unused 1022 ∷ mapByte 1 252 ∷ metaLength 262144 ∷ []
 unfolding facts groupRow
-group-row = rw (fresh-is, full-is, opened-full, group-made, group-facts)
+group-row = rw (fresh-is, full-is, opened-full, full-made) (ap facts group-facts)
 
 check-row : facts checkRow ≡ check 2 ∷ []
 unfolding computed facts checkRow
@@ -114,11 +142,11 @@ check-row = refl
 
 long-row : facts longRow ≡ answers 0 ∷ answers 10 ∷ []
 unfolding facts longRow
-long-row = rw (begun-is, long-made, longer-made)
+long-row = rw (begun-is, fresh-made (replicate 255 97) typeFile 2, long-facts, fresh-made (replicate 256 97) typeFile 2, longer-facts)
 
 empty-row : facts emptyRow ≡ answers 12 ∷ []
 unfolding facts emptyRow
-empty-row = rw (begun-is, empty-made)
+empty-row = rw (begun-is, fresh-made, empty-facts)
 
 minus-row : facts minusRow ≡ number (negsuc 0) ∷ []
 unfolding computed facts minusRow

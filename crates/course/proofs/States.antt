@@ -1,5 +1,5 @@
 -- The states that the examples lead through, block by block: what the calls leave, written down. That they leave it is proved in Steps.
-use mathlib.Core.Bool.{Bool, true, false}
+use mathlib.Core.Bool.{false}
 use mathlib.Core.List.{List, [], _∷_, _++_}
 use Prim.Native.Nat.{ℕ, _*_, _-_}
 use lib.ListN.{length, replicate, take, drop}
@@ -14,11 +14,9 @@ use Rattle.table.specs.declared.Hold.{Hold}
 use Rattle.table.specs.declared.Row.{Row}
 use Rattle.table.specs.declared.Table.{Table}
 use Rattle.arena.specs.Fields.{File, file}
-use Rattle.sefs.specs.State.{Meta}
 use Rattle.sefs.specs.Meta.{metaFile}
 use Rattle.sefs.specs.Records.{newRecord, withLinks, withBlocks}
 use Rattle.sefs.specs.Folders.{entry}
-use Rattle.sefs.specs.Create.{After, Given}
 use Rattle.course.specs.Course.{World, epoch, uuid, rootFile}
 
 -- ---- the parts
@@ -27,14 +25,10 @@ use Rattle.course.specs.Course.{World, epoch, uuid, rootFile}
 unfoldable pub headBlk : File → ℕ → ℕ → List ℕ
 headBlk f len check = 1 ∷ f .which ∷ 0 ∷ 0 ∷ (f .name ++ (leBytes 4 len ++ (replicate 484 0 ++ leBytes 4 check)))
 
--- a data block: its file, its number there, its 480 bytes with the zeros at their end left out, the check
-unfoldable pub bodyBlk : File → ℕ → List ℕ → ℕ → List ℕ
-bodyBlk f q l check =
-    2 ∷ f .which ∷ 0 ∷ 0 ∷ (f .name ++ (leBytes 4 q ++ (take 480 (l ++ replicate 480 0) ++ (replicate 4 0 ++ leBytes 4 check))))
-
--- block q of a file that starts with the bytes l
+-- a data block: its file, its number q there, the file's first bytes, of which it has those from 480 x q on, and the check
 unfoldable pub dataBlk : File → ℕ → List ℕ → ℕ → List ℕ
-dataBlk f q l check = bodyBlk f q (drop (480 * q) l) check
+dataBlk f q l check =
+    2 ∷ f .which ∷ 0 ∷ 0 ∷ (f .name ++ (leBytes 4 q ++ (take 480 (drop (480 * q) l ++ replicate 480 0) ++ (replicate 4 0 ++ leBytes 4 check))))
 
 -- n free blocks
 unfoldable pub freeBlks : ℕ → List ℕ
@@ -46,9 +40,6 @@ rootRec links slots = withBlocks (withLinks (newRecord typeDir 493 epoch (uuid 1
 
 abbrev pub fileRec : ℕ → ℕ → DiskINode
 fileRec n links = withLinks (newRecord typeFile 420 epoch (uuid n)) links
-
-abbrev pub folderRec : DiskINode
-folderRec = withBlocks (withLinks (newRecord typeDir 420 epoch (uuid 2)) 2) 2
 
 -- records from id 2 on, each in 128 bytes
 unfoldable pub recordsOf : List DiskINode → List ℕ
@@ -90,12 +81,9 @@ holdsOf l = l ++ replicate (32 - length l) zeroHold
 abbrev pub handle : ℕ → ℕ → Handle
 handle n stamp = record { hold = n; stamp = stamp }
 
--- the root alone; the root and node n
+-- the root alone
 unfoldable pub rootTable : Table
 rootTable = record { rows = rowsOf (clean 2 (rootRec 2 2) ∷ []); holds = holdsOf (hold 0 1 ∷ []); next = 2 }
-
-abbrev pub twoTable : DiskINode → ℕ → DiskINode → Table
-twoTable r n s = record { rows = rowsOf (clean 2 r ∷ clean n s ∷ []); holds = holdsOf (hold 0 1 ∷ hold 1 2 ∷ []); next = 3 }
 
 -- ---- the fresh image
 
@@ -113,44 +101,6 @@ freshArena =
 -- with the root open
 unfoldable pub freshWorld : World
 freshWorld = record { arena = freshArena; table = rootTable; root = handle 0 1 }
-
--- ---- with the file `A`
-
-unfoldable pub fileArena : List ℕ
-fileArena =
-    join
-    (headBlk metaFile 131072 47
-    ∷ headBlk rootFile 792 773
-    ∷ dataBlk rootFile 0 (folderBytes 2 (slotFile 3 65)) 29738
-    ∷ dataBlk rootFile 1 (folderBytes 2 (slotFile 3 65)) 5920
-    ∷ dataBlk metaFile 0 (metaBytes (superWith 1020) (mapFrom 240) (rootRec 2 3 ∷ fileRec 2 1 ∷ [])) 7247839
-    ∷ headBlk (file 1 (uuid 2)) 0 403
-    ∷ dataBlk metaFile 1 (metaBytes (superWith 1020) (mapFrom 240) (rootRec 2 3 ∷ fileRec 2 1 ∷ [])) 23
-    ∷ freeBlks 9
-    ∷ [])
-
-unfoldable pub fileGiven : Given
-fileGiven = record { arena = fileArena; table = twoTable (rootRec 2 3) 3 (fileRec 2 1); handle = handle 1 2 }
-
--- ---- instead with the folder `B`
-
-unfoldable pub folderArena : List ℕ
-folderArena =
-    join
-    (headBlk metaFile 131072 47
-    ∷ headBlk rootFile 792 773
-    ∷ dataBlk rootFile 0 (folderBytes 2 (entryBytes (entry 3 (66 ∷ []) typeDir))) 29738
-    ∷ dataBlk rootFile 1 (folderBytes 2 (entryBytes (entry 3 (66 ∷ []) typeDir))) 6330
-    ∷ dataBlk metaFile 0 (metaBytes (superWith 1020) (mapFrom 240) (rootRec 3 3 ∷ folderRec ∷ [])) 7249824
-    ∷ headBlk (file 1 (uuid 2)) 528 783
-    ∷ dataBlk (file 1 (uuid 2)) 0 (folderBytes 3 []) 29963
-    ∷ dataBlk (file 1 (uuid 2)) 1 (folderBytes 3 []) 563
-    ∷ dataBlk metaFile 1 (metaBytes (superWith 1020) (mapFrom 240) (rootRec 3 3 ∷ folderRec ∷ [])) 23
-    ∷ freeBlks 7
-    ∷ [])
-
-unfoldable pub folderGiven : Given
-folderGiven = record { arena = folderArena; table = twoTable (rootRec 3 3) 3 folderRec; handle = handle 1 2 }
 
 -- ---- with `a`, with `a` and `b`, with `a`, `b` and `c`
 
@@ -171,7 +121,15 @@ aArena =
     ∷ [])
 
 unfoldable pub aWorld : World
-aWorld = record { arena = aArena; table = twoTable (rootRec 2 3) 3 (fileRec 2 1); root = handle 0 1 }
+aWorld = record {
+  arena = aArena;
+  table = record {
+    rows = rowsOf (clean 2 (rootRec 2 3) ∷ clean 3 (fileRec 2 1) ∷ []);
+    holds = holdsOf (hold 0 1 ∷ hold 1 2 ∷ []);
+    next = 3;
+  };
+  root = handle 0 1;
+}
 
 unfoldable pub bSlots : List ℕ
 bSlots = folderBytes 2 (slotFile 3 97 ++ slotFile 4 98)
@@ -208,8 +166,8 @@ bWorld = record {
 unfoldable pub cSlots : List ℕ
 cSlots = folderBytes 2 (slotFile 3 97 ++ (slotFile 4 98 ++ slotFile 5 99))
 
-unfoldable pub cMeta : ℕ → List ℕ
-cMeta slots = metaBytes (superWith 1018) (mapFrom 192) (rootRec 2 slots ∷ fileRec 2 1 ∷ fileRec 3 1 ∷ fileRec 4 1 ∷ [])
+unfoldable pub cMeta : List ℕ
+cMeta = metaBytes (superWith 1018) (mapFrom 192) (rootRec 2 5 ∷ fileRec 2 1 ∷ fileRec 3 1 ∷ fileRec 4 1 ∷ [])
 
 unfoldable pub cArena : List ℕ
 cArena =
@@ -218,50 +176,27 @@ cArena =
     ∷ headBlk rootFile 1320 1153
     ∷ dataBlk rootFile 0 cSlots 29738
     ∷ dataBlk rootFile 1 cSlots 43150
-    ∷ dataBlk metaFile 0 (cMeta 5) 7241023
+    ∷ dataBlk metaFile 0 cMeta 7241023
     ∷ headBlk (file 1 (uuid 2)) 0 403
-    ∷ dataBlk metaFile 1 (cMeta 5) 68819
+    ∷ dataBlk metaFile 1 cMeta 68819
     ∷ headBlk (file 1 (uuid 3)) 0 603
     ∷ dataBlk rootFile 2 cSlots 13724
     ∷ headBlk (file 1 (uuid 4)) 0 803
     ∷ freeBlks 6
     ∷ [])
 
-unfoldable pub fourTable : Row → Row → Table
-fourTable r a = record {
-  rows = rowsOf (r ∷ a ∷ clean 4 (fileRec 3 1) ∷ clean 5 (fileRec 4 1) ∷ []);
-  holds = holdsOf (hold 0 1 ∷ hold 1 2 ∷ hold 2 3 ∷ hold 3 4 ∷ []);
-  next = 5;
+unfoldable pub cWorld : World
+cWorld = record {
+  arena = cArena;
+  table = record {
+    rows = rowsOf (clean 2 (rootRec 2 5) ∷ clean 3 (fileRec 2 1) ∷ clean 4 (fileRec 3 1) ∷ clean 5 (fileRec 4 1) ∷ []);
+    holds = holdsOf (hold 0 1 ∷ hold 1 2 ∷ hold 2 3 ∷ hold 3 4 ∷ []);
+    next = 5;
+  };
+  root = handle 0 1;
 }
 
-unfoldable pub cWorld : World
-cWorld = record { arena = cArena; table = fourTable (clean 2 (rootRec 2 5)) (clean 3 (fileRec 2 1)); root = handle 0 1 }
-
--- ---- and `a` unlinked: it is open, so its record has links 0 in memory and nothing of it is freed
-
-unfoldable pub goneSlots : List ℕ
-goneSlots = folderBytes 2 (slotFile 5 99 ++ slotFile 4 98)
-
-unfoldable pub goneArena : List ℕ
-goneArena =
-    join
-    (headBlk metaFile 131072 47
-    ∷ headBlk rootFile 1056 963
-    ∷ dataBlk rootFile 0 goneSlots 29738
-    ∷ dataBlk rootFile 1 goneSlots 43450
-    ∷ dataBlk metaFile 0 (cMeta 4) 7240726
-    ∷ headBlk (file 1 (uuid 2)) 0 403
-    ∷ dataBlk metaFile 1 (cMeta 4) 68819
-    ∷ headBlk (file 1 (uuid 3)) 0 603
-    ∷ dataBlk rootFile 2 goneSlots 363
-    ∷ headBlk (file 1 (uuid 4)) 0 803
-    ∷ freeBlks 6
-    ∷ [])
-
-unfoldable pub goneAfter : After
-goneAfter = record { arena = goneArena; table = fourTable (clean 2 (rootRec 2 4)) (record { id = 3; dirty = true; rec = fileRec 2 0 }) }
-
--- ---- one group with no bit set, and the second group
+-- ---- one group with no bit set
 
 unfoldable pub fullArena : List ℕ
 fullArena =
@@ -276,23 +211,3 @@ fullArena =
 
 unfoldable pub fullWorld : World
 fullWorld = record { arena = fullArena; table = rootTable; root = handle 0 1 }
-
--- block 273 of the metadata file starts at byte 131,040: node 1024's record is at 131,072, its group's map 128 bytes later
-unfoldable pub groupMeta : List ℕ
-groupMeta = replicate 32 0 ++ (recordBytes (fileRec 2 1) ++ (replicate 16 0 ++ mapFrom 252))
-
-unfoldable pub groupArena : List ℕ
-groupArena =
-    join
-    (headBlk metaFile 262144 93
-    ∷ headBlk rootFile 792 773
-    ∷ dataBlk rootFile 0 (folderBytes 2 (slotFile 1024 65)) 29738
-    ∷ dataBlk rootFile 1 (folderBytes 2 (slotFile 1024 65)) 5997
-    ∷ dataBlk metaFile 0 (metaBytes (record { magic = sefsMagic; blocks = 2048; unused = 1022; groups = 2 }) (replicate 128 0) (rootRec 2 3 ∷ [])) 97603
-    ∷ headBlk (file 1 (uuid 2)) 0 403
-    ∷ bodyBlk metaFile 273 groupMeta 8127012
-    ∷ freeBlks 9
-    ∷ [])
-
-unfoldable pub groupGiven : Given
-groupGiven = record { arena = groupArena; table = twoTable (rootRec 2 3) 1024 (fileRec 2 1); handle = handle 1 2 }

@@ -34,11 +34,11 @@ use Rattle.sefs.specs.Unlink.{callUnlink, notFull}
 use Rattle.course.specs.Course.{World, epoch, uuid, fresh, opened, begun, made, filed, full, stored}
 use Rattle.course.proofs.Near.{byteOf, near, byteNear, runNear, readNear, mapsNear, metaNear, slotBytesNear, slotNear, lookToNear, lookNear, findNear, weigh, layoutBy, soundBy, admitNear}
 use Rattle.course.proofs.Calls.{startNear, loadNear, openNear, getNear, holdNear, rootNear, root-near, createNear, create-near, removeNear, unlinkStepsNear, unlinkNear, unlink-near}
-use Rattle.course.proofs.States.{headBlk, bodyBlk, dataBlk, freeBlks, recordsOf, metaBytes, folderBytes, rowsOf, holdsOf, handle, rootTable, freshArena, freshWorld, fileArena, fileGiven, folderArena, folderGiven, aMeta, aArena, aWorld, bSlots, bMeta, bArena, bWorld, cSlots, cMeta, cArena, fourTable, cWorld, goneSlots, goneArena, goneAfter, fullArena, fullWorld, groupMeta, groupArena, groupGiven}
+use Rattle.course.proofs.States.{headBlk, dataBlk, freeBlks, recordsOf, metaBytes, folderBytes, rowsOf, holdsOf, handle, rootTable, freshArena, freshWorld, aMeta, aArena, aWorld, bSlots, bMeta, bArena, bWorld, cSlots, cMeta, cArena, cWorld, fullArena, fullWorld}
 
 -- what is opened so that a call is computed: below the calls, and the states
 unfoldable pub computed : ℕ
-unfolding countTo sumTo allTo lowest foundBelow paste tab same every leOf leBytes leAt lePut signed bitsOf join superOf superFields superBytes recordOf recordFields recordBytes timeOf timeFields timeBytes entryOf entryFields entryBytes bitOf putBit bitAt withBit within lead tail step after utf8 zeroAt hasZero nameVerdict isDot isDots isSpecial storedName isNamed nameBytes rowOf holdOf liveRow liveHolds canHold addHold rowUsed holdOk rowOk holdsOk rowsOk shaped wellFormed bytesZero numbersZero timeZero recordZero blk putBlk legal checkOf seal sameFile isFree isHead isData zeros freshBlock freeOf headOf dataOf freeCount allZero headOnce dataOnce withinLength under there lengthOf present byteAt readFile claim writeBlk setLength raise putBlock putTo touched putFile makeFile clearTo clearAll isPast zeroTail cutFile isOf dropFile storeMaps syncMeta firstBit isUsed addGroup takeBit allocBlock freeBlock newNode storeRow syncRow freeNode dropNode release putSlot direntInit direntAppend nlinksInc nlinksDec unlinkFolder liveFolder formatSteps birth nameFolder named createSteps notFull byteOf near byteNear runNear readNear mapsNear metaNear slotBytesNear slotNear lookToNear lookNear findNear weigh layoutBy soundBy admitNear startNear loadNear openNear getNear holdNear removeNear unlinkStepsNear headBlk bodyBlk dataBlk freeBlks recordsOf metaBytes folderBytes rowsOf holdsOf
+unfolding countTo sumTo allTo lowest foundBelow paste tab same every leOf leBytes leAt lePut signed bitsOf join superOf superFields superBytes recordOf recordFields recordBytes timeOf timeFields timeBytes entryOf entryFields entryBytes bitOf putBit bitAt withBit within lead tail step after utf8 zeroAt hasZero nameVerdict isDot isDots isSpecial storedName isNamed nameBytes rowOf holdOf liveRow liveHolds canHold addHold rowUsed holdOk rowOk holdsOk rowsOk shaped wellFormed bytesZero numbersZero timeZero recordZero blk putBlk legal checkOf seal sameFile isFree isHead isData zeros freshBlock freeOf headOf dataOf freeCount allZero headOnce dataOnce withinLength under there lengthOf present byteAt readFile claim writeBlk setLength raise putBlock putTo touched putFile makeFile clearTo clearAll isPast zeroTail cutFile isOf dropFile storeMaps syncMeta firstBit isUsed addGroup takeBit allocBlock freeBlock newNode storeRow syncRow freeNode dropNode release putSlot direntInit direntAppend nlinksInc nlinksDec unlinkFolder liveFolder formatSteps birth nameFolder named createSteps notFull byteOf near byteNear runNear readNear mapsNear metaNear slotBytesNear slotNear lookToNear lookNear findNear weigh layoutBy soundBy admitNear startNear loadNear openNear getNear holdNear removeNear unlinkStepsNear headBlk dataBlk freeBlks recordsOf metaBytes folderBytes rowsOf holdsOf
 computed = 0
 
 -- ---- the fresh image
@@ -61,48 +61,11 @@ pub begun-is : begun ≡ done freshWorld
 unfolding begun
 begun-is = rw (fresh-is, opened-fresh)
 
--- ---- nodes made in it
+-- ---- a node made in it, as it is computed
 
-file-near : createNear freshArena rootTable (handle 0 1) (65 ∷ []) typeFile 420 epoch (uuid 2) ≡ done fileGiven
-unfolding computed createNear rootTable freshArena fileArena fileGiven
-file-near = refl
-
-pub file-made : made freshWorld (65 ∷ []) typeFile 2 ≡ done fileGiven
+pub fresh-made : (name : List ℕ) (kind n : ℕ) → made freshWorld name kind n ≡ createNear freshArena rootTable (handle 0 1) name kind 420 epoch (uuid n)
 unfolding made freshWorld
-file-made = create-near freshArena rootTable (handle 0 1) (65 ∷ []) typeFile 420 epoch (uuid 2) ∙ file-near
-
-folder-near : createNear freshArena rootTable (handle 0 1) (66 ∷ []) typeDir 420 epoch (uuid 2) ≡ done folderGiven
-unfolding computed createNear rootTable freshArena folderArena folderGiven
-folder-near = refl
-
-pub folder-made : made freshWorld (66 ∷ []) typeDir 2 ≡ done folderGiven
-unfolding made freshWorld
-folder-made = create-near freshArena rootTable (handle 0 1) (66 ∷ []) typeDir 420 epoch (uuid 2) ∙ folder-near
-
--- a name of 255 bytes, one of 256, and the empty name
-long-near : answer (createNear freshArena rootTable (handle 0 1) (replicate 255 97) typeFile 420 epoch (uuid 2)) ≡ 0
-unfolding computed createNear rootTable freshArena
-long-near = refl
-
-pub long-made : answer (made freshWorld (replicate 255 97) typeFile 2) ≡ 0
-unfolding made freshWorld
-long-made = rw (create-near freshArena rootTable (handle 0 1) (replicate 255 97) typeFile 420 epoch (uuid 2)) long-near
-
-longer-near : createNear freshArena rootTable (handle 0 1) (replicate 256 97) typeFile 420 epoch (uuid 2) ≡ refused 10
-unfolding computed createNear rootTable freshArena
-longer-near = refl
-
-pub longer-made : made freshWorld (replicate 256 97) typeFile 2 ≡ refused 10
-unfolding made freshWorld
-longer-made = create-near freshArena rootTable (handle 0 1) (replicate 256 97) typeFile 420 epoch (uuid 2) ∙ longer-near
-
-empty-near : createNear freshArena rootTable (handle 0 1) [] typeFile 420 epoch (uuid 2) ≡ refused 12
-unfolding computed createNear rootTable freshArena
-empty-near = refl
-
-pub empty-made : made freshWorld [] typeFile 2 ≡ refused 12
-unfolding made freshWorld
-empty-made = create-near freshArena rootTable (handle 0 1) [] typeFile 420 epoch (uuid 2) ∙ empty-near
+fresh-made name kind n = create-near freshArena rootTable (handle 0 1) name kind 420 epoch (uuid n)
 
 -- ---- `a`, `b` and `c`, one after another
 
@@ -112,8 +75,7 @@ unfolding computed createNear rootTable freshArena aMeta aArena aWorld
 a-near = refl
 
 pub a-made : made freshWorld (97 ∷ []) typeFile 2 ≡ done (record { arena = aWorld .arena; table = aWorld .table; handle = handle 1 2 })
-unfolding made freshWorld
-a-made = create-near freshArena rootTable (handle 0 1) (97 ∷ []) typeFile 420 epoch (uuid 2) ∙ a-near
+a-made = fresh-made (97 ∷ []) typeFile 2 ∙ a-near
 
 b-near : createNear (aWorld .arena) (aWorld .table) (handle 0 1) (98 ∷ []) typeFile 420 epoch (uuid 3)
     ≡ done (record { arena = bWorld .arena; table = bWorld .table; handle = handle 2 3 })
@@ -130,7 +92,7 @@ b-made = rw root-of-a (create-near (aWorld .arena) (aWorld .table) (handle 0 1) 
 
 c-near : createNear (bWorld .arena) (bWorld .table) (handle 0 1) (99 ∷ []) typeFile 420 epoch (uuid 4)
     ≡ done (record { arena = cWorld .arena; table = cWorld .table; handle = handle 3 4 })
-unfolding computed createNear bSlots bMeta bArena bWorld cSlots cMeta cArena fourTable cWorld
+unfolding computed createNear bSlots bMeta bArena bWorld cSlots cMeta cArena cWorld
 c-near = refl
 
 root-of-b : bWorld .root ≡ handle 0 1
@@ -158,16 +120,12 @@ pub c-filed : filed bWorld (99 ∷ []) 4 ≡ done cWorld
 unfolding filed
 c-filed = rw (c-made, root-of-b, ← root-of-c)
 
--- ---- `a` unlinked
+-- ---- `a` unlinked, as it is computed
 
-gone-near : unlinkNear (cWorld .arena) (cWorld .table) (handle 0 1) (97 ∷ []) ≡ done goneAfter
-unfolding computed unlinkNear cSlots cMeta cArena fourTable cWorld goneSlots goneArena goneAfter
-gone-near = refl
+pub gone-near : callUnlink (cWorld .arena) (cWorld .table) (cWorld .root) (97 ∷ []) ≡ unlinkNear (cWorld .arena) (cWorld .table) (handle 0 1) (97 ∷ [])
+gone-near = rw root-of-c (unlink-near (cWorld .arena) (cWorld .table) (handle 0 1) (97 ∷ []))
 
-pub gone-is : callUnlink (cWorld .arena) (cWorld .table) (cWorld .root) (97 ∷ []) ≡ done goneAfter
-gone-is = rw root-of-c (unlink-near (cWorld .arena) (cWorld .table) (handle 0 1) (97 ∷ []) ∙ gone-near)
-
--- ---- no bit set, and the second group
+-- ---- no bit set
 
 pub full-is : full freshArena ≡ done fullArena
 unfolding computed full stored freshArena fullArena
@@ -181,10 +139,6 @@ pub opened-full : opened fullArena ≡ done fullWorld
 unfolding opened fullWorld
 opened-full = rw (root-near fullArena emptyTable, root-full)
 
-group-near : createNear fullArena rootTable (handle 0 1) (65 ∷ []) typeFile 420 epoch (uuid 2) ≡ done groupGiven
-unfolding computed createNear rootTable fullArena groupMeta groupArena groupGiven
-group-near = refl
-
-pub group-made : made fullWorld (65 ∷ []) typeFile 2 ≡ done groupGiven
+pub full-made : (name : List ℕ) (kind n : ℕ) → made fullWorld name kind n ≡ createNear fullArena rootTable (handle 0 1) name kind 420 epoch (uuid n)
 unfolding made fullWorld
-group-made = create-near fullArena rootTable (handle 0 1) (65 ∷ []) typeFile 420 epoch (uuid 2) ∙ group-near
+full-made name kind n = create-near fullArena rootTable (handle 0 1) name kind 420 epoch (uuid n)

@@ -21,7 +21,7 @@ use Rattle.files.specs.Read.{byteAt, lengthOf, readFile}
 use Rattle.files.specs.Store.{putFile}
 use Rattle.sefs.specs.Meta.{metaFile, mapAt}
 use Rattle.sefs.specs.Open.{callRoot}
-use Rattle.sefs.specs.Create.{Given, callFormat, callCreate}
+use Rattle.sefs.specs.Create.{After, Given, callFormat, callCreate}
 use Rattle.sefs.specs.Unlink.{callUnlink}
 
 -- ---- what an example says: a number, or several, and what they are
@@ -144,23 +144,36 @@ freshRow = do
   imageFacts a
 
 -- "Then file `A` in root: id 3, unused 1020, map byte 240, 7 blocks used."
+unfoldable pub fileRead : Given → Out (List Fact)
+fileRead g = do
+  f ← imageFacts (g .arena)
+  done (idOf g ∷ f)
+
 unfoldable pub fileRow : Out (List Fact)
 fileRow = do
   w ← begun
   g ← made w (65 ∷ []) typeFile 2
-  f ← imageFacts (g .arena)
-  done (idOf g ∷ f)
+  fileRead g
 
 -- "Instead folder `B`: id 3, root links 3, `B` links 2, 9 used."
-unfoldable pub folderRow : Out (List Fact)
-folderRow = do
-  w ← begun
-  g ← made w (66 ∷ []) typeDir 2
+unfoldable pub folderRead : Given → Out (List Fact)
+folderRead g = do
   r ← linksOf (g .arena) 2
   b ← linksOf (g .arena) 3
   done (idOf g ∷ r ∷ b ∷ usedIn (g .arena) ∷ [])
 
+unfoldable pub folderRow : Out (List Fact)
+folderRow = do
+  w ← begun
+  g ← made w (66 ∷ []) typeDir 2
+  folderRead g
+
 -- "Slots 2 to 4 `a`, `b`, `c`; unlink `a`: slots 2, 3 are `c`, `b`, length 1056."
+unfoldable pub goneRead : After → Out (List Fact)
+goneRead u = do
+  r ← slotsFrom (u .arena) 2 2
+  done (r ++ (rootLength (lengthOf (u .arena) rootFile) ∷ []))
+
 unfoldable pub unlinkRow : Out (List Fact)
 unlinkRow = do
   w ← begun
@@ -169,8 +182,8 @@ unlinkRow = do
   w ← filed w (99 ∷ []) 4
   before ← slotsFrom (w .arena) 2 3
   u ← callUnlink (w .arena) (w .table) (w .root) (97 ∷ [])
-  after ← slotsFrom (u .arena) 2 2
-  done (before ++ (after ++ (rootLength (lengthOf (u .arena) rootFile) ∷ [])))
+  now ← goneRead u
+  done (before ++ now)
 
 -- "One group, no bit set, unused 0": the fresh image with its superblock and its map written over
 unfoldable pub full : List ℕ → Out (List ℕ)
