@@ -14,11 +14,12 @@ use Rattle.files.specs.Read.{lengthOf}
 use Rattle.sefs.specs.Meta.{metaFile}
 use Rattle.sefs.specs.Create.{After, Given}
 use Rattle.sefs.specs.Unlink.{callUnlink}
-use Rattle.course.specs.Course.{Fact, id, unused, mapByte, used, links, slot, rootLength, metaLength, check, answers, number, stopped, facts, stored, usedTo, usedIn, idOf, imageFacts, linksOf, slotsFrom, fileRead, folderRead, goneRead, groupRead, rootFile, epoch, uuid, freshRow, fileRow, folderRow, unlinkRow, groupRow, checkRow, longRow, emptyRow, minusRow, table, expected}
-use Rattle.course.proofs.Near.{readNear, read-near}
-use Rattle.course.proofs.Calls.{createNear, unlinkNear}
-use Rattle.course.proofs.States.{handle, rootTable, freshArena, cSlots, cMeta, cArena, cWorld, fullArena}
-use Rattle.course.proofs.Steps.{computed, fresh-is, begun-is, fresh-made, a-filed, b-filed, c-filed, gone-near, full-is, opened-full, full-made}
+use Rattle.course.specs.Course.{Fact, id, unused, mapByte, used, links, slot, rootLength, metaLength, check, answers, number, stopped, facts, usedTo, usedIn, idOf, imageFacts, linksOf, slotsFrom, fileRead, folderRead, goneRead, groupRead, freshRow, fileRow, folderRow, unlinkRow, groupRow, checkRow, longRow, emptyRow, minusRow, table, expected}
+use Rattle.course_states.specs.Worlds.{epoch, uuid, rootFile, stored}
+use Rattle.course_states.proofs.Near.{readNear, read-near}
+use Rattle.course_states.proofs.Calls.{createNear, unlinkNear}
+use Rattle.course_states.proofs.States.{handle, rootTable, freshArena, cSlots, cMeta, cArena, cWorld, fullArena}
+use Rattle.course_states.proofs.Steps.{computed, fresh-is, begun-is, fresh-made, a-filed, b-filed, c-filed, gone-near, full-is, opened-full, full-made}
 
 -- ---- records and slots, read with less work
 

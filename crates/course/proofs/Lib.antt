@@ -1,5 +1,1 @@
-pub mod Near
-pub mod Calls
-pub mod States
-pub mod Steps
 pub mod Course

@@ -1,4 +1,5 @@
--- Document 01's course examples that are marked (P), as one table: what was done, and the facts that came out.
+-- Document 01's course examples that are marked (P), as one table: what was done, and the facts that came out. What is done, `fresh`,
+-- `opened`, `made` and the like, is said in crates/course_states/specs/Worlds.antt, by the calls' definitions.
 use mathlib.Core.List.{List, [], _∷_, _++_}
 use Prim.Native.Nat.{ℕ, zero, suc, _*_}
 use lib.IntN.{ℤ, pos, negsuc}
@@ -8,21 +9,16 @@ use Rattle.base.specs.Search.{pick}
 use Rattle.le.specs.Le.{leAt}
 use Rattle.le.specs.Signed.{signed}
 use Rattle.structs.specs.Constants.{typeFile, typeDir}
-use Rattle.structs.specs.Layout.{superOf, superBytes, recordOf, entryOf}
-use Rattle.structs.specs.declared.SuperBlock.{SuperBlock}
-use Rattle.structs.specs.declared.Timespec.{Timespec}
+use Rattle.structs.specs.Layout.{recordOf, entryOf}
 use Rattle.utf8.specs.Names.{nameOf}
-use Rattle.table.specs.Table.{emptyTable, rowAt}
-use Rattle.table.specs.declared.Handle.{Handle}
-use Rattle.table.specs.declared.Table.{Table}
+use Rattle.table.specs.Table.{rowAt}
 use Rattle.arena.specs.Blocks.{blk, blocks}
-use Rattle.arena.specs.Fields.{File, file, zeros, checkOf, isFree}
+use Rattle.arena.specs.Fields.{zeros, checkOf, isFree}
 use Rattle.files.specs.Read.{byteAt, lengthOf, readFile}
-use Rattle.files.specs.Store.{putFile}
 use Rattle.sefs.specs.Meta.{metaFile, mapAt}
-use Rattle.sefs.specs.Open.{callRoot}
-use Rattle.sefs.specs.Create.{After, Given, callFormat, callCreate}
+use Rattle.sefs.specs.Create.{After, Given}
 use Rattle.sefs.specs.Unlink.{callUnlink}
+use Rattle.course_states.specs.Worlds.{uuid, rootFile, World, fresh, opened, begun, made, filed, stored, full}
 
 -- ---- what an example says: a number, or several, and what they are
 
@@ -51,54 +47,7 @@ pub data Fact : Type 0 where
   -- a step of the example was refused, by this reason: no row says so
   stopped : ℕ → Fact
 
--- ---- what the examples start from, and what is done
-
-abbrev pub epoch : Timespec
-epoch = record { sec = pos 0; nsec = pos 0 }
-
--- a file name of 16 equal bytes
-abbrev pub uuid : ℕ → List ℕ
-uuid n = replicate 16 n
-
--- an arena, the table and the root's handle
-pub record World : Type 0 where
-  pub arena : List ℕ
-  pub table : Table
-  pub root : Handle
-
--- a fresh image of 16 blocks, 8,192 bytes
-unfoldable pub fresh : Out (List ℕ)
-fresh = callFormat (replicate 8192 0) epoch (uuid 1)
-
--- the root opened
-unfoldable pub opened : List ℕ → Out World
-opened a = do
-  r ← callRoot a emptyTable
-  done (record { arena = a; table = r .table; root = r .handle })
-
--- the fresh image with the root open
-unfoldable pub begun : Out World
-begun = do
-  a ← fresh
-  opened a
-
--- a node made in the root
-unfoldable pub made : World → List ℕ → ℕ → ℕ → Out Given
-made w name kind n = callCreate (w .arena) (w .table) (w .root) name kind 420 epoch (uuid n)
-
--- a file made in the root, and on from there
-unfoldable pub filed : World → List ℕ → ℕ → Out World
-filed w name n = do
-  g ← made w name typeFile n
-  done (record { arena = g .arena; table = g .table; root = w .root })
-
 -- ---- the facts, read from an arena
-
--- the superblock
-unfoldable pub stored : List ℕ → Out SuperBlock
-stored a = do
-  l ← readFile a metaFile 0 16
-  done (superOf l)
 
 -- the used ones of the first n blocks
 unfoldable pub usedTo : List ℕ → ℕ → List ℕ
@@ -125,9 +74,6 @@ linksOf a n = do
   done (links n (recordOf l .nlinks))
 
 -- n slots of the root from k on
-abbrev pub rootFile : File
-rootFile = file 1 (uuid 1)
-
 unfoldable pub slotsFrom : List ℕ → ℕ → ℕ → Out (List Fact)
 slotsFrom a k zero = done []
 slotsFrom a k (suc n) = do
@@ -184,13 +130,6 @@ unlinkRow = do
   u ← callUnlink (w .arena) (w .table) (w .root) (97 ∷ [])
   now ← goneRead u
   done (before ++ now)
-
--- "One group, no bit set, unused 0": the fresh image with its superblock and its map written over
-unfoldable pub full : List ℕ → Out (List ℕ)
-full a = do
-  b ← stored a
-  a ← putFile a metaFile 0 (superBytes (record { magic = b .magic; blocks = b .blocks; unused = 0; groups = b .groups }))
-  putFile a metaFile (mapAt 0) (replicate 128 0)
 
 unfoldable pub groupRead : Given → Out (List Fact)
 groupRead g = do

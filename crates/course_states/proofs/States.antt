@@ -17,7 +17,7 @@ use Rattle.arena.specs.Fields.{File, file}
 use Rattle.sefs.specs.Meta.{metaFile}
 use Rattle.sefs.specs.Records.{newRecord, withLinks, withBlocks}
 use Rattle.sefs.specs.Folders.{entry}
-use Rattle.course.specs.Course.{World, epoch, uuid, rootFile}
+use Rattle.course_states.specs.Worlds.{World, epoch, uuid, rootFile}
 
 -- ---- the parts
 

@@ -214,12 +214,10 @@ sound-by : (a : List ℕ) → sound a ≡ soundBy checkOf a
 unfolding sound soundAt blockSound layout soundBy layoutBy
 sound-by a = refl
 
-sound-near : (a : List ℕ) → sound a ≡ soundBy checkNear a
+pub sound-near : (a : List ℕ) → sound a ≡ soundBy checkNear a
 sound-near a = sound-by a ∙ ap (λ (c : List ℕ → ℕ). soundBy c a) check-near
 
-unfoldable pub admitNear : List ℕ → Table → Out Unit
-admitNear a t = bind (bind (ensure (legal a) badArena) (λ _. ensure (soundBy checkNear a) damaged)) (λ _. ensure (wellFormed t) badTable)
-
-pub admit-near : (a : List ℕ) (t : Table) → admit a t ≡ admitNear a t
-unfolding admit admitArena admitNear
-admit-near a t = λ j. bind (bind (ensure (legal a) badArena) (λ _. ensure (sound-near a j) damaged)) (λ _. ensure (wellFormed t) badTable)
+-- reasons 1 to 3 are not given
+pub admitted : (a : List ℕ) (t : Table) → legal a ≡ true → soundBy checkNear a ≡ true → wellFormed t ≡ true → admit a t ≡ done tt
+unfolding admit admitArena
+admitted a t l s w = rw (l, sound-near, s, w)

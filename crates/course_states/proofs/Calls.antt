@@ -1,5 +1,5 @@
 -- The calls of the examples with less work: each is its definition, line by line, with the readings of Near in place of the definition's
--- own, and is proved equal to it.
+-- own, and is proved equal to it where arena and table are admitted.
 use mathlib.Core.Path.{_≡_}
 use mathlib.Core.Bool.{Bool, true, false, not, _&&_, _||_}
 use mathlib.Core.List.{List}
@@ -28,11 +28,11 @@ use Rattle.sefs.specs.Meta.{metaFile, isUsed}
 use Rattle.sefs.specs.Nodes.{Opened, nodeFile, recAt, setRec, openIn, openAt, loadNode, getNode, syncRow, release}
 use Rattle.sefs.specs.Slots.{orNotFound}
 use Rattle.sefs.specs.Folders.{putSlot, direntRemove, nlinksDec, unlinkFolder, direntNodeRemove}
-use Rattle.sefs.specs.Ask.{byHandle, goodName, notLong, notSpecial, known, folder, liveFolder, orExists, start}
+use Rattle.sefs.specs.Ask.{admit, byHandle, goodName, notLong, notSpecial, known, folder, liveFolder, orExists, start}
 use Rattle.sefs.specs.Open.{holdNode, callRoot, callFind}
 use Rattle.sefs.specs.Create.{After, after, Given, createSteps, callCreate}
 use Rattle.sefs.specs.Unlink.{notFull, unlinkSteps, callUnlink}
-use Rattle.course.proofs.Near.{readNear, read-near, metaNear, meta-near, slotBytesNear, slot-bytes-near, lookNear, look-near, findNear, find-near, admitNear, admit-near}
+use Rattle.course_states.proofs.Near.{readNear, read-near, metaNear, meta-near, slotBytesNear, slot-bytes-near, lookNear, look-near, findNear, find-near}
 
 unfoldable pub startNear : List ℕ → Table → Fs
 startNear a t = record { arena = a; table = t; meta = metaNear a }
@@ -87,19 +87,17 @@ hold-near s id = λ j. bind (get-near s id j) (λ o. done (addHold (o .state .ta
 
 unfoldable pub rootNear : List ℕ → Table → Out Added
 rootNear a t = do
-  _ ← admitNear a t
   _ ← ensure (canHold t) tableFull
   holdNear (startNear a t) 2
 
-pub root-near : (a : List ℕ) (t : Table) → callRoot a t ≡ rootNear a t
+pub root-near : (a : List ℕ) (t : Table) → admit a t ≡ done tt → callRoot a t ≡ rootNear a t
 unfolding callRoot rootNear
-root-near a t = λ j. bind (admit-near a t j) (λ _. bind (ensure (canHold t) tableFull) (λ _. hold-near (start-near a t j) 2 j))
+root-near a t ok = λ j. bind (ok j) (λ _. bind (ensure (canHold t) tableFull) (λ _. hold-near (start-near a t j) 2 j))
 
 -- ---- find
 
 unfoldable pub findCallNear : List ℕ → Table → Handle → List ℕ → Out Added
 findCallNear a t h name = do
-  _ ← admitNear a t
   i ← byHandle t h
   _ ← goodName name
   _ ← known (rowAt t i .rec)
@@ -110,10 +108,10 @@ findCallNear a t h name = do
   _ ← ensure (canHold t) tableFull
   holdNear (startNear a t) (s .entry .id)
 
-pub find-call-near : (a : List ℕ) (t : Table) (h : Handle) (name : List ℕ) → callFind a t h name ≡ findCallNear a t h name
+pub find-call-near : (a : List ℕ) (t : Table) (h : Handle) (name : List ℕ) → admit a t ≡ done tt → callFind a t h name ≡ findCallNear a t h name
 unfolding callFind findCallNear
-find-call-near a t h name =
-    λ j. bind (admit-near a t j)
+find-call-near a t h name ok =
+    λ j. bind (ok j)
     (λ _. bind (byHandle t h)
     (λ i. bind (goodName name)
     (λ _. bind (known (rowAt t i .rec))
@@ -127,7 +125,6 @@ find-call-near a t h name =
 
 unfoldable pub createNear : List ℕ → Table → Handle → List ℕ → ℕ → ℕ → Timespec → List ℕ → Out Given
 createNear a t h name kind mode time uuid = do
-  _ ← admitNear a t
   i ← byHandle t h
   _ ← goodName name
   _ ← ensure (isType kind) invalidParam
@@ -141,10 +138,10 @@ createNear a t h name kind mode time uuid = do
   createSteps (startNear a t) i name kind mode time uuid
 
 pub create-near : (a : List ℕ) (t : Table) (h : Handle) (name : List ℕ) (kind mode : ℕ) (time : Timespec) (uuid : List ℕ)
-    → callCreate a t h name kind mode time uuid ≡ createNear a t h name kind mode time uuid
+    → admit a t ≡ done tt → callCreate a t h name kind mode time uuid ≡ createNear a t h name kind mode time uuid
 unfolding callCreate createNear
-create-near a t h name kind mode time uuid =
-    λ j. bind (admit-near a t j)
+create-near a t h name kind mode time uuid ok =
+    λ j. bind (ok j)
     (λ _. bind (byHandle t h)
     (λ i. bind (goodName name)
     (λ _. bind (ensure (isType kind) invalidParam)
@@ -189,7 +186,6 @@ unlink-steps-near s i c k =
 
 unfoldable pub unlinkNear : List ℕ → Table → Handle → List ℕ → Out After
 unlinkNear a t h name = do
-  _ ← admitNear a t
   i ← byHandle t h
   _ ← goodName name
   _ ← liveFolder (rowAt t i .rec)
@@ -200,10 +196,10 @@ unlinkNear a t h name = do
   _ ← notFull (recAt (o .state) (o .row))
   unlinkStepsNear (o .state) i (o .row) (s .place)
 
-pub unlink-near : (a : List ℕ) (t : Table) (h : Handle) (name : List ℕ) → callUnlink a t h name ≡ unlinkNear a t h name
+pub unlink-near : (a : List ℕ) (t : Table) (h : Handle) (name : List ℕ) → admit a t ≡ done tt → callUnlink a t h name ≡ unlinkNear a t h name
 unfolding callUnlink unlinkNear
-unlink-near a t h name =
-    λ j. bind (admit-near a t j)
+unlink-near a t h name ok =
+    λ j. bind (ok j)
     (λ _. bind (byHandle t h)
     (λ i. bind (goodName name)
     (λ _. bind (liveFolder (rowAt t i .rec))
