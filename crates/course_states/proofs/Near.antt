@@ -62,7 +62,7 @@ byte-next a f q p e =
 unfoldable pub runNear : List ℕ → File → ℕ → ℕ → List ℕ
 runNear a f pos n = tab (byteNear a f (pos / 480)) pos n
 
-run-near : (a : List ℕ) (f : File) (pos n : ℕ) → n ≤ 480 → tab (byteAt a f) pos n ≡ runNear a f pos n
+pub run-near : (a : List ℕ) (f : File) (pos n : ℕ) → n ≤ 480 → tab (byteAt a f) pos n ≡ runNear a f pos n
 unfolding runNear
 run-near a f pos n h =
     tab-cong (byteAt a f) (byteNear a f (pos / 480)) pos pos n (λ i l. elim (ℕ-discrete ((pos + i) / 480) (pos / 480)) [

@@ -29,6 +29,7 @@ use Rattle.sefs.specs.Meta.{storeMaps, syncMeta, firstBit, isUsed, addGroup, ta
 use Rattle.sefs.specs.Nodes.{newNode, storeRow, syncRow, freeNode, dropNode, release}
 use Rattle.sefs.specs.Folders.{putSlot, direntInit, direntAppend, nlinksInc, nlinksDec, unlinkFolder}
 use Rattle.sefs.specs.Ask.{admit, liveFolder}
+use Rattle.sefs.specs.Open.{callRoot}
 use Rattle.sefs.specs.Create.{createSteps, callFormat, formatSteps, birth, nameFolder, named}
 use Rattle.sefs.specs.Unlink.{callUnlink, notFull}
 use Rattle.course_states.specs.Worlds.{World, epoch, uuid, fresh, opened, begun, made, filed, full, stored}
@@ -74,9 +75,12 @@ root-fresh : rootNear freshArena emptyTable ≡ done (record { handle = handle 0
 unfolding computed rootNear rootTable freshArena
 root-fresh = refl
 
+pub root-is : callRoot freshArena emptyTable ≡ done (record { handle = handle 0 1; table = rootTable })
+root-is = root-near freshArena emptyTable (admitted freshArena emptyTable fresh-legal fresh-sound empty-formed) ∙ root-fresh
+
 pub opened-fresh : opened freshArena ≡ done freshWorld
 unfolding opened freshWorld
-opened-fresh = rw (root-near freshArena emptyTable (admitted freshArena emptyTable fresh-legal fresh-sound empty-formed), root-fresh)
+opened-fresh = rw root-is
 
 pub begun-is : begun ≡ done freshWorld
 unfolding begun
