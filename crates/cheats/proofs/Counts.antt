@@ -3,7 +3,7 @@
 use mathlib.Core.Path.{_≡_, refl, ap, _∙_, subst}
 use mathlib.Core.Bool.{Bool, true, false, not, _&&_}
 use mathlib.Core.List.{List, [], _∷_, _++_}
-use Prim.Native.Nat.{ℕ, _+_, _*_, _%_, _<_}
+use Prim.Native.Nat.{ℕ, zero, suc, _+_, _*_, _%_, _<_}
 use native.Mathlib.Omega.{arith}
 use lib.Dec.{eqb, ltb}
 use lib.ListN.{length, replicate, getD, length-replicate}
@@ -11,6 +11,7 @@ use Rattle.base.specs.Count.{countTo}
 use Rattle.base.specs.Decides.{firstFail}
 use Rattle.base.specs.Out.{Out, done, refused, kept, _>>=_}
 use Rattle.structs.specs.Constants.{typeFile}
+use Rattle.structs.specs.Fits.{TimeFits}
 use Rattle.structs.specs.Layout.{superOf}
 use Rattle.structs.specs.declared.SuperBlock.{SuperBlock}
 use Rattle.maps.specs.Maps.{bitAt}
@@ -97,3 +98,59 @@ a-nodes = refl
 a-free : freeCount (aWorld .arena) ≡ 9
 unfolding computed aMeta aArena aWorld
 a-free = refl
+
+-- ---- that they pass
+
+bytes-same : (n x : ℕ) → x < 256 → (i : ℕ) → getD (replicate n x) i 0 < 256
+bytes-same zero x h i = omega arith
+bytes-same (suc n) x h zero = h
+bytes-same (suc n) x h (suc i) = bytes-same n x h i
+
+time-fits : TimeFits epoch
+time-fits = record { sec = record { sfits = omega arith }; nsec = record { sfits = omega arith } }
+
+fresh-passed : Fresh → Passed (pair freshArena emptyTable)
+unfolding Fresh fresh
+fresh-passed f = f (replicate 8192 0) epoch (uuid 1) (bytes-same 8192 0 (omega arith)) time-fits (length-replicate {A = ℕ} 16 1) (bytes-same 16 1 (omega arith)) freshArena fresh-is
+
+next-root : next root (pair freshArena emptyTable) ≡ pair freshArena rootTable
+unfolding does
+next-root = rw root-is
+
+root-passed : Fresh → Keeps → Passed (pair freshArena rootTable)
+unfolding Keeps
+root-passed f k = subst (λ (p : Pair). Passed p) next-root (k (pair freshArena emptyTable) root (fresh-passed f) (record { fits = tt; leaves = refl }) .passes)
+
+createA : Call
+createA = create (handle 0 1) (97 ∷ []) typeFile 420 epoch (uuid 2)
+
+next-a : next createA (pair freshArena rootTable) ≡ pair (aWorld .arena) (aWorld .table)
+unfolding does createA
+next-a = rw a-done
+
+a-plain : Plain createA (pair freshArena rootTable)
+unfolding createA
+a-plain = record {
+  fits = (
+    record { hold = omega arith; stamp = omega arith },
+    (λ i. bytes-same 1 97 (omega arith) i),
+    record { kind = omega arith; mode = omega arith; time = time-fits; file = length-replicate {A = ℕ} 16 2; bytes = bytes-same 16 2 (omega arith) },
+  );
+  leaves = refl;
+}
+
+a-passed : Fresh → Keeps → Passed (pair (aWorld .arena) (aWorld .table))
+unfolding Keeps
+a-passed f k = subst (λ (p : Pair). Passed p) next-a (k (pair freshArena rootTable) createA (root-passed f k) a-plain .passes)
+
+-- ---- the verdicts
+
+pass-verdict : (a : List ℕ) (t : Table) → checked a t ≡ 0 → verdictOf a t ≡ passOf a
+unfolding verdictOf
+pass-verdict a t e = rw e
+
+pub fresh-verdict : Fresh → verdictOf freshArena emptyTable ≡ verdicts.Pass 1 1021 11
+fresh-verdict f = pass-verdict freshArena emptyTable (fresh-passed f .passes) ∙ pass-is freshArena 1021 248 fresh-super fresh-map 1 11 fresh-nodes fresh-free
+
+pub a-verdict : Fresh → Keeps → verdictOf (aWorld .arena) (aWorld .table) ≡ verdicts.Pass 2 1020 9
+a-verdict f k = pass-verdict (aWorld .arena) (aWorld .table) (a-passed f k .passes) ∙ pass-is (aWorld .arena) 1020 240 a-super a-map 2 9 a-nodes a-free
