@@ -29,7 +29,7 @@ use Rattle.fsck.specs.declared.Verdict.the-variants as verdicts
 use Rattle.sequences.specs.Promises.{Fresh, Keeps}
 use Rattle.course_states.specs.Worlds.{epoch, uuid}
 use Rattle.course_states.proofs.States.{handle, rootTable, freshArena, aWorld, bWorld, cWorld}
-use Rattle.cheats.specs.Cheats.{CreateHolds, CreateBroken, CreateRefuses, CreateConstant, CreateStoresNothing, UnlinkHolds, UnlinkBroken, UnlinkRefuses, UnlinkConstant, UnlinkStoresNothing, onward, TwoHold, OnlyFirst, FindHolds, CreateFindHolds, BlindFind, CheckBroken, PassesAll, FailsAll, InventsNodes, InventsUnused, InventsFree}
+use Rattle.cheats.specs.Cheats.{CreateHolds, CreateBroken, CreateRefuses, CreateConstant, CreateStoresNothing, UnlinkHolds, UnlinkBroken, UnlinkRefuses, UnlinkConstant, UnlinkStoresNothing, onward, TwoHold, OnlyFirst, FindHolds, FindBroken, FindRefuses, FindConstant, CreateFindHolds, BlindFind, CheckBroken, PassesAll, FailsAll, InventsNodes, InventsUnused, InventsFree}
 use Rattle.cheats.proofs.Inputs.{byte, createA, a-done, createEmpty, empty-refused, b-done, fresh-five, a-five, a-seven, b-seven, find-before, find-after, unlinkA, unlinkEmpty, gone-answer, c-length, gone-length, unlink-empty}
 use Rattle.cheats.proofs.Counts.{empty-fails, fresh-verdict, a-verdict}
 
@@ -86,6 +86,21 @@ unlink-constant port (answers.Refused n) h =
 pub unlink-stores : UnlinkStoresNothing
 unfolding UnlinkStoresNothing UnlinkBroken UnlinkHolds unlinkA
 unlink-stores port h = (unlinkA, λ c. omega (arith, ap (byte 532) (c .arena), ap (byte 532) (h unlinkA), gone-length, c-length))
+
+-- ---- find
+
+pub find-refuses : FindRefuses
+unfolding FindRefuses FindBroken FindHolds
+find-refuses port h =
+    let x : (n : ℕ) × (port (aWorld .arena) (aWorld .table) (handle 0 1) (97 ∷ []) .answer ≡ gots.Refused n) = h (aWorld .arena) (aWorld .table) (handle 0 1) (97 ∷ []) in
+    (aWorld .arena, aWorld .table, handle 0 1, 97 ∷ [], λ c. not-both (port (aWorld .arena) (aWorld .table) (handle 0 1) (97 ∷ []) .answer) (handle 2 3) (x .0) (c .0 ∙ find-after) (x .1))
+
+pub find-constant : FindConstant
+unfolding FindConstant FindBroken FindHolds
+find-constant port (gots.Held k) h =
+    (freshArena, rootTable, handle 0 1, 97 ∷ [], λ c. not-both (port freshArena rootTable (handle 0 1) (97 ∷ []) .answer) k 11 (h freshArena rootTable (handle 0 1) (97 ∷ [])) (c .0 ∙ find-before))
+find-constant port (gots.Refused n) h =
+    (aWorld .arena, aWorld .table, handle 0 1, 97 ∷ [], λ c. not-both (port (aWorld .arena) (aWorld .table) (handle 0 1) (97 ∷ []) .answer) (handle 2 3) n (c .0 ∙ find-after) (h (aWorld .arena) (aWorld .table) (handle 0 1) (97 ∷ [])))
 
 -- ---- a sequence
 

@@ -89,6 +89,24 @@ UnlinkConstant = (port : UnlinkInput → UnlinkResult) (r : Answer) → ((x : Un
 unfoldable pub UnlinkStoresNothing : Type 0
 UnlinkStoresNothing = (port : UnlinkInput → UnlinkResult) → ((x : UnlinkInput) → port x .arena ≡ x .arena) → UnlinkBroken port
 
+-- ---- find, which leaves the arena
+
+unfoldable pub FindHolds : List ℕ → Table → Handle → List ℕ → Given → Type 0
+FindHolds a t h name r = Gives t (callFind a t h name) r
+
+unfoldable pub FindBroken : (List ℕ → Table → Handle → List ℕ → Given) → Type 0
+FindBroken port = (a : List ℕ) × (t : Table) × (h : Handle) × (name : List ℕ) × (FindHolds a t h name (port a t h name) → ⊥)
+
+unfoldable pub FindRefuses : Type 0
+FindRefuses = (port : List ℕ → Table → Handle → List ℕ → Given)
+    → ((a : List ℕ) (t : Table) (h : Handle) (name : List ℕ) → (n : ℕ) × (port a t h name .answer ≡ gots.Refused n))
+    → FindBroken port
+
+unfoldable pub FindConstant : Type 0
+FindConstant = (port : List ℕ → Table → Handle → List ℕ → Given) (r : Got)
+    → ((a : List ℕ) (t : Table) (h : Handle) (name : List ℕ) → port a t h name .answer ≡ r)
+    → FindBroken port
+
 -- ---- a sequence of two calls: a second call starts from what the first left
 
 -- a second create, of another name with another file
@@ -121,9 +139,6 @@ OnlyFirst = (port : CreateInput → List ℕ → List ℕ → TwoResults)
 pub record CreateFind : Type 0 where
   pub created : CreateResult
   pub found : Given
-
-unfoldable pub FindHolds : List ℕ → Table → Handle → List ℕ → Given → Type 0
-FindHolds a t h name r = Gives t (callFind a t h name) r
 
 unfoldable pub CreateFindHolds : CreateInput → CreateFind → Type 0
 CreateFindHolds x r =

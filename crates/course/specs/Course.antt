@@ -89,37 +89,40 @@ freshRow = do
   a ← fresh
   imageFacts a
 
--- "Then file `A` in root: id 3, unused 1020, map byte 240, 7 blocks used."
+-- what is read once a file is made: its id, and the facts of the image
 unfoldable pub fileRead : Given → Out (List Fact)
 fileRead g = do
   f ← imageFacts (g .arena)
   done (idOf g ∷ f)
 
+-- "Then file `A` in root: id 3, unused 1020, map byte 240, 7 blocks used."
 unfoldable pub fileRow : Out (List Fact)
 fileRow = do
   w ← begun
   g ← made w (65 ∷ []) typeFile 2
   fileRead g
 
--- "Instead folder `B`: id 3, root links 3, `B` links 2, 9 used."
+-- once a folder is made: its id, the root's links and its own, the used blocks
 unfoldable pub folderRead : Given → Out (List Fact)
 folderRead g = do
   r ← linksOf (g .arena) 2
   b ← linksOf (g .arena) 3
   done (idOf g ∷ r ∷ b ∷ usedIn (g .arena) ∷ [])
 
+-- "Instead folder `B`: id 3, root links 3, `B` links 2, 9 used."
 unfoldable pub folderRow : Out (List Fact)
 folderRow = do
   w ← begun
   g ← made w (66 ∷ []) typeDir 2
   folderRead g
 
--- "Slots 2 to 4 `a`, `b`, `c`; unlink `a`: slots 2, 3 are `c`, `b`, length 1056."
+-- once a name is unlinked: slots 2 and 3, and the length of the root's folder file
 unfoldable pub goneRead : After → Out (List Fact)
 goneRead u = do
   r ← slotsFrom (u .arena) 2 2
   done (r ++ (rootLength (lengthOf (u .arena) rootFile) ∷ []))
 
+-- "Slots 2 to 4 `a`, `b`, `c`; unlink `a`: slots 2, 3 are `c`, `b`, length 1056."
 unfoldable pub unlinkRow : Out (List Fact)
 unlinkRow = do
   w ← begun
@@ -131,12 +134,13 @@ unlinkRow = do
   now ← goneRead u
   done (before ++ now)
 
+-- once a group has come: the new id, unused, the second map's first byte, the length of the metadata file
 unfoldable pub groupRead : Given → Out (List Fact)
 groupRead g = do
   b ← stored (g .arena)
   done (idOf g ∷ unused (b .unused) ∷ mapByte 1 (byteAt (g .arena) metaFile (mapAt 1)) ∷ metaLength (lengthOf (g .arena) metaFile) ∷ [])
 
--- "next id 1024, unused 1022, second map's first byte 252, metadata 262,144 bytes."
+-- "One group, no bit set, unused 0: next id 1024, unused 1022, second map's first byte 252, metadata 262,144 bytes." (`full` makes it so)
 unfoldable pub groupRow : Out (List Fact)
 groupRow = do
   a ← fresh
@@ -189,6 +193,7 @@ expected =
     (unused 1021 ∷ mapByte 0 248 ∷ used (0 ∷ 1 ∷ 2 ∷ 3 ∷ 4 ∷ []) ∷ [])
     ∷ (id 3 ∷ unused 1020 ∷ mapByte 0 240 ∷ used (0 ∷ 1 ∷ 2 ∷ 3 ∷ 4 ∷ 5 ∷ 6 ∷ []) ∷ [])
     ∷ (id 3 ∷ links 2 3 ∷ links 3 2 ∷ used (0 ∷ 1 ∷ 2 ∷ 3 ∷ 4 ∷ 5 ∷ 6 ∷ 7 ∷ 8 ∷ []) ∷ [])
+    -- 97, 98, 99 are `a`, `b`, `c`: three slots before the unlink, two after it
     ∷ (slot 2 (97 ∷ []) ∷ slot 3 (98 ∷ []) ∷ slot 4 (99 ∷ []) ∷ slot 2 (99 ∷ []) ∷ slot 3 (98 ∷ []) ∷ rootLength 1056 ∷ [])
     ∷ (id 1024 ∷ unused 1022 ∷ mapByte 1 252 ∷ metaLength 262144 ∷ [])
     ∷ (check 2 ∷ [])

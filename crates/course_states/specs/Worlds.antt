@@ -18,6 +18,7 @@ use Rattle.sefs.specs.Meta.{metaFile, mapAt}
 use Rattle.sefs.specs.Open.{callRoot}
 use Rattle.sefs.specs.Create.{Given, callFormat, callCreate}
 
+-- 1 January 1970
 abbrev pub epoch : Timespec
 epoch = record { sec = pos 0; nsec = pos 0 }
 
@@ -67,7 +68,7 @@ stored a = do
   l ← readFile a metaFile 0 16
   done (superOf l)
 
--- "One group, no bit set, unused 0": the fresh image with its superblock and its map written over
+-- "One group, no bit set, unused 0": an image with its superblock and its map written over
 unfoldable pub full : List ℕ → Out (List ℕ)
 full a = do
   b ← stored a
