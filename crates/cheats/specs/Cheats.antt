@@ -23,8 +23,9 @@ use Rattle.fsck.specs.Verdicts.{verdictOf}
 use Rattle.fsck.specs.declared.Verdict.{Verdict}
 use Rattle.fsck.specs.declared.Verdict.the-variants as verdicts
 
--- ---- create: what it is given, what it leaves, and its contract
+-- ---- create
 
+-- what create is given
 pub record CreateInput : Type 0 where
   pub arena : List ℕ
   pub table : Table
@@ -40,6 +41,7 @@ pub record CreateResult : Type 0 where
   pub arena : List ℕ
   pub given : Given
 
+-- its contract
 unfoldable pub CreateHolds : CreateInput → CreateResult → Type 0
 CreateHolds x y =
     ReturnedHeld (x .table) (callCreate (x .arena) (x .table) (x .handle) (x .name) (x .kind) (x .mode) (x .time) (x .file)) (x .arena)
@@ -62,46 +64,57 @@ CreateConstant = (port : CreateInput → CreateResult) (r : Got) → ((x : Creat
 unfoldable pub CreateStoresNothing : Type 0
 CreateStoresNothing = (port : CreateInput → CreateResult) → ((x : CreateInput) → port x .arena ≡ x .arena) → CreateBroken port
 
--- ---- unlink, in the same way
+-- ---- unlink
 
+-- what unlink is given
 pub record UnlinkInput : Type 0 where
   pub arena : List ℕ
   pub table : Table
   pub handle : Handle
   pub name : List ℕ
 
+-- the arena afterwards, and the answer with its table
 pub record UnlinkResult : Type 0 where
   pub arena : List ℕ
   pub after : After
 
+-- its contract
 unfoldable pub UnlinkHolds : UnlinkInput → UnlinkResult → Type 0
 UnlinkHolds x y = Returned (x .table) (callUnlink (x .arena) (x .table) (x .handle) (x .name)) (x .arena) (y .arena) (y .after)
 
+-- the port breaks the contract at some input
 unfoldable pub UnlinkBroken : (UnlinkInput → UnlinkResult) → Type 0
 UnlinkBroken port = (x : UnlinkInput) × (UnlinkHolds x (port x) → ⊥)
 
+-- an unlink that always refuses
 unfoldable pub UnlinkRefuses : Type 0
 UnlinkRefuses = (port : UnlinkInput → UnlinkResult) → ((x : UnlinkInput) → (n : ℕ) × (port x .after .answer ≡ answers.Refused n)) → UnlinkBroken port
 
+-- an unlink with one constant answer
 unfoldable pub UnlinkConstant : Type 0
 UnlinkConstant = (port : UnlinkInput → UnlinkResult) (r : Answer) → ((x : UnlinkInput) → port x .after .answer ≡ r) → UnlinkBroken port
 
+-- an unlink that stores nothing
 unfoldable pub UnlinkStoresNothing : Type 0
 UnlinkStoresNothing = (port : UnlinkInput → UnlinkResult) → ((x : UnlinkInput) → port x .arena ≡ x .arena) → UnlinkBroken port
 
 -- ---- find, which leaves the arena
 
+-- its contract: the answer and the table
 unfoldable pub FindHolds : List ℕ → Table → Handle → List ℕ → Given → Type 0
 FindHolds a t h name r = Gives t (callFind a t h name) r
 
+-- the port breaks the contract at some input
 unfoldable pub FindBroken : (List ℕ → Table → Handle → List ℕ → Given) → Type 0
 FindBroken port = (a : List ℕ) × (t : Table) × (h : Handle) × (name : List ℕ) × (FindHolds a t h name (port a t h name) → ⊥)
 
+-- a find that always refuses
 unfoldable pub FindRefuses : Type 0
 FindRefuses = (port : List ℕ → Table → Handle → List ℕ → Given)
     → ((a : List ℕ) (t : Table) (h : Handle) (name : List ℕ) → (n : ℕ) × (port a t h name .answer ≡ gots.Refused n))
     → FindBroken port
 
+-- a find with one constant answer
 unfoldable pub FindConstant : Type 0
 FindConstant = (port : List ℕ → Table → Handle → List ℕ → Given) (r : Got)
     → ((a : List ℕ) (t : Table) (h : Handle) (name : List ℕ) → port a t h name .answer ≡ r)
@@ -122,10 +135,12 @@ onward x y name file = record {
   file = file;
 }
 
+-- what the two calls leave
 pub record TwoResults : Type 0 where
   pub first : CreateResult
   pub second : CreateResult
 
+-- both contracts
 unfoldable pub TwoHold : CreateInput → List ℕ → List ℕ → TwoResults → Type 0
 TwoHold x name file r = CreateHolds x (r .first) × CreateHolds (onward x (r .first) name file) (r .second)
 
@@ -140,6 +155,7 @@ pub record CreateFind : Type 0 where
   pub created : CreateResult
   pub found : Given
 
+-- both contracts: the find starts from what the create left
 unfoldable pub CreateFindHolds : CreateInput → CreateFind → Type 0
 CreateFindHolds x r =
     CreateHolds x (r .created) × FindHolds (r .created .arena) (r .created .given .table) (x .handle) (x .name) (r .found)
@@ -152,6 +168,7 @@ BlindFind = (port : CreateInput → CreateFind)
 
 -- ---- the checker, whose contract is an equation
 
+-- the port breaks the contract at some image
 unfoldable pub CheckBroken : (List ℕ → Table → Verdict) → Type 0
 CheckBroken port = (a : List ℕ) × (t : Table) × (port a t ≡ verdictOf a t → ⊥)
 
@@ -165,17 +182,19 @@ PassesAll = (port : List ℕ → Table → Verdict)
 unfoldable pub FailsAll : Type 0
 FailsAll = (port : List ℕ → Table → Verdict) → ((a : List ℕ) (t : Table) → (r : ℕ) × (port a t ≡ verdicts.Fail r)) → CheckBroken port
 
--- one whose passes all report the same number of nodes; of unused ids; of free blocks
+-- one that invents the number of nodes: all its passes report the same one
 unfoldable pub InventsNodes : Type 0
 InventsNodes = (port : List ℕ → Table → Verdict) (m : ℕ)
     → ((a : List ℕ) (t : Table) (n u f : ℕ) → port a t ≡ verdicts.Pass n u f → n ≡ m)
     → CheckBroken port
 
+-- one that invents the number of unused ids
 unfoldable pub InventsUnused : Type 0
 InventsUnused = (port : List ℕ → Table → Verdict) (m : ℕ)
     → ((a : List ℕ) (t : Table) (n u f : ℕ) → port a t ≡ verdicts.Pass n u f → u ≡ m)
     → CheckBroken port
 
+-- one that invents the number of free blocks
 unfoldable pub InventsFree : Type 0
 InventsFree = (port : List ℕ → Table → Verdict) (m : ℕ)
     → ((a : List ℕ) (t : Table) (n u f : ℕ) → port a t ≡ verdicts.Pass n u f → f ≡ m)

@@ -22,6 +22,7 @@ use Rattle.course_states.specs.Worlds.{uuid, rootFile, World, fresh, opened, be
 
 -- ---- what an example says: a number, or several, and what they are
 
+-- one fact
 pub data Fact : Type 0 where
   -- the new node's id
   id : ℕ → Fact
@@ -54,6 +55,7 @@ unfoldable pub usedTo : List ℕ → ℕ → List ℕ
 usedTo a zero = []
 usedTo a (suc n) = usedTo a n ++ pick (isFree (blk a n)) [] (n ∷ [])
 
+-- of all blocks
 abbrev pub usedIn : List ℕ → Fact
 usedIn a = used (usedTo a (blocks a))
 
@@ -171,10 +173,12 @@ minusRow = done (number (signed (leAt (replicate 8 255) 0 8)) ∷ [])
 
 -- ---- the table, and what document 01 says of each row
 
+-- the facts of a row; where a step of it was refused, the reason
 unfoldable pub facts : Out (List Fact) → List Fact
 facts (done l) = l
 facts (refused n) = stopped n ∷ []
 
+-- what came out, a row for each example
 unfoldable pub table : List (List Fact)
 table =
     facts freshRow
@@ -188,6 +192,7 @@ table =
     ∷ facts minusRow
     ∷ []
 
+-- what document 01 says, row by row
 abbrev pub expected : List (List Fact)
 expected =
     (unused 1021 ∷ mapByte 0 248 ∷ used (0 ∷ 1 ∷ 2 ∷ 3 ∷ 4 ∷ []) ∷ [])
