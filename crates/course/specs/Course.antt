@@ -1,212 +1,208 @@
--- Document 01's course examples that are marked (P), as one table: what was done, and the facts that came out.
-use mathlib.Core.Bool.{Bool, true, false}
+-- Document 01's course examples that are marked (P), as one table: what was done, and the facts that came out. What is done, `fresh`,
+-- `opened`, `made` and the like, is said in crates/course_states/specs/Worlds.antt, by the calls' definitions.
 use mathlib.Core.List.{List, [], _∷_, _++_}
-use Prim.Native.Nat.{ℕ, _+_, _-_, _*_}
+use Prim.Native.Nat.{ℕ, zero, suc, _*_}
 use lib.IntN.{ℤ, pos, negsuc}
 use lib.ListN.{getD, set, replicate}
 use Rattle.base.specs.Out.{Out, done, refused, answer, _>>=_}
-use Rattle.base.specs.Count.{bit, countTo, sumTo, allTo}
-use Rattle.le.specs.Le.{leAt, leOf, leBytes, lePut}
-use Rattle.le.specs.Signed.{signed, bitsOf}
+use Rattle.base.specs.Search.{pick}
+use Rattle.le.specs.Le.{leAt}
+use Rattle.le.specs.Signed.{signed}
 use Rattle.structs.specs.Constants.{typeFile, typeDir}
-use Rattle.structs.specs.Layout.{superOf, superBytes, recordOf, join, superFields, recordFields, recordBytes, timeOf, timeFields, timeBytes, entryOf, entryFields, entryBytes}
-use Rattle.structs.specs.declared.Timespec.{Timespec}
-use Rattle.structs.specs.declared.SuperBlock.{SuperBlock}
-use Rattle.table.specs.Table.{emptyTable, rowAt, rowOf, holdOf, liveRow, liveHolds, canHold, addHold, rowUsed}
-use Rattle.table.specs.declared.Table.{Table}
-use Rattle.table.specs.declared.Handle.{Handle}
-use Rattle.arena.specs.Fields.{File, file, zeros, checkOf, isFree, seal, sameFile, isHead, isData, fresh as freshBlock}
-use Rattle.arena.specs.Blocks.{blk, blocks, putBlk, legal}
-use Rattle.arena.specs.Places.{freeCount, freeOf, headOf, dataOf}
-use Rattle.files.specs.Read.{byteAt, lengthOf, readFile, there, present}
-use Rattle.files.specs.Store.{putFile, claim, writeBlk, setLength, raise, putBlock, putTo, touched, makeFile, clearTo, clearAll, isPast, zeroTail, cutFile, isOf, dropFile}
-use Rattle.sefs.specs.Meta.{metaFile, mapAt, loadMaps, loadMeta, storeMaps, syncMeta, firstBit, isUsed, addGroup, takeBit, allocBlock, freeBlock}
-use Rattle.sefs.specs.Ask.{start, admitArena, admit, liveFolder}
-use Rattle.sefs.specs.Open.{callRoot, holdNode}
-use Rattle.sefs.specs.Create.{Given, createSteps, callFormat, callCreate, formatSteps, birth, nameFolder, named}
-use Rattle.sefs.specs.Unlink.{callUnlink, notFull, unlinkSteps}
-use Rattle.base.specs.Search.{lowest, foundBelow}
-use Rattle.base.specs.Parts.{paste, tab}
-use Rattle.base.specs.Decides.{same, every}
-use Rattle.maps.specs.Maps.{bitOf, putBit, bitAt, withBit}
-use Rattle.utf8.specs.Utf8.{within, lead, tail, step, after, utf8}
-use Rattle.utf8.specs.Names.{zeroAt, hasZero, nameVerdict, isDot, isDots, isSpecial, storedName, isNamed, nameBytes}
-use Rattle.table.specs.Formed.{holdOk, rowOk, holdsOk, rowsOk, shaped, wellFormed}
-use Rattle.table.specs.Zero.{bytesZero, numbersZero, timeZero, recordZero}
-use Rattle.sound.specs.Sound.{allZero, layout, blockSound, headOnce, dataOnce, within as withinLength, under, soundAt, sound}
-use Rattle.sefs.specs.Nodes.{loadNode, getNode, newNode, storeRow, syncRow, freeNode, dropNode, release}
-use Rattle.sefs.specs.Slots.{slotBytes, slotAt, lookTo, lookup, findSlot}
-use Rattle.sefs.specs.Folders.{putSlot, direntInit, direntAppend, direntRemove, nlinksInc, nlinksDec, unlinkFolder, direntNodeRemove}
+use Rattle.structs.specs.Layout.{recordOf, entryOf}
+use Rattle.utf8.specs.Names.{nameOf}
+use Rattle.table.specs.Table.{rowAt}
+use Rattle.arena.specs.Blocks.{blk, blocks}
+use Rattle.arena.specs.Fields.{zeros, checkOf, isFree}
+use Rattle.files.specs.Read.{byteAt, lengthOf, readFile}
+use Rattle.sefs.specs.Meta.{metaFile, mapAt}
+use Rattle.sefs.specs.Create.{After, Given}
+use Rattle.sefs.specs.Unlink.{callUnlink}
+use Rattle.course_states.specs.Worlds.{uuid, rootFile, World, fresh, opened, begun, made, filed, stored, full}
 
--- ---- what the examples start from
+-- ---- what an example says: a number, or several, and what they are
 
-abbrev epoch : Timespec
-epoch = record { sec = pos 0; nsec = pos 0 }
+-- one fact
+pub data Fact : Type 0 where
+  -- the new node's id
+  id : ℕ → Fact
+  -- the superblock's `unused`, as stored
+  unused : ℕ → Fact
+  -- the first byte of a group's map: group, byte
+  mapByte : ℕ → ℕ → Fact
+  -- the arena blocks that are used, one by one; every other one is free
+  used : List ℕ → Fact
+  -- a node's link count, as stored: id, links
+  links : ℕ → ℕ → Fact
+  -- a slot of the root: its number, and the whole name in it
+  slot : ℕ → List ℕ → Fact
+  -- the length of the root's folder file, and of the metadata file
+  rootLength : ℕ → Fact
+  metaLength : ℕ → Fact
+  -- a block's check
+  check : ℕ → Fact
+  -- what a call answers: 0 where it is done, else the reason
+  answers : ℕ → Fact
+  -- a number with its sign
+  number : ℤ → Fact
+  -- a step of the example was refused, by this reason: no row says so
+  stopped : ℕ → Fact
 
--- a file name of 16 equal bytes
-abbrev uuid : ℕ → List ℕ
-uuid n = replicate 16 n
+-- ---- the facts, read from an arena
 
--- an arena of 8,192 bytes, the table and the root's handle
-pub record World : Type 0 where
-  pub arena : List ℕ
-  pub table : Table
-  pub root : Handle
+-- the used ones of the first n blocks
+unfoldable pub usedTo : List ℕ → ℕ → List ℕ
+usedTo a zero = []
+usedTo a (suc n) = usedTo a n ++ pick (isFree (blk a n)) [] (n ∷ [])
 
--- a fresh arena of 16 blocks
-unfoldable pub fresh : Out (List ℕ)
-fresh = callFormat (replicate 8192 0) epoch (uuid 1)
+-- of all blocks
+abbrev pub usedIn : List ℕ → Fact
+usedIn a = used (usedTo a (blocks a))
 
-unfoldable pub opened : List ℕ → Out World
-opened a = do
-  r ← callRoot a emptyTable
-  done (record { arena = a; table = r .table; root = r .handle })
-
--- a node made in the root
-unfoldable pub made : World → List ℕ → ℕ → ℕ → Out Given
-made w name kind n = callCreate (w .arena) (w .table) (w .root) name kind 420 epoch (uuid n)
-
--- ---- the numbers that an example names
-
--- how many blocks are used
-abbrev used : List ℕ → ℕ
-used a = blocks a - freeCount a
-
--- the superblock, as stored
-unfoldable pub stored : List ℕ → Out SuperBlock
-stored a = do
-  l ← readFile a metaFile 0 16
-  done (superOf l)
-
--- the id behind a handle: that of its hold's row
-abbrev idOf : Given → ℕ
-idOf g = rowAt (g .table) (getD (g .table .holds) (g .handle .hold) (record { row = 34; stamp = 0 }) .row) .id
-
--- the same by the steps of create alone: what leads up to an example need not be judged again. The root is in row 0
-unfoldable pub laid : World → List ℕ → ℕ → Out World
-laid w name n = do
-  g ← createSteps (start (w .arena) (w .table)) 0 name typeFile 420 epoch (uuid n)
-  done (record { arena = g .arena; table = g .table; root = w .root })
-
--- unused, the first map byte, the blocks used
-unfoldable pub imageFacts : List ℕ → Out (List ℕ)
+-- unused, the first map byte, the used blocks
+unfoldable pub imageFacts : List ℕ → Out (List Fact)
 imageFacts a = do
   b ← stored a
-  done (b .unused ∷ byteAt a metaFile (mapAt 0) ∷ used a ∷ [])
+  done (unused (b .unused) ∷ mapByte 0 (byteAt a metaFile (mapAt 0)) ∷ usedIn a ∷ [])
 
--- a node's record, as stored
-unfoldable pub linksOf : List ℕ → ℕ → Out ℕ
-linksOf a id = do
-  l ← readFile a metaFile (128 * id) 112
-  done (recordOf l .nlinks)
+-- the id behind a new handle: that of its hold's row
+abbrev pub idOf : Given → Fact
+idOf g = id (rowAt (g .table) (getD (g .table .holds) (g .handle .hold) (record { row = 34; stamp = 0 }) .row) .id)
 
--- the root's folder file, and the first byte of the name in its slot k
-abbrev rootFile : File
-rootFile = file 1 (uuid 1)
+-- a node's links, by its record
+unfoldable pub linksOf : List ℕ → ℕ → Out Fact
+linksOf a n = do
+  l ← readFile a metaFile (128 * n) 112
+  done (links n (recordOf l .nlinks))
 
-abbrev nameAt : List ℕ → ℕ → ℕ
-nameAt a k = byteAt a rootFile (264 * k + 4)
+-- n slots of the root from k on
+unfoldable pub slotsFrom : List ℕ → ℕ → ℕ → Out (List Fact)
+slotsFrom a k zero = done []
+slotsFrom a k (suc n) = do
+  l ← readFile a rootFile (264 * k) 264
+  r ← slotsFrom a (suc k) n
+  done (slot k (nameOf (entryOf l .name)) ∷ r)
 
--- ---- the examples
+-- ---- the examples: what was done, line by line, and the facts
 
 -- "Fresh: unused 1021, first map byte 248, blocks 0 to 4 used."
-unfoldable pub freshFacts : Out (List ℕ)
-freshFacts = do
+unfoldable pub freshRow : Out (List Fact)
+freshRow = do
   a ← fresh
-  f ← imageFacts a
-  done (f ++ (bit (isFree (blk a 4)) ∷ bit (isFree (blk a 5)) ∷ []))
+  imageFacts a
 
--- "Then file `A` in root: id 3, unused 1020, map byte 240, 7 blocks used."
-unfoldable pub fileFacts : Out (List ℕ)
-fileFacts = do
-  a ← fresh
-  w ← opened a
-  g ← made w (65 ∷ []) typeFile 2
+-- what is read once a file is made: its id, and the facts of the image
+unfoldable pub fileRead : Given → Out (List Fact)
+fileRead g = do
   f ← imageFacts (g .arena)
   done (idOf g ∷ f)
 
--- "Instead folder `B`: id 3, root links 3, `B` links 2, 9 used."
-unfoldable pub folderFacts : Out (List ℕ)
-folderFacts = do
-  a ← fresh
-  w ← opened a
-  g ← made w (66 ∷ []) typeDir 2
+-- "Then file `A` in root: id 3, unused 1020, map byte 240, 7 blocks used."
+unfoldable pub fileRow : Out (List Fact)
+fileRow = do
+  w ← begun
+  g ← made w (65 ∷ []) typeFile 2
+  fileRead g
+
+-- once a folder is made: its id, the root's links and its own, the used blocks
+unfoldable pub folderRead : Given → Out (List Fact)
+folderRead g = do
   r ← linksOf (g .arena) 2
   b ← linksOf (g .arena) 3
-  done (idOf g ∷ r ∷ b ∷ used (g .arena) ∷ [])
+  done (idOf g ∷ r ∷ b ∷ usedIn (g .arena) ∷ [])
+
+-- "Instead folder `B`: id 3, root links 3, `B` links 2, 9 used."
+unfoldable pub folderRow : Out (List Fact)
+folderRow = do
+  w ← begun
+  g ← made w (66 ∷ []) typeDir 2
+  folderRead g
+
+-- once a name is unlinked: slots 2 and 3, and the length of the root's folder file
+unfoldable pub goneRead : After → Out (List Fact)
+goneRead u = do
+  r ← slotsFrom (u .arena) 2 2
+  done (r ++ (rootLength (lengthOf (u .arena) rootFile) ∷ []))
 
 -- "Slots 2 to 4 `a`, `b`, `c`; unlink `a`: slots 2, 3 are `c`, `b`, length 1056."
-unfoldable pub unlinkFacts : Out (List ℕ)
-unlinkFacts = do
-  a ← fresh
-  w ← opened a
-  w ← laid w (97 ∷ []) 2
-  w ← laid w (98 ∷ []) 3
-  w ← laid w (99 ∷ []) 4
+unfoldable pub unlinkRow : Out (List Fact)
+unlinkRow = do
+  w ← begun
+  w ← filed w (97 ∷ []) 2
+  w ← filed w (98 ∷ []) 3
+  w ← filed w (99 ∷ []) 4
+  before ← slotsFrom (w .arena) 2 3
   u ← callUnlink (w .arena) (w .table) (w .root) (97 ∷ [])
-  done (nameAt (u .arena) 2 ∷ nameAt (u .arena) 3 ∷ lengthOf (u .arena) rootFile ∷ [])
+  now ← goneRead u
+  done (before ++ now)
 
--- "One group, no bit set, unused 0: next id 1024, unused 1022, second map's first byte 252, metadata 262,144 bytes."
-unfoldable pub groupFacts : Out (List ℕ)
-groupFacts = do
+-- once a group has come: the new id, unused, the second map's first byte, the length of the metadata file
+unfoldable pub groupRead : Given → Out (List Fact)
+groupRead g = do
+  b ← stored (g .arena)
+  done (idOf g ∷ unused (b .unused) ∷ mapByte 1 (byteAt (g .arena) metaFile (mapAt 1)) ∷ metaLength (lengthOf (g .arena) metaFile) ∷ [])
+
+-- "One group, no bit set, unused 0: next id 1024, unused 1022, second map's first byte 252, metadata 262,144 bytes." (`full` makes it so)
+unfoldable pub groupRow : Out (List Fact)
+groupRow = do
   a ← fresh
-  b ← stored a
-  a ← putFile a metaFile 0 (superBytes (record { magic = b .magic; blocks = b .blocks; unused = 0; groups = b .groups }))
-  a ← putFile a metaFile (mapAt 0) (replicate 128 0)
+  a ← full a
   w ← opened a
   g ← made w (65 ∷ []) typeFile 2
-  f ← imageFacts (g .arena)
-  done (idOf g ∷ getD f 0 0 ∷ byteAt (g .arena) metaFile (mapAt 1) ∷ lengthOf (g .arena) metaFile ∷ [])
+  groupRead g
 
 -- "Arena block with only byte 0 = 2: check 2."
-unfoldable pub checkFacts : Out (List ℕ)
-checkFacts = done (checkOf (set zeros 0 2) ∷ [])
+unfoldable pub checkRow : Out (List Fact)
+checkRow = done (check (checkOf (set zeros 0 2)) ∷ [])
 
--- "Name of 255 accepted, 256 refused." 0 is an answer that is done
-unfoldable pub longFacts : Out (List ℕ)
-longFacts = do
-  a ← fresh
-  w ← opened a
-  done (answer (made w (replicate 255 97) typeFile 2) ∷ answer (made w (replicate 256 97) typeFile 2) ∷ [])
+-- "Name of 255 accepted, 256 refused."
+unfoldable pub longRow : Out (List Fact)
+longRow = do
+  w ← begun
+  done (answers (answer (made w (replicate 255 97) typeFile 2)) ∷ answers (answer (made w (replicate 256 97) typeFile 2)) ∷ [])
 
 -- "Create with the empty name: 12."
-unfoldable pub emptyFacts : Out (List ℕ)
-emptyFacts = do
-  a ← fresh
-  w ← opened a
-  done (answer (made w [] typeFile 2) ∷ [])
+unfoldable pub emptyRow : Out (List Fact)
+emptyRow = do
+  w ← begun
+  done (answers (answer (made w [] typeFile 2)) ∷ [])
 
 -- "Eight bytes FF: -1."
-unfoldable pub minusOne : ℤ
-minusOne = signed (leAt (replicate 8 255) 0 8)
+unfoldable pub minusRow : Out (List Fact)
+minusRow = done (number (signed (leAt (replicate 8 255) 0 8)) ∷ [])
 
--- the numbers of an outcome; a refusal's is its reason. (The line below opens the definitions, so that the examples are computed.)
-unfoldable pub facts : Out (List ℕ) → List ℕ
-unfolding countTo sumTo allTo lowest foundBelow paste tab same every leOf leBytes leAt lePut signed bitsOf join superOf superFields superBytes recordOf recordFields recordBytes timeOf timeFields timeBytes entryOf entryFields entryBytes bitOf putBit bitAt withBit within lead tail step after utf8 zeroAt hasZero nameVerdict isDot isDots isSpecial storedName isNamed nameBytes rowOf holdOf liveRow liveHolds canHold addHold rowUsed holdOk rowOk holdsOk rowsOk shaped wellFormed bytesZero numbersZero timeZero recordZero blk putBlk legal checkOf seal sameFile isFree isHead isData zeros freshBlock freeOf headOf dataOf freeCount allZero layout blockSound headOnce dataOnce withinLength under soundAt sound there lengthOf present byteAt readFile claim writeBlk setLength raise putBlock putTo touched putFile makeFile clearTo clearAll isPast zeroTail cutFile isOf dropFile loadMaps loadMeta storeMaps syncMeta firstBit isUsed addGroup takeBit allocBlock freeBlock loadNode getNode newNode storeRow syncRow freeNode dropNode release slotBytes slotAt lookTo lookup findSlot putSlot direntInit direntAppend direntRemove nlinksInc nlinksDec unlinkFolder direntNodeRemove admitArena admit liveFolder holdNode callRoot formatSteps callFormat birth nameFolder named createSteps callCreate notFull unlinkSteps callUnlink fresh opened made laid stored imageFacts linksOf
+-- ---- the table, and what document 01 says of each row
+
+-- the facts of a row; where a step of it was refused, the reason
+unfoldable pub facts : Out (List Fact) → List Fact
 facts (done l) = l
-facts (refused n) = n ∷ []
+facts (refused n) = stopped n ∷ []
 
--- the table, and what document 01 says of each row
-unfoldable pub table : List (List ℕ)
+-- what came out, a row for each example
+unfoldable pub table : List (List Fact)
 table =
-    facts freshFacts
-    ∷ facts fileFacts
-    ∷ facts folderFacts
-    ∷ facts unlinkFacts
-    ∷ facts groupFacts
-    ∷ facts checkFacts
-    ∷ facts longFacts
-    ∷ facts emptyFacts
+    facts freshRow
+    ∷ facts fileRow
+    ∷ facts folderRow
+    ∷ facts unlinkRow
+    ∷ facts groupRow
+    ∷ facts checkRow
+    ∷ facts longRow
+    ∷ facts emptyRow
+    ∷ facts minusRow
     ∷ []
 
-abbrev pub expected : List (List ℕ)
+-- what document 01 says, row by row
+abbrev pub expected : List (List Fact)
 expected =
-    (1021 ∷ 248 ∷ 5 ∷ 0 ∷ 1 ∷ [])
-    ∷ (3 ∷ 1020 ∷ 240 ∷ 7 ∷ [])
-    ∷ (3 ∷ 3 ∷ 2 ∷ 9 ∷ [])
-    ∷ (99 ∷ 98 ∷ 1056 ∷ [])
-    ∷ (1024 ∷ 1022 ∷ 252 ∷ 262144 ∷ [])
-    ∷ (2 ∷ [])
-    ∷ (0 ∷ 10 ∷ [])
-    ∷ (12 ∷ [])
+    (unused 1021 ∷ mapByte 0 248 ∷ used (0 ∷ 1 ∷ 2 ∷ 3 ∷ 4 ∷ []) ∷ [])
+    ∷ (id 3 ∷ unused 1020 ∷ mapByte 0 240 ∷ used (0 ∷ 1 ∷ 2 ∷ 3 ∷ 4 ∷ 5 ∷ 6 ∷ []) ∷ [])
+    ∷ (id 3 ∷ links 2 3 ∷ links 3 2 ∷ used (0 ∷ 1 ∷ 2 ∷ 3 ∷ 4 ∷ 5 ∷ 6 ∷ 7 ∷ 8 ∷ []) ∷ [])
+    -- 97, 98, 99 are `a`, `b`, `c`: three slots before the unlink, two after it
+    ∷ (slot 2 (97 ∷ []) ∷ slot 3 (98 ∷ []) ∷ slot 4 (99 ∷ []) ∷ slot 2 (99 ∷ []) ∷ slot 3 (98 ∷ []) ∷ rootLength 1056 ∷ [])
+    ∷ (id 1024 ∷ unused 1022 ∷ mapByte 1 252 ∷ metaLength 262144 ∷ [])
+    ∷ (check 2 ∷ [])
+    ∷ (answers 0 ∷ answers 10 ∷ [])
+    ∷ (answers 12 ∷ [])
+    ∷ (number (negsuc 0) ∷ [])
     ∷ []

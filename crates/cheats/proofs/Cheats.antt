@@ -1,0 +1,158 @@
+-- None of the cheats keeps the contracts.
+use mathlib.Core.Path.{_≡_, ap, sym, _∙_}
+use mathlib.Core.List.{List, [], _∷_}
+use Prim.Native.Nat.{ℕ}
+use native.Mathlib.Decide.{ℕ-discrete}
+use native.Mathlib.Omega.{arith}
+use Rattle.base.specs.Out.{Out, done, refused}
+use Rattle.structs.specs.Constants.{typeFile}
+use Rattle.table.specs.Table.{emptyTable}
+use Rattle.table.specs.declared.Handle.{Handle}
+use Rattle.table.specs.declared.Table.{Table}
+use Rattle.sefs.specs.Create as sefs
+use Rattle.sefs.specs.Create.{callCreate}
+use Rattle.sefs.specs.Open.{callFind}
+use Rattle.calls.specs.Answers.{gotOf}
+use Rattle.calls.specs.declared.After.{After}
+use Rattle.calls.specs.declared.Answer.{Answer}
+use Rattle.calls.specs.declared.Answer.the-variants as answers
+use Rattle.calls.specs.declared.Given.{Given}
+use Rattle.calls.specs.declared.Got.{Got}
+use Rattle.calls.specs.declared.Got.the-variants as gots
+use Rattle.calls_steps.specs.Ends.{afterAs}
+use Rattle.calls_create.specs.Held.{ReturnedHeld, heldAs, arenaHeld}
+use Rattle.fsck.specs.declared.Verdict.{Verdict}
+use Rattle.fsck.specs.declared.Verdict.the-variants as verdicts
+use Rattle.course_states.specs.Worlds.{epoch, uuid}
+use Rattle.course_states.proofs.States.{handle, rootTable, freshArena, aWorld, bWorld, cWorld}
+use Rattle.cheats.specs.Cheats.{CreateHolds, CreateBroken, CreateRefuses, CreateConstant, CreateStoresNothing, UnlinkHolds, UnlinkBroken, UnlinkRefuses, UnlinkConstant, UnlinkStoresNothing, onward, TwoHold, OnlyFirst, FindHolds, FindBroken, FindRefuses, FindConstant, CreateFindHolds, BlindFind, CheckBroken, PassesAll, FailsAll, InventsNodes, InventsUnused, InventsFree}
+use Rattle.cheats.proofs.Inputs.{byte, createA, a-done, createEmpty, empty-refused, b-done, fresh-five, a-five, a-seven, b-seven, find-before, find-after, unlinkA, unlinkEmpty, gone-answer, c-length, gone-length, unlink-empty}
+use Rattle.cheats.proofs.Counts.{empty-fails, fresh-verdict, a-verdict}
+
+-- ---- what create's contract says where the definition is done, and where it is refused
+
+module _ {t : Table} {o : Out sefs.Given} {a b : List ℕ} {r : Given} (c : ReturnedHeld t o a b r) where
+  held-answer : (g : sefs.Given) → o ≡ done g → r .answer ≡ gots.Held (g .handle)
+  held-answer g e = ap (λ (x : Given). x .answer) (c .answer ∙ ap (heldAs t) e)
+
+  held-table : (g : sefs.Given) → o ≡ done g → r .table ≡ g .table
+  held-table g e = ap (λ (x : Given). x .table) (c .answer ∙ ap (heldAs t) e)
+
+  held-arena : (g : sefs.Given) → o ≡ done g → b ≡ g .arena
+  held-arena g e = c .arena ∙ ap (arenaHeld a) e
+
+  held-refused : (n : ℕ) → o ≡ refused n → r .answer ≡ gots.Refused n
+  held-refused n e = ap (λ (x : Given). x .answer) (c .answer ∙ ap (heldAs t) e)
+
+not-both : (x : Got) (h : Handle) (n : ℕ) → x ≡ gots.Held h → x ≡ gots.Refused n → ⊥
+not-both x h n p q = let z : _≡_ {A = ℕ} 0 1 = cc in omega arith
+
+-- ---- create
+
+pub create-refuses : CreateRefuses
+unfolding CreateRefuses CreateBroken CreateHolds createA
+create-refuses port h = (createA, λ c. not-both (port createA .given .answer) (handle 1 2) (h createA .0) (held-answer c _ a-done) (h createA .1))
+
+pub create-constant : CreateConstant
+unfolding CreateConstant CreateBroken CreateHolds createA createEmpty
+create-constant port (gots.Held k) h = (createEmpty, λ c. not-both (port createEmpty .given .answer) k 12 (h createEmpty) (held-refused c 12 empty-refused))
+create-constant port (gots.Refused n) h = (createA, λ c. not-both (port createA .given .answer) (handle 1 2) n (held-answer c _ a-done) (h createA))
+
+pub create-stores : CreateStoresNothing
+unfolding CreateStoresNothing CreateBroken CreateHolds createA
+create-stores port h =
+    (createA, λ c. omega (arith, ap (byte 2560) (held-arena c _ a-done), ap (byte 2560) (h createA), fresh-five, a-five))
+
+-- ---- unlink
+
+not-done : (x : Answer) (n : ℕ) → x ≡ answers.Done → x ≡ answers.Refused n → ⊥
+not-done x n p q = let z : _≡_ {A = ℕ} 0 1 = cc in omega arith
+
+pub unlink-refuses : UnlinkRefuses
+unfolding UnlinkRefuses UnlinkBroken UnlinkHolds unlinkA
+unlink-refuses port h = (unlinkA, λ c. not-done (port unlinkA .after .answer) (h unlinkA .0) (ap (λ (x : After). x .answer) (c .answer) ∙ gone-answer) (h unlinkA .1))
+
+pub unlink-constant : UnlinkConstant
+unfolding UnlinkConstant UnlinkBroken UnlinkHolds unlinkA unlinkEmpty
+unlink-constant port answers.Done h =
+    (unlinkEmpty, λ c. not-done (port unlinkEmpty .after .answer) 9 (h unlinkEmpty) (ap (λ (x : After). x .answer) (c .answer ∙ ap (afterAs (cWorld .table)) unlink-empty)))
+unlink-constant port (answers.Refused n) h =
+    (unlinkA, λ c. not-done (port unlinkA .after .answer) n (ap (λ (x : After). x .answer) (c .answer) ∙ gone-answer) (h unlinkA))
+
+pub unlink-stores : UnlinkStoresNothing
+unfolding UnlinkStoresNothing UnlinkBroken UnlinkHolds unlinkA
+unlink-stores port h = (unlinkA, λ c. omega (arith, ap (byte 532) (c .arena), ap (byte 532) (h unlinkA), gone-length, c-length))
+
+-- ---- find
+
+pub find-refuses : FindRefuses
+unfolding FindRefuses FindBroken FindHolds
+find-refuses port h =
+    let x : (n : ℕ) × (port (aWorld .arena) (aWorld .table) (handle 0 1) (97 ∷ []) .answer ≡ gots.Refused n) = h (aWorld .arena) (aWorld .table) (handle 0 1) (97 ∷ []) in
+    (aWorld .arena, aWorld .table, handle 0 1, 97 ∷ [], λ c. not-both (port (aWorld .arena) (aWorld .table) (handle 0 1) (97 ∷ []) .answer) (handle 2 3) (x .0) (c .0 ∙ find-after) (x .1))
+
+pub find-constant : FindConstant
+unfolding FindConstant FindBroken FindHolds
+find-constant port (gots.Held k) h =
+    (freshArena, rootTable, handle 0 1, 97 ∷ [], λ c. not-both (port freshArena rootTable (handle 0 1) (97 ∷ []) .answer) k 11 (h freshArena rootTable (handle 0 1) (97 ∷ [])) (c .0 ∙ find-before))
+find-constant port (gots.Refused n) h =
+    (aWorld .arena, aWorld .table, handle 0 1, 97 ∷ [], λ c. not-both (port (aWorld .arena) (aWorld .table) (handle 0 1) (97 ∷ []) .answer) (handle 2 3) n (c .0 ∙ find-after) (h (aWorld .arena) (aWorld .table) (handle 0 1) (97 ∷ [])))
+
+-- ---- a sequence
+
+pub only-first : OnlyFirst
+unfolding OnlyFirst TwoHold CreateHolds onward createA
+only-first port h =
+    (createA, 98 ∷ [], uuid 3, λ c. omega (arith, ap (byte 3584) (second c), ap (byte 3584) (h createA (98 ∷ []) (uuid 3)), ap (byte 3584) (held-arena (c .0) _ a-done), a-seven, b-seven))
+  where
+    second : TwoHold createA (98 ∷ []) (uuid 3) (port createA (98 ∷ []) (uuid 3)) → port createA (98 ∷ []) (uuid 3) .second .arena ≡ bWorld .arena
+    second c =
+        held-arena (c .1) _
+        ((λ j. callCreate (held-arena (c .0) _ a-done j) (held-table (c .0) _ a-done j) (handle 0 1) (98 ∷ []) typeFile 420 epoch (uuid 3)) ∙ b-done)
+
+pub blind-find : BlindFind
+unfolding BlindFind CreateFindHolds CreateHolds FindHolds createA
+blind-find port h = (
+  createA,
+  λ c. not-both (port createA .found .answer) (handle 2 3) 11
+      (c .1 .0 ∙ (λ j. gotOf (callFind (held-arena (c .0) _ a-done j) (held-table (c .0) _ a-done j) (handle 0 1) (97 ∷ []))) ∙ find-after)
+      (h createA .0 ∙ find-before),
+)
+
+-- ---- the checker
+
+not-pass : (v : Verdict) (n u f r : ℕ) → v ≡ verdicts.Pass n u f → v ≡ verdicts.Fail r → ⊥
+not-pass v n u f r p q = let z : _≡_ {A = ℕ} 0 1 = cc in omega arith
+
+pub passes-all : PassesAll
+unfolding PassesAll CheckBroken
+passes-all port h =
+    let x : (n : ℕ) × (u : ℕ) × (f : ℕ) × (port [] emptyTable ≡ verdicts.Pass n u f) = h [] emptyTable in
+    ([], emptyTable, λ c. not-pass (port [] emptyTable) (x .0) (x .1) (x .2) 1 (x .3) (c ∙ empty-fails))
+
+-- from here on with demand 3: a fresh image passes
+pub fails-all : FailsAll
+unfolding FailsAll CheckBroken
+fails-all port h = (freshArena, emptyTable, λ c. not-pass (port freshArena emptyTable) 1 1021 11 (h freshArena emptyTable .0) (c ∙ fresh-verdict) (h freshArena emptyTable .1))
+
+-- and a call keeps a pair that passes: the fresh image has 1 node, 1021 unused ids and 11 free blocks, the one with `a` 2, 1020 and 9
+pub invents-nodes : InventsNodes
+unfolding InventsNodes CheckBroken
+invents-nodes port m h = elim (ℕ-discrete m 1) [
+  | yes e ↦ (aWorld .arena, aWorld .table, λ c. omega (arith, h (aWorld .arena) (aWorld .table) 2 1020 9 (c ∙ a-verdict)))
+  | no d ↦ (freshArena, emptyTable, λ c. d (sym (h freshArena emptyTable 1 1021 11 (c ∙ fresh-verdict))))
+]
+
+pub invents-unused : InventsUnused
+unfolding InventsUnused CheckBroken
+invents-unused port m h = elim (ℕ-discrete m 1021) [
+  | yes e ↦ (aWorld .arena, aWorld .table, λ c. omega (arith, h (aWorld .arena) (aWorld .table) 2 1020 9 (c ∙ a-verdict)))
+  | no d ↦ (freshArena, emptyTable, λ c. d (sym (h freshArena emptyTable 1 1021 11 (c ∙ fresh-verdict))))
+]
+
+pub invents-free : InventsFree
+unfolding InventsFree CheckBroken
+invents-free port m h = elim (ℕ-discrete m 11) [
+  | yes e ↦ (aWorld .arena, aWorld .table, λ c. omega (arith, h (aWorld .arena) (aWorld .table) 2 1020 9 (c ∙ a-verdict)))
+  | no d ↦ (freshArena, emptyTable, λ c. d (sym (h freshArena emptyTable 1 1021 11 (c ∙ fresh-verdict))))
+]

@@ -1,0 +1,137 @@
+-- The inputs at which the cheats are caught, and what the calls do there, from the course's computed states.
+use mathlib.Core.Path.{_≡_, refl, ap, _∙_}
+use mathlib.Core.List.{List, [], _∷_}
+use Prim.Native.Nat.{ℕ}
+use lib.ListN.{getD}
+use Rattle.base.specs.Out.{done, refused}
+use Rattle.structs.specs.Constants.{typeFile}
+use Rattle.sefs.specs.Create.{callCreate}
+use Rattle.sefs.specs.Open.{callFind}
+use Rattle.sefs.specs.Unlink.{callUnlink}
+use Rattle.calls.specs.Answers.{gotOf}
+use Rattle.calls.specs.declared.Answer.the-variants as answers
+use Rattle.calls.specs.declared.Got.the-variants as gots
+use Rattle.calls_steps.specs.Ends.{afterAs, arenaAfter}
+use Rattle.course_states.specs.Worlds.{epoch, uuid, made}
+use Rattle.course_states.proofs.Calls.{createNear, findCallNear, find-call-near, unlinkNear, unlink-near}
+use Rattle.course_states.proofs.States.{handle, rootTable, freshArena, freshWorld, aMeta, aArena, aWorld, bSlots, bMeta, bArena, bWorld, cSlots, cMeta, cArena, cWorld}
+use Rattle.course_states.proofs.Steps.{computed, fresh-admitted, fresh-made, a-made, a-admitted, b-made, c-admitted}
+use Rattle.cheats.specs.Cheats.{CreateInput, UnlinkInput}
+
+-- a byte of an arena
+unfoldable pub byte : ℕ → List ℕ → ℕ
+byte k a = getD a k 0
+
+-- ---- create
+
+-- `a`, in the fresh image
+unfoldable pub createA : CreateInput
+createA = record {
+  arena = freshArena;
+  table = rootTable;
+  handle = handle 0 1;
+  name = 97 ∷ [];
+  kind = typeFile;
+  mode = 420;
+  time = epoch;
+  file = uuid 2;
+}
+
+pub a-done : callCreate freshArena rootTable (handle 0 1) (97 ∷ []) typeFile 420 epoch (uuid 2)
+    ≡ done (record { arena = aWorld .arena; table = aWorld .table; handle = handle 1 2 })
+unfolding made freshWorld
+a-done = a-made
+
+-- the empty name, in the fresh image
+unfoldable pub createEmpty : CreateInput
+createEmpty = record {
+  arena = freshArena;
+  table = rootTable;
+  handle = handle 0 1;
+  name = [];
+  kind = typeFile;
+  mode = 420;
+  time = epoch;
+  file = uuid 2;
+}
+
+empty-near : createNear freshArena rootTable (handle 0 1) [] typeFile 420 epoch (uuid 2) ≡ refused 12
+unfolding computed createNear rootTable freshArena
+empty-near = refl
+
+pub empty-refused : callCreate freshArena rootTable (handle 0 1) [] typeFile 420 epoch (uuid 2) ≡ refused 12
+unfolding made freshWorld
+empty-refused = fresh-made [] typeFile 2 ∙ empty-near
+
+-- `b`, after `a`
+pub b-done : callCreate (aWorld .arena) (aWorld .table) (handle 0 1) (98 ∷ []) typeFile 420 epoch (uuid 3)
+    ≡ done (record { arena = bWorld .arena; table = bWorld .table; handle = handle 2 3 })
+unfolding made aWorld
+b-done = b-made
+
+-- block 5 is free in the fresh image and used with `a`; block 7 is free with `a` and used with `b`
+pub fresh-five : byte 2560 freshArena ≡ 0
+unfolding computed byte freshArena
+fresh-five = refl
+
+pub a-five : byte 2560 (aWorld .arena) ≡ 1
+unfolding computed byte aMeta aArena aWorld
+a-five = refl
+
+pub a-seven : byte 3584 (aWorld .arena) ≡ 0
+unfolding computed byte aMeta aArena aWorld
+a-seven = refl
+
+pub b-seven : byte 3584 (bWorld .arena) ≡ 1
+unfolding computed byte bSlots bMeta bArena bWorld
+b-seven = refl
+
+-- ---- find `a`, before it is made and after
+
+before-near : findCallNear freshArena rootTable (handle 0 1) (97 ∷ []) ≡ refused 11
+unfolding computed findCallNear rootTable freshArena
+before-near = refl
+
+pub find-before : gotOf (callFind freshArena rootTable (handle 0 1) (97 ∷ [])) ≡ gots.Refused 11
+find-before = ap gotOf (find-call-near freshArena rootTable (handle 0 1) (97 ∷ []) fresh-admitted ∙ before-near)
+
+after-near : gotOf (findCallNear (aWorld .arena) (aWorld .table) (handle 0 1) (97 ∷ [])) ≡ gots.Held (handle 2 3)
+unfolding computed findCallNear aMeta aArena aWorld
+after-near = refl
+
+pub find-after : gotOf (callFind (aWorld .arena) (aWorld .table) (handle 0 1) (97 ∷ [])) ≡ gots.Held (handle 2 3)
+find-after = ap gotOf (find-call-near (aWorld .arena) (aWorld .table) (handle 0 1) (97 ∷ []) a-admitted) ∙ after-near
+
+-- ---- unlink: `a`, with `a`, `b` and `c` there, and the empty name
+
+unfoldable pub unlinkA : UnlinkInput
+unlinkA = record { arena = cWorld .arena; table = cWorld .table; handle = handle 0 1; name = 97 ∷ [] }
+
+unfoldable pub unlinkEmpty : UnlinkInput
+unlinkEmpty = record { arena = cWorld .arena; table = cWorld .table; handle = handle 0 1; name = [] }
+
+gone-answer-near : afterAs (cWorld .table) (unlinkNear (cWorld .arena) (cWorld .table) (handle 0 1) (97 ∷ [])) .answer ≡ answers.Done
+unfolding computed unlinkNear cSlots cMeta cArena cWorld
+gone-answer-near = refl
+
+pub gone-answer : afterAs (cWorld .table) (callUnlink (cWorld .arena) (cWorld .table) (handle 0 1) (97 ∷ [])) .answer ≡ answers.Done
+gone-answer = rw (unlink-near (cWorld .arena) (cWorld .table) (handle 0 1) (97 ∷ []) c-admitted) gone-answer-near
+
+-- byte 20 of the root's head, in block 1: the lowest byte of the folder's length, 1320 and then 1056
+pub c-length : byte 532 (cWorld .arena) ≡ 40
+unfolding computed byte cSlots cMeta cArena cWorld
+c-length = refl
+
+gone-length-near : byte 532 (arenaAfter (cWorld .arena) (unlinkNear (cWorld .arena) (cWorld .table) (handle 0 1) (97 ∷ []))) ≡ 32
+unfolding computed byte unlinkNear cSlots cMeta cArena cWorld
+gone-length-near = refl
+
+pub gone-length : byte 532 (arenaAfter (cWorld .arena) (callUnlink (cWorld .arena) (cWorld .table) (handle 0 1) (97 ∷ []))) ≡ 32
+gone-length = rw (unlink-near (cWorld .arena) (cWorld .table) (handle 0 1) (97 ∷ []) c-admitted) gone-length-near
+
+unlink-empty-near : unlinkNear (cWorld .arena) (cWorld .table) (handle 0 1) [] ≡ refused 9
+unfolding computed unlinkNear cSlots cMeta cArena cWorld
+unlink-empty-near = refl
+
+pub unlink-empty : callUnlink (cWorld .arena) (cWorld .table) (handle 0 1) [] ≡ refused 9
+unlink-empty = unlink-near (cWorld .arena) (cWorld .table) (handle 0 1) [] c-admitted ∙ unlink-empty-near

@@ -1,0 +1,201 @@
+-- "To be rejected: a port that always refuses, gives one constant answer, stores nothing, or performs only the first call of a sequence; a
+-- checker that passes or fails everything, or reports invented node and block counts". A statement for each: whatever function does so,
+-- there is an input at which the contract of the public call does not hold. The contracts are those that the code's `ensures` cite.
+use mathlib.Core.Path.{_≡_}
+use mathlib.Core.List.{List}
+use Prim.Native.Nat.{ℕ}
+use Rattle.structs.specs.declared.Timespec.{Timespec}
+use Rattle.table.specs.declared.Handle.{Handle}
+use Rattle.table.specs.declared.Table.{Table}
+use Rattle.sefs.specs.Create.{callCreate}
+use Rattle.sefs.specs.Open.{callFind}
+use Rattle.sefs.specs.Unlink.{callUnlink}
+use Rattle.calls.specs.declared.After.{After}
+use Rattle.calls.specs.declared.Answer.{Answer}
+use Rattle.calls.specs.declared.Answer.the-variants as answers
+use Rattle.calls.specs.declared.Given.{Given}
+use Rattle.calls.specs.declared.Got.{Got}
+use Rattle.calls.specs.declared.Got.the-variants as gots
+use Rattle.calls_steps.specs.Ends.{Returned}
+use Rattle.calls_create.specs.Held.{ReturnedHeld}
+use Rattle.calls_find.specs.Finds.{Gives}
+use Rattle.fsck.specs.Verdicts.{verdictOf}
+use Rattle.fsck.specs.declared.Verdict.{Verdict}
+use Rattle.fsck.specs.declared.Verdict.the-variants as verdicts
+
+-- ---- create
+
+-- what create is given
+pub record CreateInput : Type 0 where
+  pub arena : List ℕ
+  pub table : Table
+  pub handle : Handle
+  pub name : List ℕ
+  pub kind : ℕ
+  pub mode : ℕ
+  pub time : Timespec
+  pub file : List ℕ
+
+-- the arena afterwards, and the answer with its table
+pub record CreateResult : Type 0 where
+  pub arena : List ℕ
+  pub given : Given
+
+-- its contract
+unfoldable pub CreateHolds : CreateInput → CreateResult → Type 0
+CreateHolds x y =
+    ReturnedHeld (x .table) (callCreate (x .arena) (x .table) (x .handle) (x .name) (x .kind) (x .mode) (x .time) (x .file)) (x .arena)
+    (y .arena)
+    (y .given)
+
+-- the port breaks the contract at some input
+unfoldable pub CreateBroken : (CreateInput → CreateResult) → Type 0
+CreateBroken port = (x : CreateInput) × (CreateHolds x (port x) → ⊥)
+
+-- a create that always refuses
+unfoldable pub CreateRefuses : Type 0
+CreateRefuses = (port : CreateInput → CreateResult) → ((x : CreateInput) → (n : ℕ) × (port x .given .answer ≡ gots.Refused n)) → CreateBroken port
+
+-- a create with one constant answer
+unfoldable pub CreateConstant : Type 0
+CreateConstant = (port : CreateInput → CreateResult) (r : Got) → ((x : CreateInput) → port x .given .answer ≡ r) → CreateBroken port
+
+-- a create that stores nothing
+unfoldable pub CreateStoresNothing : Type 0
+CreateStoresNothing = (port : CreateInput → CreateResult) → ((x : CreateInput) → port x .arena ≡ x .arena) → CreateBroken port
+
+-- ---- unlink
+
+-- what unlink is given
+pub record UnlinkInput : Type 0 where
+  pub arena : List ℕ
+  pub table : Table
+  pub handle : Handle
+  pub name : List ℕ
+
+-- the arena afterwards, and the answer with its table
+pub record UnlinkResult : Type 0 where
+  pub arena : List ℕ
+  pub after : After
+
+-- its contract
+unfoldable pub UnlinkHolds : UnlinkInput → UnlinkResult → Type 0
+UnlinkHolds x y = Returned (x .table) (callUnlink (x .arena) (x .table) (x .handle) (x .name)) (x .arena) (y .arena) (y .after)
+
+-- the port breaks the contract at some input
+unfoldable pub UnlinkBroken : (UnlinkInput → UnlinkResult) → Type 0
+UnlinkBroken port = (x : UnlinkInput) × (UnlinkHolds x (port x) → ⊥)
+
+-- an unlink that always refuses
+unfoldable pub UnlinkRefuses : Type 0
+UnlinkRefuses = (port : UnlinkInput → UnlinkResult) → ((x : UnlinkInput) → (n : ℕ) × (port x .after .answer ≡ answers.Refused n)) → UnlinkBroken port
+
+-- an unlink with one constant answer
+unfoldable pub UnlinkConstant : Type 0
+UnlinkConstant = (port : UnlinkInput → UnlinkResult) (r : Answer) → ((x : UnlinkInput) → port x .after .answer ≡ r) → UnlinkBroken port
+
+-- an unlink that stores nothing
+unfoldable pub UnlinkStoresNothing : Type 0
+UnlinkStoresNothing = (port : UnlinkInput → UnlinkResult) → ((x : UnlinkInput) → port x .arena ≡ x .arena) → UnlinkBroken port
+
+-- ---- find, which leaves the arena
+
+-- its contract: the answer and the table
+unfoldable pub FindHolds : List ℕ → Table → Handle → List ℕ → Given → Type 0
+FindHolds a t h name r = Gives t (callFind a t h name) r
+
+-- the port breaks the contract at some input
+unfoldable pub FindBroken : (List ℕ → Table → Handle → List ℕ → Given) → Type 0
+FindBroken port = (a : List ℕ) × (t : Table) × (h : Handle) × (name : List ℕ) × (FindHolds a t h name (port a t h name) → ⊥)
+
+-- a find that always refuses
+unfoldable pub FindRefuses : Type 0
+FindRefuses = (port : List ℕ → Table → Handle → List ℕ → Given)
+    → ((a : List ℕ) (t : Table) (h : Handle) (name : List ℕ) → (n : ℕ) × (port a t h name .answer ≡ gots.Refused n))
+    → FindBroken port
+
+-- a find with one constant answer
+unfoldable pub FindConstant : Type 0
+FindConstant = (port : List ℕ → Table → Handle → List ℕ → Given) (r : Got)
+    → ((a : List ℕ) (t : Table) (h : Handle) (name : List ℕ) → port a t h name .answer ≡ r)
+    → FindBroken port
+
+-- ---- a sequence of two calls: a second call starts from what the first left
+
+-- a second create, of another name with another file
+unfoldable pub onward : CreateInput → CreateResult → List ℕ → List ℕ → CreateInput
+onward x y name file = record {
+  arena = y .arena;
+  table = y .given .table;
+  handle = x .handle;
+  name = name;
+  kind = x .kind;
+  mode = x .mode;
+  time = x .time;
+  file = file;
+}
+
+-- what the two calls leave
+pub record TwoResults : Type 0 where
+  pub first : CreateResult
+  pub second : CreateResult
+
+-- both contracts
+unfoldable pub TwoHold : CreateInput → List ℕ → List ℕ → TwoResults → Type 0
+TwoHold x name file r = CreateHolds x (r .first) × CreateHolds (onward x (r .first) name file) (r .second)
+
+-- a port that performs only the first: after the second the arena is what the first left
+unfoldable pub OnlyFirst : Type 0
+OnlyFirst = (port : CreateInput → List ℕ → List ℕ → TwoResults)
+    → ((x : CreateInput) (name file : List ℕ) → port x name file .second .arena ≡ port x name file .first .arena)
+    → (x : CreateInput) × (name : List ℕ) × (file : List ℕ) × (TwoHold x name file (port x name file) → ⊥)
+
+-- a create, and then a find of the same name
+pub record CreateFind : Type 0 where
+  pub created : CreateResult
+  pub found : Given
+
+-- both contracts: the find starts from what the create left
+unfoldable pub CreateFindHolds : CreateInput → CreateFind → Type 0
+CreateFindHolds x r =
+    CreateHolds x (r .created) × FindHolds (r .created .arena) (r .created .given .table) (x .handle) (x .name) (r .found)
+
+-- a port whose find answers as if the create had not been
+unfoldable pub BlindFind : Type 0
+BlindFind = (port : CreateInput → CreateFind)
+    → ((x : CreateInput) → FindHolds (x .arena) (x .table) (x .handle) (x .name) (port x .found))
+    → (x : CreateInput) × (CreateFindHolds x (port x) → ⊥)
+
+-- ---- the checker, whose contract is an equation
+
+-- the port breaks the contract at some image
+unfoldable pub CheckBroken : (List ℕ → Table → Verdict) → Type 0
+CheckBroken port = (a : List ℕ) × (t : Table) × (port a t ≡ verdictOf a t → ⊥)
+
+-- a checker that passes everything, with whatever counts
+unfoldable pub PassesAll : Type 0
+PassesAll = (port : List ℕ → Table → Verdict)
+    → ((a : List ℕ) (t : Table) → (n : ℕ) × (u : ℕ) × (f : ℕ) × (port a t ≡ verdicts.Pass n u f))
+    → CheckBroken port
+
+-- one that fails everything, by whatever rules
+unfoldable pub FailsAll : Type 0
+FailsAll = (port : List ℕ → Table → Verdict) → ((a : List ℕ) (t : Table) → (r : ℕ) × (port a t ≡ verdicts.Fail r)) → CheckBroken port
+
+-- one that invents the number of nodes: all its passes report the same one
+unfoldable pub InventsNodes : Type 0
+InventsNodes = (port : List ℕ → Table → Verdict) (m : ℕ)
+    → ((a : List ℕ) (t : Table) (n u f : ℕ) → port a t ≡ verdicts.Pass n u f → n ≡ m)
+    → CheckBroken port
+
+-- one that invents the number of unused ids
+unfoldable pub InventsUnused : Type 0
+InventsUnused = (port : List ℕ → Table → Verdict) (m : ℕ)
+    → ((a : List ℕ) (t : Table) (n u f : ℕ) → port a t ≡ verdicts.Pass n u f → u ≡ m)
+    → CheckBroken port
+
+-- one that invents the number of free blocks
+unfoldable pub InventsFree : Type 0
+InventsFree = (port : List ℕ → Table → Verdict) (m : ℕ)
+    → ((a : List ℕ) (t : Table) (n u f : ℕ) → port a t ≡ verdicts.Pass n u f → f ≡ m)
+    → CheckBroken port

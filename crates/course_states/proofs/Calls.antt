@@ -1,0 +1,210 @@
+-- The calls of the examples with less work: each is its definition, line by line, with the readings of Near in place of the definition's
+-- own, and is proved equal to it where arena and table are admitted.
+use mathlib.Core.Path.{_≡_}
+use mathlib.Core.Bool.{Bool, true, false, not, _&&_, _||_}
+use mathlib.Core.List.{List}
+use Prim.Native.Nat.{ℕ, _-_, _*_}
+use native.Mathlib.Omega.{arith}
+use lib.Dec.{eqb, ltb, leb}
+use Rattle.base.specs.Out.{Out, done, refused, bind, guard, ensure, _>>=_}
+use Rattle.base.specs.Reasons.{stuck, tableFull, invalidParam, fileTaken, tooManyLinks, dirRemoved}
+use Rattle.base.specs.Search.{pick}
+use Rattle.base.specs.declared.Found.{Found}
+use Rattle.base.specs.declared.Found.the-variants.{At, Nothing}
+use Rattle.structs.specs.Layout.{recordOf}
+use Rattle.structs.specs.Verdict.{isFolder, isType}
+use Rattle.structs.specs.declared.Timespec.{Timespec}
+use Rattle.utf8.specs.Names.{isDots}
+use Rattle.table.specs.Table.{rowAt, rowOf, freeRow, canHold, addHold}
+use Rattle.table.specs.declared.Added.{Added}
+use Rattle.table.specs.declared.Handle.{Handle}
+use Rattle.table.specs.declared.Table.{Table}
+use Rattle.arena.specs.Fields.{file}
+use Rattle.files.specs.Read.{there}
+use Rattle.files.specs.Store.{cutFile}
+use Rattle.sefs.specs.State.{Fs, withArena}
+use Rattle.sefs.specs.Records.{withBlocks}
+use Rattle.sefs.specs.Meta.{metaFile, isUsed}
+use Rattle.sefs.specs.Nodes.{Opened, nodeFile, recAt, setRec, openIn, openAt, loadNode, getNode, syncRow, release}
+use Rattle.sefs.specs.Slots.{orNotFound}
+use Rattle.sefs.specs.Folders.{putSlot, direntRemove, nlinksDec, unlinkFolder, direntNodeRemove}
+use Rattle.sefs.specs.Ask.{admit, byHandle, goodName, notLong, notSpecial, known, folder, liveFolder, orExists, start}
+use Rattle.sefs.specs.Open.{holdNode, callRoot, callFind}
+use Rattle.sefs.specs.Create.{After, after, Given, createSteps, callCreate}
+use Rattle.sefs.specs.Unlink.{notFull, unlinkSteps, callUnlink}
+use Rattle.course_states.proofs.Near.{readNear, read-near, metaNear, meta-near, slotBytesNear, slot-bytes-near, lookNear, look-near, findNear, find-near}
+
+unfoldable pub startNear : List ℕ → Table → Fs
+startNear a t = record { arena = a; table = t; meta = metaNear a }
+
+start-near : (a : List ℕ) (t : Table) → start a t ≡ startNear a t
+unfolding startNear
+start-near a t = λ j. record { arena = a; table = t; meta = meta-near a j }
+
+-- ---- a node opened
+
+unfoldable pub loadNear : Fs → ℕ → Out Opened
+loadNear s id = do
+  l ← readNear (s .arena) metaFile (128 * id) 112
+  guard (leb (recordOf l .kind) 4) stuck (guard (there (s .arena) (nodeFile (recordOf l))) stuck
+      (openIn s id (recordOf l) false (freeRow (s .table))))
+
+load-near : (s : Fs) (id : ℕ) → loadNode s id ≡ loadNear s id
+unfolding loadNode loadNear
+load-near s id =
+    λ j. bind (read-near (s .arena) metaFile (128 * id) 112 (omega arith) j)
+    (λ l. guard (leb (recordOf l .kind) 4) stuck (guard (there (s .arena) (nodeFile (recordOf l))) stuck
+    (openIn s id (recordOf l) false (freeRow (s .table)))))
+
+unfoldable pub openNear : Fs → ℕ → Found → Out Opened
+openNear s id (At i) = openAt s id (At i)
+openNear s id Nothing = loadNear s id
+
+open-near : (s : Fs) (id : ℕ) (f : Found) → openAt s id f ≡ openNear s id f
+unfolding openNear
+open-near s id (At i) = λ j. openAt s id (At i)
+open-near s id Nothing = load-near s id
+
+unfoldable pub getNear : Fs → ℕ → Out Opened
+getNear s id = do
+  m ← s .meta
+  guard (isUsed m id) stuck (openNear s id (rowOf (s .table) id))
+
+get-near : (s : Fs) (id : ℕ) → getNode s id ≡ getNear s id
+unfolding getNode getNear
+get-near s id = λ j. bind (s .meta) (λ m. guard (isUsed m id) stuck (open-near s id (rowOf (s .table) id) j))
+
+unfoldable pub holdNear : Fs → ℕ → Out Added
+holdNear s id = do
+  o ← getNear s id
+  done (addHold (o .state .table) (o .row))
+
+hold-near : (s : Fs) (id : ℕ) → holdNode s id ≡ holdNear s id
+unfolding holdNode holdNear
+hold-near s id = λ j. bind (get-near s id j) (λ o. done (addHold (o .state .table) (o .row)))
+
+-- ---- root
+
+unfoldable pub rootNear : List ℕ → Table → Out Added
+rootNear a t = do
+  _ ← ensure (canHold t) tableFull
+  holdNear (startNear a t) 2
+
+pub root-near : (a : List ℕ) (t : Table) → admit a t ≡ done tt → callRoot a t ≡ rootNear a t
+unfolding callRoot rootNear
+root-near a t ok = λ j. bind (ok j) (λ _. bind (ensure (canHold t) tableFull) (λ _. hold-near (start-near a t j) 2 j))
+
+-- ---- find
+
+unfoldable pub findCallNear : List ℕ → Table → Handle → List ℕ → Out Added
+findCallNear a t h name = do
+  i ← byHandle t h
+  _ ← goodName name
+  _ ← known (rowAt t i .rec)
+  _ ← folder (rowAt t i .rec)
+  _ ← notLong name
+  _ ← ensure (not (isDots name && eqb (rowAt t i .rec .nlinks) 0)) dirRemoved
+  s ← findNear a (rowAt t i .rec) name
+  _ ← ensure (canHold t) tableFull
+  holdNear (startNear a t) (s .entry .id)
+
+pub find-call-near : (a : List ℕ) (t : Table) (h : Handle) (name : List ℕ) → admit a t ≡ done tt → callFind a t h name ≡ findCallNear a t h name
+unfolding callFind findCallNear
+find-call-near a t h name ok =
+    λ j. bind (ok j)
+    (λ _. bind (byHandle t h)
+    (λ i. bind (goodName name)
+    (λ _. bind (known (rowAt t i .rec))
+    (λ _. bind (folder (rowAt t i .rec))
+    (λ _. bind (notLong name)
+    (λ _. bind (ensure (not (isDots name && eqb (rowAt t i .rec .nlinks) 0)) dirRemoved)
+    (λ _. bind (find-near a (rowAt t i .rec) name j)
+    (λ s. bind (ensure (canHold t) tableFull) (λ _. hold-near (start-near a t j) (s .entry .id) j)))))))))
+
+-- ---- create
+
+unfoldable pub createNear : List ℕ → Table → Handle → List ℕ → ℕ → ℕ → Timespec → List ℕ → Out Given
+createNear a t h name kind mode time uuid = do
+  i ← byHandle t h
+  _ ← goodName name
+  _ ← ensure (isType kind) invalidParam
+  _ ← liveFolder (rowAt t i .rec)
+  _ ← notLong name
+  f ← lookNear a (rowAt t i .rec) name
+  _ ← orExists f
+  _ ← ensure (not (there a (file 1 uuid))) fileTaken
+  _ ← ensure (not (isFolder kind && eqb (rowAt t i .rec .nlinks) 65535)) tooManyLinks
+  _ ← ensure (canHold t) tableFull
+  createSteps (startNear a t) i name kind mode time uuid
+
+pub create-near : (a : List ℕ) (t : Table) (h : Handle) (name : List ℕ) (kind mode : ℕ) (time : Timespec) (uuid : List ℕ)
+    → admit a t ≡ done tt → callCreate a t h name kind mode time uuid ≡ createNear a t h name kind mode time uuid
+unfolding callCreate createNear
+create-near a t h name kind mode time uuid ok =
+    λ j. bind (ok j)
+    (λ _. bind (byHandle t h)
+    (λ i. bind (goodName name)
+    (λ _. bind (ensure (isType kind) invalidParam)
+    (λ _. bind (liveFolder (rowAt t i .rec))
+    (λ _. bind (notLong name)
+    (λ _. bind (look-near a (rowAt t i .rec) name j)
+    (λ f. bind (orExists f)
+    (λ _. bind (ensure (not (there a (file 1 uuid))) fileTaken)
+    (λ _. bind (ensure (not (isFolder kind && eqb (rowAt t i .rec .nlinks) 65535)) tooManyLinks)
+    (λ _. bind (ensure (canHold t) tableFull) (λ _. createSteps (start-near a t j) i name kind mode time uuid)))))))))))
+
+-- ---- unlink
+
+unfoldable pub removeNear : Fs → ℕ → ℕ → Out Fs
+removeNear s i k =
+    guard (ltb 0 (recAt s i .blocks)) stuck (do
+      l ← slotBytesNear (s .arena) (recAt s i) (recAt s i .blocks - 1)
+      s ← pick (eqb k (recAt s i .blocks - 1)) (done s) (putSlot s i k l)
+      a ← cutFile (s .arena) (nodeFile (recAt s i)) (264 * (recAt s i .blocks - 1))
+      done (setRec (withArena s a) i (withBlocks (recAt s i) (recAt s i .blocks - 1))))
+
+remove-near : (s : Fs) (i k : ℕ) → direntRemove s i k ≡ removeNear s i k
+unfolding direntRemove removeNear
+remove-near s i k =
+    λ j. guard (ltb 0 (recAt s i .blocks)) stuck
+    (bind (slot-bytes-near (s .arena) (recAt s i) (recAt s i .blocks - 1) j)
+    (λ l. bind (pick (eqb k (recAt s i .blocks - 1)) (done s) (putSlot s i k l))
+    (λ s. bind (cutFile (s .arena) (nodeFile (recAt s i)) (264 * (recAt s i .blocks - 1)))
+    (λ a. done (setRec (withArena s a) i (withBlocks (recAt s i) (recAt s i .blocks - 1)))))))
+
+unfoldable pub unlinkStepsNear : Fs → ℕ → ℕ → ℕ → Out After
+unlinkStepsNear s i c k = do
+  s ← bind (removeNear s i k) (λ s. bind (nlinksDec s c) (λ s. bind (pick (isFolder (recAt s c .kind)) (unlinkFolder s i c) (done s)) (λ s. release s c)))
+  s ← syncRow s i
+  done (after s)
+
+unlink-steps-near : (s : Fs) (i c k : ℕ) → unlinkSteps s i c k ≡ unlinkStepsNear s i c k
+unfolding unlinkSteps direntNodeRemove unlinkStepsNear
+unlink-steps-near s i c k =
+    λ j. bind (bind (remove-near s i k j) (λ s. bind (nlinksDec s c) (λ s. bind (pick (isFolder (recAt s c .kind)) (unlinkFolder s i c) (done s)) (λ s. release s c))))
+    (λ s. bind (syncRow s i) (λ s. done (after s)))
+
+unfoldable pub unlinkNear : List ℕ → Table → Handle → List ℕ → Out After
+unlinkNear a t h name = do
+  i ← byHandle t h
+  _ ← goodName name
+  _ ← liveFolder (rowAt t i .rec)
+  _ ← notSpecial name
+  _ ← notLong name
+  s ← findNear a (rowAt t i .rec) name
+  o ← getNear (startNear a t) (s .entry .id)
+  _ ← notFull (recAt (o .state) (o .row))
+  unlinkStepsNear (o .state) i (o .row) (s .place)
+
+pub unlink-near : (a : List ℕ) (t : Table) (h : Handle) (name : List ℕ) → admit a t ≡ done tt → callUnlink a t h name ≡ unlinkNear a t h name
+unfolding callUnlink unlinkNear
+unlink-near a t h name ok =
+    λ j. bind (ok j)
+    (λ _. bind (byHandle t h)
+    (λ i. bind (goodName name)
+    (λ _. bind (liveFolder (rowAt t i .rec))
+    (λ _. bind (notSpecial name)
+    (λ _. bind (notLong name)
+    (λ _. bind (find-near a (rowAt t i .rec) name j)
+    (λ s. bind (get-near (start-near a t j) (s .entry .id) j)
+    (λ o. bind (notFull (recAt (o .state) (o .row))) (λ _. unlink-steps-near (o .state) i (o .row) (s .place) j)))))))))

@@ -1,0 +1,4 @@
+pub mod Near
+pub mod Calls
+pub mod States
+pub mod Steps
