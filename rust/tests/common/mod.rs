@@ -3,6 +3,8 @@
 pub mod damage;
 pub mod script;
 
+use std::sync::atomic::{AtomicU64, Ordering};
+
 use dzomrelig::{FileName, Handle, Image, Kind, Reason, Time};
 
 /// The time of every call that takes one; before 1970, so that signs are tried too.
@@ -24,10 +26,10 @@ pub fn fresh(blocks: usize) -> (Image, Handle) {
     (image, root)
 }
 
-/// A new node whose file's name is made from the image's own bytes, so that it is new each time.
+/// A new node, its file's name new in every call.
 pub fn create(image: &mut Image, folder: Handle, name: &str, kind: Kind) -> Result<Handle, Reason> {
-    let number = image.table()[4362..].iter().rev().fold(0, |n, &b| n << 8 | u64::from(b));
-    image.create(folder, name, kind, 0o644, TIME, file(number))
+    static NEXT: AtomicU64 = AtomicU64::new(1 << 32);
+    image.create(folder, name, kind, 0o644, TIME, file(NEXT.fetch_add(1, Ordering::Relaxed)))
 }
 
 /// The names of a folder after `.` and `..`.

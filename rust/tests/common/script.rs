@@ -7,6 +7,9 @@ const SCRIPT_MOST: usize = 1 << 20;
 const ARENA_MOST: usize = BLOCK * (BLOCKS_MOST + 1);
 const OUT: usize = 8192;
 const NAME_MOST: usize = 1024;
+/// A row of the table: id, dirty mark, record.
+const ROW: usize = 4 + 1 + 112;
+const ROWS: usize = 34;
 
 /// What ends a script that breaks the format.
 struct BadScript;
@@ -68,9 +71,37 @@ impl<'a> Reader<'a> {
     }
 }
 
+const PRIME: u64 = 4_294_967_291;
+
 /// The sum of the lines: h becomes h x 257 + b + 1, modulo a prime.
 pub fn sum(bytes: &[u8]) -> u64 {
-    bytes.iter().fold(0, |h, &b| (h * 257 + u64::from(b) + 1) % 4_294_967_291)
+    bytes.iter().fold(0, |h, &b| (h * 257 + u64::from(b) + 1) % PRIME)
+}
+
+/// The same sum of an arena, whose blocks are summed again only where they changed.
+#[derive(Default)]
+struct Sums {
+    bytes: Vec<u8>,
+    /// Of each block its own sum, and what the sum before it is multiplied by.
+    blocks: Vec<(u64, u64)>,
+}
+
+impl Sums {
+    fn sum(&mut self, bytes: &[u8]) -> u64 {
+        if self.bytes.len() != bytes.len() {
+            *self = Sums { bytes: vec![0; bytes.len()], blocks: vec![(0, 0); bytes.len().div_ceil(BLOCK)] };
+        }
+        let mut h = 0;
+        for ((old, new), (own, power)) in self.bytes.chunks_mut(BLOCK).zip(bytes.chunks(BLOCK)).zip(&mut self.blocks) {
+            if *power == 0 || old != new {
+                old.copy_from_slice(new);
+                *own = sum(new);
+                *power = new.iter().fold(1, |p, _| p * 257 % PRIME);
+            }
+            h = (h * *power + *own) % PRIME;
+        }
+        h
+    }
 }
 
 fn times(t: Time) -> String {
@@ -95,8 +126,7 @@ fn done(answer: Result<(), Reason>) -> String {
 
 struct Replay {
     image: Image,
-    /// The sum of the arena, kept while it is the same bytes.
-    arena: Option<(Vec<u8>, u64)>,
+    arena: Sums,
     text: String,
 }
 
@@ -104,24 +134,11 @@ impl Replay {
     fn new() -> Replay {
         let mut table = [0; TABLE];
         table[TABLE - 8] = 1;
-        Replay { image: Image::from_parts(vec![0; BLOCK * BLOCKS_LEAST], table), arena: None, text: String::new() }
-    }
-
-    fn sums(&mut self) -> (u64, u64) {
-        let bytes = self.image.bytes();
-        let a = match &self.arena {
-            Some((known, a)) if known == bytes => *a,
-            _ => {
-                let a = sum(bytes);
-                self.arena = Some((bytes.to_vec(), a));
-                a
-            }
-        };
-        (a, sum(self.image.table()))
+        Replay { image: Image::from_parts(vec![0; BLOCK * BLOCKS_LEAST], table), arena: Sums::default(), text: String::new() }
     }
 
     fn line(&mut self, name: &str, answer: String) {
-        let (a, t) = self.sums();
+        let (a, t) = (self.arena.sum(self.image.bytes()), sum(self.image.table()));
         writeln!(self.text, "{name} {answer} a {a} t {t}").unwrap();
     }
 
@@ -148,7 +165,14 @@ impl Replay {
                 }
                 self.set_arena(bytes);
             }
-            4 => self.image = Image::from_parts(self.image.bytes(), s.array()?),
+            4 => {
+                // any dirty mark but 0 is written as 1
+                let mut table: [u8; TABLE] = s.array()?;
+                for row in table.chunks_exact_mut(ROW).take(ROWS) {
+                    row[4] = u8::from(row[4] != 0);
+                }
+                self.image = Image::from_parts(self.image.bytes(), table);
+            }
             16 => {
                 let (time, file) = (s.time()?, s.file()?);
                 let answer = self.image.reformat(time, file);
