@@ -85,8 +85,8 @@ def full(blocks, files):
 
 def build():
     os.makedirs(OUT, exist_ok=True)
-    objects = [os.path.join(OUT, f"{library}.o") for library in ("bench_calls", "bench")]
-    for library, made in zip(("bench_calls", "bench"), objects):
+    objects = [os.path.join(OUT, f"{library}.o") for library in ("edge", "bench")]
+    for library, made in zip(("edge", "bench"), objects):
         subprocess.run([os.path.join(TOP, "tests", "native"), library, made], check=True)
     host = os.path.join(OUT, "calls")
     subprocess.run(["cc", "-O2", "-o", host, os.path.join(TOP, "tests", "bench", "calls.c"), *objects], check=True)

@@ -1,5 +1,5 @@
 #!/usr/bin/env python3
-"""frames.py ARCHIVE [PREFIX]: how deep the stack can go below each function whose name has the prefix (call_), from its x86-64 code.
+"""frames.py ARCHIVE [PREFIX]: how deep the stack can go below each function whose name has the prefix (dz_), from its x86-64 code.
 
 A function's frame is what it pushes and what it takes from the stack pointer; the depth is its frame and that of the deepest function that it
 calls, with 8 bytes for each return address. A function of the C library counts nothing (memcpy, memset, memcmp).
@@ -53,7 +53,7 @@ def depth(name, found, known):
 
 def main():
     found, known = functions(sys.argv[1]), {}
-    prefix = sys.argv[2] if len(sys.argv) > 2 else "call_"
+    prefix = sys.argv[2] if len(sys.argv) > 2 else "dz_"
     calls = sorted((depth(n, found, known) for n in found if n.startswith(prefix)), reverse=True)
     for deep, way in calls:
         print(f"{way[0][0]} {deep}: " + ", ".join(f"{n} {f}" for n, f in way[:6]))

@@ -1,0 +1,58 @@
+-- `edge::dz_link`: 255 where a size is wrong; else the call on what it is given, and how it ends.
+use mathlib.Core.Path.{sym, _∙_}
+use Rattle.sefs.specs.Create.{callLink}
+use Rattle.edge.proofs.Laws.{sized-is, sized-not, leaves-not, leaves}
+use borrow.Author.Needs.{needs}
+use Rattle.edge.proofs.dz_link.Statement.{statement}
+use Rattle.edge.proofs.dz_link.Tie as tie
+
+returns : tie.Need-returns
+returns c =
+    let s = c .before .before .before .before in
+    leaves-not (sized-not 4370 (s .args .table .now) _ (c .if1 .taken))
+
+handle-requires : tie.Need-handle-requires
+handle-requires c κs = search needs
+
+read-table-requires : tie.Need-read-table-requires
+read-table-requires c κs = search needs
+
+handle-requires-2 : tie.Need-handle-requires-2
+handle-requires-2 c κs = search needs
+
+link-requires : tie.Need-link-requires
+link-requires c κs = search needs
+
+end-after-requires : tie.Need-end-after-requires
+end-after-requires c κs = search needs
+
+same-length : tie.Need-same-length
+same-length c = search needs
+
+same-length-2 : tie.Need-same-length-2
+same-length-2 c = search needs
+
+returns-2 : tie.Need-returns-2
+returns-2 c =
+    let e = c .before .before in
+    let f = e .before .before .before .before in
+    let h = f .before in
+    let r = h .before in
+    let g = r .before .before .before in
+    let i = g .before in
+    let s = i .before .before .before .before in
+    leaves (sized-is 4370 (s .args .table .now) _ (i .if1 .left) ∙ (λ x. callLink (s .args .arena .now) (sym (r .read-table .ensures) x) (sym (h .handle2 .ensures) x) (s .args .name .now) (sym (g .handle .ensures) x))) (f .link .ensures) (e .end-after .ensures)
+
+pub dz-link-spec : {M : Type 1} → statement M
+dz-link-spec =
+    tie.close
+    (tie.spec
+    returns
+    handle-requires
+    read-table-requires
+    handle-requires-2
+    link-requires
+    end-after-requires
+    same-length
+    same-length-2
+    returns-2)

@@ -1,0 +1,70 @@
+// A font's image in a file: a folder with two glyphs, listed and checked. glyphs IMAGE.
+#include <stdio.h>
+#include <stdlib.h>
+#include <string.h>
+#include "dzomrelig.h"
+
+static uint8_t arena[64 * DZ_BLOCK], table[DZ_TABLE];
+
+// A call that is refused ends the program, with the reason's name.
+static void must(const char *what, uint32_t reason)
+{
+    if (reason == DZ_DONE) return;
+    fprintf(stderr, "%s: %s\n", what, dz_reason_name(reason));
+    exit(1);
+}
+
+// Each node has a file of its own, under a name that no other node has.
+static const uint8_t *new_file(void)
+{
+    static uint8_t name[DZ_FILE_NAME];
+    name[0]++;
+    return name;
+}
+
+static dz_handle_t create(dz_handle_t folder, const char *name, uint32_t type)
+{
+    dz_handle_t made = {0, 0};
+    must(name, dz_create(arena, sizeof arena, table, DZ_TABLE, (uint32_t)folder.hold, folder.stamp, (const uint8_t *)name, strlen(name),
+                         type, 0644, 1700000000, 0, new_file(), DZ_FILE_NAME, dz_handle_words(&made), DZ_HANDLE_WORDS));
+    return made;
+}
+
+static void close_node(dz_handle_t node)
+{
+    must("close", dz_close(arena, sizeof arena, table, DZ_TABLE, (uint32_t)node.hold, node.stamp));
+}
+
+int main(int n, char **words)
+{
+    dz_handle_t root = {0, 0};
+    must("format", dz_format(arena, sizeof arena, table, DZ_TABLE, 1700000000, 0, new_file(), DZ_FILE_NAME));
+    must("root", dz_root(arena, sizeof arena, table, DZ_TABLE, dz_handle_words(&root), DZ_HANDLE_WORDS));
+
+    dz_handle_t folder = create(root, "glyphs", DZ_FOLDER);
+    close_node(create(folder, "A", DZ_FILE));
+    close_node(create(folder, "Ж", DZ_FILE));
+
+    uint8_t slots[8 * DZ_SLOT];
+    uint64_t next = 0;
+    must("list", dz_list(arena, sizeof arena, table, DZ_TABLE, (uint32_t)folder.hold, folder.stamp, &next, DZ_NEXT_WORDS, slots, sizeof slots));
+    for (uint64_t i = 0; i < next; i++)
+        printf("%u %s\n", (unsigned)dz_slot_id(slots + i * DZ_SLOT), dz_slot_name(slots + i * DZ_SLOT));
+
+    // a name that is taken: the call says so, and nothing has changed
+    dz_handle_t none = {0, 0};
+    uint32_t reason = dz_create(arena, sizeof arena, table, DZ_TABLE, (uint32_t)folder.hold, folder.stamp, (const uint8_t *)"A", 1, DZ_FILE, 0644,
+                                1700000000, 0, new_file(), DZ_FILE_NAME, dz_handle_words(&none), DZ_HANDLE_WORDS);
+    printf("a second A: %s\n", dz_reason_name(reason));
+
+    close_node(folder);
+    close_node(root);
+    dz_counts_t counts = {0, 0, 0};
+    uint32_t rule = dz_check(arena, sizeof arena, table, DZ_TABLE, dz_counts_words(&counts), DZ_COUNTS_WORDS);
+    if (rule) return fprintf(stderr, "check: rule %u fails\n", (unsigned)rule), 1;
+    printf("checked: %u nodes, %u blocks free\n", (unsigned)counts.nodes, (unsigned)counts.free);
+
+    FILE *file = n > 1 ? fopen(words[1], "wb") : NULL;
+    if (!file || fwrite(arena, 1, sizeof arena, file) != sizeof arena || fclose(file)) return perror("glyphs IMAGE"), 1;
+    return 0;
+}

@@ -1,0 +1,221 @@
+/* Dzomrelig at the C edge: the fifteen calls of document 01, proved (crates/edge). Plain C11, usable from C++.
+ *
+ * How the calls take and give things:
+ * - Arena, table, names and output are a pointer and a length. No pointer is null, and a slice that a call may change overlaps no other.
+ * - The arena is 16 to 4,096 blocks of DZ_BLOCK bytes. The table of open nodes is DZ_TABLE bytes, which the caller keeps beside the arena
+ *   and hands to every call; format and open fill it. Any bytes are safe in both: a call says what is wrong with them.
+ * - A handle goes in as its two numbers and comes out as two words (dz_handle_t). Other results come out as words too: dz_metadata_t, dz_counts_t.
+ * - A call returns 0, or a reason. With a reason it has changed nothing: no byte of arena, table or output, no word.
+ * - DZ_WRONG_SIZE: the table is not DZ_TABLE bytes, a file's name not DZ_FILE_NAME, or the words not as many as the result has. Nothing was called.
+ * - Nothing is kept between calls, and nothing is allocated. Calls on different images may run at the same time.
+ *
+ * Where more than one reason holds, the first in the order that stands at the call is given. DZ_NO_DEVICE_SPACE and DZ_STUCK, where they
+ * stand last, come at the step that can't be done: a lookup or an opening that sticks says so before the reasons that it decides. */
+#ifndef DZOMRELIG_H
+#define DZOMRELIG_H
+
+#include <stddef.h>
+#include <stdint.h>
+
+#ifdef __cplusplus
+extern "C" {
+#endif
+
+/* ---- sizes */
+
+#define DZ_BLOCK 512          /* a block of the arena */
+#define DZ_BLOCKS_LEAST 16
+#define DZ_BLOCKS_MOST 4096
+#define DZ_TABLE 4370         /* the table's bytes */
+#define DZ_SLOT 264           /* a slot of a folder, as get entry and listing write it */
+#define DZ_FILE_NAME 16       /* the name of a node's own file, new for every node */
+#define DZ_NAME_LONGEST 255   /* a name in a folder: UTF-8, with no zero byte */
+
+/* ---- types */
+
+#define DZ_FILE 1
+#define DZ_FOLDER 2
+#define DZ_SYMLINK 3
+#define DZ_SOCKET 4
+
+/* ---- reasons */
+
+#define DZ_DONE 0
+#define DZ_BAD_ARENA 1        /* its length is not 16 to 4,096 whole blocks */
+#define DZ_DAMAGED 2          /* the arena is not sound */
+#define DZ_BAD_TABLE 3        /* the table is not well formed */
+#define DZ_BAD_HANDLE 4       /* not a live hold with that stamp */
+#define DZ_BAD_NAME 5         /* a zero byte inside, or not UTF-8 */
+#define DZ_INVALID_PARAM 6    /* a type that is not 1 to 4 */
+#define DZ_NOT_DIR 7
+#define DZ_DIR_REMOVED 8      /* the folder has no links left */
+#define DZ_IS_DIR 9
+#define DZ_NAME_TOO_LONG 10   /* over 255 bytes */
+#define DZ_ENTRY_NOT_FOUND 11
+#define DZ_ENTRY_EXIST 12
+#define DZ_DIR_NOT_EMPTY 13
+#define DZ_FILE_TAKEN 14      /* a node's file has that name already */
+#define DZ_TOO_MANY_LINKS 15  /* a link count of 65,535 would rise */
+#define DZ_TABLE_FULL 16      /* 32 live holds, or no stamp is left */
+#define DZ_NO_DEVICE_SPACE 17 /* no free id, or no free block */
+#define DZ_WRONG_FS 18        /* no image of this file system */
+#define DZ_STUCK 19           /* the Rust would fail an assertion here */
+#define DZ_OUT_FULL 20        /* a slot remains, and the output has no room for one */
+#define DZ_WRONG_SIZE 255     /* a slice of a fixed size has another */
+
+static inline const char *dz_reason_name(uint32_t reason)
+{
+    switch (reason) {
+    case DZ_DONE: return "Done";
+    case DZ_BAD_ARENA: return "BadArena";
+    case DZ_DAMAGED: return "Damaged";
+    case DZ_BAD_TABLE: return "BadTable";
+    case DZ_BAD_HANDLE: return "BadHandle";
+    case DZ_BAD_NAME: return "BadName";
+    case DZ_INVALID_PARAM: return "InvalidParam";
+    case DZ_NOT_DIR: return "NotDir";
+    case DZ_DIR_REMOVED: return "DirRemoved";
+    case DZ_IS_DIR: return "IsDir";
+    case DZ_NAME_TOO_LONG: return "NameTooLong";
+    case DZ_ENTRY_NOT_FOUND: return "EntryNotFound";
+    case DZ_ENTRY_EXIST: return "EntryExist";
+    case DZ_DIR_NOT_EMPTY: return "DirNotEmpty";
+    case DZ_FILE_TAKEN: return "FileTaken";
+    case DZ_TOO_MANY_LINKS: return "TooManyLinks";
+    case DZ_TABLE_FULL: return "TableFull";
+    case DZ_NO_DEVICE_SPACE: return "NoDeviceSpace";
+    case DZ_WRONG_FS: return "WrongFs";
+    case DZ_STUCK: return "Stuck";
+    case DZ_OUT_FULL: return "OutFull";
+    case DZ_WRONG_SIZE: return "WrongSize";
+    default: return "unknown";
+    }
+}
+
+/* ---- results, whose fields are the words in order */
+
+typedef struct dz_handle_t {
+    uint64_t hold; /* below 2^32 */
+    uint64_t stamp;
+} dz_handle_t;
+
+typedef struct dz_metadata_t {
+    uint64_t inode, size, mode, type, blocks;
+    int64_t atime_sec, atime_nsec, mtime_sec, mtime_nsec, ctime_sec, ctime_nsec;
+    uint64_t links, uid, gid;
+} dz_metadata_t;
+
+typedef struct dz_counts_t {
+    uint64_t nodes, unused, free;
+} dz_counts_t;
+
+#define DZ_HANDLE_WORDS 2
+#define DZ_METADATA_WORDS 14
+#define DZ_COUNTS_WORDS 3
+#define DZ_NEXT_WORDS 1
+
+static inline uint64_t *dz_handle_words(dz_handle_t *handle) { return (uint64_t *)(void *)handle; }
+static inline uint64_t *dz_metadata_words(dz_metadata_t *metadata) { return (uint64_t *)(void *)metadata; }
+static inline uint64_t *dz_counts_words(dz_counts_t *counts) { return (uint64_t *)(void *)counts; }
+
+/* A slot's parts: the node's number, the name (ended by a zero), the type. */
+static inline uint32_t dz_slot_id(const uint8_t *slot) { return slot[0] | (uint32_t)slot[1] << 8 | (uint32_t)slot[2] << 16 | (uint32_t)slot[3] << 24; }
+static inline const char *dz_slot_name(const uint8_t *slot) { return (const char *)slot + 4; }
+static inline uint32_t dz_slot_type(const uint8_t *slot) { return dz_slot_id(slot + 260); }
+
+/* ---- the whole image */
+
+/* Clears the arena and makes a fresh image with an empty root folder; the table becomes the empty one. `file` is the root's file name.
+ * Changes: arena, table. Reasons: BadArena. */
+uint32_t dz_format(uint8_t *arena, size_t arena_len, uint8_t *table, size_t table_len,
+                   int64_t sec, int64_t nsec, const uint8_t *file, size_t file_len);
+
+/* Sees that the arena is an image; the table becomes the empty one, and handles from before are gone.
+ * Changes: table. Reasons: BadArena, Damaged, WrongFs; Stuck. */
+uint32_t dz_open(const uint8_t *arena, size_t arena_len, uint8_t *table, size_t table_len);
+
+/* Stores all records that were changed in the table only, the superblock and the maps.
+ * Changes: arena, table. Reasons: BadArena, Damaged, BadTable; NoDeviceSpace, Stuck. */
+uint32_t dz_sync(uint8_t *arena, size_t arena_len, uint8_t *table, size_t table_len);
+
+/* The checker. Returns 0 where arena and table pass, and then `counts` are nodes, unused ids and free blocks; else the number of the lowest
+ * rule that fails, 1 to 8 (not a reason), or DZ_WRONG_SIZE. Changes: counts. */
+uint32_t dz_check(const uint8_t *arena, size_t arena_len, const uint8_t *table, size_t table_len,
+                  uint64_t *counts, size_t words);
+
+/* ---- holds */
+
+/* A hold on the root folder. Changes: table, handle. Reasons: BadArena, Damaged, BadTable, TableFull; Stuck. */
+uint32_t dz_root(const uint8_t *arena, size_t arena_len, uint8_t *table, size_t table_len,
+                 uint64_t *handle, size_t words);
+
+/* A hold on the node that `name` names in the folder; the empty name and `.` are the folder itself.
+ * Changes: table, handle. Reasons: BadArena, Damaged, BadTable, BadHandle, BadName, NotDir, NameTooLong, DirRemoved (only `..`),
+ * EntryNotFound, TableFull; Stuck. */
+uint32_t dz_find(const uint8_t *arena, size_t arena_len, uint8_t *table, size_t table_len,
+                 uint32_t hold, uint64_t stamp, const uint8_t *name, size_t name_len, uint64_t *handle, size_t words);
+
+/* Gives a hold up. The last one of a node stores its record if that changed, and frees a node that no folder names any more.
+ * Changes: arena, table. Reasons: BadArena, Damaged, BadTable, BadHandle; NoDeviceSpace, Stuck. */
+uint32_t dz_close(uint8_t *arena, size_t arena_len, uint8_t *table, size_t table_len, uint32_t hold, uint64_t stamp);
+
+/* ---- names */
+
+/* A new node of that type in the folder, and a hold on it. `file` is its own file's name, which no other node has.
+ * Changes: arena, table, handle. Reasons: BadArena, Damaged, BadTable, BadHandle, BadName, InvalidParam, NotDir, DirRemoved, NameTooLong,
+ * EntryExist, FileTaken, TooManyLinks, TableFull; NoDeviceSpace, Stuck. */
+uint32_t dz_create(uint8_t *arena, size_t arena_len, uint8_t *table, size_t table_len,
+                   uint32_t hold, uint64_t stamp, const uint8_t *name, size_t name_len, uint32_t type, uint16_t mode,
+                   int64_t sec, int64_t nsec, const uint8_t *file, size_t file_len, uint64_t *handle, size_t words);
+
+/* Another name for the node `child`, which is no folder.
+ * Changes: arena, table. Reasons: BadArena, Damaged, BadTable, BadHandle (folder, then child), BadName, NotDir, DirRemoved, NameTooLong,
+ * EntryExist, IsDir, TooManyLinks; NoDeviceSpace, Stuck. */
+uint32_t dz_link(uint8_t *arena, size_t arena_len, uint8_t *table, size_t table_len,
+                 uint32_t hold, uint64_t stamp, const uint8_t *name, size_t name_len, uint32_t child_hold, uint64_t child_stamp);
+
+/* Takes a name away. The folder's last slot moves to its place. A node that is open stays until its last hold is closed.
+ * Changes: arena, table. Reasons: BadArena, Damaged, BadTable, BadHandle, BadName, NotDir, DirRemoved, IsDir (`.`, `..`, empty), NameTooLong,
+ * EntryNotFound, DirNotEmpty; NoDeviceSpace, Stuck. */
+uint32_t dz_unlink(uint8_t *arena, size_t arena_len, uint8_t *table, size_t table_len,
+                   uint32_t hold, uint64_t stamp, const uint8_t *name, size_t name_len);
+
+/* The node `old_name` of a folder becomes `new_name` of the folder `to`. A node that has that name is replaced; the same node: nothing changes.
+ * Changes: arena, table. Reasons: BadArena, Damaged, BadTable, BadHandle (source, then target), BadName (old, then new), NotDir and DirRemoved
+ * (source), IsDir (either name `.`, `..`, empty), NameTooLong, NotDir and DirRemoved (target), EntryNotFound; where the new name exists,
+ * NotDir (a folder onto another type), IsDir (another type onto a folder), DirNotEmpty; then TooManyLinks; NoDeviceSpace, Stuck. */
+uint32_t dz_move(uint8_t *arena, size_t arena_len, uint8_t *table, size_t table_len,
+                 uint32_t hold, uint64_t stamp, const uint8_t *old_name, size_t old_len,
+                 uint32_t to_hold, uint64_t to_stamp, const uint8_t *new_name, size_t new_len);
+
+/* ---- metadata */
+
+/* What is known of a node. Changes: metadata. Reasons: BadArena, Damaged, BadTable, BadHandle; Stuck. */
+uint32_t dz_metadata(const uint8_t *arena, size_t arena_len, const uint8_t *table, size_t table_len,
+                     uint32_t hold, uint64_t stamp, uint64_t *metadata, size_t words);
+
+/* Sets mode, owner (modulo 2^32) and the three times of a node, in the table: close and sync store them.
+ * Changes: table. Reasons: BadArena, Damaged, BadTable, BadHandle. */
+uint32_t dz_set_metadata(const uint8_t *arena, size_t arena_len, uint8_t *table, size_t table_len,
+                         uint32_t hold, uint64_t stamp, uint16_t mode, uint64_t uid, uint64_t gid,
+                         int64_t atime_sec, int64_t atime_nsec, int64_t mtime_sec, int64_t mtime_nsec,
+                         int64_t ctime_sec, int64_t ctime_nsec);
+
+/* ---- slots */
+
+/* One slot of a folder, as stored, at the output's start: DZ_SLOT bytes.
+ * Changes: out. Reasons: BadArena, Damaged, BadTable, BadHandle, NotDir, EntryNotFound (no such slot), OutFull; Stuck. */
+uint32_t dz_get_entry(const uint8_t *arena, size_t arena_len, const uint8_t *table, size_t table_len,
+                      uint32_t hold, uint64_t stamp, uint64_t slot, uint8_t *out, size_t out_len);
+
+/* A folder's slots from *next on, as many as are left and the output has room for; *next moves on by as many. One word.
+ * An unlink between two listings moves slots: begin again after one.
+ * Changes: *next, out. Reasons: BadArena, Damaged, BadTable, BadHandle, NotDir, OutFull; Stuck. */
+uint32_t dz_list(const uint8_t *arena, size_t arena_len, const uint8_t *table, size_t table_len,
+                 uint32_t hold, uint64_t stamp, uint64_t *next, size_t words, uint8_t *out, size_t out_len);
+
+#ifdef __cplusplus
+}
+#endif
+
+#endif
