@@ -13,7 +13,7 @@ use crate::{
 /// An image, the table of its open nodes, and the calls on them.
 ///
 /// It owns the bytes of both, so that these calls alone write them. Calls that change nothing take `&self` and may run side by side; an `Image` can be
-/// sent to another thread, and teams share one behind a lock. Nothing is kept outside it.
+/// sent to another thread, and teams share one behind a lock. Nothing is kept outside it: a clone is an image of its own.
 ///
 /// # Reasons
 ///
@@ -47,6 +47,8 @@ impl Image {
 
     /// Opens an image from its bytes, and asks the checker: it must pass. No handle is live.
     ///
+    /// Where it is refused the bytes are gone: lend a slice to keep them.
+    ///
     /// Reasons: as [`untrusted`](Image::untrusted); then the checker's lowest rule that fails.
     pub fn checked(bytes: impl Into<Vec<u8>>) -> Result<Image, Unfit> {
         let image = Image::untrusted(bytes)?;
@@ -56,7 +58,8 @@ impl Image {
 
     /// Opens an image from its bytes, whatever the checker says of it. No handle is live.
     ///
-    /// The calls are safe on every image: where what is stored does not fit together, they say [`Reason::Stuck`].
+    /// The calls are safe on every image: where what is stored does not fit together, they say [`Reason::Stuck`]. Where it is refused the bytes are
+    /// gone: lend a slice to keep them.
     ///
     /// Reasons: `BadArena`, `Damaged`, `WrongFs`; `Stuck`.
     pub fn untrusted(bytes: impl Into<Vec<u8>>) -> Result<Image, Reason> {

@@ -1,13 +1,19 @@
 //! The call scripts of the port, line for line through this crate.
 mod common;
 
-use std::fs;
+use std::io::Write as _;
 use std::path::{Path, PathBuf};
+use std::{fs, io};
 
 use common::script::replay;
 
 fn top() -> PathBuf {
     Path::new(env!("CARGO_MANIFEST_DIR")).join("..")
+}
+
+/// Says it where the tests run, also of a test that passes.
+fn say(text: &str) {
+    io::stderr().write_all(format!("{text}\n").as_bytes()).unwrap();
 }
 
 /// How many lines a script has; each is as expected.
@@ -23,7 +29,7 @@ fn compare(name: &str, script: &[u8], expected: &str) -> usize {
 /// How many scripts and lines a folder of NAME.script and NAME.expected has; none where it is not there.
 fn folder(path: &Path) -> Option<(usize, usize)> {
     let Ok(files) = fs::read_dir(path) else {
-        println!("skipped: {} is not there", path.display());
+        say(&format!("skipped: {} is not there", path.display()));
         return None;
     };
     let mut scripts: Vec<_> =
@@ -39,27 +45,28 @@ fn folder(path: &Path) -> Option<(usize, usize)> {
             )
         })
         .sum();
-    println!("{} scripts, {lines} lines equal: {}", scripts.len(), path.display());
+    say(&format!("{} scripts, {lines} lines equal: {}", scripts.len(), path.display()));
     Some((scripts.len(), lines))
 }
 
 #[test]
 fn acceptance() {
-    if let Some(counts) = folder(&top().join("../shared/vectors")) {
-        assert_eq!(counts, (61, 31_347));
+    if let Some((scripts, lines)) = folder(&top().join("../shared/vectors")) {
+        assert!(scripts >= 61 && lines >= 31_347);
     }
 }
 
 #[test]
 fn answers_of_the_rust() {
-    assert_eq!(folder(&top().join("tests/beside_rust/sample")), Some((4, 7_537)));
+    let (scripts, lines) = folder(&top().join("tests/beside_rust/sample")).unwrap();
+    assert!(scripts >= 4 && lines >= 7_537);
 }
 
 #[test]
 fn script_of_the_gate() {
     let gate = top().join("crates/replay");
     let lines = compare("crates/replay/stdin", &fs::read(gate.join("stdin")).unwrap(), &fs::read_to_string(gate.join("stdout")).unwrap());
-    println!("{lines} lines equal: {}", gate.display());
+    say(&format!("{lines} lines equal: {}", gate.display()));
     assert!(lines > 6_000);
 }
 
