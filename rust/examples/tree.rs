@@ -10,8 +10,9 @@ use dzomrelig::{Handle, Image, Kind, Reason};
 /// Prints what is in a folder, and in the folders in it. A folder that was printed is not printed again.
 fn walk(image: &mut Image, folder: Handle, depth: usize, seen: &mut BTreeSet<u32>) -> Result<(), Reason> {
     let indent = "  ".repeat(depth);
-    let mut entries = image.entries(folder).collect::<Vec<_>>();
-    for entry in entries.drain(..) {
+    // a snapshot, since finding and closing changes the image
+    let entries: Vec<_> = image.entries(folder).collect();
+    for entry in entries {
         let entry = match entry {
             Ok(entry) if entry.is_dots() => continue,
             Ok(entry) => entry,
@@ -20,7 +21,7 @@ fn walk(image: &mut Image, folder: Handle, depth: usize, seen: &mut BTreeSet<u32
                 continue;
             }
         };
-        let name = String::from_utf8_lossy(&entry.name);
+        let name = String::from_utf8_lossy(&entry.name).escape_debug().to_string();
         let node = match image.find(folder, &entry.name) {
             Ok(node) => node,
             Err(reason) => {

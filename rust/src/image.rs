@@ -19,7 +19,7 @@ use crate::{
 ///
 /// A call is done, or it is refused with a [`Reason`] and has changed nothing. Each call says which reasons it gives, in the order in which it gives
 /// them where more than one holds. Before those come [`BadArena`](Reason::BadArena), [`Damaged`](Reason::Damaged) and [`BadTable`](Reason::BadTable):
-/// the bytes that the image was made from are not sound. [`NoDeviceSpace`](Reason::NoDeviceSpace) and [`Stuck`](Reason::Stuck) come at the step that
+/// the bytes that the image was made from are at fault. [`NoDeviceSpace`](Reason::NoDeviceSpace) and [`Stuck`](Reason::Stuck) come at the step that
 /// can't be done.
 #[derive(Clone)]
 pub struct Image {
@@ -68,12 +68,13 @@ impl Image {
         Ok(Image { pair })
     }
 
-    /// An image and a table of any bytes, seen by nobody: for tools that look at damage, and for tests.
+    /// An image and a table of any bytes, neither opened nor checked: for tools that look at damage, and for tests.
     pub fn from_parts(bytes: impl Into<Vec<u8>>, table: [u8; TABLE]) -> Image {
         Image { pair: Pair::of(bytes.into(), Box::new(table)) }
     }
 
-    /// The image's bytes. What [`set_metadata`](Image::set_metadata) changed stands in the table until it is stored: [`sync`](Image::sync) first.
+    /// The image's bytes. A record that was changed may stand in the table only, as by [`set_metadata`](Image::set_metadata), so [`sync`](Image::sync)
+    /// before the bytes are kept.
     pub fn bytes(&self) -> &[u8] {
         self.pair.arena()
     }
@@ -83,7 +84,9 @@ impl Image {
         self.pair.table()
     }
 
-    /// The image's bytes, and its handles are gone. As with [`bytes`](Image::bytes), [`sync`](Image::sync) first.
+    /// The image's bytes; its handles are gone. As with [`bytes`](Image::bytes), [`sync`](Image::sync) first.
+    ///
+    /// A node that was unlinked and is still open stays used in the bytes, and the checker's rule 7 fails there: [`close`](Image::close) it first.
     pub fn into_bytes(self) -> Vec<u8> {
         let (arena, _) = self.pair.into_parts();
         arena

@@ -34,6 +34,18 @@ fn bytes_go_out_and_come_in() {
 }
 
 #[test]
+fn an_open_unlinked_node_is_closed_before_the_bytes_are_kept() {
+    let (mut image, root) = fresh(16);
+    let a = create(&mut image, root, "a", Kind::File).unwrap();
+    image.unlink(root, "a").unwrap();
+    image.sync().unwrap();
+    assert!(image.check().is_ok());
+    assert_eq!(Image::checked(image.bytes()).unwrap_err(), Unfit::Fails(FailedRule::Links));
+    image.close(a).unwrap();
+    assert_eq!(Image::checked(image.bytes()).unwrap().check(), Ok(Counts { nodes: 1, unused: 1021, free: 10 }));
+}
+
+#[test]
 fn checked_says_what_is_wrong() {
     assert_eq!(Image::checked([0; 100]).unwrap_err(), Unfit::Refused(Reason::BadArena));
     let (mut image, root) = fresh(32);
