@@ -1,0 +1,192 @@
+//! The proved calls (`include/dzomrelig.h`), and the one place with unsafe code.
+//!
+//! A [`Pair`] is an arena and its table of open nodes. Nobody else can write them: the fields are this module's own. What the C functions ask of
+//! their caller is met by the types here: a slice gives a pointer that is not null and the length that belongs to it; `&mut` slices overlap nothing;
+//! table, file name and words are arrays of the sizes that the calls want, so that a wrong size can't be passed.
+#![allow(unsafe_code)]
+use alloc::boxed::Box;
+use alloc::vec::Vec;
+
+use crate::{Attributes, Counts, FailedRule, FileName, Handle, Kind, Metadata, Reason, Time, TABLE};
+
+// One line for each, in the header's order.
+#[rustfmt::skip]
+extern "C" {
+    fn dz_format(a: *mut u8, al: usize, t: *mut u8, tl: usize, sec: i64, nsec: i64, file: *const u8, fl: usize) -> u32;
+    fn dz_open(a: *const u8, al: usize, t: *mut u8, tl: usize) -> u32;
+    fn dz_sync(a: *mut u8, al: usize, t: *mut u8, tl: usize) -> u32;
+    fn dz_check(a: *const u8, al: usize, t: *const u8, tl: usize, counts: *mut u64, words: usize) -> u32;
+    fn dz_root(a: *const u8, al: usize, t: *mut u8, tl: usize, handle: *mut u64, words: usize) -> u32;
+    fn dz_find(a: *const u8, al: usize, t: *mut u8, tl: usize, hold: u32, stamp: u64, name: *const u8, nl: usize, handle: *mut u64, words: usize) -> u32;
+    fn dz_close(a: *mut u8, al: usize, t: *mut u8, tl: usize, hold: u32, stamp: u64) -> u32;
+    fn dz_create(a: *mut u8, al: usize, t: *mut u8, tl: usize, hold: u32, stamp: u64, name: *const u8, nl: usize, kind: u32, mode: u16,
+                 sec: i64, nsec: i64, file: *const u8, fl: usize, handle: *mut u64, words: usize) -> u32;
+    fn dz_link(a: *mut u8, al: usize, t: *mut u8, tl: usize, hold: u32, stamp: u64, name: *const u8, nl: usize, child_hold: u32, child_stamp: u64) -> u32;
+    fn dz_unlink(a: *mut u8, al: usize, t: *mut u8, tl: usize, hold: u32, stamp: u64, name: *const u8, nl: usize) -> u32;
+    fn dz_move(a: *mut u8, al: usize, t: *mut u8, tl: usize, hold: u32, stamp: u64, old: *const u8, ol: usize, to_hold: u32, to_stamp: u64,
+               new: *const u8, nl: usize) -> u32;
+    fn dz_metadata(a: *const u8, al: usize, t: *const u8, tl: usize, hold: u32, stamp: u64, metadata: *mut u64, words: usize) -> u32;
+    fn dz_set_metadata(a: *const u8, al: usize, t: *mut u8, tl: usize, hold: u32, stamp: u64, mode: u16, uid: u64, gid: u64,
+                       asec: i64, ansec: i64, msec: i64, mnsec: i64, csec: i64, cnsec: i64) -> u32;
+    fn dz_get_entry(a: *const u8, al: usize, t: *const u8, tl: usize, hold: u32, stamp: u64, slot: u64, out: *mut u8, ol: usize) -> u32;
+    fn dz_list(a: *const u8, al: usize, t: *const u8, tl: usize, hold: u32, stamp: u64, next: *mut u64, words: usize, out: *mut u8, ol: usize) -> u32;
+}
+
+fn answer(number: u32) -> Result<(), Reason> {
+    match number {
+        0 => Ok(()),
+        _ => Err(Reason::of(number)),
+    }
+}
+
+/// A handle from its two words; a hold is below 2^32.
+fn held(number: u32, [hold, stamp]: [u64; 2]) -> Result<Handle, Reason> {
+    answer(number).map(|()| Handle { hold: hold as u32, stamp })
+}
+
+/// Counts from their three words, each of which fits its field. The number is no reason but a rule.
+fn counted(number: u32, [nodes, unused, free]: [u64; 3]) -> Result<Counts, FailedRule> {
+    match number {
+        0 => Ok(Counts { nodes: nodes as u32, unused: unused as u32, free: free as u32 }),
+        rule => Err(FailedRule::of(rule)),
+    }
+}
+
+/// Metadata from its 14 words, each of which fits its field. A type that is none is Stuck, as the call itself says.
+fn told(number: u32, words: [u64; 14]) -> Result<Metadata, Reason> {
+    answer(number)?;
+    let [inode, size, mode, kind, blocks, asec, ansec, msec, mnsec, csec, cnsec, links, uid, gid] = words;
+    Ok(Metadata {
+        inode: inode as u32,
+        size,
+        mode: mode as u16,
+        kind: Kind::try_from(kind as u32).map_err(|_| Reason::Stuck)?,
+        blocks: blocks as u32,
+        atime: Time::new(asec as i64, ansec as i64),
+        mtime: Time::new(msec as i64, mnsec as i64),
+        ctime: Time::new(csec as i64, cnsec as i64),
+        links: links as u16,
+        uid: uid as u32,
+        gid: gid as u32,
+    })
+}
+
+/// An arena and its table of open nodes. Any bytes are safe in both.
+#[derive(Clone)]
+pub(crate) struct Pair {
+    arena: Vec<u8>,
+    table: Box<[u8; TABLE]>,
+}
+
+// SAFETY of every block below: as the module's first lines say. A call keeps no pointer, and writes only what it is given as `*mut`.
+#[rustfmt::skip]
+impl Pair {
+    /// An arena and a table of any bytes.
+    pub(crate) fn of(arena: Vec<u8>, table: Box<[u8; TABLE]>) -> Pair {
+        Pair { arena, table }
+    }
+
+    pub(crate) fn arena(&self) -> &[u8] {
+        &self.arena
+    }
+
+    pub(crate) fn table(&self) -> &[u8; TABLE] {
+        &self.table
+    }
+
+    pub(crate) fn into_parts(self) -> (Vec<u8>, Box<[u8; TABLE]>) {
+        (self.arena, self.table)
+    }
+
+    pub(crate) fn format(&mut self, time: Time, file: FileName) -> Result<(), Reason> {
+        let (a, t, FileName(f)) = (&mut self.arena, &mut self.table, file);
+        answer(unsafe { dz_format(a.as_mut_ptr(), a.len(), t.as_mut_ptr(), t.len(), time.sec, time.nsec, f.as_ptr(), f.len()) })
+    }
+
+    pub(crate) fn open(&mut self) -> Result<(), Reason> {
+        let (a, t) = (&self.arena, &mut self.table);
+        answer(unsafe { dz_open(a.as_ptr(), a.len(), t.as_mut_ptr(), t.len()) })
+    }
+
+    pub(crate) fn sync(&mut self) -> Result<(), Reason> {
+        let (a, t) = (&mut self.arena, &mut self.table);
+        answer(unsafe { dz_sync(a.as_mut_ptr(), a.len(), t.as_mut_ptr(), t.len()) })
+    }
+
+    pub(crate) fn check(&self) -> Result<Counts, FailedRule> {
+        let (a, t, mut w) = (&self.arena, &self.table, [0; 3]);
+        let n = unsafe { dz_check(a.as_ptr(), a.len(), t.as_ptr(), t.len(), w.as_mut_ptr(), w.len()) };
+        counted(n, w)
+    }
+
+    pub(crate) fn root(&mut self) -> Result<Handle, Reason> {
+        let (a, t, mut w) = (&self.arena, &mut self.table, [0; 2]);
+        let n = unsafe { dz_root(a.as_ptr(), a.len(), t.as_mut_ptr(), t.len(), w.as_mut_ptr(), w.len()) };
+        held(n, w)
+    }
+
+    pub(crate) fn find(&mut self, h: Handle, name: &[u8]) -> Result<Handle, Reason> {
+        let (a, t, mut w) = (&self.arena, &mut self.table, [0; 2]);
+        let n = unsafe { dz_find(a.as_ptr(), a.len(), t.as_mut_ptr(), t.len(), h.hold, h.stamp, name.as_ptr(), name.len(), w.as_mut_ptr(), w.len()) };
+        held(n, w)
+    }
+
+    pub(crate) fn close(&mut self, h: Handle) -> Result<(), Reason> {
+        let (a, t) = (&mut self.arena, &mut self.table);
+        answer(unsafe { dz_close(a.as_mut_ptr(), a.len(), t.as_mut_ptr(), t.len(), h.hold, h.stamp) })
+    }
+
+    pub(crate) fn create(&mut self, h: Handle, name: &[u8], kind: u32, mode: u16, time: Time, file: FileName) -> Result<Handle, Reason> {
+        let (a, t, mut w, FileName(f)) = (&mut self.arena, &mut self.table, [0; 2], file);
+        let n = unsafe {
+            dz_create(a.as_mut_ptr(), a.len(), t.as_mut_ptr(), t.len(), h.hold, h.stamp, name.as_ptr(), name.len(), kind, mode,
+                      time.sec, time.nsec, f.as_ptr(), f.len(), w.as_mut_ptr(), w.len())
+        };
+        held(n, w)
+    }
+
+    pub(crate) fn link(&mut self, h: Handle, name: &[u8], node: Handle) -> Result<(), Reason> {
+        let (a, t) = (&mut self.arena, &mut self.table);
+        answer(unsafe { dz_link(a.as_mut_ptr(), a.len(), t.as_mut_ptr(), t.len(), h.hold, h.stamp, name.as_ptr(), name.len(), node.hold, node.stamp) })
+    }
+
+    pub(crate) fn unlink(&mut self, h: Handle, name: &[u8]) -> Result<(), Reason> {
+        let (a, t) = (&mut self.arena, &mut self.table);
+        answer(unsafe { dz_unlink(a.as_mut_ptr(), a.len(), t.as_mut_ptr(), t.len(), h.hold, h.stamp, name.as_ptr(), name.len()) })
+    }
+
+    pub(crate) fn rename(&mut self, h: Handle, old: &[u8], to: Handle, new: &[u8]) -> Result<(), Reason> {
+        let (a, t) = (&mut self.arena, &mut self.table);
+        answer(unsafe {
+            dz_move(a.as_mut_ptr(), a.len(), t.as_mut_ptr(), t.len(), h.hold, h.stamp, old.as_ptr(), old.len(), to.hold, to.stamp,
+                    new.as_ptr(), new.len())
+        })
+    }
+
+    pub(crate) fn metadata(&self, h: Handle) -> Result<Metadata, Reason> {
+        let (a, t, mut w) = (&self.arena, &self.table, [0; 14]);
+        let n = unsafe { dz_metadata(a.as_ptr(), a.len(), t.as_ptr(), t.len(), h.hold, h.stamp, w.as_mut_ptr(), w.len()) };
+        told(n, w)
+    }
+
+    pub(crate) fn set_metadata(&mut self, h: Handle, s: &Attributes) -> Result<(), Reason> {
+        let (a, t) = (&self.arena, &mut self.table);
+        answer(unsafe {
+            dz_set_metadata(a.as_ptr(), a.len(), t.as_mut_ptr(), t.len(), h.hold, h.stamp, s.mode, s.uid, s.gid,
+                            s.atime.sec, s.atime.nsec, s.mtime.sec, s.mtime.nsec, s.ctime.sec, s.ctime.nsec)
+        })
+    }
+
+    pub(crate) fn entry(&self, h: Handle, slot: u64, out: &mut [u8]) -> Result<(), Reason> {
+        let (a, t) = (&self.arena, &self.table);
+        answer(unsafe { dz_get_entry(a.as_ptr(), a.len(), t.as_ptr(), t.len(), h.hold, h.stamp, slot, out.as_mut_ptr(), out.len()) })
+    }
+
+    /// The slot to go on with.
+    pub(crate) fn list(&self, h: Handle, next: u64, out: &mut [u8]) -> Result<u64, Reason> {
+        let (a, t, mut w) = (&self.arena, &self.table, [next; 1]);
+        let n = unsafe { dz_list(a.as_ptr(), a.len(), t.as_ptr(), t.len(), h.hold, h.stamp, w.as_mut_ptr(), w.len(), out.as_mut_ptr(), out.len()) };
+        let [next] = w;
+        answer(n).map(|()| next)
+    }
+}

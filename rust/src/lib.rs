@@ -1,0 +1,34 @@
+#![doc = include_str!("../README.md")]
+#![no_std]
+#![deny(missing_docs)]
+#![deny(unsafe_op_in_unsafe_fn)]
+#![deny(unsafe_code)]
+#![deny(clippy::unwrap_used, clippy::expect_used, clippy::panic, clippy::indexing_slicing, clippy::arithmetic_side_effects)]
+
+extern crate alloc;
+
+mod edge;
+mod entries;
+mod image;
+mod reason;
+mod types;
+
+pub use entries::{Entries, Entry, Place};
+pub use image::Image;
+pub use reason::{FailedRule, NoReason, Reason, Unfit};
+pub use types::{Attributes, Counts, FileName, Handle, Kind, Metadata, Time};
+
+/// The bytes of a block of the image.
+pub const BLOCK: usize = 512;
+/// The fewest blocks of an image.
+pub const BLOCKS_LEAST: usize = 16;
+/// The most blocks of an image.
+pub const BLOCKS_MOST: usize = 4096;
+/// The bytes of the table of open nodes.
+pub const TABLE: usize = 4370;
+/// The bytes of a folder's slot, as [`Image::list`] and [`Image::entry_into`] write it.
+pub const SLOT: usize = 264;
+/// The longest name in a folder, in bytes.
+pub const NAME_LONGEST: usize = 255;
+/// How many handles can be live at once.
+pub const HOLDS: usize = 32;

@@ -1,0 +1,139 @@
+//! What calls take and give.
+use crate::Reason;
+
+/// A hold on a node: what [`Image::root`](crate::Image::root), [`find`](crate::Image::find) and [`create`](crate::Image::create) give, and what
+/// [`close`](crate::Image::close) gives up.
+///
+/// It is a plain value, and no node number: two finds of one name give two handles, and closing one leaves the other. A handle that was closed, or
+/// that never was, is refused with [`Reason::BadHandle`]. No stamp is given twice until the image is opened or formatted again.
+#[derive(Clone, Copy, PartialEq, Eq, PartialOrd, Ord, Hash, Debug)]
+pub struct Handle {
+    /// The hold's number, below 32.
+    pub hold: u32,
+    /// The hold's stamp, from 1 on.
+    pub stamp: u64,
+}
+
+/// What a node is.
+#[derive(Clone, Copy, PartialEq, Eq, PartialOrd, Ord, Hash, Debug)]
+#[repr(u32)]
+pub enum Kind {
+    /// A file.
+    File = 1,
+    /// A folder.
+    Folder = 2,
+    /// A symbolic link.
+    Symlink = 3,
+    /// A socket.
+    Socket = 4,
+}
+
+impl Kind {
+    /// The kind's number, as it is stored: 1 to 4.
+    pub const fn number(self) -> u32 {
+        self as u32
+    }
+}
+
+impl TryFrom<u32> for Kind {
+    type Error = Reason;
+
+    /// Numbers other than 1 to 4 are [`Reason::InvalidParam`].
+    fn try_from(number: u32) -> Result<Kind, Reason> {
+        match number {
+            1 => Ok(Kind::File),
+            2 => Ok(Kind::Folder),
+            3 => Ok(Kind::Symlink),
+            4 => Ok(Kind::Socket),
+            _ => Err(Reason::InvalidParam),
+        }
+    }
+}
+
+/// A time. Both numbers are signed: a date before 1970 is negative. They are stored as they are given.
+#[derive(Clone, Copy, PartialEq, Eq, PartialOrd, Ord, Hash, Debug, Default)]
+pub struct Time {
+    /// Seconds since 1970.
+    pub sec: i64,
+    /// Nanoseconds beside them.
+    pub nsec: i64,
+}
+
+impl Time {
+    /// A time of seconds and nanoseconds.
+    pub const fn new(sec: i64, nsec: i64) -> Time {
+        Time { sec, nsec }
+    }
+}
+
+/// The name of a node's own file, 16 bytes. The caller makes a new one for every node, as from a random source.
+#[derive(Clone, Copy, PartialEq, Eq, PartialOrd, Ord, Hash, Debug)]
+pub struct FileName(pub [u8; 16]);
+
+impl From<[u8; 16]> for FileName {
+    fn from(bytes: [u8; 16]) -> FileName {
+        FileName(bytes)
+    }
+}
+
+/// What is known of a node.
+#[derive(Clone, Copy, PartialEq, Eq, Hash, Debug)]
+pub struct Metadata {
+    /// The node's number.
+    pub inode: u32,
+    /// A file's length in bytes; a folder's number of slots.
+    pub size: u64,
+    /// The permissions.
+    pub mode: u16,
+    /// What the node is.
+    pub kind: Kind,
+    /// A folder's number of slots; what the record has there for other nodes.
+    pub blocks: u32,
+    /// The last access.
+    pub atime: Time,
+    /// The last change of the content.
+    pub mtime: Time,
+    /// The last change of the status.
+    pub ctime: Time,
+    /// How many names lead to the node. A folder has 2, and one more for each folder in it.
+    pub links: u16,
+    /// The owner.
+    pub uid: u32,
+    /// The owner's group.
+    pub gid: u32,
+}
+
+impl Metadata {
+    /// The part that [`Image::set_metadata`](crate::Image::set_metadata) sets.
+    pub fn attributes(&self) -> Attributes {
+        Attributes { mode: self.mode, uid: self.uid.into(), gid: self.gid.into(), atime: self.atime, mtime: self.mtime, ctime: self.ctime }
+    }
+}
+
+/// What [`Image::set_metadata`](crate::Image::set_metadata) sets, all of it.
+#[derive(Clone, Copy, PartialEq, Eq, Hash, Debug, Default)]
+pub struct Attributes {
+    /// The permissions.
+    pub mode: u16,
+    /// The owner; kept modulo 2^32.
+    pub uid: u64,
+    /// The owner's group; kept modulo 2^32.
+    pub gid: u64,
+    /// The last access.
+    pub atime: Time,
+    /// The last change of the content.
+    pub mtime: Time,
+    /// The last change of the status.
+    pub ctime: Time,
+}
+
+/// What the checker counts in an image that passes.
+#[derive(Clone, Copy, PartialEq, Eq, Hash, Debug)]
+pub struct Counts {
+    /// Nodes, the root among them.
+    pub nodes: u32,
+    /// Node numbers that are unused.
+    pub unused: u32,
+    /// Free blocks.
+    pub free: u32,
+}

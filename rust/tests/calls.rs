@@ -1,0 +1,271 @@
+//! Each call through the Rust types.
+mod common;
+
+use common::{create, file, fresh, names, ROOT_FILE, TIME};
+use dzomrelig::{Attributes, Counts, Entry, FailedRule, Image, Kind, Place, Reason, Time, Unfit, BLOCK, BLOCKS_MOST, HOLDS, SLOT, TABLE};
+
+#[test]
+fn format() {
+    let image = Image::format(16, TIME, ROOT_FILE).unwrap();
+    assert_eq!(image.blocks(), 16);
+    assert_eq!(image.bytes().len(), 16 * BLOCK);
+    assert_eq!(image.check(), Ok(Counts { nodes: 1, unused: 1021, free: 11 }));
+    assert_eq!(format!("{image:?}"), "Image { blocks: 16, .. }");
+    assert_eq!(Image::format(BLOCKS_MOST, TIME, ROOT_FILE).unwrap().check().unwrap().free, 4091);
+    for blocks in [0, 15, BLOCKS_MOST + 1, usize::MAX] {
+        assert_eq!(Image::format(blocks, TIME, ROOT_FILE).unwrap_err(), Reason::BadArena);
+    }
+}
+
+#[test]
+fn bytes_go_out_and_come_in() {
+    let (mut image, root) = fresh(16);
+    create(&mut image, root, "a", Kind::File).unwrap();
+    image.sync().unwrap();
+    let bytes = image.bytes().to_vec();
+    assert_eq!(image.clone().into_bytes(), bytes);
+    let mut again = Image::checked(bytes.as_slice()).unwrap();
+    assert_eq!(again.metadata(root), Err(Reason::BadHandle));
+    let root = again.root().unwrap();
+    assert_eq!(names(&again, root), ["a"]);
+    assert_eq!(Image::untrusted(bytes).unwrap().check(), Ok(Counts { nodes: 2, unused: 1020, free: 9 }));
+    let parts = Image::from_parts(again.bytes(), *again.table());
+    assert_eq!(parts.metadata(root).unwrap().inode, 2);
+}
+
+#[test]
+fn an_open_unlinked_node_is_closed_before_the_bytes_are_kept() {
+    let (mut image, root) = fresh(16);
+    let a = create(&mut image, root, "a", Kind::File).unwrap();
+    image.unlink(root, "a").unwrap();
+    image.sync().unwrap();
+    assert!(image.check().is_ok());
+    assert_eq!(Image::checked(image.bytes()).unwrap_err(), Unfit::Fails(FailedRule::Links));
+    image.close(a).unwrap();
+    assert_eq!(Image::checked(image.bytes()).unwrap().check(), Ok(Counts { nodes: 1, unused: 1021, free: 10 }));
+}
+
+#[test]
+fn checked_says_what_is_wrong() {
+    assert_eq!(Image::checked([0; 100]).unwrap_err(), Unfit::Refused(Reason::BadArena));
+    let (mut image, root) = fresh(32);
+    let a = create(&mut image, root, "a", Kind::Folder).unwrap();
+    let b = create(&mut image, root, "b", Kind::Folder).unwrap();
+    create(&mut image, a, "c", Kind::Folder).unwrap();
+    // a folder that goes to another folder keeps its `..`: rule 8
+    image.rename(a, "c", b, "c").unwrap();
+    assert_eq!(image.check(), Err(FailedRule::Parents));
+    image.sync().unwrap();
+    let bytes = image.into_bytes();
+    assert_eq!(Image::checked(bytes.clone()).unwrap_err(), Unfit::Fails(FailedRule::Parents));
+    assert!(Image::untrusted(bytes).is_ok());
+}
+
+#[test]
+fn reformat_and_reopen() {
+    let (mut image, root) = fresh(16);
+    let a = create(&mut image, root, "a", Kind::File).unwrap();
+    // set metadata stands in the table until it is stored
+    image.set_metadata(a, &Attributes { mode: 0o600, ..Attributes::default() }).unwrap();
+    image.reopen().unwrap();
+    assert_eq!(image.metadata(a), Err(Reason::BadHandle));
+    let root = image.root().unwrap();
+    let a = image.find(root, "a").unwrap();
+    assert_eq!(image.metadata(a).unwrap().mode, 0o644);
+    image.set_metadata(a, &Attributes { mode: 0o600, ..Attributes::default() }).unwrap();
+    image.sync().unwrap();
+    image.reopen().unwrap();
+    let root = image.root().unwrap();
+    let a = image.find(root, "a").unwrap();
+    assert_eq!(image.metadata(a).unwrap().mode, 0o600);
+    image.reformat(TIME, ROOT_FILE).unwrap();
+    assert_eq!(image.bytes(), fresh(16).0.bytes());
+    assert_eq!(image.metadata(root), Err(Reason::BadHandle));
+}
+
+#[test]
+fn root_and_find() {
+    let (mut image, root) = fresh(32);
+    let again = image.root().unwrap();
+    assert_ne!(root, again);
+    assert_eq!(image.metadata(root), image.metadata(again));
+    let a = create(&mut image, root, "a", Kind::Folder).unwrap();
+    let found = image.find(root, "a").unwrap();
+    assert_ne!(a, found);
+    assert_eq!(image.metadata(a), image.metadata(found));
+    // text, bytes, owned and borrowed names
+    for name in ["", ".", ".."] {
+        let node = image.find(root, name).unwrap();
+        assert_eq!(image.metadata(node).unwrap().inode, 2);
+        image.close(node).unwrap();
+    }
+    let up = image.find(a, b"..").unwrap();
+    assert_eq!(image.metadata(up).unwrap().inode, 2);
+    let named = image.find(root, String::from("a")).unwrap();
+    let bytes = image.find(root, vec![b'a']).unwrap();
+    assert_eq!(image.metadata(named), image.metadata(bytes));
+}
+
+#[test]
+fn create_each_kind() {
+    let (mut image, root) = fresh(64);
+    for (number, kind) in (1..).zip([Kind::File, Kind::Folder, Kind::Symlink, Kind::Socket]) {
+        assert_eq!((kind.number(), Kind::try_from(number)), (number, Ok(kind)));
+        let name = format!("{kind:?}");
+        let made = image.create(root, &name, kind, 0o755, Time::new(i64::MIN, i64::MAX), file(number.into())).unwrap();
+        let told = image.metadata(made).unwrap();
+        let folder = kind == Kind::Folder;
+        assert_eq!((told.inode, told.kind, told.mode, told.links), (2 + number, kind, 0o755, if folder { 2 } else { 1 }));
+        assert_eq!((told.size, told.blocks), if folder { (2, 2) } else { (0, 0) });
+        assert_eq!([told.atime, told.mtime, told.ctime], [Time::new(i64::MIN, i64::MAX); 3]);
+        assert_eq!(image.entry(root, 1 + u64::from(number)), Ok(Entry { id: 2 + number, name: name.into(), kind: Some(kind) }));
+    }
+    assert_eq!(image.metadata(root).unwrap().links, 3);
+    assert_eq!(image.check(), Ok(Counts { nodes: 5, unused: 1017, free: 50 }));
+}
+
+#[test]
+fn link_unlink_rename() {
+    let (mut image, root) = fresh(32);
+    let a = create(&mut image, root, "a", Kind::File).unwrap();
+    let d = create(&mut image, root, "d", Kind::Folder).unwrap();
+    image.link(root, "b", a).unwrap();
+    assert_eq!(image.metadata(a).unwrap().links, 2);
+    // another name of the same node: nothing changes
+    let before = image.bytes().to_vec();
+    image.rename(root, "a", root, "b").unwrap();
+    assert_eq!(image.bytes(), before);
+    image.rename(root, "b", root, "c").unwrap();
+    assert_eq!(names(&image, root), ["a", "d", "c"]);
+    image.rename(root, "c", d, "c").unwrap();
+    assert_eq!((names(&image, root), names(&image, d)), (vec!["a".into(), "d".into()], vec!["c".into()]));
+    image.unlink(d, "c").unwrap();
+    image.unlink(root, "d").unwrap();
+    assert_eq!(image.metadata(d).unwrap().links, 0);
+    image.close(d).unwrap();
+    image.unlink(root, "a").unwrap();
+    // an open node without a name may get one again
+    assert_eq!(image.metadata(a).unwrap().links, 0);
+    image.link(root, "again", a).unwrap();
+    image.close(a).unwrap();
+    assert_eq!(names(&image, root), ["again"]);
+    assert_eq!(image.check().unwrap().nodes, 2);
+}
+
+#[test]
+fn metadata_is_set_and_read() {
+    let (mut image, root) = fresh(16);
+    let a = create(&mut image, root, "a", Kind::File).unwrap();
+    let set = Attributes {
+        mode: u16::MAX,
+        uid: (7 << 32) + 1,
+        gid: u64::MAX,
+        atime: Time::new(-1, i64::MIN),
+        mtime: Time::new(i64::MAX, -1),
+        ctime: Time::new(0, 1),
+    };
+    image.set_metadata(a, &set).unwrap();
+    let told = image.metadata(a).unwrap();
+    assert_eq!((told.mode, told.uid, told.gid), (u16::MAX, 1, u32::MAX));
+    assert_eq!((told.atime, told.mtime, told.ctime), (set.atime, set.mtime, set.ctime));
+    // read, change, set
+    let mut mine = told.attributes();
+    mine.mode = 0o600;
+    image.set_metadata(a, &mine).unwrap();
+    let after = image.metadata(a).unwrap();
+    assert_eq!((after.mode, after.uid, after.gid, after.mtime), (0o600, 1, u32::MAX, set.mtime));
+    image.close(a).unwrap();
+    let a = image.find(root, "a").unwrap();
+    assert_eq!(image.metadata(a), Ok(after));
+}
+
+#[test]
+fn close_gives_up_one_hold() {
+    let (mut image, root) = fresh(16);
+    let mine = create(&mut image, root, "a", Kind::File).unwrap();
+    let hers = image.find(root, "a").unwrap();
+    image.close(mine).unwrap();
+    assert_eq!(image.close(mine), Err(Reason::BadHandle));
+    assert_eq!(image.metadata(hers).unwrap().inode, 3);
+    image.close(hers).unwrap();
+    image.close(root).unwrap();
+    assert_eq!(image.table()[..TABLE - 8], [0; TABLE - 8]);
+    let all: Vec<_> = (0..HOLDS).map(|_| image.root().unwrap()).collect();
+    assert_eq!(image.root(), Err(Reason::TableFull));
+    all.into_iter().for_each(|h| image.close(h).unwrap());
+}
+
+#[test]
+fn slots() {
+    let (mut image, root) = fresh(128);
+    let wanted: Vec<_> = (0..40).map(|i| format!("glyph{i}")).collect();
+    for name in &wanted {
+        let made = create(&mut image, root, name, Kind::File).unwrap();
+        image.close(made).unwrap();
+    }
+    // one at a time, all at once, and in pieces
+    assert_eq!(image.entry(root, 0).unwrap(), Entry { id: 2, name: b".".into(), kind: Some(Kind::Folder) });
+    assert!(image.entry(root, 1).unwrap().is_dots() && !image.entry(root, 2).unwrap().is_dots());
+    assert_eq!(image.entry(root, 42), Err(Reason::EntryNotFound));
+    let all = image.snapshot(root).unwrap();
+    assert_eq!(all.len(), 42);
+    assert_eq!(all.iter().skip(2).map(|e| e.name_str().unwrap()).collect::<Vec<_>>(), wanted);
+    assert!((0..42).all(|k| image.entry(root, k).unwrap() == all[k as usize]));
+    for room in [SLOT, 3 * SLOT + 5, 100 * SLOT] {
+        let (mut place, mut out, mut found) = (Place::new(root), vec![0; room], Vec::new());
+        loop {
+            let n = image.list(&mut place, &mut out).unwrap();
+            found.extend(out.chunks_exact(SLOT).take(n).map(|slot| Entry::of_slot(slot).unwrap()));
+            if n == 0 {
+                break;
+            }
+        }
+        assert_eq!((found, place.next), (all.clone(), 42));
+    }
+    let from: Vec<_> = image.entries_from(Place { folder: root, next: 40 }).map(Result::unwrap).collect();
+    assert_eq!(from, all[40..]);
+    assert_eq!(image.entries_from(Place { folder: root, next: u64::MAX }).count(), 0);
+    assert_eq!(Entry::of_slot(&[0; SLOT - 1]), None);
+    let mut entries = image.entries(root);
+    assert_eq!(entries.by_ref().count(), 42);
+    assert!(entries.next().is_none());
+    assert!(format!("{entries:?}").starts_with("Entries { image: Image { blocks: 128, .. }, place: Place"));
+}
+
+#[test]
+fn unlink_drops_the_last_slot_into_the_hole() {
+    let (mut image, root) = fresh(32);
+    for name in ["a", "b", "c"] {
+        create(&mut image, root, name, Kind::File).unwrap();
+    }
+    let before = image.snapshot(root).unwrap();
+    image.unlink(root, "a").unwrap();
+    assert_eq!(names(&image, root), ["c", "b"]);
+    assert_eq!(before.len(), 5);
+    // by the names of a snapshot, all can be unlinked while walking
+    for entry in image.snapshot(root).unwrap().iter().filter(|e| !e.is_dots()) {
+        image.unlink(root, &entry.name).unwrap();
+    }
+    assert_eq!(image.snapshot(root).unwrap().len(), 2);
+}
+
+#[test]
+fn entries_end_at_a_refusal() {
+    let (mut image, root) = fresh(32);
+    let a = create(&mut image, root, "a", Kind::File).unwrap();
+    let mut entries = image.entries(a);
+    assert_eq!(entries.next(), Some(Err(Reason::NotDir)));
+    assert_eq!(entries.next(), None);
+    assert_eq!(image.snapshot(a), Err(Reason::NotDir));
+    // the folder says one slot more than there is: those that are there are given
+    let mut bytes = image.into_bytes();
+    common::damage::record(&mut bytes, 2, common::damage::BLOCKS, &4u32.to_le_bytes());
+    let mut image = Image::untrusted(bytes).unwrap();
+    let root = image.root().unwrap();
+    let all: Vec<_> = image.entries(root).collect();
+    assert_eq!(all.len(), 4);
+    assert_eq!(all[2].as_ref().unwrap().name, b"a");
+    assert_eq!(all[3], Err(Reason::Stuck));
+    assert_eq!(image.snapshot(root), Err(Reason::Stuck));
+    assert_eq!(image.check(), Err(FailedRule::Folders));
+}

@@ -1,0 +1,54 @@
+//! What several tests use.
+#![allow(dead_code)]
+pub mod damage;
+pub mod script;
+
+use std::sync::atomic::{AtomicU64, Ordering};
+
+use dzomrelig::{FileName, Handle, Image, Kind, Reason, Time};
+
+/// The time of every call that takes one; before 1970, so that signs are tried too.
+pub const TIME: Time = Time::new(-5, 6);
+/// The root's file name.
+pub const ROOT_FILE: FileName = FileName([200; 16]);
+
+/// A file name for each number.
+pub fn file(number: u64) -> FileName {
+    let mut name = [7; 16];
+    name[..8].copy_from_slice(&number.to_le_bytes());
+    FileName(name)
+}
+
+/// A fresh image and a handle on its root.
+pub fn fresh(blocks: usize) -> (Image, Handle) {
+    let mut image = Image::format(blocks, TIME, ROOT_FILE).unwrap();
+    let root = image.root().unwrap();
+    (image, root)
+}
+
+/// A new node, its file's name new in every call.
+pub fn create(image: &mut Image, folder: Handle, name: &str, kind: Kind) -> Result<Handle, Reason> {
+    static NEXT: AtomicU64 = AtomicU64::new(1 << 32);
+    image.create(folder, name, kind, 0o644, TIME, file(NEXT.fetch_add(1, Ordering::Relaxed)))
+}
+
+/// The names of a folder after `.` and `..`.
+pub fn names(image: &Image, folder: Handle) -> Vec<String> {
+    image.entries(folder).skip(2).map(|entry| entry.unwrap().name_str().unwrap().to_owned()).collect()
+}
+
+/// A row of numbers that is the same in every run.
+pub struct Numbers(pub u64);
+
+impl Numbers {
+    pub fn next(&mut self) -> u64 {
+        self.0 ^= self.0 << 13;
+        self.0 ^= self.0 >> 7;
+        self.0 ^= self.0 << 17;
+        self.0
+    }
+
+    pub fn below(&mut self, end: u64) -> u64 {
+        self.next() % end
+    }
+}

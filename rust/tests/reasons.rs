@@ -1,0 +1,362 @@
+//! Each reason through the Rust types. A refusal leaves every byte of image and table.
+mod common;
+
+use common::damage::{self, record, superblock, table};
+use common::{create, file, fresh, ROOT_FILE, TIME};
+use dzomrelig::{Attributes, FailedRule, Handle, Image, Kind, NoReason, Place, Reason, Unfit, BLOCK, NAME_LONGEST, SLOT, TABLE};
+
+type Call = fn(&mut Image, Handle, &[u8]) -> Option<Reason>;
+
+/// The calls that take a table: those with no handle, those with one, and those with a name beside it.
+const CALLS: [Call; 15] = [
+    |i, _, _| i.root().err(),
+    |i, _, _| i.sync().err(),
+    |i, h, _| i.metadata(h).err(),
+    |i, h, _| i.set_metadata(h, &Attributes::default()).err(),
+    |i, h, _| i.close(h).err(),
+    |i, h, _| i.entry(h, 0).err(),
+    |i, h, _| i.entry_into(h, 0, &mut [0; SLOT]).err(),
+    |i, h, _| i.list(&mut Place::new(h), &mut [0; SLOT]).err(),
+    |i, h, _| i.snapshot(h).err(),
+    |i, h, name| i.find(h, name).err(),
+    |i, h, name| i.create(h, name, Kind::File, 0, TIME, file(1)).err(),
+    |i, h, name| i.link(h, name, h).err(),
+    |i, h, name| i.unlink(h, name).err(),
+    |i, h, name| i.rename(h, name, h, "b").err(),
+    |i, h, name| i.rename(h, "b", h, name).err(),
+];
+const HANDLES: usize = 2;
+const FOLDERS: usize = 5;
+const NAMES: usize = 9;
+
+/// The call is refused for this reason, and nothing has changed.
+fn no<T: std::fmt::Debug>(image: &mut Image, reason: Reason, call: impl FnOnce(&mut Image) -> Result<T, Reason>) {
+    let before = image.clone();
+    assert_eq!(call(image).unwrap_err(), reason);
+    assert!(image.bytes() == before.bytes() && image.table() == before.table(), "{reason} changed something");
+}
+
+/// Each of the calls from one on is refused for this reason.
+fn all_no(image: &mut Image, reason: Reason, h: Handle, name: &[u8], from: usize) {
+    for call in &CALLS[from..] {
+        no(image, reason, |image| call(image, h, name).map_or(Ok(()), Err));
+    }
+}
+
+#[test]
+fn bad_arena() {
+    let (image, root) = fresh(16);
+    for length in [0, 1, 15 * BLOCK, 16 * BLOCK + 1, 4097 * BLOCK] {
+        let mut wrong = Image::from_parts(vec![0; length], *image.table());
+        all_no(&mut wrong, Reason::BadArena, root, b"a", 0);
+        no(&mut wrong, Reason::BadArena, |i| i.reformat(TIME, ROOT_FILE));
+        no(&mut wrong, Reason::BadArena, |i| i.reopen());
+        assert_eq!(wrong.check(), Err(FailedRule::Arena));
+        assert_eq!(Image::untrusted(vec![0; length]).unwrap_err(), Reason::BadArena);
+        assert_eq!(Image::checked(vec![0; length]).unwrap_err(), Unfit::Refused(Reason::BadArena));
+    }
+}
+
+#[test]
+fn damaged() {
+    let (image, root) = fresh(16);
+    let mut bytes = image.bytes().to_vec();
+    bytes[15 * BLOCK + 100] ^= 1;
+    let mut wrong = Image::from_parts(bytes.clone(), *image.table());
+    all_no(&mut wrong, Reason::Damaged, root, b"a", 0);
+    no(&mut wrong, Reason::Damaged, |i| i.reopen());
+    assert_eq!(wrong.check(), Err(FailedRule::Arena));
+    assert_eq!(Image::checked(bytes).unwrap_err(), Unfit::Refused(Reason::Damaged));
+    wrong.reformat(TIME, ROOT_FILE).unwrap();
+    assert!(wrong.check().is_ok());
+}
+
+#[test]
+fn bad_table() {
+    let (image, root) = fresh(16);
+    // no next stamp; a row that nobody holds
+    let mut held = *image.table();
+    held[34 * 117..34 * 117 + 12].fill(0);
+    for table in [[0; TABLE], held, [255; TABLE]] {
+        let mut wrong = Image::from_parts(image.bytes(), table);
+        all_no(&mut wrong, Reason::BadTable, root, b"a", 0);
+        assert_eq!(wrong.check(), Err(FailedRule::Table));
+        wrong.reopen().unwrap();
+        assert!(wrong.check().is_ok());
+    }
+}
+
+#[test]
+fn bad_handle() {
+    let (mut image, root) = fresh(16);
+    let closed = create(&mut image, root, "a", Kind::File).unwrap();
+    image.close(closed).unwrap();
+    let made_up = [(0, 0), (0, 2), (7, 7), (32, 1), (u32::MAX, u64::MAX)].map(|(hold, stamp)| Handle { hold, stamp });
+    for h in made_up.into_iter().chain([closed]) {
+        all_no(&mut image, Reason::BadHandle, h, b"\0", HANDLES);
+    }
+    no(&mut image, Reason::BadHandle, |i| i.link(root, "b", closed));
+    no(&mut image, Reason::BadHandle, |i| i.rename(root, "a", closed, "b"));
+}
+
+#[test]
+fn bad_name() {
+    let (mut image, root) = fresh(16);
+    let bad: [&[u8]; 8] = [b"\0", b"a\0b", b"\x80", b"a\xc3", b"\xc0\xaf", b"\xed\xa0\x80", b"\xf4\x90\x80\x80", b"\xff"];
+    for name in bad {
+        all_no(&mut image, Reason::BadName, root, name, NAMES);
+    }
+    // names of other scripts, and one of 255 bytes
+    for name in ["é", "字", "𝒻", &"n".repeat(NAME_LONGEST)] {
+        let made = create(&mut image, root, name, Kind::File).unwrap();
+        image.unlink(root, name).unwrap();
+        image.close(made).unwrap();
+    }
+}
+
+#[test]
+fn invalid_param() {
+    let (mut image, root) = fresh(16);
+    for kind in [0, 5, u32::MAX] {
+        assert_eq!(Kind::try_from(kind), Err(Reason::InvalidParam));
+        no(&mut image, Reason::InvalidParam, |i| i.create_numbered(root, "a", kind, 0, TIME, file(1)));
+        no(&mut image, Reason::BadName, |i| i.create_numbered(root, "\0", kind, 0, TIME, file(1)));
+    }
+    image.create_numbered(root, "a", 4, 0, TIME, file(1)).unwrap();
+}
+
+#[test]
+fn by_call() {
+    let (mut image, root) = fresh(32);
+    let i = &mut image;
+    let leaf = create(i, root, "leaf", Kind::File).unwrap();
+    let gone = create(i, root, "gone", Kind::Folder).unwrap();
+    let full = create(i, root, "full", Kind::Folder).unwrap();
+    create(i, full, "x", Kind::File).unwrap();
+    i.unlink(root, "gone").unwrap();
+
+    all_no(i, Reason::NotDir, leaf, b"a", FOLDERS);
+    no(i, Reason::NotDir, |i| i.rename(root, "leaf", leaf, "a"));
+    no(i, Reason::NotDir, |i| i.rename(root, "full", root, "leaf"));
+
+    all_no(i, Reason::DirRemoved, gone, b"a", NAMES + 1);
+    no(i, Reason::DirRemoved, |i| i.find(gone, ".."));
+    no(i, Reason::DirRemoved, |i| i.rename(root, "leaf", gone, "a"));
+
+    for name in ["", ".", ".."] {
+        no(i, Reason::IsDir, |i| i.unlink(root, name));
+        no(i, Reason::IsDir, |i| i.rename(root, name, root, "a"));
+        no(i, Reason::IsDir, |i| i.rename(root, "leaf", root, name));
+    }
+    no(i, Reason::IsDir, |i| i.link(root, "a", full));
+    no(i, Reason::IsDir, |i| i.rename(root, "leaf", root, "full"));
+
+    all_no(i, Reason::NameTooLong, root, &[b'n'; NAME_LONGEST + 1], NAMES);
+
+    no(i, Reason::EntryNotFound, |i| i.find(root, "a"));
+    no(i, Reason::EntryNotFound, |i| i.unlink(root, "a"));
+    no(i, Reason::EntryNotFound, |i| i.rename(root, "a", root, "b"));
+    no(i, Reason::EntryNotFound, |i| i.entry(root, 4));
+    no(i, Reason::EntryNotFound, |i| i.entry(root, u64::MAX));
+
+    for name in ["leaf", "full", "", ".", ".."] {
+        no(i, Reason::EntryExist, |i| create(i, root, name, Kind::File));
+        no(i, Reason::EntryExist, |i| i.link(root, name, leaf));
+    }
+
+    no(i, Reason::DirNotEmpty, |i| i.unlink(root, "full"));
+    create(i, root, "other", Kind::Folder).unwrap();
+    no(i, Reason::DirNotEmpty, |i| i.rename(root, "other", root, "full"));
+
+    no(i, Reason::FileTaken, |i| i.create(root, "a", Kind::File, 0, TIME, ROOT_FILE));
+
+    for room in [0, SLOT - 1] {
+        no(i, Reason::OutFull, |i| i.entry_into(root, 0, &mut vec![0; room]));
+        let mut place = Place::new(root);
+        no(i, Reason::OutFull, |i| i.list(&mut place, &mut vec![0; room]));
+        assert_eq!(place, Place::new(root));
+    }
+    assert_eq!(i.check().unwrap().nodes, 6);
+}
+
+#[test]
+fn too_many_links() {
+    let (mut image, root) = fresh(32);
+    create(&mut image, root, "a", Kind::File).unwrap();
+    create(&mut image, root, "c", Kind::Folder).unwrap();
+    create(&mut image, root, "d", Kind::Folder).unwrap();
+    let mut bytes = image.into_bytes();
+    record(&mut bytes, 3, damage::LINKS, &[255; 2]);
+    record(&mut bytes, 4, damage::LINKS, &[255; 2]);
+    assert_eq!(Image::checked(bytes.clone()).unwrap_err(), Unfit::Fails(FailedRule::Links));
+    let mut image = Image::untrusted(bytes).unwrap();
+    let root = image.root().unwrap();
+    let (a, c) = (image.find(root, "a").unwrap(), image.find(root, "c").unwrap());
+    assert_eq!(image.metadata(a).unwrap().links, u16::MAX);
+    no(&mut image, Reason::TooManyLinks, |i| i.link(root, "b", a));
+    no(&mut image, Reason::TooManyLinks, |i| create(i, c, "e", Kind::Folder));
+    no(&mut image, Reason::TooManyLinks, |i| i.rename(root, "d", c, "e"));
+    create(&mut image, c, "e", Kind::File).unwrap();
+}
+
+#[test]
+fn table_full() {
+    let (mut image, root) = fresh(16);
+    create(&mut image, root, "a", Kind::File).unwrap();
+    for _ in 2..32 {
+        image.root().unwrap();
+    }
+    no(&mut image, Reason::TableFull, |i| i.root());
+    no(&mut image, Reason::TableFull, |i| i.find(root, "a"));
+    no(&mut image, Reason::TableFull, |i| create(i, root, "b", Kind::File));
+    image.close(root).unwrap();
+    image.root().unwrap();
+    // the last stamp
+    let mut image = Image::from_parts(image.bytes(), table(u64::MAX - 1));
+    assert_eq!(image.root().unwrap(), Handle { hold: 0, stamp: u64::MAX - 1 });
+    no(&mut image, Reason::TableFull, |i| i.root());
+}
+
+#[test]
+fn no_device_space() {
+    let (mut image, root) = fresh(16);
+    let a = create(&mut image, root, "a", Kind::File).unwrap();
+    create(&mut image, root, "b", Kind::File).unwrap();
+    let c = create(&mut image, root, "c", Kind::Folder).unwrap();
+    create(&mut image, root, "d", Kind::Folder).unwrap();
+    image.link(root, "e", a).unwrap();
+    no(&mut image, Reason::NoDeviceSpace, |i| i.link(root, "f", a));
+    no(&mut image, Reason::NoDeviceSpace, |i| create(i, root, "f", Kind::File));
+    image.rename(root, "a", c, "a").unwrap();
+    no(&mut image, Reason::NoDeviceSpace, |i| i.rename(root, "b", c, "b"));
+    assert!(image.check().is_ok());
+}
+
+#[test]
+fn wrong_fs() {
+    for (field, value) in [(damage::MAGIC, 1), (damage::GROUPS, 0), (damage::GROUPS, 5)] {
+        let (image, _) = fresh(16);
+        let table = *image.table();
+        let mut bytes = image.into_bytes();
+        superblock(&mut bytes, field, value);
+        assert_eq!(Image::untrusted(bytes.clone()).unwrap_err(), Reason::WrongFs);
+        assert_eq!(Image::checked(bytes.clone()).unwrap_err(), Unfit::Refused(Reason::WrongFs));
+        let mut image = Image::from_parts(bytes, table);
+        no(&mut image, Reason::WrongFs, |i| i.reopen());
+        assert_eq!(image.check(), Err(FailedRule::Superblock));
+    }
+}
+
+#[test]
+fn stuck() {
+    let (mut image, root) = fresh(16);
+    let a = create(&mut image, root, "a", Kind::File).unwrap();
+    image.close(a).unwrap();
+    let mut bytes = image.into_bytes();
+    record(&mut bytes, 3, damage::TYPE, &[5]);
+    let mut image = Image::untrusted(bytes.clone()).unwrap();
+    let root = image.root().unwrap();
+    no(&mut image, Reason::Stuck, |i| i.find(root, "a"));
+    no(&mut image, Reason::Stuck, |i| i.unlink(root, "a"));
+    assert_eq!(image.check(), Err(FailedRule::Nodes));
+    // type 0 can be found, and has no metadata
+    record(&mut bytes, 3, damage::TYPE, &[0]);
+    let mut image = Image::untrusted(bytes.clone()).unwrap();
+    let root = image.root().unwrap();
+    let a = image.find(root, "a").unwrap();
+    no(&mut image, Reason::Stuck, |i| i.metadata(a));
+    no(&mut image, Reason::Stuck, |i| i.link(root, "b", a));
+    // a slot of type 0 is given by its number, and listed never
+    damage::write(&mut bytes, Some(ROOT_FILE), 2 * SLOT + 260, &[0]);
+    let mut image = Image::untrusted(bytes.clone()).unwrap();
+    let root = image.root().unwrap();
+    assert_eq!(image.entry(root, 2).unwrap().kind, None);
+    no(&mut image, Reason::Stuck, |i| i.snapshot(root));
+    // a name that is not UTF-8
+    damage::write(&mut bytes, Some(ROOT_FILE), 2 * SLOT + 4, &[255]);
+    let mut image = Image::untrusted(bytes.clone()).unwrap();
+    let root = image.root().unwrap();
+    no(&mut image, Reason::Stuck, |i| i.entry(root, 2));
+    // no root; no files at all
+    superblock(&mut bytes, damage::UNUSED, 0);
+    record(&mut bytes, 2, damage::FILE, &[9; 16]);
+    let mut image = Image::untrusted(bytes).unwrap();
+    no(&mut image, Reason::Stuck, |i| i.root());
+    assert_eq!(image.check(), Err(FailedRule::Superblock));
+    assert_eq!(Image::untrusted(vec![0; 16 * BLOCK]).unwrap_err(), Reason::Stuck);
+    assert_eq!(Image::checked(vec![0; 16 * BLOCK]).unwrap_err(), Unfit::Refused(Reason::Stuck));
+}
+
+/// Each rule that fails, but 1, 2 and 8, which stand above and in the calls' tests.
+#[test]
+fn failed_rules() {
+    type Wrong = fn(&mut Vec<u8>);
+    let wrongs: [(FailedRule, Wrong); 5] = [
+        (FailedRule::Superblock, |b| superblock(b, damage::UNUSED, 7)),
+        (FailedRule::Maps, |b| {
+            damage::write(b, None, 128, &[0xF1]);
+            superblock(b, damage::UNUSED, 1021);
+        }),
+        (FailedRule::Nodes, |b| record(b, 3, damage::FILE, &[9; 16])),
+        (FailedRule::Folders, |b| damage::write(b, Some(ROOT_FILE), 2 * SLOT + 4, b".")),
+        (FailedRule::Links, |b| record(b, 3, damage::LINKS, &[2])),
+    ];
+    for (rule, wrong) in wrongs {
+        let (mut image, root) = fresh(16);
+        create(&mut image, root, "a", Kind::File).unwrap();
+        let mut bytes = image.into_bytes();
+        wrong(&mut bytes);
+        assert_eq!(Image::checked(bytes).unwrap_err(), Unfit::Fails(rule));
+    }
+}
+
+#[test]
+fn numbers_names_and_texts() {
+    let names = [
+        "BadArena",
+        "Damaged",
+        "BadTable",
+        "BadHandle",
+        "BadName",
+        "InvalidParam",
+        "NotDir",
+        "DirRemoved",
+        "IsDir",
+        "NameTooLong",
+        "EntryNotFound",
+        "EntryExist",
+        "DirNotEmpty",
+        "FileTaken",
+        "TooManyLinks",
+        "TableFull",
+        "NoDeviceSpace",
+        "WrongFs",
+        "Stuck",
+        "OutFull",
+    ];
+    assert_eq!(Reason::all().map(Reason::name).collect::<Vec<_>>(), names);
+    for (number, reason) in (1..).zip(Reason::all()) {
+        assert_eq!((reason.number(), Reason::try_from(number)), (number, Ok(reason)));
+        assert!(reason.to_string().starts_with(&format!("{} ({number}): ", reason.name())));
+        assert_eq!(format!("{reason:?}"), reason.name());
+    }
+    for number in [0, 21, 255, u32::MAX] {
+        assert_eq!(Reason::try_from(number), Err(NoReason(number)));
+    }
+    let unknown = Reason::Unknown(255);
+    assert_eq!(
+        (unknown.number(), unknown.name(), unknown.to_string().as_str()),
+        (255, "Unknown", "Unknown (255): a number that no call gives")
+    );
+    assert_eq!(NoReason(21).to_string(), "21 is no reason's number");
+    let errors: [Box<dyn std::error::Error>; 4] = [
+        Box::new(Reason::NotDir),
+        Box::new(FailedRule::Links),
+        Box::new(Unfit::from(Reason::NotDir)),
+        Box::new(Unfit::from(FailedRule::Links)),
+    ];
+    assert_eq!(errors[0].to_string(), "NotDir (7): not a folder");
+    assert_eq!(errors[1].to_string(), "the image fails rule 7: each link count is the number of names");
+    assert_eq!((errors[0].to_string(), errors[1].to_string()), (errors[2].to_string(), errors[3].to_string()));
+    assert_eq!(FailedRule::Unknown(255).number(), 255);
+}

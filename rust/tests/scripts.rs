@@ -1,0 +1,80 @@
+//! The call scripts of the port, line for line through this crate.
+mod common;
+
+use std::io::Write as _;
+use std::path::{Path, PathBuf};
+use std::{fs, io};
+
+use common::script::replay;
+
+fn top() -> PathBuf {
+    Path::new(env!("CARGO_MANIFEST_DIR")).join("..")
+}
+
+/// Says it where the tests run, also of a test that passes.
+fn say(text: &str) {
+    io::stderr().write_all(format!("{text}\n").as_bytes()).unwrap();
+}
+
+/// How many lines a script has; each is as expected.
+fn compare(name: &str, script: &[u8], expected: &str) -> usize {
+    let text = replay(script);
+    for (number, (got, want)) in text.lines().zip(expected.lines()).enumerate() {
+        assert_eq!(got, want, "{name}, line {}", number + 1);
+    }
+    assert_eq!(text, expected, "{name}: the lines of one go on");
+    expected.lines().count()
+}
+
+/// How many scripts and lines a folder of NAME.script and NAME.expected has; none where it is not there.
+fn folder(path: &Path) -> Option<(usize, usize)> {
+    let Ok(files) = fs::read_dir(path) else {
+        say(&format!("skipped: {} is not there", path.display()));
+        return None;
+    };
+    let mut scripts: Vec<_> =
+        files.map(|file| file.unwrap().path()).filter(|file| file.extension().is_some_and(|e| e == "script")).collect();
+    scripts.sort();
+    let lines = scripts
+        .iter()
+        .map(|script| {
+            compare(
+                &script.display().to_string(),
+                &fs::read(script).unwrap(),
+                &fs::read_to_string(script.with_extension("expected")).unwrap(),
+            )
+        })
+        .sum();
+    say(&format!("{} scripts, {lines} lines equal: {}", scripts.len(), path.display()));
+    Some((scripts.len(), lines))
+}
+
+#[test]
+fn acceptance() {
+    if let Some((scripts, lines)) = folder(&top().join("../shared/vectors")) {
+        assert!(scripts >= 61 && lines >= 31_347);
+    }
+}
+
+#[test]
+fn answers_of_the_rust() {
+    let (scripts, lines) = folder(&top().join("tests/beside_rust/sample")).unwrap();
+    assert!(scripts >= 4 && lines >= 7_537);
+}
+
+#[test]
+fn script_of_the_gate() {
+    let gate = top().join("crates/replay");
+    let lines = compare("crates/replay/stdin", &fs::read(gate.join("stdin")).unwrap(), &fs::read_to_string(gate.join("stdout")).unwrap());
+    say(&format!("{lines} lines equal: {}", gate.display()));
+    assert!(lines > 6_000);
+}
+
+#[test]
+fn broken_scripts() {
+    assert_eq!(replay(b""), "");
+    assert_eq!(replay(b"\0\xff"), "");
+    assert_eq!(replay(b"\x05"), "bad script\n");
+    assert_eq!(replay(b"\x03\0"), "bad script\n");
+    assert_eq!(replay(&[0; (1 << 20) + 1]), "bad script\n");
+}
