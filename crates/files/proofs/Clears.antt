@@ -66,6 +66,10 @@ module _ (a w : List ℕ) (F : Fine a w) (p : List ℕ → Bool) where
       let q = clear-blk u k l c in
       rw add-one (clear-step u t k (p (blk (view a w) k)) l c refl (e ∙ ap (λ (x : List ℕ). pick (p x) (freed u k) u) q))
 
+  -- the same, where the code tested a copy of the block
+  pub clear-tested : (u t : List ℕ) (k : ℕ) {r : Bool} {b : List ℕ} → k < blocks a → Changed a w u (clearTo p (view a w) k) 0 → r ≡ p b → b ≡ blkOf a u k → t ≡ pick r (freed u k) u → Changed a w t (clearTo p (view a w) (k + 1)) 0
+  clear-tested u t k l c er eb et = clear-more u t k l c (et ∙ ap (λ (x : Bool). pick x (freed u k) u) (er ∙ ap p eb))
+
   pub clear-all : (u : List ℕ) (k : ℕ) → k ≡ blocks a → Changed a w u (clearTo p (view a w) k) 0 → Changed a w u (clearAll p (view a w)) 0
   unfolding clearAll
   clear-all u k e c = rw (blocks-view a w F, ← e) c
