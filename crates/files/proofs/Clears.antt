@@ -7,7 +7,7 @@ use native.Mathlib.Numerals.{add-one}
 use native.Mathlib.Omega.{arith}
 use lib.ListN.{length}
 use borrow.Author.Tests.{le-leb, lt-leb}
-use Rattle.base.specs.Out.{Out, done, refused}
+use Rattle.base.specs.Out.{done}
 use Rattle.base.specs.Search.{pick}
 use Rattle.le.specs.Le.{lePut}
 use Rattle.arena.specs.Blocks.{blk, putBlk, blocks}
@@ -18,7 +18,7 @@ use Rattle.arena.proofs.Fresh.{length-zeros}
 use Rattle.overlay.specs.View.{blkOf, view, freed, Fine}
 use Rattle.overlay.specs.Steps.{Changed, Did, went, stuck}
 use Rattle.overlay.proofs.Views.{blocks-view, blk-view, changed-freed}
-use Rattle.overlay.proofs.Chains.{changed-none, changed-then, changed-more}
+use Rattle.overlay.proofs.Chains.{changed-none, changed-then}
 use Rattle.files.specs.Read.{there}
 use Rattle.files.specs.Store.{clearTo, clearAll, setLength, isPast, isOf, zeroTail, cutFile, dropFile}
 

@@ -1,10 +1,10 @@
 // The four stores: put, cut, make, drop. Each works on the view and answers as its definition does there; the arena itself is only read.
 ghost use mathlib.Core.Path.{_≡_};
-ghost use Prim.Native.Nat.{ℕ, _+_, _*_, _-_, _<_, _≤_, _/_, _%_};
+ghost use Prim.Native.Nat.{_+_, _*_, _-_, _<_, _≤_, _/_, _%_};
 ghost use lib.ListN.{length, replicate};
 ghost use lib.Dec.{ltb};
 ghost use Rattle.base.specs.Out.{done, bind};
-ghost use Rattle.base.specs.Parts.{part, paste};
+ghost use Rattle.base.specs.Parts.{paste};
 ghost use Rattle.base.specs.Search.{pick};
 ghost use Rattle.le.specs.Le.{lePut};
 ghost use Rattle.arena.specs.Blocks.{blocks, blk, putBlk};

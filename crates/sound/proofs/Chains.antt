@@ -64,9 +64,6 @@ module _ (a : List ℕ) (head : Bool) (f : File) (q k : ℕ) where
   h : ℕ
   h = hashKey head (f .which) (f .name) q
 
-  key : ℕ → Bool
-  key j = isKey head f q (blk a j)
-
   -- what is not in the bucket does not have the key
   no-key : (j : ℕ) → inBucket a (hashKey head (f .which) (f .name) q) j ≡ false → isKey head f q (blk a j) ≡ false
   no-key j e = go (isKey head f q (blk a j)) refl

@@ -9,7 +9,7 @@ use Rattle.table.specs.declared.Table.{Table}
 use Rattle.table.specs.declared.Handle.{Handle}
 use Rattle.table.specs.Zero.{zeroRecord, bytesZero, timeZero, numbersZero, recordZero}
 use Rattle.table.specs.Table.{emptyTable, takeRow, rowOf, holdOf, liveRow, liveHolds, canHold, addHold, rowUsed, closeHold}
-use Rattle.table.specs.Formed.{holdOk, rowOk, holdsOk, rowsOk, shaped, wellFormed}
+use Rattle.table.specs.Formed.{holdOk, liveOk, rowOk, holdsOk, rowsOk, shaped, wellFormed}
 
 -- node 2 in row 0, with no hold yet; then with one hold, and with two
 opening : Table
@@ -26,11 +26,11 @@ handle hold stamp = record { hold = hold; stamp = stamp }
 
 -- a used row with no hold is not well formed; with a hold it is
 unheld : wellFormed opening ≡ false
-unfolding wellFormed holdsOk rowsOk holdOk rowOk rowOf holdOf rowUsed shaped allTo lowest foundBelow recordZero bytesZero timeZero numbersZero opening
+unfolding wellFormed holdsOk rowsOk holdOk liveOk rowOk rowOf holdOf rowUsed shaped allTo lowest foundBelow recordZero bytesZero timeZero numbersZero opening
 unheld = refl
 
 held : wellFormed two ≡ true
-unfolding wellFormed holdsOk rowsOk holdOk rowOk rowOf holdOf rowUsed shaped allTo lowest foundBelow recordZero bytesZero timeZero numbersZero opening one two addHold canHold liveHolds countTo sumTo
+unfolding wellFormed holdsOk rowsOk holdOk liveOk rowOk rowOf holdOf rowUsed shaped allTo lowest foundBelow recordZero bytesZero timeZero numbersZero opening one two addHold canHold liveHolds countTo sumTo
 held = refl
 
 -- the first hold closed is not the row's last; the other stays live, the closed one is dead, and its number comes back with a new stamp
@@ -55,7 +55,7 @@ at-stamp : ℕ → Table
 at-stamp next = record { rows = emptyTable .rows; holds = emptyTable .holds; next = next }
 
 last-well : wellFormed (at-stamp 18446744073709551615) ≡ true
-unfolding wellFormed holdsOk rowsOk holdOk rowOk rowOf holdOf rowUsed shaped allTo lowest foundBelow recordZero bytesZero timeZero numbersZero at-stamp
+unfolding wellFormed holdsOk rowsOk holdOk liveOk rowOk rowOf holdOf rowUsed shaped allTo lowest foundBelow recordZero bytesZero timeZero numbersZero at-stamp
 last-well = refl
 
 last-full : canHold (at-stamp 18446744073709551615) ≡ false

@@ -107,12 +107,6 @@ add-live t row w can l =
     rw (g .is)
     (record { is-hold = g .is-hold; given = λ z. omega (arith, w .next-one, z); stamp = rw e refl; names = rw e refl; is-row = l })
 
--- it is nobody's: no live handle has its hold
-pub add-own : (t : Table) (row : ℕ) (h : Handle) (r : ℕ) → canHold t ≡ true → Live t h r → h .hold ≡ addHold t row .handle .hold → ⊥
-add-own t row h r can v =
-    let g = add-gives t row can in
-    rw (g .is) (λ q. v .given (sym (v .stamp) ∙ ap (λ (m : ℕ). holdAt t m .stamp) q ∙ g .was-free))
-
 -- the stamp at n, when another hold was put there: that hold's, or what it was
 put-stamp : (P : ℕ → Type 0) (t : Table) (n : ℕ) (x : Hold) → P (x .stamp) → P (holdAt t n .stamp) → P (holdAt (withHold t n x) n .stamp)
 put-stamp P t n x a b = ⊎-elim (λ l. rw (hold-here t n x l) a) (λ g. rw (set-out (t .holds) n x g) b) (lt-or-le n (length (t .holds)))

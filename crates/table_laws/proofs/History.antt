@@ -12,11 +12,10 @@ use Rattle.base.proofs.Numbers.{lt-or-le}
 use Rattle.table.specs.declared.Table.{Table}
 use Rattle.table.specs.declared.Row.{Row}
 use Rattle.table.specs.declared.Handle.{Handle}
-use Rattle.table.specs.Zero.{zeroRow}
-use Rattle.table.specs.Table.{rowAt, holdAt, freeRowAt, withRow, liveRow, canHold, addHold, closeHold}
+use Rattle.table.specs.Table.{rowAt, withRow, liveRow, canHold, addHold, closeHold}
 use Rattle.table_laws.specs.Rules.{Formed, Live}
 use Rattle.table_laws.specs.Later.{Later, same, add, close, put}
-use Rattle.table_laws.proofs.Rows.{row-here, row-apart, free-unnamed}
+use Rattle.table_laws.proofs.Rows.{row-here, row-apart}
 use Rattle.table_laws.proofs.Holds.{add-gives, add-cases, close-cases}
 use Rattle.table_laws.proofs.Handles.{Dead, dead-nothing, live-below, add-keeps, add-dead, close-keeps, close-dead, close-ends}
 
@@ -90,15 +89,3 @@ pub live-kept : {t u : Table} (h : Handle) (r : ℕ) → Live t h r → Later (�
 live-kept h r v l = let k = kept h r v l in (k .live, k .node)
 
 -- ---- what calls do to rows are such steps
-
--- a row in use keeps its id
-pub later-change : {closes : ℕ → Type 0} {t u : Table} (i : ℕ) (r : Row) → r .id ≡ rowAt u i .id → Later closes t u → Later closes t (withRow u i r)
-later-change i r e l = put i r (λ n b v q. e) l
-
--- a free row is taken
-pub later-take : {own closes : ℕ → Type 0} {t u : Table} (i : ℕ) (r : Row) → Formed own u → i < 34 → rowAt u i .id ≡ 0 → Later closes t u → Later closes t (withRow u i r)
-later-take {u = u} i r w l free k = put i r (λ n b v q. absurd (free-unnamed u w i l free n b v q)) k
-
--- a row that no live hold names is freed
-pub later-free : {closes : ℕ → Type 0} {t u : Table} (i : ℕ) → ((n : ℕ) → n < 32 → (holdAt u n .stamp ≡ 0 → ⊥) → holdAt u n .row ≡ i → ⊥) → Later closes t u → Later closes t (freeRowAt u i)
-later-free i f l = put i zeroRow (λ n b v q. absurd (f n b v q)) l

@@ -12,7 +12,7 @@ use Rattle.table.specs.declared.Table.{Table}
 use Rattle.table.specs.declared.Row.{Row}
 use Rattle.table.specs.Zero.{bytesZero, timeZero, numbersZero, recordZero}
 use Rattle.table.specs.Table.{emptyTable, rowAt, holdAt, rowOf, freeRow, holdOf, rowUsed, canHold, takeRow, withRow, withRecord, withDirty, freeRowAt, addHold, closeHold}
-use Rattle.table.specs.Formed.{holdOk, rowOk, holdsOk, rowsOk, shaped, wellFormed}
+use Rattle.table.specs.Formed.{holdOk, liveOk, rowOk, holdsOk, rowsOk, shaped, wellFormed}
 use Rattle.table_laws.specs.Rules.{WellFormed}
 use Rattle.table_laws.proofs.Rules.{well-formed-means, means-well-formed}
 use Rattle.table_laws.proofs.Finds.{row-found, row-missing}
@@ -21,7 +21,7 @@ use Rattle.table_laws.proofs.Holds.{can-row, add-kept, close-kept, clos
 
 -- "Format and open take no table and return an empty one"
 pub empty-formed : wellFormed emptyTable ≡ true
-unfolding wellFormed holdsOk rowsOk holdOk rowOk rowOf holdOf rowUsed shaped allTo lowest foundBelow recordZero bytesZero timeZero numbersZero
+unfolding wellFormed holdsOk rowsOk holdOk liveOk rowOk rowOf holdOf rowUsed shaped allTo lowest foundBelow recordZero bytesZero timeZero numbersZero
 empty-formed = refl
 
 module _ (t : Table) (e : wellFormed t ≡ true) where

@@ -5,7 +5,7 @@ use mathlib.Core.Path.{_≡_, refl, sym, _∙_, ap}
 use mathlib.Core.Bool.{Bool}
 use mathlib.Core.Logic.{_⊎_, inl, inr, ⊎-elim}
 use lib.ListN.{length, set, length-set}
-use lib.Seq.{getD-set-same, getD-set-other, ext-getD}
+use lib.Seq.{getD-set-same, getD-set-other}
 use Rattle.base.proofs.Finds.{eq-cases}
 use Rattle.structs.specs.declared.DiskINode.{DiskINode}
 use Rattle.table.specs.declared.Table.{Table}
@@ -121,10 +121,6 @@ module _ {own : ℕ → Type 0} (t : Table) (w : Formed own t) (i : ℕ) (in34 :
   pub dirty-kept : (dirty : Bool) → (rowAt t i .id ≡ 0 → ⊥) → Formed own (withDirty t i dirty)
   dirty-kept dirty live = change-row _ live refl
 
-  -- no live hold names a free row
-  pub free-unnamed : rowAt t i .id ≡ 0 → (n : ℕ) → n < 32 → (holdAt t n .stamp ≡ 0 → ⊥) → holdAt t n .row ≡ i → ⊥
-  free-unnamed free n l v e = w .in-use n l v (ap (λ (k : ℕ). rowAt t k .id) e ∙ free)
-
   -- a free row taken for a node that has none: it is the call's own, until it gets a hold
   pub take-kept : (id : ℕ) (rec : DiskINode) (dirty : Bool) → rowAt t i .id ≡ 0 → (id ≡ 0 → ⊥) → ((j : ℕ) → j < 34 → rowAt t j .id ≡ id → ⊥) → Formed (also own i) (takeRow t i id rec dirty)
   take-kept id rec dirty free node new =
@@ -134,16 +130,6 @@ module _ {own : ℕ → Type 0} (t : Table) (w : Formed own t) (i : ℕ) (in34 :
       (λ n l v e z. node z)
       (λ j d o. inl o)
       (λ n. inl (inr refl))
-
-  -- taken and freed again, whatever happened to its record, a free row leaves no trace
-  pub take-free : (r : Row) → rowAt t i .id ≡ 0 → freeRowAt (withRow t i r) i ≡ t
-  take-free r free =
-      let e : set (set (t .rows) i r) i zeroRow ≡ t .rows =
-      ext-getD offRow _ _ (length-set (set (t .rows) i r) i zeroRow ∙ length-set (t .rows) i r) (λ j l. ⊎-elim
-      (λ (q : j ≡ i). rw q (row-here (withRow t i r) i zeroRow (omega (arith, w .rows-34, length-set (t .rows) i r)) ∙ sym (w .free-row i in34 free)))
-      (λ d. row-apart (withRow t i r) i zeroRow j d ∙ row-apart t i r j d)
-      (eq-cases j i)) in
-      λ x. record { rows = e x; holds = t .holds; next = t .next }
 
 -- a row that no live hold names, freed
 pub free-kept : {own : ℕ → Type 0} (t : Table) (i : ℕ) → Formed (also own i) t → i < 34 → ((n : ℕ) → n < 32 → (holdAt t n .stamp ≡ 0 → ⊥) → holdAt t n .row ≡ i → ⊥) → Formed own (freeRowAt t i)
