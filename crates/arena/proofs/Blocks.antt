@@ -1,6 +1,6 @@
 -- The laws of block k and of block k replaced: all that is needed of the flat list.
 use mathlib.Core.Path.{_≡_, sym, ap, ap₂, _∙_, subst}
-use mathlib.Core.Bool.{true, _&&_}
+use mathlib.Core.Bool.{true}
 use mathlib.Core.List.{List}
 use mathlib.Core.Logic.{_≢_}
 use Prim.Native.Nat.{ℕ, _+_, _*_, _/_, _%_, _≤_, _<_}
@@ -12,7 +12,7 @@ use borrow.Author.Tests.{eqb-true, leb-true}
 use Rattle.base.proofs.Parts.{part-all, paste-all}
 use Rattle.base.specs.Parts.{part, back, paste}
 use Rattle.base.proofs.Bools.{and-parts}
-use Rattle.base.proofs.Lists.{getD-paste-out, length-part, getD-part, length-paste, part-paste, part-paste-other, paste-own}
+use Rattle.base.proofs.Lists.{getD-paste-out, length-part, getD-part, length-paste, part-paste, part-paste-other}
 use Rattle.le.specs.Le.{Bytes}
 use Rattle.arena.specs.Blocks.{blk, putBlk, blocks, legal}
 
@@ -65,14 +65,6 @@ module _ (a : List ℕ) (k : ℕ) (b : List ℕ) (there : k < blocks a) (size : 
 
   pub putBlk-bytes : Bytes a → Bytes b → Bytes (putBlk a k b)
   putBlk-bytes p q = subst Bytes (sym is) (paste-all (λ x. x < 256) a (512 * k) b fits p q)
-
-  pub legal-putBlk : legal (putBlk a k b) ≡ legal a
-  unfolding legal
-  legal-putBlk = ap (λ (n : ℕ). eqb (n % 512) 0 && (leb 16 (n / 512) && leb (n / 512) 4096)) length-putBlk
-
--- a block put where it is already
-pub putBlk-own : (a : List ℕ) (k : ℕ) → k < blocks a → putBlk a k (blk a k) ≡ a
-putBlk-own a k h = putBlk-is a k (blk a k) (length-blk a k h) ∙ (unfold blk in paste-own a (512 * k) (512 * k + 512) (omega arith) (omega arith))
 
 -- two arenas of whole blocks that have the same blocks are the same
 pub ext-blk : (a c : List ℕ) → length a % 512 ≡ 0 → length a ≡ length c → ((k : ℕ) → k < blocks a → blk a k ≡ blk c k) → a ≡ c

@@ -1,6 +1,6 @@
 -- What the tests of a block say, and that they look at its first 24 bytes alone.
-use mathlib.Core.Path.{_≡_, refl, sym, ap, ap₂, _∙_}
-use mathlib.Core.Bool.{Bool, true, false, _&&_}
+use mathlib.Core.Path.{_≡_, sym, ap, ap₂, _∙_}
+use mathlib.Core.Bool.{true, false, _&&_}
 use mathlib.Core.List.{List}
 use mathlib.Core.Logic.{_≢_}
 use Prim.Native.Nat.{ℕ, _+_, _-_, _≤_, _<_}
@@ -14,9 +14,9 @@ use Rattle.base.proofs.Sames.{same-true, same-own, same-false}
 use Rattle.base.specs.Decides.{same}
 use Rattle.base.specs.Parts.{part}
 use Rattle.base.proofs.Bools.{and-parts, same-bool}
-use Rattle.base.proofs.Lists.{getD-part, part-paste-other}
-use Rattle.le.specs.Le.{Bytes, leAt, leOf, leBytes, lePut}
-use Rattle.le.proofs.Laws.{leAt-part, length-leBytes, getD-lePut-out, leAt-lePut-fits, leAt-same}
+use Rattle.base.proofs.Lists.{getD-part}
+use Rattle.le.specs.Le.{Bytes, leAt, leOf}
+use Rattle.le.proofs.Laws.{leAt-part, leAt-same}
 use Rattle.arena.specs.Fields.{File, file, sameFile, tagOf, nameOf, numberOf, fileOf, isFree, isHead, isData}
 
 -- ---- a block's name, compared by its halves
@@ -46,13 +46,6 @@ sameFile-true f g e =
 pub sameFile-own : (f g : File) → f ≡ g → sameFile f g ≡ true
 unfolding sameFile
 sameFile-own f g e = rw (eq-eqb (f .which) (g .which) (ap (λ (h : File). h .which) e)) (same-own (f .name) (g .name) (ap (λ (h : File). h .name) e))
-
-pub sameFile-false : (f g : File) → (f ≡ g → ⊥) → sameFile f g ≡ false
-sameFile-false f g n = go (sameFile f g) refl
-  where
-    go : (t : Bool) → sameFile f g ≡ t → sameFile f g ≡ false
-    go true e = absurd (n (sameFile-true f g e))
-    go false e = e
 
 -- ---- what each test says
 
@@ -159,15 +152,3 @@ module _ (b c : List ℕ) (lb : length b ≡ 512) (lc : length c ≡ 512) (h : S
 module _ (b : List ℕ) (n : ℕ) (size : length b ≡ 512) where
   number-fits : 20 + 4 ≤ length b
   number-fits = omega arith
-
-  pub renumber-number : n < 4294967296 → numberOf (lePut b 20 4 n) ≡ n
-  renumber-number l = leAt-lePut-fits b 20 4 n number-fits l
-
-  pub renumber-tag : tagOf (lePut b 20 4 n) ≡ tagOf b
-  renumber-tag = getD-lePut-out b 20 4 n number-fits 0 (λ g. absurd (omega arith))
-
-  pub renumber-file : fileOf (lePut b 20 4 n) ≡ fileOf b
-  unfolding lePut
-  renumber-file =
-      ap₂ file (getD-lePut-out b 20 4 n number-fits 1 (λ g. absurd (omega arith)))
-      (part-paste-other b 20 (leBytes 4 n) (omega (arith, length-leBytes 4 n)) 4 20 (λ _. omega arith))

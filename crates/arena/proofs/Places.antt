@@ -8,7 +8,7 @@ use lib.ListN.{length}
 use Rattle.base.specs.Count.{countTo, bit}
 use Rattle.base.specs.Search.{lowest}
 use Rattle.base.proofs.Counts.{countTo-change}
-use Rattle.base.proofs.Searches.{First, lowest-first, lowest-cong, countTo-found}
+use Rattle.base.proofs.Searches.{First, lowest-first, lowest-cong}
 use Rattle.arena.specs.Blocks.{blk, putBlk, blocks}
 use Rattle.arena.specs.Fields.{File, isFree, isHead, isData}
 use Rattle.arena.specs.Places.{freeOf, headOf, dataOf, freeCount}
@@ -28,11 +28,6 @@ pub data-first : (a : List ℕ) (f : File) (q : ℕ) → First (λ k. isData f q
 unfolding dataOf
 data-first a f q = lowest-first (λ k. isData f q (blk a k)) (blocks a)
 
--- where a block is free one is found
-pub free-found : (a : List ℕ) → 0 < freeCount a → freeOf a < blocks a
-unfolding freeOf freeCount
-free-found a l = countTo-found (λ k. isFree (blk a k)) (blocks a) l
-
 -- ---- block k replaced by b
 
 module _ (a : List ℕ) (k : ℕ) (b : List ℕ) (there : k < blocks a) (size : length b ≡ 512) where
@@ -48,17 +43,9 @@ module _ (a : List ℕ) (k : ℕ) (b : List ℕ) (there : k < blocks a) (size : 
   lowest-putBlk P e =
       ap (lowest (λ j. P (blk (putBlk a k b) j))) (blocks-putBlk a k b there size) ∙ lowest-cong _ _ (blocks a) (λ j _. test-putBlk P e j)
 
-  pub free-putBlk : isFree b ≡ isFree (blk a k) → freeOf (putBlk a k b) ≡ freeOf a
-  unfolding freeOf
-  free-putBlk e = lowest-putBlk isFree e
-
   pub head-putBlk : (f : File) → isHead f b ≡ isHead f (blk a k) → headOf (putBlk a k b) f ≡ headOf a f
   unfolding headOf
   head-putBlk f e = lowest-putBlk (isHead f) e
-
-  pub data-putBlk : (f : File) (q : ℕ) → isData f q b ≡ isData f q (blk a k) → dataOf (putBlk a k b) f q ≡ dataOf a f q
-  unfolding dataOf
-  data-putBlk f q e = lowest-putBlk (isData f q) e
 
   -- the free blocks afterwards
   pub count-putBlk : freeCount (putBlk a k b) + bit (isFree (blk a k)) ≡ freeCount a + bit (isFree b)

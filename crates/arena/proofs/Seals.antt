@@ -13,8 +13,8 @@ use Rattle.base.proofs.Lists.{getD-paste-in}
 use Rattle.base.proofs.Numbers.{lt-or-le}
 use Rattle.le.specs.Le.{Bytes, leOf, leBytes, leAt, lePut}
 use Rattle.le.proofs.Laws.{length-leBytes, length-lePut, getD-lePut-out, leAt-lePut-fits, lePut-bytes, lePut-leAt}
-use Rattle.arena.specs.Fields.{File, fileOf, numberOf, storedCheck, checkOf, seal, isFree, isHead, isData, zeros}
-use Rattle.arena.proofs.Fields.{Same24, number-cong, file-cong, free-cong, head-cong, data-cong}
+use Rattle.arena.specs.Fields.{File, fileOf, numberOf, storedCheck, checkOf, seal, isHead, zeros}
+use Rattle.arena.proofs.Fields.{Same24, number-cong, file-cong, head-cong}
 use Rattle.arena.proofs.Fresh.{length-zeros, getD-zeros, zeros-bytes}
 
 -- ---- the check
@@ -66,14 +66,8 @@ module _ (b : List ℕ) (size : length b ≡ 512) where
   pub seal-file : fileOf (seal b) ≡ fileOf b
   seal-file = file-cong (seal b) b length-seal size seal-24
 
-  pub seal-free : isFree (seal b) ≡ isFree b
-  seal-free = free-cong (seal b) b length-seal size seal-24
-
   pub seal-head : (f : File) → isHead f (seal b) ≡ isHead f b
   seal-head = head-cong (seal b) b length-seal size seal-24
-
-  pub seal-data : (f : File) (q : ℕ) → isData f q (seal b) ≡ isData f q b
-  seal-data = data-cong (seal b) b length-seal size seal-24
 
   -- a block whose check is right is sealed already
   pub seal-own : Bytes b → storedCheck b ≡ checkOf b → seal b ≡ b

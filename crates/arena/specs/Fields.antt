@@ -1,17 +1,15 @@
 -- The fields of a block: "Byte 0: 0 free, 1 head, 2 data. Byte 1: 0 metadata file, 1 node file. 2 to 3 zero. 4 to 19 file name (zero for
 -- metadata). 20 to 23: length in a head, number in the file in a data block. 24 to 503 payload (480 bytes; zero in a head). 504 to 507
 -- zero. 508 to 511 the check: the sum over i from 0 to 507 of (i+1) x byte i".
-use mathlib.Core.Path.{_≡_}
 use mathlib.Core.Bool.{Bool, _&&_}
-use mathlib.Core.Logic.{_≢_}
 use mathlib.Core.List.{List}
-use Prim.Native.Nat.{ℕ, _+_, _*_, _<_}
-use lib.ListN.{length, getD, set, replicate}
+use Prim.Native.Nat.{ℕ, _+_, _*_}
+use lib.ListN.{getD, set, replicate}
 use lib.Dec.{eqb}
 use Rattle.base.specs.Count.{sumTo}
 use Rattle.base.specs.Decides.{same}
 use Rattle.base.specs.Parts.{part, paste}
-use Rattle.le.specs.Le.{Bytes, leAt, lePut}
+use Rattle.le.specs.Le.{leAt, lePut}
 
 abbrev pub tagOf : List ℕ → ℕ
 tagOf b = getD b 0 0
@@ -43,13 +41,6 @@ seal b = lePut b 508 4 (checkOf b)
 pub record File : Type 0 where
   pub which : ℕ
   pub name : List ℕ
-
--- what a file is: "0 metadata file, 1 node file", and "file name (zero for metadata)"
-pub record FileOk (f : File) : Type 0 where
-  pub which : f .which < 2
-  pub size : length (f .name) ≡ 16
-  pub bytes : Bytes (f .name)
-  pub zero : f .which ≢ 1 → (i : ℕ) → getD (f .name) i 0 ≡ 0
 
 abbrev pub file : ℕ → List ℕ → File
 file w nm = record { which = w; name = nm }

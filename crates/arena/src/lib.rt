@@ -1,14 +1,14 @@
 // The arena's blocks, of 512 bytes each: their check, the block writer, new blocks, and what a block is.
 ghost use mathlib.Core.Path.{_≡_};
-ghost use Prim.Native.Nat.{_≤_};
 ghost use lib.ListN.{length};
-ghost use Rattle.base.specs.Count.{bit};
 ghost use Rattle.base.specs.Decides.{same};
-ghost use Rattle.arena.specs.Blocks.{blk, legal as legalArena};
+ghost use Rattle.arena.specs.Blocks.{legal as legalArena};
 ghost use Rattle.arena.specs.Fields.{checkOf, seal, fresh, file, nameOf, isFree, isHead, isData};
 ghost use Rattle.arena.specs.Places.{freeCount};
+use base::byte;
 use base::clear;
 use base::copy;
+use base::one;
 use le::put_u32;
 use le::u32_at;
 use le::u64_at;
@@ -120,13 +120,6 @@ pub fn is_data(part: &[u8], which: u8, name: &[u8], number: u32) -> bool
     same_name(part, name)
 }
 
-// A test as a number.
-fn one(b: bool) -> usize
-    ensures { λ r. ⌜ (r ≡ bit b) × (r ≤ 1) ⌝ }
-{
-    if b { 1 } else { 0 }
-}
-
 // How many blocks are free.
 pub fn free_count(arena: &[u8]) -> usize
     ensures { λ r. ⌜ r ≡ freeCount (now (arena .entry)) ⌝ }
@@ -136,7 +129,7 @@ pub fn free_count(arena: &[u8]) -> usize
     let mut k: usize = 0;
     while k < n {
         let o = 512 * k;
-        c = c + one(is_free(&arena[o..o + 512]));
+        c = c + byte(one(is_free(&arena[o..o + 512])));
         k = k + 1;
     }
     c

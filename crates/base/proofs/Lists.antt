@@ -1,14 +1,13 @@
 -- The laws of parts, pastes, fills and tables.
-use mathlib.Core.Path.{_≡_, refl, ap, ap₂, _∙_, sym}
+use mathlib.Core.Path.{_≡_, refl, ap, _∙_, sym}
 use mathlib.Core.Logic.{⊎-elim}
-use mathlib.Core.List.{List, [], _∷_, _++_, append-assoc, append-nil}
-use Prim.Native.Nat.{ℕ, zero, suc, _+_, _*_, _≤_, _<_, _-_, zero-le}
-use native.Mathlib.Nat.{eq-or-lt-of-le, add-zero, zero-add, add-suc}
-use native.Mathlib.Numerals.{add-one}
+use mathlib.Core.List.{List, [], _∷_, _++_}
+use Prim.Native.Nat.{ℕ, zero, suc, _+_, _≤_, _<_, _-_}
+use native.Mathlib.Nat.{eq-or-lt-of-le, add-zero, zero-add}
 use native.Mathlib.Omega.{arith}
 use lib.ListN.{length, getD, take, drop, set, replicate, length-set, length-append, length-take, length-drop, length-replicate, getD-replicate, List·getD-append}
 use lib.Seq.{getD-set-same, getD-set-other, getD-take, getD-drop, getD-append-add, ext-getD, length-take-le}
-use Rattle.base.specs.Parts.{part, back, paste, fill, tab}
+use Rattle.base.specs.Parts.{part, paste, tab}
 use Rattle.base.proofs.Numbers.{lt-or-le}
 
 -- ---- parts
@@ -73,22 +72,6 @@ module _ (a : List ℕ) (s : ℕ) (b : List ℕ) (fits : s + length b ≤ length
       out : (i : ℕ) → i < e - t → s ≤ t + i → s + length b ≤ t + i
       out i k g = ⊎-elim (λ l. absurd (let z : e ≤ s = h l in omega arith)) (λ r. omega arith) (lt-or-le t (s + length b))
 
--- two lists of one length that are laid over it: the last one is seen
-pub paste-again : (a : List ℕ) (s : ℕ) (b c : List ℕ) → s + length b ≤ length a → length c ≡ length b → paste (paste a s b) s c ≡ paste a s c
-paste-again a s b c h e =
-    let lp = length-paste a s b h in
-    let lc = length-paste (paste a s b) s c (omega (arith, lp)) in
-    ext-getD 0 _ _ (lc ∙ lp ∙ sym (length-paste a s c (omega arith)))
-    (λ i l. ⊎-elim
-    (λ below. getD-paste-out (paste a s b) s c (omega (arith, lp)) i (λ g. absurd (omega arith)) ∙ getD-paste-out a s b h i (λ g. absurd (omega arith)) ∙ sym (getD-paste-out a s c (omega arith) i (λ g. absurd (omega arith))))
-    (λ (g : s ≤ i). ⊎-elim
-    (λ inside. let j : ℕ = i - s in let q : s + j ≡ i = omega arith in
-    ap (λ (x : ℕ). getD (paste (paste a s b) s c) x 0) (sym q) ∙ getD-paste-in (paste a s b) s c (omega (arith, lp)) j (omega arith)
-    ∙ sym (getD-paste-in a s c (omega arith) j (omega arith)) ∙ ap (λ (x : ℕ). getD (paste a s c) x 0) q)
-    (λ (o : s + length c ≤ i). getD-paste-out (paste a s b) s c (omega (arith, lp)) i (λ _. o) ∙ getD-paste-out a s b h i (λ _. omega arith) ∙ sym (getD-paste-out a s c (omega arith) i (λ _. o)))
-    (lt-or-le i (s + length c)))
-    (lt-or-le i s))
-
 -- one after another
 pub paste-paste : (a : List ℕ) (s : ℕ) (b c : List ℕ) → s + length b + length c ≤ length a → paste (paste a s b) (s + length b) c ≡ paste a s (b ++ c)
 paste-paste a s b c h =
@@ -143,49 +126,6 @@ set-paste a s v h =
 
 -- ---- fills
 
-pub fill-more : (l : List ℕ) (f : ℕ → ℕ) (s n : ℕ) → fill l f s (n + 1) ≡ set (fill l f s n) (s + n) (f (s + n))
-unfolding fill
-fill-more l f s n = rw add-one
-
-pub length-fill : (l : List ℕ) (f : ℕ → ℕ) (s n : ℕ) → length (fill l f s n) ≡ length l
-unfolding fill
-length-fill l f s zero = refl
-length-fill l f s (suc n) = length-set (fill l f s n) (s + n) (f (s + n)) ∙ length-fill l f s n
-
-pub fill-cong : (l : List ℕ) (f g : ℕ → ℕ) (s n : ℕ) → ((j : ℕ) → s ≤ j → j < s + n → f j ≡ g j) → fill l f s n ≡ fill l g s n
-unfolding fill
-fill-cong l f g s zero h = refl
-fill-cong l f g s (suc n) h =
-    ap₂ (λ (d : List ℕ) (v : ℕ). set d (s + n) v) (fill-cong l f g s n (λ j a b. h j a (omega arith))) (h (s + n) (omega arith) (omega arith))
-
--- a fill that goes on
-pub fill-join : (l : List ℕ) (f g : ℕ → ℕ) (s m n : ℕ) → ((j : ℕ) → s + m ≤ j → j < s + m + n → g j ≡ f j) → fill (fill l f s m) g (s + m) n ≡ fill l f s (m + n)
-unfolding fill
-fill-join l f g s m zero h = rw add-zero
-fill-join l f g s m (suc n) h =
-    let e : s + m + n ≡ s + (m + n) = omega arith in
-    rw (add-suc m n)
-    (ap₂ (λ (d : List ℕ) (v : ℕ). set d (s + m + n) v) (fill-join l f g s m n (λ j a b. h j a (omega arith))) (h (s + m + n) (omega arith) (omega arith))
-    ∙ ap (λ (i : ℕ). set (fill l f s (m + n)) i (f i)) e)
-
-pub getD-fill-out : (l : List ℕ) (f : ℕ → ℕ) (s n j : ℕ) → (s ≤ j → s + n ≤ j) → getD (fill l f s n) j 0 ≡ getD l j 0
-unfolding fill
-getD-fill-out l f s zero j h = refl
-getD-fill-out l f s (suc n) j h =
-    getD-set-other (fill l f s n) (s + n) j (f (s + n)) 0 (λ e. ne e) ∙ getD-fill-out l f s n j (λ a. omega (arith, h a))
-  where
-    ne : j ≡ s + n → ⊥
-    ne e = omega (arith, h (omega arith))
-
-pub getD-fill-in : (l : List ℕ) (f : ℕ → ℕ) (s n j : ℕ) → s ≤ j → j < s + n → s + n ≤ length l → getD (fill l f s n) j 0 ≡ f j
-unfolding fill
-getD-fill-in l f s zero j a b h = absurd (omega arith)
-getD-fill-in l f s (suc n) j a b h =
-    ⊎-elim
-    (λ (e : j ≡ s + n). rw e (getD-set-same (fill l f s n) (s + n) (f (s + n)) 0 (omega (arith, length-fill l f s n))))
-    (λ q. getD-set-other (fill l f s n) (s + n) j (f (s + n)) 0 (omega arith) ∙ getD-fill-in l f s n j a q (omega arith))
-    (eq-or-lt-of-le (omega arith))
-
 -- ---- tables
 
 pub length-tab : (f : ℕ → ℕ) (s n : ℕ) → length (tab f s n) ≡ n
@@ -203,14 +143,6 @@ pub tab-cong : (f g : ℕ → ℕ) (s t n : ℕ) → ((i : ℕ) → i < n → f 
 tab-cong f g s t n h =
     ext-getD 0 _ _ (length-tab f s n ∙ sym (length-tab g t n))
     (λ i l. let k : i < n = omega (arith, length-tab f s n) in getD-tab f s n i k ∙ h i k ∙ sym (getD-tab g t n i k))
-
--- a fill of all is a table, whatever was there
-pub fill-tab : (l : List ℕ) (f : ℕ → ℕ) → fill l f 0 (length l) ≡ tab f 0 (length l)
-fill-tab l f =
-    ext-getD 0 _ _ (length-fill l f 0 (length l) ∙ sym (length-tab f 0 (length l)))
-    (λ i h.
-    let b : i < length l = omega (arith, length-fill l f 0 (length l)) in
-    getD-fill-in l f 0 (length l) i zero-le (omega arith) (omega arith) ∙ ap f (sym (zero-add i)) ∙ sym (getD-tab f 0 (length l) i b))
 
 -- a list is the table of its elements
 pub tab-getD : (l : List ℕ) → tab (λ i. getD l i 0) 0 (length l) ≡ l

@@ -1,5 +1,5 @@
 -- The laws of the search.
-use mathlib.Core.Path.{_≡_, refl, ap, _∙_, sym, subst}
+use mathlib.Core.Path.{_≡_, refl, _∙_, sym, subst}
 use mathlib.Core.Bool.{Bool, true, false, cond, true≢false}
 use mathlib.Core.Logic.{⊎-elim, _⊎_, _≢_}
 use Prim.Native.Nat.{ℕ, zero, suc, _+_, _≤_, _<_, zero-le}
@@ -9,8 +9,7 @@ use native.Mathlib.Omega.{arith}
 use lib.Dec.{eqb, ltb}
 use borrow.Author.Tests.{lt-ltb, le-ltb, eq-eqb, ne-eqb}
 use Rattle.base.specs.Count.{countTo}
-use Rattle.base.specs.Search.{lowest, last, pick, upd, foundBelow}
-use Rattle.base.specs.declared.Found.{Found}
+use Rattle.base.specs.Search.{lowest, last, upd, foundBelow}
 use Rattle.base.specs.declared.Found.the-variants.{At, Nothing}
 use Rattle.base.proofs.Numbers.{lt-or-le, below-suc}
 use Rattle.base.proofs.Counts.{countTo-none}

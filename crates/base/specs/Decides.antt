@@ -1,7 +1,7 @@
 -- Tests that compute, and what they say.
 use mathlib.Core.Bool.{Bool, true, false, _&&_}
 use mathlib.Core.List.{List, [], _∷_}
-use Prim.Native.Nat.{ℕ, zero, suc}
+use Prim.Native.Nat.{ℕ, suc}
 use lib.Dec.{T, eqb}
 
 -- a test decides a statement

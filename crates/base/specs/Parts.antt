@@ -1,7 +1,7 @@
 -- Parts of a list: what a lent part is, what its lender is when the part is back, and lists filled by index.
 use mathlib.Core.List.{List, [], _∷_, _++_}
 use Prim.Native.Nat.{ℕ, zero, suc, _+_, _-_}
-use lib.ListN.{length, take, drop, set}
+use lib.ListN.{length, take, drop}
 
 -- the elements from s up to e: `&a[s..e]`
 abbrev pub part : List ℕ → ℕ → ℕ → List ℕ
@@ -14,11 +14,6 @@ back a s e b = take s a ++ (b ++ drop (e - s) (drop s a))
 -- a, with b laid over it from s on
 unfoldable pub paste : List ℕ → ℕ → List ℕ → List ℕ
 paste a s b = back a s (s + length b) b
-
--- l with f j at each j from s up to s + n - 1
-unfoldable pub fill : List ℕ → (ℕ → ℕ) → ℕ → ℕ → List ℕ
-fill l f s zero = l
-fill l f s (suc n) = set (fill l f s n) (s + n) (f (s + n))
 
 -- f s, .., f (s + n - 1)
 unfoldable pub tab : (ℕ → ℕ) → ℕ → ℕ → List ℕ

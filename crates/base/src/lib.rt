@@ -2,6 +2,7 @@
 ghost use mathlib.Core.Path.{_≡_};
 ghost use Prim.Native.Nat.{_<_, min, max};
 ghost use lib.ListN.{length, replicate};
+ghost use Rattle.base.specs.Count.{bit};
 ghost use Rattle.base.specs.Search.{foundBelow};
 
 // What a search found.
@@ -27,7 +28,20 @@ pub fn wide(x: u8) -> u32
     x as u32
 }
 
+// A test as a number.
+pub fn one(b: bool) -> u8
+    ensures { λ r. ⌜ r ≡ bit b ⌝ }
+{
+    b as u8
+}
+
 // The same number, as an index.
+pub fn byte(x: u8) -> usize
+    ensures { λ r. ⌜ r ≡ x ⌝ }
+{
+    x as usize
+}
+
 pub fn index(x: u32) -> usize
     ensures { λ r. ⌜ r ≡ x ⌝ }
 {

@@ -1,20 +1,17 @@
 -- The steps of one block: what the code's stores mean on the view.
-use mathlib.Core.Path.{_≡_, refl, sym, ap, _∙_}
-use mathlib.Core.Bool.{Bool, true, false}
+use mathlib.Core.Path.{_≡_, refl, ap, _∙_}
 use mathlib.Core.List.{List}
 use Prim.Native.Nat.{ℕ, _+_, _-_, _≤_, _<_, _/_, _%_}
 use native.Mathlib.Omega.{arith}
 use lib.ListN.{length, replicate, length-replicate}
 use lib.Dec.{ltb}
 use borrow.Author.Tests.{lt-ltb, le-ltb}
-use Rattle.base.specs.Out.{Out, done, refused}
 use Rattle.base.specs.Parts.{paste}
 use Rattle.base.specs.Search.{pick}
 use Rattle.base.proofs.Lists.{length-paste}
-use Rattle.le.specs.Le.{lePut, leBytes}
 use Rattle.arena.specs.Blocks.{blk, putBlk, blocks}
 use Rattle.arena.specs.Fields.{File, numberOf, seal, fresh}
-use Rattle.arena.specs.Places.{freeOf, headOf, dataOf}
+use Rattle.arena.specs.Places.{freeOf, dataOf}
 use Rattle.overlay.specs.View.{blkOf, view, left, stored, Fine}
 use Rattle.overlay.specs.Steps.{Changed, Did, went, stuck}
 use Rattle.overlay.proofs.Views.{blk-view, length-blkOf, changed-stored}

@@ -7,7 +7,7 @@ use native.Mathlib.Numerals.{add-one}
 use native.Mathlib.Omega.{arith}
 use lib.ListN.{length}
 use borrow.Author.Tests.{le-leb, lt-leb}
-use Rattle.base.specs.Out.{Out, done, refused}
+use Rattle.base.specs.Out.{done}
 use Rattle.base.specs.Search.{pick}
 use Rattle.le.specs.Le.{lePut}
 use Rattle.arena.specs.Blocks.{blk, putBlk, blocks}
@@ -18,7 +18,7 @@ use Rattle.arena.proofs.Fresh.{length-zeros}
 use Rattle.overlay.specs.View.{blkOf, view, freed, Fine}
 use Rattle.overlay.specs.Steps.{Changed, Did, went, stuck}
 use Rattle.overlay.proofs.Views.{blocks-view, blk-view, changed-freed}
-use Rattle.overlay.proofs.Chains.{changed-none, changed-then, changed-more}
+use Rattle.overlay.proofs.Chains.{changed-none, changed-then}
 use Rattle.files.specs.Read.{there}
 use Rattle.files.specs.Store.{clearTo, clearAll, setLength, isPast, isOf, zeroTail, cutFile, dropFile}
 
@@ -65,6 +65,10 @@ module _ (a w : List ℕ) (F : Fine a w) (p : List ℕ → Bool) where
   clear-more u t k l c e =
       let q = clear-blk u k l c in
       rw add-one (clear-step u t k (p (blk (view a w) k)) l c refl (e ∙ ap (λ (x : List ℕ). pick (p x) (freed u k) u) q))
+
+  -- the same, where the code tested a copy of the block
+  pub clear-tested : (u t : List ℕ) (k : ℕ) {r : Bool} {b : List ℕ} → k < blocks a → Changed a w u (clearTo p (view a w) k) 0 → r ≡ p b → b ≡ blkOf a u k → t ≡ pick r (freed u k) u → Changed a w t (clearTo p (view a w) (k + 1)) 0
+  clear-tested u t k l c er eb et = clear-more u t k l c (et ∙ ap (λ (x : Bool). pick x (freed u k) u) (er ∙ ap p eb))
 
   pub clear-all : (u : List ℕ) (k : ℕ) → k ≡ blocks a → Changed a w u (clearTo p (view a w) k) 0 → Changed a w u (clearAll p (view a w)) 0
   unfolding clearAll

@@ -1,5 +1,5 @@
 -- Searches over the blocks of a view, and what their answers say of it.
-use mathlib.Core.Path.{_≡_, refl, sym, ap, _∙_}
+use mathlib.Core.Path.{_≡_, sym, ap, ap₂, _∙_}
 use mathlib.Core.Bool.{Bool, true, false}
 use mathlib.Core.List.{List}
 use Prim.Native.Nat.{ℕ, _≤_, _<_}
@@ -14,6 +14,10 @@ use Rattle.arena.specs.Places.{headOf, dataOf}
 use Rattle.overlay.specs.View.{blkOf, view, Fine}
 use Rattle.overlay.proofs.Views.{blocks-view, blk-view}
 use Rattle.files.specs.Read.{there, lengthOf, present}
+
+-- a test that the code made of x's copy
+pub tested : {A : Type 0} (P : A → Bool) {r t : Bool} {b x : A} → r ≡ P b → b ≡ x → r ≡ t → P x ≡ t
+tested P e f g = ap P (sym f) ∙ sym e ∙ g
 
 module _ (a w : List ℕ) (F : Fine a w) where
   -- ---- a loop over the blocks of the view, for any test
@@ -35,6 +39,10 @@ module _ (a w : List ℕ) (F : Fine a w) where
 
   pub above-view : (x k : ℕ) → k ≡ x → blocks a ≤ k → ltb x (blocks (view a w)) ≡ false
   above-view x k e l = le-ltb x (blocks (view a w)) (omega (arith, blocks-view a w F))
+
+  pub there-is : (f : File) (k : ℕ) → k ≡ headOf (view a w) f → ltb k (blocks a) ≡ there (view a w) f
+  unfolding there
+  there-is f k e = ap₂ ltb e (sym (blocks-view a w F))
 
   pub there-yes : (f : File) (k : ℕ) → k ≡ headOf (view a w) f → k < blocks a → there (view a w) f ≡ true
   unfolding there

@@ -1,6 +1,6 @@
 -- A write of at most 480 bytes is the length raised, and one or two blocks.
-use mathlib.Core.Path.{_≡_, refl, sym, ap, ap₂, _∙_}
-use mathlib.Core.Bool.{Bool, true, false}
+use mathlib.Core.Path.{_≡_, refl, sym, ap, _∙_}
+use mathlib.Core.Bool.{true, false}
 use mathlib.Core.Logic.{⊎-elim}
 use mathlib.Core.List.{List}
 use Prim.Native.Nat.{ℕ, zero, suc, _+_, _-_, _≤_, _<_, _/_, _%_}
@@ -10,14 +10,14 @@ use lib.ListN.{length}
 use lib.Dec.{ltb, leb}
 use borrow.Author.Tests.{lt-ltb, le-ltb, le-leb, lt-leb}
 use Rattle.base.proofs.Outs.{bind-done}
-use Rattle.base.specs.Out.{Out, done, refused, bind}
+use Rattle.base.specs.Out.{Out, done, bind}
 use Rattle.base.specs.Search.{pick}
 use Rattle.base.proofs.Numbers.{lt-or-le}
 use Rattle.le.specs.Le.{lePut}
 use Rattle.arena.specs.Blocks.{blk, putBlk}
 use Rattle.arena.specs.Fields.{File, numberOf, seal}
 use Rattle.arena.specs.Places.{headOf}
-use Rattle.overlay.specs.View.{view, Fine}
+use Rattle.overlay.specs.View.{view}
 use Rattle.overlay.specs.Steps.{Changed, Did, went, stuck}
 use Rattle.overlay.proofs.Chains.{Well, changed-more, did-next}
 use Rattle.files.specs.Read.{there, lengthOf}

@@ -1,5 +1,5 @@
 -- Reading: the bytes of one block of a file, and the answer of a read.
-use mathlib.Core.Path.{_≡_, refl, sym, ap, ap₂, _∙_}
+use mathlib.Core.Path.{_≡_, sym, ap, ap₂, _∙_}
 use mathlib.Core.Bool.{true, false}
 use mathlib.Core.List.{List}
 use Prim.Native.Nat.{ℕ, _+_, _-_, _≤_, _<_, _/_, _%_}
@@ -7,16 +7,16 @@ use native.Mathlib.Omega.{arith}
 use lib.ListN.{length, getD, replicate}
 use lib.Seq.{ext-getD}
 use borrow.Author.Tests.{le-leb, lt-leb}
-use Rattle.base.specs.Out.{Out, done, refused, guard, answer, kept}
+use Rattle.base.specs.Out.{done, refused}
 use Rattle.base.specs.Parts.{part, tab}
 use Rattle.base.proofs.Lists.{length-part, getD-part, length-tab, getD-tab, tab-zeros, tab-cong}
 use Rattle.arena.specs.Blocks.{blk, blocks}
-use Rattle.arena.specs.Fields.{File, numberOf}
-use Rattle.arena.specs.Places.{headOf, dataOf}
+use Rattle.arena.specs.Fields.{File}
+use Rattle.arena.specs.Places.{dataOf}
 use Rattle.overlay.specs.View.{blkOf, view, Fine}
 use Rattle.overlay.proofs.Views.{blk-view, length-blkOf}
 use Rattle.files.specs.Read.{there, lengthOf, present, byteAt, readFile}
-use Rattle.files.proofs.Finds.{there-no, present-yes, present-no}
+use Rattle.files.proofs.Finds.{present-yes, present-no}
 
 -- bytes p and p + i lie in one block
 same-block : (p i : ℕ) → p % 480 + i < 480 → (p + i) / 480 ≡ p / 480

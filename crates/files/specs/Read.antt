@@ -4,7 +4,7 @@ use mathlib.Core.List.{List}
 use Prim.Native.Nat.{ℕ, _+_, _/_, _%_}
 use lib.ListN.{getD}
 use lib.Dec.{ltb, leb}
-use Rattle.base.specs.Out.{Out, done, refused, guard}
+use Rattle.base.specs.Out.{Out, done, guard}
 use Rattle.base.specs.Parts.{tab}
 use Rattle.base.specs.Search.{pick}
 use Rattle.base.specs.Reasons.{stuck}

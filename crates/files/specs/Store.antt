@@ -3,8 +3,8 @@ use mathlib.Core.Bool.{Bool, _&&_, _||_}
 use mathlib.Core.List.{List}
 use Prim.Native.Nat.{ℕ, zero, suc, _+_, _*_, _-_, _/_, _%_, min, max}
 use lib.ListN.{length, replicate}
-use lib.Dec.{eqb, ltb, leb}
-use Rattle.base.specs.Out.{Out, done, refused, bind, guard}
+use lib.Dec.{ltb, leb}
+use Rattle.base.specs.Out.{Out, done, bind, guard}
 use Rattle.base.specs.Parts.{part, paste}
 use Rattle.base.specs.Reasons.{noDeviceSpace, stuck}
 use Rattle.base.specs.Search.{pick}

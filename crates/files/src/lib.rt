@@ -4,7 +4,7 @@ pub mod read;
 pub mod store;
 
 ghost use mathlib.Core.Path.{_≡_};
-ghost use Prim.Native.Nat.{ℕ, _+_, _*_, _-_, _<_, _≤_, _/_, _%_};
+ghost use Prim.Native.Nat.{_+_, _-_, _<_, _/_};
 ghost use lib.ListN.{length};
 ghost use Rattle.arena.specs.Fields.{file};
 ghost use Rattle.arena.specs.Places.{freeOf, headOf, dataOf};

@@ -1,9 +1,9 @@
 // Reading: existence, length, and a run of bytes.
 ghost use mathlib.Core.Path.{_≡_};
-ghost use Prim.Native.Nat.{ℕ, _+_, _*_, _-_, _<_, _≤_, _/_, _%_};
+ghost use Prim.Native.Nat.{_+_, _-_, _<_, _≤_, _/_, _%_};
 ghost use lib.ListN.{length};
 ghost use Rattle.base.specs.Out.{answer, kept};
-ghost use Rattle.base.specs.Parts.{back, tab};
+ghost use Rattle.base.specs.Parts.{tab};
 ghost use Rattle.arena.specs.Fields.{file};
 ghost use Rattle.overlay.specs.View.{view, Fine};
 ghost use Rattle.files.specs.Read.{there as isThere, lengthOf, byteAt, readFile};

@@ -1,10 +1,10 @@
 // The four stores: put, cut, make, drop. Each works on the view and answers as its definition does there; the arena itself is only read.
 ghost use mathlib.Core.Path.{_≡_};
-ghost use Prim.Native.Nat.{ℕ, _+_, _*_, _-_, _<_, _≤_, _/_, _%_};
+ghost use Prim.Native.Nat.{_+_, _*_, _-_, _<_, _≤_, _/_, _%_};
 ghost use lib.ListN.{length, replicate};
 ghost use lib.Dec.{ltb};
 ghost use Rattle.base.specs.Out.{done, bind};
-ghost use Rattle.base.specs.Parts.{part, paste};
+ghost use Rattle.base.specs.Parts.{paste};
 ghost use Rattle.base.specs.Search.{pick};
 ghost use Rattle.le.specs.Le.{lePut};
 ghost use Rattle.arena.specs.Blocks.{blocks, blk, putBlk};
@@ -223,7 +223,7 @@ pub fn make(arena: &[u8], work: &mut [u8], which: u8, name: &[u8]) -> u8
     claim(arena, work, &b)
 }
 
-// ---- cut
+// ---- blocks that become free
 
 fn free_if(work: &mut [u8], k: usize, yes: bool)
     requires { ⌜ k < length (now work) ⌝ }
@@ -233,6 +233,16 @@ fn free_if(work: &mut [u8], k: usize, yes: bool)
         return;
     }
     free(work, k);
+}
+
+fn is_of(b: &[u8], which: u8, name: &[u8]) -> bool
+    requires { ⌜ (length (now b) ≡ 512) × (length (now name) ≡ 16) ⌝ }
+    ensures { λ r. ⌜ r ≡ isOf (file which (now (name .entry))) (now (b .entry)) ⌝ }
+{
+    if is_head(b, which, name) {
+        return true;
+    }
+    is_data(b, which, name, u32_at(b, 20))
 }
 
 fn is_past(b: &[u8], which: u8, name: &[u8], len: usize) -> bool
@@ -246,19 +256,32 @@ fn is_past(b: &[u8], which: u8, name: &[u8], len: usize) -> bool
     len <= 480 * index(q)
 }
 
-// The data blocks wholly past len become free.
-fn free_past(arena: &[u8], work: &mut [u8], which: u8, name: &[u8], len: usize)
+// Whether the block goes: all of the file do, or its data blocks wholly past len.
+fn goes(b: &[u8], which: u8, name: &[u8], all: bool, len: usize) -> bool
+    requires { ⌜ (length (now b) ≡ 512) × (length (now name) ≡ 16) ⌝ }
+    ensures { λ r. ⌜ r ≡ pick all (isOf (file which (now (name .entry)))) (isPast (file which (now (name .entry))) len) (now (b .entry)) ⌝ }
+{
+    if all {
+        return is_of(b, which, name);
+    }
+    is_past(b, which, name, len)
+}
+
+// The blocks that go become free.
+fn free_blocks(arena: &[u8], work: &mut [u8], which: u8, name: &[u8], all: bool, len: usize)
     requires { ⌜ Fine (now arena) (now work) × (length (now name) ≡ 16) ⌝ }
-    ensures { λ _. ⌜ Changed (now (arena .entry)) (now (work .entry)) (now (work .exit)) (clearAll (isPast (file which (now (name .entry))) len) (view (now (arena .entry)) (now (work .entry)))) 0 ⌝ }
+    ensures { λ _. ⌜ Changed (now (arena .entry)) (now (work .entry)) (now (work .exit)) (clearAll (pick all (isOf (file which (now (name .entry)))) (isPast (file which (now (name .entry))) len)) (view (now (arena .entry)) (now (work .entry)))) 0 ⌝ }
 {
     let n = arena.len() / 512;
     let mut k: usize = 0;
     while k < n {
-        let past = is_past(block(arena, &work[..], k), which, name, len);
-        free_if(work, k, past);
+        let yes = goes(block(arena, &work[..], k), which, name, all, len);
+        free_if(work, k, yes);
         k = k + 1;
     }
 }
+
+// ---- cut
 
 // The payload of a block from `off` on becomes zero.
 fn clear_from(b: &mut [u8], off: usize)
@@ -299,36 +322,12 @@ pub fn cut(arena: &[u8], work: &mut [u8], which: u8, name: &[u8], len: usize) ->
         return 17;
     }
     set_length(arena, work, k, len as u32);
-    free_past(arena, work, which, name, len);
+    free_blocks(arena, work, which, name, false, len);
     zero_tail(arena, work, which, name, len);
     0
 }
 
 // ---- drop
-
-fn is_of(b: &[u8], which: u8, name: &[u8]) -> bool
-    requires { ⌜ (length (now b) ≡ 512) × (length (now name) ≡ 16) ⌝ }
-    ensures { λ r. ⌜ r ≡ isOf (file which (now (name .entry))) (now (b .entry)) ⌝ }
-{
-    if is_head(b, which, name) {
-        return true;
-    }
-    is_data(b, which, name, u32_at(b, 20))
-}
-
-// All blocks of the file become free.
-fn free_all(arena: &[u8], work: &mut [u8], which: u8, name: &[u8])
-    requires { ⌜ Fine (now arena) (now work) × (length (now name) ≡ 16) ⌝ }
-    ensures { λ _. ⌜ Changed (now (arena .entry)) (now (work .entry)) (now (work .exit)) (clearAll (isOf (file which (now (name .entry)))) (view (now (arena .entry)) (now (work .entry)))) 0 ⌝ }
-{
-    let n = arena.len() / 512;
-    let mut k: usize = 0;
-    while k < n {
-        let of = is_of(block(arena, &work[..], k), which, name);
-        free_if(work, k, of);
-        k = k + 1;
-    }
-}
 
 pub fn drop(arena: &[u8], work: &mut [u8], which: u8, name: &[u8]) -> u8
     requires { ⌜ Fine (now arena) (now work) × (length (now name) ≡ 16) ⌝ }
@@ -337,6 +336,6 @@ pub fn drop(arena: &[u8], work: &mut [u8], which: u8, name: &[u8]) -> u8
     if find_head(arena, &work[..], which, name) >= arena.len() / 512 {
         return 19;
     }
-    free_all(arena, work, which, name);
+    free_blocks(arena, work, which, name, true, 0);
     0
 }

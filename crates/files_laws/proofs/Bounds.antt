@@ -1,6 +1,6 @@
 -- What is known of files' names, lengths and bytes where an arena is made of bytes.
 use mathlib.Core.Path.{_≡_, refl, ap}
-use mathlib.Core.Bool.{true, _&&_}
+use mathlib.Core.Bool.{_&&_}
 use mathlib.Core.List.{List}
 use mathlib.Core.Logic.{⊎-elim}
 use Prim.Native.Nat.{ℕ, _+_, _/_, _%_, _≤_, _<_}
@@ -15,13 +15,10 @@ use Rattle.arena.specs.Blocks.{blk, legal}
 use Rattle.arena.specs.Fields.{File, file}
 use Rattle.arena.specs.Places.{headOf, dataOf}
 use Rattle.arena.proofs.Blocks.{blk-bytes}
-use Rattle.sound.specs.Sound.{sound}
 use Rattle.files.specs.Read.{there, lengthOf, present, byteAt}
 use Rattle.files.specs.Store.{longest}
 use Rattle.files_laws.specs.Laws.{Named, Read}
 use Rattle.files_laws.proofs.Views.{byte-in, byte-here, byte-none, length-here, length-none}
-use Rattle.files_laws.proofs.Parts.{sound-tidy}
-use Rattle.files_laws.proofs.Steps.{name-good}
 
 -- the metadata file, and node files of any name, have right names; so has every file of a sound arena
 zeros-16 : (i : ℕ) → getD (replicate {A = ℕ} 16 0) i 0 ≡ 0
@@ -41,9 +38,6 @@ named-meta = record {
 
 pub named-node : (nm : List ℕ) → length nm ≡ 16 → Bytes nm → Named (file 1 nm)
 named-node nm s h = record { kind = omega arith; size = s; bytes = h; zero = λ n. absurd (n refl) }
-
-pub named-there : (a : List ℕ) (f : File) → Bytes a → sound a ≡ true → there a f ≡ true → Named f
-named-there a f h ok was = name-good a f was h (sound-tidy a ok)
 
 -- a length fits 4 bytes
 pub length-fits : (a : List ℕ) (f : File) → Bytes a → lengthOf a f ≤ longest

@@ -15,7 +15,7 @@ use Rattle.base.specs.Out.{done, refused, Ok, went}
 use Rattle.base.specs.Parts.{paste}
 use Rattle.base.proofs.Bools.{bool-cases, true-false, and-both, and-parts, and-false}
 use Rattle.base.proofs.Numbers.{lt-or-le}
-use Rattle.base.proofs.Outs.{ok-done, ok-does, ok-test}
+use Rattle.base.proofs.Outs.{ok-does, ok-test}
 use Rattle.le.specs.Le.{Bytes}
 use Rattle.arena.specs.Blocks.{blk, putBlk, blocks}
 use Rattle.arena.specs.Fields.{File, tagOf, numberOf, isFree, isHead, isData, seal}
@@ -288,7 +288,3 @@ module _ (a : List ℕ) (f : File) (len : ℕ) where
   pub cut-far : there a f ≡ true → longest < len → cutFile a f len ≡ refused 17
   unfolding cutFile
   cut-far y g = rw (y, lt-leb len longest g)
-
-  -- whatever it left, it did that
-  pub cut-is : (a′ : List ℕ) → cutFile a f len ≡ done a′ → Cut a f len a′
-  cut-is a′ e = ok-done (subst (Ok (Cut a f len) (CutRefused a f len)) e cut-law)

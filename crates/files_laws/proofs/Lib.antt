@@ -11,5 +11,4 @@ pub mod Put
 pub mod Cut
 pub mod Drop
 pub mod Reading
-pub mod Tallies
 pub mod Bounds

@@ -9,14 +9,14 @@ use lib.ListN.{length, getD, replicate}
 use lib.Dec.{leb}
 use borrow.Author.Tests.{leb-true, leb-false}
 use Rattle.base.proofs.Outs.{ok-test}
-use Rattle.base.specs.Out.{done, refused, guard, Ok, went}
+use Rattle.base.specs.Out.{done, refused, Ok, went}
 use Rattle.base.proofs.Numbers.{lt-or-le}
 use Rattle.base.proofs.Lists.{length-tab, getD-tab, tab-cong, tab-getD, tab-zeros}
 use Rattle.arena.specs.Fields.{File}
 use Rattle.sound.specs.Sound.{sound}
 use Rattle.files.specs.Read.{there, lengthOf, byteAt, readFile}
 use Rattle.files.proofs.Runs.{read-missing, read-short, read-done}
-use Rattle.files_laws.specs.Laws.{Kept, Put, Cut, Drop, Read, ReadRefused, missing, short}
+use Rattle.files_laws.specs.Laws.{Put, Cut, Drop, Read, ReadRefused, missing, short}
 use Rattle.files_laws.proofs.Parts.{sound-inside}
 
 module _ (a : List ℕ) (f : File) (pos n : ℕ) where
@@ -33,12 +33,6 @@ same-read : (a a′ : List ℕ) (f : File) (pos n : ℕ) → there a f ≡ true 
     → ((i : ℕ) → i < n → byteAt a′ f (pos + i) ≡ byteAt a f (pos + i)) → readFile a′ f pos n ≡ readFile a f pos n
 same-read a a′ f pos n t t′ l l′ h =
     read-done a′ f pos n t′ l′ ∙ ap done (tab-cong (byteAt a′ f) (byteAt a f) pos pos n h) ∙ sym (read-done a f pos n t l)
-
--- a file that is as it was reads as it did
-pub kept-read : (a a′ : List ℕ) (g : File) → Kept a a′ g → (pos n : ℕ) → readFile a′ g pos n ≡ readFile a g pos n
-unfolding readFile
-kept-read a a′ g K pos n =
-    rw (K .exists, K .long) (ap (λ (l : List ℕ). guard (there a g) 19 (guard (leb (pos + n) (lengthOf a g)) 19 (done l))) (tab-cong (byteAt a′ g) (byteAt a g) pos pos n (λ i _. K .byte (pos + i))))
 
 -- ---- after put
 

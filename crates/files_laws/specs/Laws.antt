@@ -8,6 +8,7 @@ use Prim.Native.Nat.{ℕ, _+_, _*_, _-_, _/_, _≤_, _<_, max}
 use lib.ListN.{length, getD}
 use lib.Dec.{ltb}
 use Rattle.base.specs.Count.{countTo}
+use Rattle.base.specs.Reasons.{noDeviceSpace, stuck}
 use Rattle.le.specs.Le.{Bytes}
 use Rattle.arena.specs.Blocks.{blk, blocks}
 use Rattle.arena.specs.Fields.{File}
@@ -77,9 +78,9 @@ pub record Put (a : List ℕ) (f : File) (pos : ℕ) (src : List ℕ) (a′ : Li
 
 -- why n bytes could not be written from pos on
 pub data PutRefused (a : List ℕ) (f : File) (pos n : ℕ) : ℕ → Type 0 where
-  missing : there a f ≡ false → PutRefused a f pos n 19
-  far : there a f ≡ true → longest < pos + n → PutRefused a f pos n 17
-  full : there a f ≡ true → pos + n ≤ longest → freeCount a < lacking a f pos n → PutRefused a f pos n 17
+  missing : there a f ≡ false → PutRefused a f pos n stuck
+  far : there a f ≡ true → longest < pos + n → PutRefused a f pos n noDeviceSpace
+  full : there a f ≡ true → pos + n ≤ longest → freeCount a < lacking a f pos n → PutRefused a f pos n noDeviceSpace
 
 -- ---- cut
 
@@ -102,8 +103,8 @@ pub record Cut (a : List ℕ) (f : File) (len : ℕ) (a′ : List ℕ) : Type 0 
   pub others : (g : File) → f ≢ g → Kept a a′ g
 
 pub data CutRefused (a : List ℕ) (f : File) (len : ℕ) : ℕ → Type 0 where
-  missing : there a f ≡ false → CutRefused a f len 19
-  far : there a f ≡ true → longest < len → CutRefused a f len 17
+  missing : there a f ≡ false → CutRefused a f len stuck
+  far : there a f ≡ true → longest < len → CutRefused a f len noDeviceSpace
 
 -- ---- make
 
@@ -127,7 +128,7 @@ pub record Make (a : List ℕ) (f : File) (a′ : List ℕ) : Type 0 where
   pub others : (g : File) → f ≢ g → Kept a a′ g
 
 pub data MakeRefused (a : List ℕ) : ℕ → Type 0 where
-  full : freeCount a ≡ 0 → MakeRefused a 17
+  full : freeCount a ≡ 0 → MakeRefused a noDeviceSpace
 
 -- ---- drop
 
@@ -148,7 +149,7 @@ pub record Drop (a : List ℕ) (f : File) (a′ : List ℕ) : Type 0 where
   pub others : (g : File) → f ≢ g → Kept a a′ g
 
 pub data DropRefused (a : List ℕ) (f : File) : ℕ → Type 0 where
-  missing : there a f ≡ false → DropRefused a f 19
+  missing : there a f ≡ false → DropRefused a f stuck
 
 -- ---- read
 
@@ -160,5 +161,5 @@ pub record Read (a : List ℕ) (f : File) (pos n : ℕ) (l : List ℕ) : Type 0 
   pub byte : (i : ℕ) → i < n → getD l i 0 ≡ byteAt a f (pos + i)
 
 pub data ReadRefused (a : List ℕ) (f : File) (pos n : ℕ) : ℕ → Type 0 where
-  missing : there a f ≡ false → ReadRefused a f pos n 19
-  short : there a f ≡ true → lengthOf a f < pos + n → ReadRefused a f pos n 19
+  missing : there a f ≡ false → ReadRefused a f pos n stuck
+  short : there a f ≡ true → lengthOf a f < pos + n → ReadRefused a f pos n stuck

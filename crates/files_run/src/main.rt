@@ -27,8 +27,6 @@ const DROP: u8 = 5;
 
 const READ: u8 = 6;
 
-const ASK: u8 = 7;
-
 // ---- what a record stands for
 
 // A name whose halves other names have too.

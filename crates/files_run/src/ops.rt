@@ -1,7 +1,7 @@
 // One operation on the arena itself: a workspace of zeros, the step on the view, and commit where it was done. So each of the four stores is
 // its definition, on the arena.
 ghost use mathlib.Core.Path.{_≡_};
-ghost use Prim.Native.Nat.{_*_, _<_, _≤_};
+ghost use Prim.Native.Nat.{_*_, _≤_};
 ghost use lib.ListN.{length, replicate};
 ghost use Rattle.base.specs.Out.{answer, kept};
 ghost use Rattle.arena.specs.Blocks.{blocks};

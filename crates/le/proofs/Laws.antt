@@ -8,7 +8,7 @@ use lib.Arith.{mod-mul}
 use lib.ListN.{length, getD, drop, set, length-take}
 use Rattle.base.proofs.Parts.{part-join, part-part, part-one, part-all, paste-all, paste-whole}
 use Rattle.base.specs.Parts.{part, paste}
-use Rattle.base.proofs.Lists.{length-part, length-paste, part-paste, part-paste-other, paste-paste, paste-own, getD-paste-out, set-paste}
+use Rattle.base.proofs.Lists.{length-part, length-paste, part-paste, paste-paste, paste-own, getD-paste-out, set-paste}
 use Rattle.le.specs.Le.{Bytes, leOf, leBytes, leAt, lePut}
 
 -- ---- a list and its number
@@ -127,11 +127,6 @@ module _ (l : List ℕ) (s n v : ℕ) (fits : s + n ≤ length l) where
 
   pub leAt-lePut-fits : v < 256 ^ n → leAt (lePut l s n v) s n ≡ v
   leAt-lePut-fits h = leAt-lePut ∙ mod-eq-of-lt h
-
-  -- what is read elsewhere stays
-  pub leAt-lePut-other : (t m : ℕ) → (t < s + n → t + m ≤ s) → leAt (lePut l s n v) t m ≡ leAt l t m
-  unfolding leAt lePut
-  leAt-lePut-other t m h = ap leOf (part-paste-other l s (leBytes n v) room t (t + m) (λ g. h (omega (arith, length-leBytes n v))))
 
   pub lePut-bytes : Bytes l → Bytes (lePut l s n v)
   unfolding lePut

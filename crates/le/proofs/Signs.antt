@@ -15,11 +15,6 @@ use Rattle.base.proofs.Numbers.{lt-or-le}
 use Rattle.le.specs.Le.{leOf, leAt}
 use Rattle.le.specs.Signed.{signed, bitsOf}
 
--- the lower half is the number itself
-pub signed-low : (x : ℕ) → x < 9223372036854775808 → signed x ≡ pos x
-unfolding signed
-signed-low x h = rw (lt-ltb x 9223372036854775808 h)
-
 -- the upper half counts down from -1
 pub signed-high : (x : ℕ) → 9223372036854775808 ≤ x → signed x ≡ negsuc (18446744073709551615 - x)
 unfolding signed

@@ -3,14 +3,13 @@ ghost use mathlib.Core.Path.{_≡_};
 ghost use Prim.Native.Nat.{_+_, _*_, _/_, _≤_, _<_};
 ghost use lib.ListN.{length};
 ghost use Rattle.base.specs.Search.{lowest, foundBelow};
-ghost use Rattle.base.specs.Count.{bit};
 ghost use Rattle.maps.specs.Maps.{bitOf, putBit, bitAt, withBit, setBits};
+use base::one;
 
-fn one(b: bool) -> u8
-    ensures { λ r. ⌜ r ≡ bit b ⌝ }
-{
-    b as u8
-}
+// A map is a block of the metadata file, of 128 bytes: a bit for each of 1,024 blocks.
+pub const BLKSIZE: usize = 128;
+
+pub const BLKBITS: usize = 1024;
 
 fn bit_of(x: u8, k: usize) -> bool
     requires { ⌜ k < 8 ⌝ }
@@ -55,15 +54,15 @@ pub fn lowest_set(maps: &[u8], groups: usize) -> base::Found
     let mut group: usize = 0;
     let id = 'search: loop {
         if group == groups {
-            break 1024 * groups;
+            break BLKBITS * groups;
         }
         let mut byte: usize = 0;
-        while byte < 128 {
-            let x = maps[128 * group + byte];
+        while byte < BLKSIZE {
+            let x = maps[BLKSIZE * group + byte];
             let mut k: usize = 0;
             while k < 8 {
                 if bit_of(x, k) {
-                    break 'search 1024 * group + 8 * byte + k;
+                    break 'search BLKBITS * group + 8 * byte + k;
                 }
                 k = k + 1;
             }
@@ -71,7 +70,7 @@ pub fn lowest_set(maps: &[u8], groups: usize) -> base::Found
         }
         group = group + 1;
     };
-    base::found_below(id, 1024 * groups)
+    base::found_below(id, BLKBITS * groups)
 }
 
 // How many blocks are free.
@@ -79,7 +78,7 @@ pub fn count_set(maps: &[u8], groups: usize) -> u32
     requires { ⌜ (groups ≤ 4) × (128 * groups ≤ length (now maps)) ⌝ }
     ensures { λ r. ⌜ r ≡ setBits (now (maps .entry)) (1024 * groups) ⌝ }
 {
-    let n = 1024 * groups;
+    let n = BLKBITS * groups;
     let mut count: u32 = 0;
     let mut i: usize = 0;
     while i < n {

@@ -5,7 +5,7 @@
 --   block 9         zeros: what a freed block is
 --   block 10 on     changed blocks, each with its check
 use mathlib.Core.Path.{_≡_}
-use mathlib.Core.Bool.{Bool, true, false, _&&_}
+use mathlib.Core.Bool.{Bool, _&&_}
 use mathlib.Core.List.{List}
 use Prim.Native.Nat.{ℕ, zero, suc, _+_, _*_, _-_, _≤_, _<_}
 use lib.ListN.{length, getD, set}

@@ -1,18 +1,12 @@
 // The arena as it would be after the stores so far: the arena is only read, and changed blocks stand in a lent workspace until commit.
 ghost use mathlib.Core.Path.{_≡_};
-ghost use Prim.Native.Nat.{ℕ, _+_, _*_, _-_, _<_, _≤_};
+ghost use Prim.Native.Nat.{_+_, _*_, _-_, _<_, _≤_};
 ghost use lib.ListN.{length};
 ghost use Rattle.arena.specs.Blocks.{blocks, putBlk};
 ghost use Rattle.arena.specs.Fields.{seal};
 ghost use Rattle.overlay.specs.View.{markOf, usedOf, blkOf, view, committed, left, storedNew, stored, freed, begun, Fine};
 use arena::write_block;
-
-// A byte as an index.
-fn byte(x: u8) -> usize
-    ensures { λ r. ⌜ r ≡ x ⌝ }
-{
-    x as usize
-}
+use base::byte;
 
 // A workspace of zeros, made ready.
 pub fn begin(work: &mut [u8])

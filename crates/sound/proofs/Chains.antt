@@ -64,9 +64,6 @@ module _ (a : List ℕ) (head : Bool) (f : File) (q k : ℕ) where
   h : ℕ
   h = hashKey head (f .which) (f .name) q
 
-  key : ℕ → Bool
-  key j = isKey head f q (blk a j)
-
   -- what is not in the bucket does not have the key
   no-key : (j : ℕ) → inBucket a (hashKey head (f .which) (f .name) q) j ≡ false → isKey head f q (blk a j) ≡ false
   no-key j e = go (isKey head f q (blk a j)) refl
@@ -85,9 +82,9 @@ module _ (a : List ℕ) (head : Bool) (f : File) (q k : ℕ) where
       }
 
   -- the block at c does not have the key: on to the one before it in the bucket
-  pub walk-on : (c d : ℕ) → 0 < c → Walk a head f q k c → isKey head f q (blk a (c - 1)) ≡ false
+  pub walk-on : (c d : ℕ) {r : Bool} → 0 < c → Walk a head f q k c → r ≡ isKey head f q (blk a (c - 1)) → r ≡ false
       → (isFree (blk a (c - 1)) ≡ false → d ≡ last (inBucket a (hashOf (blk a (c - 1)))) (c - 1)) → Walk a head f q k d × (d < c)
-  walk-on c d pos W miss e =
+  walk-on c d pos W test miss e =
       let i : ℕ = c - 1 in
       let I = in-hash a (hashKey head (f .which) (f .name) q) (c - 1) (W .on (c - 1) (omega arith)) in
       let d-is : d ≡ last (inBucket a (hashKey head (f .which) (f .name) q)) (c - 1) = e (I .0) ∙ ap (λ (x : ℕ). last (inBucket a x) (c - 1)) (I .1) in
@@ -97,17 +94,17 @@ module _ (a : List ℕ) (head : Bool) (f : File) (q k : ℕ) where
           on = λ j x. L .hit j (sym d-is ∙ x);
           after = λ j g l. ⊎-elim
               (λ below. no-key j (L .after j (omega arith) below))
-              (λ up. ⊎-elim (λ (x : c - 1 ≡ j). subst (λ (y : ℕ). isKey head f q (blk a y) ≡ false) x miss) (λ x. W .after j (omega arith) l) (eq-or-lt-of-le up))
+              (λ up. ⊎-elim (λ (x : c - 1 ≡ j). subst (λ (y : ℕ). isKey head f q (blk a y) ≡ false) x (sym test ∙ miss)) (λ x. W .after j (omega arith) l) (eq-or-lt-of-le up))
               (lt-or-le j (c - 1));
         },
         omega (arith, L .most),
       )
 
-  pub walk-found : (c : ℕ) → 0 < c → Walk a head f q k c → isKey head f q (blk a (c - 1)) ≡ true → c ≡ last (λ j. isKey head f q (blk a j)) k
-  walk-found c pos W yes-key =
+  pub walk-found : (c : ℕ) {r : Bool} → 0 < c → Walk a head f q k c → r ≡ isKey head f q (blk a (c - 1)) → r ≡ true → c ≡ last (λ j. isKey head f q (blk a j)) k
+  walk-found c pos W test hit =
       last-one (λ j. isKey head f q (blk a j)) k c (record {
         most = W .most;
-        hit = λ j x. let y : c - 1 ≡ j = omega arith in subst (λ (i : ℕ). isKey head f q (blk a i) ≡ true) y yes-key;
+        hit = λ j x. let y : c - 1 ≡ j = omega arith in subst (λ (i : ℕ). isKey head f q (blk a i) ≡ true) y (sym test ∙ hit);
         after = W .after;
       })
 

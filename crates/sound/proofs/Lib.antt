@@ -1,3 +1,2 @@
 pub mod Sounds
 pub mod Chains
-pub mod Seals

@@ -2,7 +2,7 @@
 ghost use mathlib.Core.Path.{_≡_};
 ghost use lib.ListN.{length};
 ghost use Rattle.sound.specs.Sound.{allZero, layout, within};
-ghost use Rattle.arena.specs.Fields.{tagOf, whichOf, nameOf, numberOf};
+ghost use Rattle.arena.specs.Fields.{tagOf, whichOf, nameOf};
 ghost use lib.Dec.{eqb};
 ghost use mathlib.Core.Bool.{_||_};
 ghost use Rattle.base.specs.Parts.{part as partOf};

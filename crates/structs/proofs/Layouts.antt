@@ -4,7 +4,6 @@ use mathlib.Core.List.{List, [], _∷_, _++_, map}
 use Prim.Native.Nat.{ℕ, _+_, _-_, _^_, _≤_, _<_}
 use native.Mathlib.Omega.{arith}
 use lib.ListN.{length, getD, take, drop, length-append}
-use lib.Seq.{take-all}
 use Rattle.base.proofs.Parts.{part-part, part-all, part-whole}
 use Rattle.base.specs.Parts.{part, paste}
 use Rattle.base.proofs.Lists.{length-part, paste-paste}

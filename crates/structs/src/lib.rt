@@ -3,34 +3,15 @@ ghost use mathlib.Core.Path.{_≡_};
 ghost use Prim.Native.Nat.{_+_, _≤_};
 ghost use lib.ListN.{length, take, drop};
 ghost use Rattle.base.specs.Parts.{part, paste};
-ghost use Rattle.structs.specs.Layout.{join, superOf, superBytes, timeOf, timeBytes, recordOf, recordFields, recordBytes, entryOf, entryBytes};
+ghost use Rattle.structs.specs.Layout.{join, superOf, superBytes, timeOf, timeBytes, recordOf, recordFields, recordBytes};
 ghost use Rattle.structs.specs.Verdict.{verdictOf};
 
 pub const SEFS_MAGIC: u32 = 0x2f8d_be2a;
 
-// A block of the metadata file; the superblock's, the first free map's and the root's; bits of a map.
-pub const BLKSIZE: usize = 128;
-
-pub const BLKN_SUPER: usize = 0;
-
-pub const BLKN_FREEMAP: usize = 1;
-
-pub const BLKN_ROOT: usize = 2;
-
-pub const BLKBITS: usize = 1024;
-
-pub const DIRENT_SIZE: usize = 264;
-
-pub const MAX_FNAME_LEN: usize = 255;
-
-// The types of nodes.
+// The types of nodes that code names.
 pub const FILE: u32 = 1;
 
 pub const DIR: u32 = 2;
-
-pub const SYMLINK: u32 = 3;
-
-pub const SOCKET: u32 = 4;
 
 // Seconds and nanoseconds since 1970; both are negative before it.
 #[repr(C)]
@@ -131,15 +112,6 @@ fn bytes16_at(s: &[u8], at: usize) -> [u8; 16]
     out
 }
 
-fn bytes256_at(s: &[u8], at: usize) -> [u8; 256]
-    requires { ⌜ at + 256 ≤ length (now s) ⌝ }
-    ensures { λ r. ⌜ r ≡ part (now (s .entry)) at (at + 256) ⌝ }
-{
-    let mut out = [0u8; 256];
-    base::copy(&mut out, &s[at..at + 256]);
-    out
-}
-
 fn put_bytes(s: &mut [u8], at: usize, b: &[u8])
     requires { ⌜ at + length (now b) ≤ length (now s) ⌝ }
     ensures { λ _. ⌜ now (s .exit) ≡ paste (now (s .entry)) at (now (b .entry)) ⌝ }
@@ -202,26 +174,6 @@ fn put_rest(s: &mut [u8], at: usize, r: DiskINode)
     put_timespec(s, at + 32, r.ctime);
     put_bytes(s, at + 48, &r.file);
     put_bytes(s, at + 64, &r.mac);
-}
-
-pub fn disk_entry_at(s: &[u8], at: usize) -> DiskEntry
-    requires { ⌜ at + 264 ≤ length (now s) ⌝ }
-    ensures { λ r. ⌜ r ≡ entryOf (part (now (s .entry)) at (at + 264)) ⌝ }
-{
-    DiskEntry {
-        id: le::u32_at(s, at),
-        name: bytes256_at(s, at + 4),
-        kind: le::u32_at(s, at + 260),
-    }
-}
-
-pub fn put_disk_entry(s: &mut [u8], at: usize, e: DiskEntry)
-    requires { ⌜ at + 264 ≤ length (now s) ⌝ }
-    ensures { λ _. ⌜ now (s .exit) ≡ paste (now (s .entry)) at (entryBytes e) ⌝ }
-{
-    le::put_u32(s, at, e.id);
-    put_bytes(s, at + 4, &e.name);
-    le::put_u32(s, at + 260, e.kind);
 }
 
 // The verdicts by moved type (a row each: file, folder, symlink, socket) and replaced type: 0 allowed, 1 NotDir, 2 IsDir, 3 if empty.

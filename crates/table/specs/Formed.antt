@@ -17,13 +17,16 @@ abbrev pub isAt : Found → ℕ → Bool
 isAt (At j) i = eqb j i
 isAt Nothing i = false
 
--- a free hold is all zero; a live one names a row in use, its stamp is below the next, and no lower hold has the stamp
-unfoldable pub holdOk : Table → ℕ → Bool
-holdOk t i =
-    pick (eqb (holdAt t i .stamp) 0) (eqb (holdAt t i .row) 0)
-    (ltb (holdAt t i .row) 34
+-- a live hold names a row in use, its stamp is below the next, and no lower hold has the stamp
+unfoldable pub liveOk : Table → ℕ → Bool
+liveOk t i =
+    ltb (holdAt t i .row) 34
     && (not (eqb (rowAt t (holdAt t i .row) .id) 0)
-    && (ltb (holdAt t i .stamp) (t .next) && isAt (holdOf t (holdAt t i .stamp)) i)))
+    && (ltb (holdAt t i .stamp) (t .next) && isAt (holdOf t (holdAt t i .stamp)) i))
+
+-- a free hold is all zero
+unfoldable pub holdOk : Table → ℕ → Bool
+holdOk t i = pick (eqb (holdAt t i .stamp) 0) (eqb (holdAt t i .row) 0) (liveOk t i)
 
 -- a free row is all zero; no lower row has the id of one in use, and a live hold names it
 unfoldable pub rowOk : Table → ℕ → Bool

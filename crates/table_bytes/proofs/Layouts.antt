@@ -1,7 +1,7 @@
 -- The laws of a table's bytes: lengths, and both round trips.
 use mathlib.Core.Path.{_≡_, refl, sym, ap, _∙_}
 use mathlib.Core.Bool.{Bool, true, false, not}
-use mathlib.Core.List.{List, [], _∷_, _++_, map, append-nil}
+use mathlib.Core.List.{List, [], _∷_, map, append-nil}
 use mathlib.Core.Logic.{⊎-elim}
 use Prim.Native.Nat.{ℕ, zero, suc, _+_, _*_, _<_, _≤_}
 use native.Mathlib.Nat.{zero-add}
@@ -12,14 +12,13 @@ use borrow.Author.Tests.{eq-eqb, ne-eqb}
 use Rattle.base.proofs.Parts.{part-all, part-one, part-part}
 use Rattle.base.specs.Count.{bit}
 use Rattle.base.specs.Parts.{part}
-use Rattle.base.proofs.Counts.{bit-le}
 use Rattle.base.proofs.Lists.{length-part, getD-part}
 use Rattle.base.proofs.Numbers.{lt-or-le}
 use Rattle.le.specs.Le.{Bytes, leAt, leBytes}
-use Rattle.le.proofs.Laws.{length-leBytes, leAt-below, leBytes-bytes}
+use Rattle.le.proofs.Laws.{length-leBytes}
 use Rattle.structs.specs.Layout.{join, recordOf, recordBytes}
 use Rattle.structs.proofs.Joins.{total, length-join, field-of, bytes-at, bytes-append, bytes-nil}
-use Rattle.structs.proofs.Layouts.{length-recordBytes, recordOf-recordBytes, recordBytes-recordOf, recordBytes-bytes, recordOf-fits, number-back, whole}
+use Rattle.structs.proofs.Layouts.{length-recordBytes, recordOf-recordBytes, recordBytes-recordOf, number-back, whole}
 use Rattle.table.specs.declared.Row.{Row}
 use Rattle.table.specs.declared.Hold.{Hold}
 use Rattle.table.specs.declared.Table.{Table}
@@ -28,7 +27,7 @@ use Rattle.table.specs.Table.{offRow, rowAt, holdAt}
 use Rattle.table_bytes.specs.Runs.{runTo, listTo}
 use Rattle.table_bytes.specs.Layout.{rowFrom, rowFields, rowBytes, holdFrom, holdFields, holdBytes, rowAtPlace, holdAtPlace, tableOf, tableFields, tableBytes}
 use Rattle.table_bytes.specs.Fits.{RowFits, HoldFits, TableFits, Marked}
-use Rattle.table_bytes.proofs.Runs.{length-run, part-run, run-parts, run-cong, getD-list, length-list, list-is}
+use Rattle.table_bytes.proofs.Runs.{length-run, part-run, run-parts, run-cong, getD-list, list-is}
 
 -- ---- a row
 
@@ -74,23 +73,6 @@ rowBytes-rowFrom l h e k =
     let c : recordBytes (recordOf (part l 5 117)) ≡ part l 5 117 = recordBytes-recordOf (part l 5 117) (part-all (λ x. x < 256) l (omega arith) h 5 117) (length-part l 5 117 (omega arith) (omega arith)) in
     ap join (λ x. a x ∷ b x ∷ c x ∷ []) ∙ whole l (4 ∷ 1 ∷ 112 ∷ []) e
 
-pub rowFrom-fits : (l : List ℕ) → Bytes l → length l ≡ 117 → RowFits (rowFrom l)
-unfolding rowFrom
-rowFrom-fits l h e = record {
-  id = leAt-below l 0 4 h;
-  rec = recordOf-fits (part l 5 117) (part-all (λ x. x < 256) l (omega arith) h 5 117) (length-part l 5 117 (omega arith) (omega arith));
-}
-
-bit-byte : (b : Bool) → Bytes (bit b ∷ [])
-bit-byte b zero = omega (arith, bit-le b)
-bit-byte b (suc i) = omega arith
-
-pub rowBytes-bytes : (r : Row) → RowFits r → Bytes (rowBytes r)
-unfolding rowBytes rowFields join
-rowBytes-bytes r F =
-    bytes-append (leBytes 4 (r .id)) _ (leBytes-bytes 4 _)
-    (bytes-append (bit (r .dirty) ∷ []) (recordBytes (r .rec) ++ []) (bit-byte (r .dirty)) (bytes-append (recordBytes (r .rec)) [] (recordBytes-bytes (r .rec) (F .rec .fileBytes) (F .rec .macBytes)) bytes-nil))
-
 -- ---- a hold
 
 hold-widths : (h : Hold) → map length (holdFields h) ≡ 4 ∷ 8 ∷ []
@@ -115,14 +97,6 @@ holdBytes-holdFrom l h e =
     let a = bytes-at l 0 4 h (omega arith) in
     let b = bytes-at l 4 8 h (omega arith) in
     ap join (λ x. a x ∷ b x ∷ []) ∙ whole l (4 ∷ 8 ∷ []) e
-
-pub holdBytes-bytes : (h : Hold) → Bytes (holdBytes h)
-unfolding holdBytes holdFields join
-holdBytes-bytes h = bytes-append (leBytes 4 (h .row)) _ (leBytes-bytes 4 _) (bytes-append (leBytes 8 (h .stamp)) [] (leBytes-bytes 8 _) bytes-nil)
-
-pub holdFrom-fits : (l : List ℕ) → Bytes l → HoldFits (holdFrom l)
-unfolding holdFrom
-holdFrom-fits l h = record { row = leAt-below l 0 4 h; stamp = leAt-below l 4 8 h }
 
 -- ---- the table
 
@@ -176,13 +150,6 @@ module _ (t : Table) (F : TableFits t) where
   pub length-fits : length (tableBytes t) ≡ 4370
   length-fits = length-tableBytes t wide
 
-  pub tableBytes-bytes : Bytes (tableBytes t)
-  unfolding tableBytes tableFields join
-  tableBytes-bytes =
-      bytes-append (runTo (λ i. rowBytes (rowAt t i)) 34) _ (run-bytes (λ i. rowBytes (rowAt t i)) 34 (λ i l. rowBytes-bytes (rowAt t i) (F .rows i l)))
-      (bytes-append (runTo (λ i. holdBytes (holdAt t i)) 32) _ (run-bytes (λ i. holdBytes (holdAt t i)) 32 (λ i l. holdBytes-bytes (holdAt t i)))
-      (bytes-append (leBytes 8 (t .next)) [] (leBytes-bytes 8 _) bytes-nil))
-
   -- a table that was written is read
   pub tableOf-tableBytes : tableOf (tableBytes t) ≡ t
   unfolding tableOf tableFields
@@ -213,17 +180,6 @@ module _ (l : List ℕ) (bytes : Bytes l) (size : length l ≡ 4370) where
   next-read : leBytes 8 (tableOf l .next) ≡ part l 4362 4370
   unfolding tableOf
   next-read = bytes-at l 4362 8 bytes (omega arith)
-
-  -- what was read fits
-  pub tableOf-fits : TableFits (tableOf l)
-  unfolding tableOf
-  tableOf-fits = record {
-    rows-34 = length-list (rowAtPlace l) 34;
-    holds-32 = length-list (holdAtPlace l) 32;
-    rows = λ i k. rw (row-read i k) (rowFrom-fits (part l (117 * i) (117 * i + 117)) (bytes-part (117 * i) (117 * i + 117)) (row-part i k));
-    holds = λ i k. rw (hold-read i k) (holdFrom-fits (part l (3978 + 12 * i) (3978 + 12 * i + 12)) (bytes-part (3978 + 12 * i) (3978 + 12 * i + 12)));
-    next = leAt-below l 4362 8 bytes;
-  }
 
   -- bytes that were read are written, where the marks are 0 or 1
   pub tableBytes-tableOf : Marked l → tableBytes (tableOf l) ≡ l

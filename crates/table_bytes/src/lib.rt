@@ -28,17 +28,11 @@ pub fn row_in(s: &[u8], at: usize) -> Row
     }
 }
 
-fn mark_of(dirty: bool) -> u8
-    ensures { λ r. ⌜ r ≡ bit dirty ⌝ }
-{
-    if dirty { 1 } else { 0 }
-}
-
 fn put_mark(out: &mut [u8], at: usize, dirty: bool)
     requires { ⌜ at + 1 ≤ length (now out) ⌝ }
     ensures { λ _. ⌜ now (out .exit) ≡ paste (now (out .entry)) at (bit dirty ∷ []) ⌝ }
 {
-    out[at] = mark_of(dirty);
+    out[at] = base::one(dirty);
 }
 
 // That a row has 117 bytes is known of a parameter alone, by its type: so it is said here.

@@ -14,7 +14,7 @@ use Rattle.base.proofs.Counts.{allTo-true, allTo-all}
 use Rattle.table.specs.declared.Table.{Table}
 use Rattle.table.specs.Zero.{zeroRow, zeroHold, zeroRecord, recordZero}
 use Rattle.table.specs.Table.{rowAt, holdAt, isRow, isHold, namesRow, rowOf, holdOf, rowUsed}
-use Rattle.table.specs.Formed.{isAt, holdOk, rowOk, holdsOk, rowsOk, shaped, wellFormed}
+use Rattle.table.specs.Formed.{isAt, holdOk, liveOk, rowOk, holdsOk, rowsOk, shaped, wellFormed}
 use Rattle.table_laws.specs.Rules.{Holder, Formed, WellFormed}
 use Rattle.table_laws.proofs.Zeros.{record-zero, zero-passes}
 
@@ -30,7 +30,7 @@ record Named (t : Table) (i : ℕ) : Type 0 where
   first : holdOf t (holdAt t i .stamp) ≡ At i
 
 named-of : (t : Table) (i : ℕ) → holdOk t i ≡ true → (holdAt t i .stamp ≡ 0 → ⊥) → Named t i
-unfolding holdOk
+unfolding holdOk liveOk
 named-of t i e live =
     let h = holdAt t i in
     let e0 = rw (ne-eqb (h .stamp) 0 live) at e in
@@ -93,7 +93,7 @@ module _ (t : Table) (e : wellFormed t ≡ true) where
       λ x. record { id = z x; dirty = d x; rec = r x }
 
   free-hold : (i : ℕ) → i < 32 → holdAt t i .stamp ≡ 0 → holdAt t i ≡ zeroHold
-  unfolding holdOk
+  unfolding holdOk liveOk
   free-hold i h z =
       let e0 = rw (eq-eqb (holdAt t i .stamp) 0 z) at (hold i h) in
       let r : holdAt t i .row ≡ 0 = eqb-true _ _ e0 in
@@ -150,7 +150,7 @@ module _ {own : ℕ → Type 0} (t : Table) (w : Formed own t) where
 
 module _ (t : Table) (w : WellFormed t) where
   hold-ok : (i : ℕ) → i < 32 → holdOk t i ≡ true
-  unfolding holdOk
+  unfolding holdOk liveOk
   hold-ok i h =
       let s = holdAt t i .stamp in
       ⊎-elim

@@ -8,14 +8,14 @@ use Rattle.base.specs.Decides.{same}
 use Rattle.utf8.specs.declared.NameVerdict.the-variants.{Good}
 use Rattle.utf8.specs.declared.StoredName.the-variants.{Ended}
 use Rattle.utf8.specs.Utf8.{within, lead, tail, step, after, utf8}
-use Rattle.utf8.specs.Names.{zeroAt, hasZero, nameVerdict, longReason, storedName, isNamed, nameBytes}
+use Rattle.utf8.specs.Names.{zeroAt, hasZero, nameVerdict, storedName, isNamed, nameBytes}
 
 -- "Name of 255 accepted, 256 refused"
 accepted : nameVerdict (replicate 255 97) ≡ Good false
 unfolding nameVerdict hasZero zeroAt lowest utf8 after step lead tail within
 accepted = refl
 
-refused : longReason (nameVerdict (replicate 256 97)) ≡ 10
+refused : nameVerdict (replicate 256 97) ≡ Good true
 unfolding nameVerdict hasZero zeroAt lowest utf8 after step lead tail within
 refused = refl
 

@@ -8,7 +8,7 @@ use native.Mathlib.Omega.{arith}
 use lib.Dec.{eqb, ltb}
 use lib.ListN.{length, getD, take, drop, replicate, length-append, length-replicate, length-drop, drop-of-length-le, getD-replicate, List·getD-append}
 use lib.Seq.{take-append-seam, drop-append-seam, length-take-le, getD-take, getD-append-add}
-use borrow.Author.Tests.{eq-eqb, ne-eqb, eqb-true, eqb-false, lt-ltb, le-ltb, ltb-false}
+use borrow.Author.Tests.{eq-eqb, ne-eqb, eqb-true, eqb-false, lt-ltb, le-ltb}
 use Rattle.base.proofs.Sames.{decided-yes}
 use Rattle.base.specs.Parts.{part, back}
 use Rattle.base.specs.Search.{lowest}
@@ -17,12 +17,11 @@ use Rattle.base.proofs.Numbers.{lt-or-le}
 use Rattle.base.proofs.Searches.{lowest-here, lowest-none, lowest-le, lowest-hit, lowest-first}
 use Rattle.base.proofs.Tests.{decides-same}
 use Rattle.base.proofs.Bools.{or-first, or-second, bool-cases, true-false, true-T}
-use Rattle.utf8.specs.declared.NameVerdict.{NameVerdict}
 use Rattle.utf8.specs.declared.NameVerdict.the-variants.{Good, Bad}
 use Rattle.utf8.specs.declared.StoredName.the-variants.{Ended, Broken}
 use Rattle.utf8.specs.Utf8.{utf8}
 use Rattle.utf8.specs.Grammar.{Octets}
-use Rattle.utf8.specs.Names.{zeroAt, hasZero, nameOf, nameVerdict, GoodName, storedName, EndedAt, asked, isNamed, isDot, isDots, isSpecial, earlyReason, longReason, nameBytes}
+use Rattle.utf8.specs.Names.{zeroAt, hasZero, nameOf, nameVerdict, GoodName, storedName, EndedAt, asked, isNamed, isDot, isDots, isSpecial, nameBytes}
 use Rattle.utf8.proofs.Grammar.{utf8-decides}
 
 -- ---- the first zero
@@ -108,15 +107,6 @@ verdict-says l long v =
     (λ u. absurd (let f : Good long ≡ Bad = sym v ∙ verdict-wrong l u in let z : _≡_ {A = ℕ} 0 1 = cc in omega arith))
     (bool-cases (utf8 l)))
     (lt-or-le (zeroAt l) (length l))
-
--- where neither reason is given, the name is good and fits a slot
-pub no-reasons : (l : List ℕ) → earlyReason (nameVerdict l) ≡ 0 → longReason (nameVerdict l) ≡ 0 → GoodName l × (length l ≤ 255)
-no-reasons l e f = go (nameVerdict l) refl e f
-  where
-    go : (v : NameVerdict) → nameVerdict l ≡ v → earlyReason v ≡ 0 → longReason v ≡ 0 → GoodName l × (length l ≤ 255)
-    go (Good true) v e f = absurd (omega arith)
-    go (Good false) v e f = let s = verdict-says l false v in (s .0, ltb-false 255 (length l) (sym (s .1)))
-    go Bad v e f = absurd (omega arith)
 
 -- a name that is not special is none of the three
 pub not-special : (l : List ℕ) → isSpecial l ≡ false → (length l ≡ 0 → ⊥) × ((l ≡ 46 ∷ [] → ⊥) × (l ≡ 46 ∷ 46 ∷ [] → ⊥))
@@ -208,28 +198,7 @@ module _ (n : List ℕ) (g : GoodName n) (short : length n ≤ 255) where
       stored-ended (nameBytes n) (length n) (sym zeroAt-nameBytes) (omega (arith, length-nameBytes n (omega arith)))
       (ap utf8 (take-append-seam n (replicate (256 - length n) 0)) ∙ decided-yes (utf8-decides n) (g .octets))
 
-  -- it answers to the names that ask for it
-  pub named-nameBytes : (m : List ℕ) → isNamed (nameBytes n) m ≡ same n (asked m)
-  unfolding isNamed
-  named-nameBytes m = ap (λ (x : List ℕ). same x (asked m)) nameOf-nameBytes
-
 -- a name that is not empty asks for itself
 pub asked-own : (n : List ℕ) → (length n ≡ 0 → ⊥) → asked n ≡ n
 asked-own [] e = absurd (e refl)
 asked-own (b ∷ n) e = refl
-
-pub named-itself : (n : List ℕ) → GoodName n → length n ≤ 255 → (length n ≡ 0 → ⊥) → isNamed (nameBytes n) n ≡ true
-named-itself n g h e = decided-yes (named-decides (nameBytes n) n) (nameOf-nameBytes n g h ∙ sym (asked-own n e))
-
--- two names whose bytes answer to one name are one
-pub named-one : (m n k : List ℕ) → GoodName m → GoodName n → length m ≤ 255 → length n ≤ 255
-    → isNamed (nameBytes m) k ≡ true → isNamed (nameBytes n) k ≡ true → m ≡ n
-named-one m n k gm gn hm hn em en =
-    sym (nameOf-nameBytes m gm hm) ∙ is m em ∙ sym (is n en) ∙ nameOf-nameBytes n gn hn
-  where
-    is : (l : List ℕ) → isNamed (nameBytes l) k ≡ true → nameOf (nameBytes l) ≡ asked k
-    is l e = named-decides (nameBytes l) k .right (true-T (isNamed (nameBytes l) k) e)
-
--- and so are two that have the same bytes
-pub nameBytes-one : (m n : List ℕ) → GoodName m → GoodName n → length m ≤ 255 → length n ≤ 255 → nameBytes m ≡ nameBytes n → m ≡ n
-nameBytes-one m n gm gn hm hn e = sym (nameOf-nameBytes m gm hm) ∙ ap nameOf e ∙ nameOf-nameBytes n gn hn

@@ -1,6 +1,6 @@
 -- Names: document 01's verdict on a caller's name, the name that a slot holds, and when the two are one.
 use mathlib.Core.Path.{_≡_}
-use mathlib.Core.Bool.{Bool, true, false, _||_, not}
+use mathlib.Core.Bool.{Bool, _||_, not}
 use mathlib.Core.List.{List, [], _∷_, _++_}
 use Prim.Native.Nat.{ℕ, _-_, _<_}
 use lib.Dec.{eqb, ltb}
@@ -40,12 +40,6 @@ pub record GoodName (l : List ℕ) : Type 0 where
 abbrev pub earlyReason : NameVerdict → ℕ
 earlyReason (Good long) = 0
 earlyReason Bad = 5
-
--- document 01's reason where a name's length is looked at, or 0: 10
-abbrev pub longReason : NameVerdict → ℕ
-longReason (Good true) = 10
-longReason (Good false) = 0
-longReason Bad = 0
 
 -- "the empty name means `.`"
 abbrev pub asked : List ℕ → List ℕ

@@ -3,8 +3,11 @@ ghost use mathlib.Core.Path.{_≡_};
 ghost use Prim.Native.Nat.{_≤_};
 ghost use lib.ListN.{length};
 ghost use Rattle.base.specs.Decides.{same};
-ghost use Rattle.utf8.specs.Names.{zeroAt, nameVerdict, earlyReason, longReason, isDot, isDots, isSpecial, storedName, isNamed, nameBytes};
+ghost use Rattle.utf8.specs.Names.{zeroAt, nameVerdict, earlyReason, isDot, isDots, isSpecial, storedName, isNamed, nameBytes};
 ghost use Rattle.utf8.specs.Utf8.{lead, step, tail, isWhole, utf8};
+
+// The longest name: a slot has room for it and a zero.
+pub const MAX_FNAME_LEN: usize = 255;
 
 // Where a reader of UTF-8 stands.
 pub enum State {
@@ -139,7 +142,7 @@ pub fn name_verdict(name: &[u8]) -> NameVerdict
     }
     if valid(name) {
         return NameVerdict::Good {
-            long: name.len() > 255,
+            long: name.len() > MAX_FNAME_LEN,
         };
     }
     NameVerdict::Bad
@@ -152,16 +155,6 @@ pub fn early_reason(v: NameVerdict) -> u8
     match v {
         NameVerdict::Good { long: _ } => 0,
         NameVerdict::Bad => 5,
-    }
-}
-
-// Document 01's number where a name's length is looked at, or 0.
-pub fn long_reason(v: NameVerdict) -> u8
-    ensures { λ r. ⌜ r ≡ longReason v ⌝ }
-{
-    match v {
-        NameVerdict::Good { long } => { if long { 10 } else { 0 } }
-        NameVerdict::Bad => 0,
     }
 }
 

@@ -4,7 +4,7 @@ use Prim.Native.Nat.{ℕ, _+_, _-_, _≤_}
 use native.Mathlib.Omega.{arith}
 use mathlib.Core.Bool.{Bool}
 use Rattle.base.specs.Count.{sumTo, countTo, bit}
-use Rattle.base.proofs.Counts.{countTo-more}
+use Rattle.base.proofs.Counts.{bit-le, countTo-more}
 use Rattle.arena.specs.Blocks.{blk}
 use Rattle.arena.specs.Fields.{isFree}
 use Rattle.arena.specs.Places.{freeCount}
@@ -44,8 +44,11 @@ is-free-requires c κs = length-blk (c .before .before .before .before .args .ar
 one-requires : tie.Need-one-requires Inv-loop μ-loop
 one-requires c κs = tt
 
+byte-requires : tie.Need-byte-requires Inv-loop μ-loop
+byte-requires c κs = tt
+
 add-c : tie.Need-add-c Inv-loop μ-loop
-add-c c = omega arith
+add-c c = omega (arith, bit-le (c .before .before .is-free .result))
 
 add-k : tie.Need-add-k Inv-loop μ-loop
 add-k c = omega arith
@@ -56,11 +59,11 @@ loop-less c = omega arith
 loop-again : tie.Need-loop-again Inv-loop μ-loop
 unfolding blk
 loop-again c =
-    let l = c .before .before .before .before in
+    let l = c .before .before .before .before .before in
     let free : ℕ → Bool = λ j. isFree (blk (l .before .before .args .arena .now) j) in (
       omega arith,
-      ap₂ (λ (a b : ℕ). a + b) (l .loop .inv .1) (c .one .ensures .0 ∙ ap bit (c .before .is-free .ensures)) ∙ sym (countTo-more free (l .loop .k)),
-      omega arith,
+      ap₂ (λ (a b : ℕ). a + b) (l .loop .inv .1) (c .byte .ensures ∙ c .before .one .ensures ∙ ap bit (c .before .before .is-free .ensures)) ∙ sym (countTo-more free (l .loop .k)),
+      omega (arith, bit-le (c .before .before .is-free .result)),
     )
 
 returns : tie.Need-returns Inv-loop μ-loop
@@ -83,6 +86,7 @@ free-count-spec =
     part-is-free-end
     is-free-requires
     one-requires
+    byte-requires
     add-c
     add-k
     loop-less

@@ -1,7 +1,7 @@
 -- `base::clear`: after i turns the first i bytes are zero.
-use Prim.Native.Nat.{ℕ, _-_, _≤_}
+use Prim.Native.Nat.{_-_, _≤_}
 use native.Mathlib.Omega.{arith}
-use mathlib.Core.Path.{_≡_, refl, _∙_, ap}
+use mathlib.Core.Path.{refl, _∙_}
 use lib.ListN.{length}
 use Rattle.base.proofs.Lists.{Stored, stored-none, stored-more, stored-all, tab-zeros}
 use Rattle.base.proofs.clear.Statement.{statement}

@@ -1,7 +1,7 @@
 -- `base::copy`: after i turns the first i bytes are those of src.
 use Prim.Native.Nat.{ℕ, _-_, _≤_}
 use native.Mathlib.Omega.{arith}
-use mathlib.Core.Path.{_≡_, refl, _∙_, ap}
+use mathlib.Core.Path.{refl, _∙_, ap}
 use lib.ListN.{length, getD}
 use Rattle.base.specs.Parts.{tab}
 use Rattle.base.proofs.Lists.{Stored, stored-none, stored-more, stored-all, tab-getD}

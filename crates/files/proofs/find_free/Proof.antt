@@ -1,5 +1,5 @@
 -- `files::find_free`: no block below k has it.
-use mathlib.Core.Path.{_≡_, sym, ap, _∙_}
+use mathlib.Core.Path.{_≡_, ap, _∙_}
 use mathlib.Core.Bool.{false}
 use Prim.Native.Nat.{ℕ, _-_, _≤_, _<_}
 use native.Mathlib.Omega.{arith}
@@ -9,7 +9,7 @@ use Rattle.arena.specs.Fields.{isFree}
 use Rattle.arena.specs.Places.{freeOf}
 use Rattle.overlay.specs.View.{blkOf}
 use Rattle.overlay.proofs.Views.{length-blkOf}
-use Rattle.files.proofs.Finds.{seek-here, seek-none}
+use Rattle.files.proofs.Finds.{tested, seek-here, seek-none}
 use Rattle.files.proofs.find_free.Statement.{statement}
 use Rattle.files.proofs.find_free.Tie as tie
 
@@ -35,7 +35,7 @@ unfolding freeOf
 returns c =
     let l = c .before .before .before .before in
     let s = l .before .before .before in
-    seek-here _ _ (s .pre) isFree (l .loop .k) (c .before .before .before .loop-test .taken) (l .loop .inv .1) (sym (c .before .is-free .ensures ∙ ap isFree (c .before .before .block .ensures)) ∙ c .if1 .taken)
+    seek-here _ _ (s .pre) isFree (l .loop .k) (c .before .before .before .loop-test .taken) (l .loop .inv .1) (tested isFree (c .before .is-free .ensures) (c .before .before .block .ensures) (c .if1 .taken))
 
 add-k : tie.Need-add-k Inv-loop μ-loop
 add-k c = omega arith
@@ -46,7 +46,7 @@ loop-less c = omega arith
 loop-again : tie.Need-loop-again Inv-loop μ-loop
 loop-again c =
     let l = c .before .before .before .before in
-    (omega arith, below-more _ (l .loop .k) (l .loop .inv .1) (sym (c .before .is-free .ensures ∙ ap isFree (c .before .before .block .ensures)) ∙ c .if1 .left))
+    (omega arith, below-more _ (l .loop .k) (l .loop .inv .1) (tested isFree (c .before .is-free .ensures) (c .before .before .block .ensures) (c .if1 .left)))
 
 returns-2 : tie.Need-returns-2 Inv-loop μ-loop
 unfolding freeOf

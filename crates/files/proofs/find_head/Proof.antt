@@ -1,5 +1,5 @@
 -- `files::find_head`: no block below k has it.
-use mathlib.Core.Path.{_≡_, sym, ap, _∙_}
+use mathlib.Core.Path.{_≡_, ap, _∙_}
 use mathlib.Core.Bool.{false}
 use Prim.Native.Nat.{ℕ, _-_, _≤_, _<_}
 use native.Mathlib.Omega.{arith}
@@ -9,7 +9,7 @@ use Rattle.arena.specs.Fields.{file, isHead}
 use Rattle.arena.specs.Places.{headOf}
 use Rattle.overlay.specs.View.{blkOf}
 use Rattle.overlay.proofs.Views.{length-blkOf}
-use Rattle.files.proofs.Finds.{seek-here, seek-none}
+use Rattle.files.proofs.Finds.{tested, seek-here, seek-none}
 use Rattle.files.proofs.find_head.Statement.{statement}
 use Rattle.files.proofs.find_head.Tie as tie
 
@@ -35,7 +35,7 @@ unfolding headOf
 returns c =
     let l = c .before .before .before .before in
     let s = l .before .before .before .before in
-    seek-here _ _ (s .pre .0) (isHead (file (s .args .which) (s .args .name .now))) (l .loop .k) (c .before .before .before .loop-test .taken) (l .loop .inv .1) (sym (c .before .is-head .ensures ∙ ap (isHead (file (s .args .which) (s .args .name .now))) (c .before .before .block .ensures)) ∙ c .if1 .taken)
+    seek-here _ _ (s .pre .0) (isHead (file (s .args .which) (s .args .name .now))) (l .loop .k) (c .before .before .before .loop-test .taken) (l .loop .inv .1) (tested (isHead (file (s .args .which) (s .args .name .now))) (c .before .is-head .ensures) (c .before .before .block .ensures) (c .if1 .taken))
 
 add-k : tie.Need-add-k Inv-loop μ-loop
 add-k c = omega arith
@@ -47,7 +47,7 @@ loop-again : tie.Need-loop-again Inv-loop μ-loop
 loop-again c =
     let l = c .before .before .before .before in
     let s = l .before .before .before .before in
-    (omega arith, below-more _ (l .loop .k) (l .loop .inv .1) (sym (c .before .is-head .ensures ∙ ap (isHead (file (s .args .which) (s .args .name .now))) (c .before .before .block .ensures)) ∙ c .if1 .left))
+    (omega arith, below-more _ (l .loop .k) (l .loop .inv .1) (tested (isHead (file (s .args .which) (s .args .name .now))) (c .before .is-head .ensures) (c .before .before .block .ensures) (c .if1 .left)))
 
 returns-2 : tie.Need-returns-2 Inv-loop μ-loop
 unfolding headOf

@@ -1,5 +1,5 @@
 -- `overlay::block`: the definition's two cases; a mark names a block of the workspace that is there.
-use mathlib.Core.Path.{_≡_, refl, sym, _∙_}
+use mathlib.Core.Path.{sym, _∙_}
 use native.Mathlib.Omega.{arith}
 use borrow.Author.Tests.{eq-eqb, ne-eqb}
 use Rattle.arena.specs.Blocks.{blk}

@@ -1,5 +1,5 @@
 -- `overlay::commit_block`: the definition's two cases.
-use mathlib.Core.Path.{_≡_, refl, sym, _∙_}
+use mathlib.Core.Path.{sym, _∙_}
 use borrow.Author.Tests.{eq-eqb, ne-eqb}
 use Rattle.arena.specs.Blocks.{blk, putBlk}
 use Rattle.overlay.specs.View.{committed}

@@ -1,5 +1,4 @@
 -- `overlay::store_new`: the definition's three stores.
-use mathlib.Core.Path.{_≡_, refl, sym, _∙_}
 use native.Mathlib.Omega.{arith}
 use lib.ListN.{length-set}
 use Rattle.arena.specs.Blocks.{putBlk}

@@ -3,11 +3,12 @@ use mathlib.Core.Path.{_≡_, ap, _∙_}
 use native.Mathlib.Omega.{arith}
 use lib.ListN.{length}
 use borrow.Author.Needs.{needs}
+use Rattle.base.specs.Parts.{tab}
 use Rattle.base.proofs.Outs.{refused-says, done-says}
 use Rattle.arena.specs.Fields.{file, numberOf}
 use Rattle.overlay.specs.View.{view}
 use Rattle.overlay.proofs.Views.{length-blkOf}
-use Rattle.files.specs.Read.{lengthOf}
+use Rattle.files.specs.Read.{lengthOf, byteAt}
 use Rattle.files.proofs.Finds.{there-yes, there-no, length-here}
 use Rattle.files.proofs.Runs.{read-missing, read-short, read-done}
 use Rattle.files.proofs.read.read.Statement.{statement}
@@ -60,8 +61,11 @@ returns-4 c =
     let i = c .before .before .before .before .before .before in
     let s = i .before .before .before .before .before .before .before .before .before in
     let y = there-yes _ _ (s .pre .0) (file (s .args .which) (s .args .name .now)) _ (i .before .before .before .before .find-head .ensures) (i .before .before .before .if1 .left) in
-    let d = done-says (s .args .out .now) (read-done (view (s .args .arena .now) (s .args .work .now)) (file (s .args .which) (s .args .name .now)) (s .args .pos) (length (s .args .out .now)) y (omega (arith, length-is i))) in
-    (d .0, c .before .before .read-run .ensures ∙ d .1)
+    let v = view (s .args .arena .now) (s .args .work .now) in
+    let f = file (s .args .which) (s .args .name .now) in
+    let n = length (s .args .out .now) in
+    let d = done-says (s .args .out .now) (read-done v f (s .args .pos) n y (omega (arith, length-is i))) in
+    (d .0, _∙_ {b = tab (byteAt v f) (s .args .pos) n} (c .before .before .read-run .ensures) (d .1))
 
 pub read-spec : {M : Type 1} → statement M
 read-spec =

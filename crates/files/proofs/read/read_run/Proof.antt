@@ -63,7 +63,7 @@ loop-again c =
     let m = c .before .before .before .before .least .result in
     let f = byteAt (view (s .args .arena .now) (s .args .work .now)) (file (s .args .which) (s .args .name .now)) in
     let n : length (part (l .loop .out) g (g + m)) ≡ m = length-part (l .loop .out) g (g + m) (omega arith) (omega (arith, l .loop .inv .1 .size)) ∙ omega arith in
-    (omega arith, run-more _ f (s .args .pos) _ _ g m (omega arith) (c .before .before .read-part .ensures ∙ ap (tab f (s .args .pos + g)) n) (l .loop .inv .1))
+    (omega arith, run-more _ f (s .args .pos) _ _ g m (omega arith) (_∙_ {b = tab f (s .args .pos + g) (length (part (l .loop .out) g (g + m)))} (c .before .before .read-part .ensures) (ap (tab f (s .args .pos + g)) n)) (l .loop .inv .1))
 
 same-length : tie.Need-same-length Inv-loop μ-loop
 same-length c = c .before .loop .inv .1 .size

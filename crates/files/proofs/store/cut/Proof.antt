@@ -33,13 +33,13 @@ cast-set-length c = search needs
 set-length-requires : tie.Need-set-length-requires
 set-length-requires c κs = search needs
 
-free-past-requires : tie.Need-free-past-requires
-free-past-requires c κs = search needs
+free-blocks-requires : tie.Need-free-blocks-requires
+free-blocks-requires c κs = search needs
 
 zero-tail-requires : tie.Need-zero-tail-requires
 zero-tail-requires c κs =
     let s = c .before .before .before .before .before .before .before .before .before .before .before .before .before .before .before .before in
-    let d = c .before .before .before .free-past .ensures in
+    let d = c .before .before .before .free-blocks .ensures in
     ((d .fine, omega (arith, d .room, c .before .before .before .before .before .before .before .set-length .ensures .room)), (s .pre .1, c .before .before .before .before .before .before .before .before .before .if2 .left))
 
 same-length-3 : tie.Need-same-length-3
@@ -49,7 +49,7 @@ returns-3 : tie.Need-returns-3
 returns-3 c =
     let e = c .before .before .before .before .before .before .before .before .before .before .before .before .before in
     let s = e .before .before .before .before .before .before in
-    cut-done _ _ (file (s .args .which) (s .args .name .now)) _ _ _ _ (s .args .len) (there-yes _ _ (s .pre .0 .0) (file (s .args .which) (s .args .name .now)) _ (e .before .find-head .ensures) (e .if1 .left)) (c .before .before .before .before .before .before .before .before .before .before .before .before .if2 .left) (e .before .find-head .ensures) (c .before .before .before .before .before .before .before .before .before .before .set-length .ensures) (c .before .before .before .before .before .before .free-past .ensures) (c .before .before .zero-tail .ensures)
+    cut-done _ _ (file (s .args .which) (s .args .name .now)) _ _ _ _ (s .args .len) (there-yes _ _ (s .pre .0 .0) (file (s .args .which) (s .args .name .now)) _ (e .before .find-head .ensures) (e .if1 .left)) (c .before .before .before .before .before .before .before .before .before .before .before .before .if2 .left) (e .before .find-head .ensures) (c .before .before .before .before .before .before .before .before .before .before .set-length .ensures) (c .before .before .before .before .before .before .free-blocks .ensures) (c .before .before .zero-tail .ensures)
 
 pub cut-spec : {M : Type 1} → statement M
 cut-spec =
@@ -62,7 +62,7 @@ cut-spec =
     returns-2
     cast-set-length
     set-length-requires
-    free-past-requires
+    free-blocks-requires
     zero-tail-requires
     same-length-3
     returns-3)

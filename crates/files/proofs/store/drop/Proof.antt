@@ -17,8 +17,8 @@ returns c =
     let s = c .before .before .before .before .before .before in
     drop-missing _ _ (file (s .args .which) (s .args .name .now)) _ (there-no _ _ (s .pre .0) (file (s .args .which) (s .args .name .now)) _ (c .before .find-head .ensures) (c .if1 .taken))
 
-free-all-requires : tie.Need-free-all-requires
-free-all-requires c κs = search needs
+free-blocks-requires : tie.Need-free-blocks-requires
+free-blocks-requires c κs = search needs
 
 same-length-2 : tie.Need-same-length-2
 same-length-2 c = search needs
@@ -27,9 +27,9 @@ returns-2 : tie.Need-returns-2
 returns-2 c =
     let e = c .before .before .before .before in
     let s = e .before .before .before .before .before .before in
-    drop-done _ _ (file (s .args .which) (s .args .name .now)) _ (there-yes _ _ (s .pre .0) (file (s .args .which) (s .args .name .now)) _ (e .before .find-head .ensures) (e .if1 .left)) (c .before .before .free-all .ensures)
+    drop-done _ _ (file (s .args .which) (s .args .name .now)) _ (there-yes _ _ (s .pre .0) (file (s .args .which) (s .args .name .now)) _ (e .before .find-head .ensures) (e .if1 .left)) (c .before .before .free-blocks .ensures)
 
 pub drop-spec : {M : Type 1} → statement M
 drop-spec =
     tie.close
-    (tie.spec find-head-requires same-length returns free-all-requires same-length-2 returns-2)
+    (tie.spec find-head-requires same-length returns free-blocks-requires same-length-2 returns-2)

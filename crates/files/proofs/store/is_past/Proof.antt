@@ -1,12 +1,12 @@
 -- `files::store::is_past`: the definition's two tests.
-use mathlib.Core.Path.{_≡_, sym, ap, _∙_}
-use mathlib.Core.Bool.{true, false}
+use mathlib.Core.Path.{ap, _∙_}
 use Prim.Native.Nat.{ℕ, _*_}
 use lib.Dec.{leb}
 use borrow.Author.Tests.{not-true, not-false}
 use borrow.Author.Needs.{needs}
-use Rattle.arena.specs.Fields.{file, numberOf, isData}
+use Rattle.arena.specs.Fields.{file, isData}
 use Rattle.files.specs.Store.{isPast}
+use Rattle.files.proofs.Finds.{tested}
 use Rattle.files.proofs.store.is_past.Statement.{statement}
 use Rattle.files.proofs.store.is_past.Tie as tie
 
@@ -20,8 +20,7 @@ returns : tie.Need-returns
 unfolding isPast
 returns c =
     let s = c .before .before .before .before .before in
-    let e : isData (file (s .args .which) (s .args .name .now)) (numberOf (s .args .b .now)) (s .args .b .now) ≡ false = sym (c .before .is-data .ensures ∙ ap (λ (q : ℕ). isData (file (s .args .which) (s .args .name .now)) q (s .args .b .now)) (c .before .before .u32-at .ensures)) ∙ not-true _ (c .if1 .taken) in
-    rw e
+    rw (tested (λ (q : ℕ). isData (file (s .args .which) (s .args .name .now)) q (s .args .b .now)) (c .before .is-data .ensures) (c .before .before .u32-at .ensures) (not-true _ (c .if1 .taken)))
 
 index-requires : tie.Need-index-requires
 index-requires c κs = search needs
@@ -33,8 +32,7 @@ returns-2 : tie.Need-returns-2
 unfolding isPast
 returns-2 c =
     let s = c .before .before .before .before .before .before in
-    let e : isData (file (s .args .which) (s .args .name .now)) (numberOf (s .args .b .now)) (s .args .b .now) ≡ true = sym (c .before .before .is-data .ensures ∙ ap (λ (q : ℕ). isData (file (s .args .which) (s .args .name .now)) q (s .args .b .now)) (c .before .before .before .u32-at .ensures)) ∙ not-false _ (c .before .if1 .left) in
-    rw e (ap (λ (q : ℕ). leb (s .args .len) (480 * q)) (c .index .ensures ∙ c .before .before .before .u32-at .ensures))
+    rw (tested (λ (q : ℕ). isData (file (s .args .which) (s .args .name .now)) q (s .args .b .now)) (c .before .before .is-data .ensures) (c .before .before .before .u32-at .ensures) (not-false _ (c .before .if1 .left))) (ap (λ (q : ℕ). leb (s .args .len) (480 * q)) (c .index .ensures ∙ c .before .before .before .u32-at .ensures))
 
 pub is-past-spec : {M : Type 1} → statement M
 is-past-spec =

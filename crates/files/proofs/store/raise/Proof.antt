@@ -3,7 +3,10 @@ use mathlib.Core.Path.{ap, _∙_}
 use native.Mathlib.Omega.{arith}
 use lib.ListN.{length}
 use borrow.Author.Needs.{needs}
-use Rattle.arena.specs.Fields.{numberOf}
+use Rattle.le.specs.Le.{lePut}
+use Rattle.arena.specs.Blocks.{blk, putBlk}
+use Rattle.arena.specs.Fields.{numberOf, seal}
+use Rattle.overlay.specs.View.{view}
 use Rattle.overlay.proofs.Views.{length-blkOf}
 use Rattle.files.proofs.Blocks.{changed-low, changed-high}
 use Rattle.files.proofs.store.raise.Statement.{statement}
@@ -35,7 +38,9 @@ returns-2 : tie.Need-returns-2
 returns-2 c =
     let e = c .before .before .before .before in
     let s = e .before .before .before .before .before .before in
-    changed-high _ _ (s .pre .0 .0) _ _ _ _ _ (s .pre .1) (e .before .u32-at .ensures ∙ ap numberOf (e .before .before .block .ensures)) (e .if1 .left) (c .before .before .set-length .ensures)
+    let k = s .args .k in
+    let v = view (s .args .arena .now) (s .args .work .now) in
+    changed-high _ _ (s .pre .0 .0) k _ (s .args .len) (putBlk v k (seal (lePut (blk v k) 20 4 (s .args .len)))) _ (s .pre .1) (e .before .u32-at .ensures ∙ ap numberOf (e .before .before .block .ensures)) (e .if1 .left) (c .before .before .set-length .ensures)
 
 pub raise-spec : {M : Type 1} → statement M
 raise-spec =

@@ -1,9 +1,5 @@
 -- `files::store::write_new`: the block that is claimed is the definition's.
-use mathlib.Core.Path.{ap, _∙_}
-use mathlib.Core.List.{List}
-use Prim.Native.Nat.{ℕ, _+_}
 use borrow.Author.Needs.{needs}
-use Rattle.base.specs.Parts.{paste}
 use Rattle.files.proofs.store.write_new.Statement.{statement}
 use Rattle.files.proofs.store.write_new.Tie as tie
 
@@ -32,10 +28,7 @@ same-length : tie.Need-same-length
 same-length c = search needs
 
 returns : tie.Need-returns
-returns c =
-    let s = c .before .before .before .before .before .before .before .before .before .before .before .before .before .before .before in
-    let e = c .before .before .before .before .before .before .lay .ensures ∙ ap (λ (x : List ℕ). paste x (24 + s .args .off) (s .args .src .now)) (c .before .before .before .before .before .before .before .before .before .make-block .ensures) in
-    rw e at (c .before .before .claim .ensures)
+returns c = rw (c .before .before .before .before .before .before .lay .ensures, c .before .before .before .before .before .before .before .before .before .make-block .ensures) at (c .before .before .claim .ensures)
 
 pub write-new-spec : {M : Type 1} → statement M
 write-new-spec =

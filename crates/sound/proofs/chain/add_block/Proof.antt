@@ -132,7 +132,8 @@ found c =
     let s = e1 .before .before .before .before .before in
     let a = s .args .arena .now in
     let b : List ℕ = blk a (s .args .k) in
-    c .find-key .ensures ∙ ap (λ (q : ℕ). last (λ j. isKey (eqb (tagOf b) 1) (fileOf b) q (blk a j)) (s .args .k)) (u .u32-at .ensures)
+    let seen : ℕ → ℕ = λ q. last (λ j. isKey (eqb (tagOf b) 1) (fileOf b) q (blk a j)) (s .args .k) in
+    _∙_ {b = seen (u .u32-at .result)} (c .find-key .ensures) (ap seen (u .u32-at .ensures))
 
 -- the layout is right
 laid : (c : tie.Else2) → let s = c .before .before .before .before .before .before .before in layout (blk (s .args .arena .now) (s .args .k)) ≡ true
@@ -171,7 +172,7 @@ returns-4 c =
     let k = s .args .k in
     let l = laid e2 in
     let b : List ℕ = blk a k in
-    let h-is : h .hash-key .result ≡ hashOf (blk a k) = h .hash-key .ensures .0 ∙ ap (hashKey (eqb (tagOf b) 1) (whichOf b) (nameOf b)) (u .u32-at .ensures) in (
+    let h-is : h .hash-key .result ≡ hashOf (blk a k) = _∙_ {b = hashKey (eqb (tagOf b) 1) (whichOf b) (nameOf b) (u .u32-at .result)} (h .hash-key .ensures .0) (ap (hashKey (eqb (tagOf b) 1) (whichOf b) (nameOf b)) (u .u32-at .ensures)) in (
       sym (alone-used a k (e1 .if1 .left) l ∙ once-new a k (s .pre .0 .0) (e1 .if1 .left) (layout-tag b l) (e3 .before .find-key .result) (found (e3 .before)) (omega (arith, e3 .if3 .left))),
       λ _. chains-insert a (s .args .chains .now) _ k (h .hash-key .result) (s .pre .1) (e1 .if1 .left) h-is (h .hash-key .ensures .1) (s .pre .0 .1 .0) (s .pre .0 .1 .1) (i .insert .ensures),
     )

@@ -1,5 +1,5 @@
 -- `sound::chain::find_key`: no block from c on has the key, and c leads along the bucket.
-use mathlib.Core.Path.{sym, _∙_}
+use mathlib.Core.Path.{_∙_}
 use Prim.Native.Nat.{_-_, _<_}
 use native.Mathlib.Omega.{arith}
 use borrow.Author.Needs.{needs}
@@ -51,7 +51,7 @@ unfolding blk
 returns c =
     let l = c .before .before .before .before in
     let s = l .before .before .before .before in
-    walk-found (s .args .arena .now) (s .args .head) (file (s .args .which) (s .args .name .now)) (s .args .number) (s .args .k) (l .loop .c) (c .before .before .before .loop-test .taken) (l .loop .inv) (sym (c .before .is-key .ensures) ∙ c .if1 .taken)
+    walk-found (s .args .arena .now) (s .args .head) (file (s .args .which) (s .args .name .now)) (s .args .number) (s .args .k) (l .loop .c) (c .before .before .before .loop-test .taken) (l .loop .inv) (c .before .is-key .ensures) (c .if1 .taken)
 
 mul-index16 : tie.Need-mul-index16 Inv-loop μ-loop
 mul-index16 c =
@@ -76,7 +76,7 @@ turn c =
     let e = c .before .before in
     let l = e .before .before .before .before in
     let s = l .before .before .before .before in
-    walk-on (s .args .arena .now) (s .args .head) (file (s .args .which) (s .args .name .now)) (s .args .number) (s .args .k) (l .loop .c) (c .index16 .result) (e .before .before .before .loop-test .taken) (l .loop .inv) (sym (e .before .is-key .ensures) ∙ e .if1 .left)
+    walk-on (s .args .arena .now) (s .args .head) (file (s .args .which) (s .args .name .now)) (s .args .number) (s .args .k) (l .loop .c) (c .index16 .result) (e .before .before .before .loop-test .taken) (l .loop .inv) (e .before .is-key .ensures) (e .if1 .left)
     (λ used. c .index16 .ensures ∙ s .pre .1 .0 (l .loop .c - 1) (omega (arith, l .loop .inv .most, e .before .before .before .loop-test .taken)) used)
 
 loop-less : tie.Need-loop-less Inv-loop μ-loop
