@@ -1,31 +1,68 @@
 // The call close: a row's last hold stores a dirty record; at links 0 the node is freed.
 ghost use mathlib.Core.Path.{_≡_};
 ghost use Prim.Native.Nat.{_<_};
-ghost use lib.ListN.{length};
 ghost use mathlib.Core.Bool.{true};
 ghost use Rattle.arena.specs.Blocks.{legal};
 ghost use Rattle.overlay.proofs.Views.{Ready as Empty};
-ghost use Rattle.sefs.specs.Ask.{start};
 ghost use Rattle.sefs.specs.Nodes.{dropNode};
 ghost use Rattle.sefs.specs.Close.{closeSteps, callClose};
 ghost use Rattle.mem.specs.Mem.{tableIn, Whole};
-ghost use Rattle.calls_steps.specs.Ends.{ending, Ended, Returned};
+ghost use Rattle.nodes.specs.Steps.{fsAt};
+ghost use Rattle.calls.specs.Asked.{Blank};
+ghost use Rattle.calls_steps.specs.Ends.{Rest, ending, Ended, Returned};
 use calls::After;
-use calls::reach;
+use calls::led::reach;
 use calls::settle;
 use holds::close_hold;
 use mem::put_table;
 use nodes::drop_node;
-use nodes::meta::load_meta;
+use nodes_read::meta::load_meta;
 use table::Handle;
 use table::Table;
 
-// The node of row i is dropped. The workspace has no block yet, and memory has the table.
-fn drop_in(arena: &mut [u8], work: &mut [u8], mem: &mut [u8], i: usize) -> u8
-    requires { ⌜ Empty (now arena) (now work) 23 × ((length (now mem) ≡ 4899) × (i < 34)) ⌝ }
-    ensures { λ r. ⌜ Ended (ending (dropNode (start (now (arena .entry)) (tableIn (now (mem .entry)))) i)) (now (arena .entry)) (now (arena .exit)) (tableIn (now (mem .exit))) r ⌝ }
+// What is known before the first store, where the reason is 0: the handle's row, and whether its last hold was closed.
+struct Closing {
+    reason: u8,
+    row: usize,
+    last: bool,
+}
+
+fn close_led(arena: &[u8], chains: &mut [u16], mem: &mut [u8], h: Handle) -> Closing
+    requires { ⌜ Blank (now chains) × Whole (now mem) ⌝ }
+    ensures { λ r. ⌜ Rest (callClose (now (arena .entry)) (tableIn (now (mem .entry))) h) (ending (closeSteps (fsAt (now (arena .entry)) (now (mem .exit))) (r .last) (r .row))) ((legal (now (arena .entry)) ≡ true) × (Whole (now (mem .exit)) × (r .row < 34))) (r .reason) ⌝ }
 {
-    load_meta(&arena[..], &work[..], mem);
+    let b = reach(arena, chains, &mem[..], h);
+    if b.reason != 0 {
+        return Closing {
+            reason: b.reason,
+            row: 0,
+            last: false,
+        };
+    }
+    let last = close_hold(mem, h.hold);
+    let c = &chains[..];
+    load_meta(arena, &c[..4096], &c[4096..8192], mem);
+    Closing {
+        reason: 0,
+        row: b.row,
+        last: last,
+    }
+}
+
+// The frame of the chains is left before a workspace is made.
+fn close_asked(arena: &[u8], mem: &mut [u8], h: Handle) -> Closing
+    requires { ⌜ Whole (now mem) ⌝ }
+    ensures { λ r. ⌜ Rest (callClose (now (arena .entry)) (tableIn (now (mem .entry))) h) (ending (closeSteps (fsAt (now (arena .entry)) (now (mem .exit))) (r .last) (r .row))) ((legal (now (arena .entry)) ≡ true) × (Whole (now (mem .exit)) × (r .row < 34))) (r .reason) ⌝ }
+{
+    let mut chains = [0u16; 8192];
+    close_led(arena, &mut chains, mem, h)
+}
+
+// The node of row i is dropped. The workspace has no block yet.
+fn drop_in(arena: &mut [u8], work: &mut [u8], mem: &mut [u8], i: usize) -> u8
+    requires { ⌜ Empty (now arena) (now work) 23 × (Whole (now mem) × (i < 34)) ⌝ }
+    ensures { λ r. ⌜ Ended (ending (dropNode (fsAt (now (arena .entry)) (now (mem .entry))) i)) (now (arena .entry)) (now (arena .exit)) (tableIn (now (mem .exit))) r ⌝ }
+{
     let r = drop_node(&arena[..], work, mem, i);
     if r != 0 {
         return r;
@@ -36,8 +73,8 @@ fn drop_in(arena: &mut [u8], work: &mut [u8], mem: &mut [u8], i: usize) -> u8
 
 // Row i has no hold any more: the workspace is made for the node's end.
 fn close_last(arena: &mut [u8], mem: &mut [u8], i: usize) -> u8
-    requires { ⌜ (legal (now arena) ≡ true) × ((length (now mem) ≡ 4899) × (i < 34)) ⌝ }
-    ensures { λ r. ⌜ Ended (ending (dropNode (start (now (arena .entry)) (tableIn (now (mem .entry)))) i)) (now (arena .entry)) (now (arena .exit)) (tableIn (now (mem .exit))) r ⌝ }
+    requires { ⌜ (legal (now arena) ≡ true) × (Whole (now mem) × (i < 34)) ⌝ }
+    ensures { λ r. ⌜ Ended (ending (dropNode (fsAt (now (arena .entry)) (now (mem .entry))) i)) (now (arena .entry)) (now (arena .exit)) (tableIn (now (mem .exit))) r ⌝ }
 {
     let mut work = [0u8; 11776];
     overlay::begin(&mut work);
@@ -46,8 +83,8 @@ fn close_last(arena: &mut [u8], mem: &mut [u8], i: usize) -> u8
 
 // A row that has another hold is left as it is.
 fn close_row(arena: &mut [u8], mem: &mut [u8], last: bool, i: usize) -> u8
-    requires { ⌜ (legal (now arena) ≡ true) × ((length (now mem) ≡ 4899) × (i < 34)) ⌝ }
-    ensures { λ r. ⌜ Ended (ending (closeSteps (start (now (arena .entry)) (tableIn (now (mem .entry)))) last i)) (now (arena .entry)) (now (arena .exit)) (tableIn (now (mem .exit))) r ⌝ }
+    requires { ⌜ (legal (now arena) ≡ true) × (Whole (now mem) × (i < 34)) ⌝ }
+    ensures { λ r. ⌜ Ended (ending (closeSteps (fsAt (now (arena .entry)) (now (mem .entry))) last i)) (now (arena .entry)) (now (arena .exit)) (tableIn (now (mem .exit))) r ⌝ }
 {
     if last {
         return close_last(arena, mem, i);
@@ -60,12 +97,11 @@ fn close_on(arena: &mut [u8], mem: &mut [u8], h: Handle) -> u8
     requires { ⌜ Whole (now mem) ⌝ }
     ensures { λ r. ⌜ Ended (callClose (now (arena .entry)) (tableIn (now (mem .entry))) h) (now (arena .entry)) (now (arena .exit)) (tableIn (now (mem .exit))) r ⌝ }
 {
-    let b = reach(&arena[..], &mem[..], h);
+    let b = close_asked(&arena[..], mem, h);
     if b.reason != 0 {
         return b.reason;
     }
-    let last = close_hold(mem, h.hold);
-    close_row(arena, mem, last, b.row)
+    close_row(arena, mem, b.last, b.row)
 }
 
 pub fn close(arena: &mut [u8], t: Table, h: Handle) -> After

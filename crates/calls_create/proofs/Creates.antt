@@ -23,16 +23,18 @@ use Rattle.sefs.specs.Nodes.{recAt, idAt, newNode, syncRow, Opened, opened}
 use Rattle.sefs.specs.Slots.{lookup}
 use Rattle.sefs.specs.Folders.{entry, direntInit, direntAppend, nlinksInc}
 use Rattle.sefs.specs.Ask.{admit, byHandle, goodName, notLong, liveFolder, orExists, start}
-use Rattle.sefs.specs.Create.{birth, nameFolder, named, given, createSteps, callCreate}
-use Rattle.mem.specs.Mem.{Whole}
+use Rattle.sefs.specs.Create.{Given, birth, nameFolder, named, given, createSteps, callCreate}
+use Rattle.mem.specs.Mem.{tableIn, Whole}
+use Rattle.nodes.specs.Steps.{fsAt}
 use Rattle.mem.specs.State.{fsOf, Ready, Still, Stepped}
 use Rattle.folders.proofs.States.{stepped-next}
 use Rattle.calls.specs.Asked.{reached}
 use Rattle.calls.proofs.Asks.{asks-live, asked-done, asked-went, call-stop, call-next}
 use Rattle.calls_steps.specs.Steps.{noSlot, syncTwo}
 use Rattle.calls_steps.proofs.Steps.{asks-good, long}
-use Rattle.calls_steps.proofs.Ends.{bind-same}
-use Rattle.calls_create.specs.Create.{createAsk, createFree, createSync, createRest, createMoves, createWork}
+use Rattle.calls_steps.specs.Ends.{Begun, Rest, on, off}
+use Rattle.calls_steps.proofs.Ends.{bind-same, begun-start, rest-off, rest-as, rest-then}
+use Rattle.calls_create.specs.Create.{createAsk, createFree, createSync, createRest, createMoves, createWork, Asked}
 use Rattle.calls_create.specs.Held.{holding}
 use Rattle.calls_create.proofs.Held.{holding-bind, holding-both}
 
@@ -88,12 +90,20 @@ unfolding callCreate
 create-is a t h name kind mode time uuid =
     bind-same (admit a t) _ _ (λ _. bind-same (byHandle t h) _ _ (λ i. work-is (start a t) i name kind mode time uuid (canHold t)))
 
-module _ (a : List ℕ) (t : Table) (h : Handle) (name : List ℕ) (kind mode : ℕ) (time : Timespec) (uuid : List ℕ) {i n : ℕ} {P : Type 0} (g : Went (reached a t h) i P n) where
-  pub create-not : (n ≡ 0 → ⊥) → callCreate a t h name kind mode time uuid ≡ refused n
-  create-not z = create-is a t h name kind mode time uuid ∙ call-stop a t h (λ i. holding (createWork (start a t) i name kind mode time uuid (canHold t))) i n g z
+module _ (a first next m n : List ℕ) (h : Handle) (name : List ℕ) (kind mode : ℕ) (time : Timespec) (uuid : List ℕ) {i r : ℕ} (g : Went (reached a (tableIn m) h) i (Begun a first next m n × (i < 34)) r) where
+  pub create-not : {e : Out Given} {Q : Type 0} → (r ≡ 0 → ⊥) → Rest (callCreate a (tableIn m) h name kind mode time uuid) e Q r
+  create-not z = rest-off z (create-is a (tableIn m) h name kind mode time uuid ∙ call-stop a (tableIn m) h (λ i. holding (createWork (start a (tableIn m)) i name kind mode time uuid (canHold (tableIn m)))) i r g z)
 
-  pub create-row : n ≡ 0 → callCreate a t h name kind mode time uuid ≡ holding (createWork (start a t) i name kind mode time uuid (canHold t))
-  create-row z = create-is a t h name kind mode time uuid ∙ call-next a t h (λ i. holding (createWork (start a t) i name kind mode time uuid (canHold t))) i n g z
+  pub create-row : {e : Out Opened} {q : ℕ} → r ≡ 0 → Rest (createWork (fsAt a n) i name kind mode time uuid (canHold (tableIn n))) e (length name ≤ 255) q
+      → Rest (callCreate a (tableIn m) h name kind mode time uuid) (holding e) (Asked a n name i) q
+  create-row z f =
+      let p = went-has g z in
+      rest-as
+      (create-is a (tableIn m) h name kind mode time uuid
+      ∙ call-next a (tableIn m) h (λ i. holding (createWork (start a (tableIn m)) i name kind mode time uuid (canHold (tableIn m)))) i r g z
+      ∙ rw (← begun-start (p .0), ← p .0 .table))
+      (λ l. record { legal = p .0 .led .whole; whole = p .0 .whole; folder = p .1; short = l })
+      (rest-then (λ x. done (given (x .state) (addHold (x .state .table) (x .row)))) f)
 
 -- ---- the folder, the name and the type
 
@@ -230,20 +240,14 @@ module _ {a w u n : List ℕ} {c x : ℕ} (m name : List ℕ) (i kind mode : ℕ
       let p = went-has g z in
       went-next _ (went-is g z) (went-weaken (λ q. (record { fine = q .fine; whole = q .whole; room = omega (arith, q .room, p .0 .room) }, p .1)) (rested h))
 
--- ---- the questions and the steps
+-- ---- the questions before the steps
 
-module _ (s : Fs) (i : ℕ) (name : List ℕ) (kind mode : ℕ) (time : Timespec) (uuid : List ℕ) (room : Bool) (rec : DiskINode) (k : rec ≡ recAt s i) {P : Type 0} {x : ℕ} (g : Went (createAsk rec name kind) tt P x) where
-  pub work-ask : (v : Opened) (Q : Type 0) → (x ≡ 0 → ⊥) → Went (createWork s i name kind mode time uuid room) v Q x
+module _ (s : Fs) (i : ℕ) (name : List ℕ) (kind mode : ℕ) (time : Timespec) (uuid : List ℕ) (rec : DiskINode) (k : rec ≡ recAt s i) {P : Type 0} {x : ℕ} (g : Went (createAsk rec name kind) tt P x) where
+  pub work-ask : (room : Bool) → (x ≡ 0 → ⊥) → Rest (createWork s i name kind mode time uuid room) (createMoves s i name kind mode time uuid) P x
   unfolding createWork
-  work-ask v Q z = ill (above-zero _ z) (rw (← k, went-not g z))
+  work-ask room z = rest-off z (rw (← k, went-not g z))
 
-  module _ {y : ℕ} (z : x ≡ 0) (d : List ℕ) (b : d ≡ s .arena) (h : Went (createFree d rec name kind uuid room) tt Unit y) where
-    pub work-free : (v : Opened) (Q : Type 0) → (y ≡ 0 → ⊥) → Went (createWork s i name kind mode time uuid room) v Q y
-    unfolding createWork
-    work-free v Q o = ill (above-zero _ o) (rw (← k, went-is g z, ← b, went-not h o))
-
-    pub work-moves : {v : Opened} {Q : Type 0} {r : ℕ} → y ≡ 0 → Went (createMoves s i name kind mode time uuid) v Q r → Went (createWork s i name kind mode time uuid room) v Q r
-    unfolding createWork
-    work-moves {v} {Q} {r} o m =
-        let e : createWork s i name kind mode time uuid room ≡ createMoves s i name kind mode time uuid = rw (← k, went-is g z, ← b, went-is h o) in
-        subst (λ (u : Out Opened). Went u v Q r) (sym e) m
+  pub work-free : {room free : Bool} {y : ℕ} → x ≡ 0 → free ≡ room → Went (createFree (s .arena) rec name kind uuid free) tt Unit y → Rest (createWork s i name kind mode time uuid room) (createMoves s i name kind mode time uuid) P y
+  unfolding createWork
+  work-free z q (well e u) = on (rw (← k, went-is g z, ← q, e)) (went-has g z)
+  work-free z q (ill l e) = off l (rw (← k, went-is g z, ← q, e))

@@ -44,10 +44,10 @@ pub opens-has : {o : Out Opened} {a b m : List ℕ} {row n : ℕ} → EndedOpen 
 opens-has (opens w l e) z = (w, l)
 opens-has (stays l e k) z = absurd (omega arith)
 
--- the hold x on that row; the room in the table is known by another name
-pub handed : (f : Bool → Out Opened) {c d : Bool} {a b m : List ℕ} {x : Added} {row n r : ℕ} → c ≡ d → r ≡ n → (n ≡ 0 → addHold (tableIn m) row ≡ x) → EndedOpen (f c) a b m row n → EndedHeld (holding (f d)) a b x r
-handed f {b = b} q k h (opens w l e) = rw (← q, k) (held (e ∙ ap (λ (y : Added). done (leaving b y)) (h refl)))
-handed f q k h (stays l e j) = rw (← q, k) (stuck l (rw e) j)
+-- the hold x on that row
+pub handed : {o : Out Opened} {a b m : List ℕ} {x : Added} {row n r : ℕ} → r ≡ n → (n ≡ 0 → addHold (tableIn m) row ≡ x) → EndedOpen o a b m row n → EndedHeld (holding o) a b x r
+handed {b = b} k h (opens w l e) = rw k (held (e ∙ ap (λ (y : Added). done (leaving b y)) (h refl)))
+handed k h (stays l e j) = rw k (stuck l (rw e) j)
 
 -- an outcome by another name
 pub held-is : {o p : Out Given} {a b : List ℕ} {x : Added} {n : ℕ} → o ≡ p → EndedHeld p a b x n → EndedHeld o a b x n

@@ -1,13 +1,16 @@
 -- The parts of the call create, as the code's functions have them.
-use mathlib.Core.Bool.{Bool, not, _&&_}
+use mathlib.Core.Path.{_≡_}
+use mathlib.Core.Bool.{Bool, true, not, _&&_}
 use mathlib.Core.List.{List}
-use Prim.Native.Nat.{ℕ}
+use Prim.Native.Nat.{ℕ, _<_, _≤_}
+use lib.ListN.{length}
 use lib.Dec.{eqb}
 use Rattle.structs.specs.Verdict.{isFolder, isType}
 use Rattle.structs.specs.declared.DiskINode.{DiskINode}
 use Rattle.structs.specs.declared.Timespec.{Timespec}
 use Rattle.base.specs.Out.{Out, done, ensure, _>>=_}
 use Rattle.base.specs.Reasons.{invalidParam, fileTaken, tooManyLinks, tableFull}
+use Rattle.arena.specs.Blocks.{legal}
 use Rattle.arena.specs.Fields.{file}
 use Rattle.files.specs.Read.{there}
 use Rattle.sefs.specs.State.{Fs}
@@ -16,6 +19,7 @@ use Rattle.sefs.specs.Nodes.{recAt, idAt, newNode, Opened, opened}
 use Rattle.sefs.specs.Folders.{entry, direntAppend}
 use Rattle.sefs.specs.Ask.{goodName, notLong, liveFolder}
 use Rattle.sefs.specs.Create.{birth, named}
+use Rattle.mem.specs.Mem.{Whole}
 use Rattle.calls_steps.specs.Steps.{noSlot, syncTwo}
 
 -- 5, 6, 7, 8, 10: of the folder's record, the name and the type
@@ -60,3 +64,10 @@ createWork s i name kind mode time uuid room = do
   _ ← createAsk (recAt s i) name kind
   _ ← createFree (s .arena) (recAt s i) name kind uuid room
   createMoves s i name kind mode time uuid
+
+-- what is known once nothing refused: the arena a, the memory m, the name, and the folder's row
+pub record Asked (a m name : List ℕ) (i : ℕ) : Type 0 where
+  pub legal : legal a ≡ true
+  pub whole : Whole m
+  pub folder : i < 34
+  pub short : length name ≤ 255

@@ -1,4 +1,4 @@
-// The call create. It decides on a view of the arena, and commits once nothing can refuse it any more.
+// The call create. It asks and reads by the chains of `sound`, decides its steps on a view of the arena, and commits once nothing can refuse it any more.
 ghost use mathlib.Core.Path.{_≡_};
 ghost use mathlib.Core.Bool.{true};
 ghost use mathlib.Core.List.{List};
@@ -10,14 +10,18 @@ ghost use Rattle.overlay.specs.View.{view, left, Fine};
 ghost use Rattle.overlay.proofs.Views.{Ready as Empty};
 ghost use Rattle.structs.specs.Verdict.{isType};
 ghost use Rattle.table.specs.Table.{canHold};
-ghost use Rattle.sefs.specs.Ask.{start};
 ghost use Rattle.sefs.specs.Nodes.{opened as openedAs};
 ghost use Rattle.sefs.specs.Create.{birth as bornOf, nameFolder, named, callCreate};
+ghost use Rattle.chains.specs.Led.{Led};
+ghost use Rattle.nodes.specs.Steps.{fsAt};
 ghost use Rattle.mem.specs.Mem.{tableIn, Whole};
+ghost use Rattle.calls.specs.Asked.{Blank};
+ghost use Rattle.calls_steps.specs.Ends.{Rest};
 ghost use Rattle.mem.specs.State.{fsOf, Ready, Still, Stepped};
 ghost use Rattle.calls.specs.Answers.{addedAs};
-ghost use Rattle.calls_create.specs.Create.{createAsk, createFree, createSync, createRest, createMoves, createWork};
+ghost use Rattle.calls_create.specs.Create.{createAsk, createFree, createSync, createRest, createMoves, createWork, Asked};
 ghost use Rattle.calls_create.specs.Held.{holding, EndedOpen, EndedHeld, ReturnedHeld};
+use calls::ByHandle;
 use calls::Given;
 use calls::Handed;
 use calls::good_name;
@@ -25,12 +29,12 @@ use calls::hand;
 use calls::live_folder;
 use calls::not_handed;
 use calls::not_long;
-use calls::reach;
 use calls::settle_held;
 use calls_steps::append_named;
 use calls_steps::no_slot;
+use calls_steps::reach_read;
 use calls_steps::sync_two;
-use files::read::there;
+use chains::exists;
 use folders::dirent_init;
 use folders::nlinks_inc;
 use holds::can_hold;
@@ -38,7 +42,6 @@ use mem::id_at;
 use mem::put_table;
 use mem::rec_at;
 use nodes::Opened;
-use nodes::meta::load_meta;
 use nodes::meta::sync_meta;
 use nodes::new_node;
 use structs::DiskINode;
@@ -81,23 +84,24 @@ fn create_ask(rec: DiskINode, name: &[u8], kind: u32) -> u8
 }
 
 // `room`: whether the table can hold one more.
-fn create_free<'a>(
-    arena: &'a [u8],
-    work: &'a [u8],
+fn create_free(
+    arena: &[u8],
+    first: &[u16],
+    next: &[u16],
     rec: DiskINode,
     name: &[u8],
     kind: u32,
     file: [u8; 16],
     room: bool,
 ) -> u8
-    requires { ⌜ Fine (now arena) (now work) ⌝ }
-    ensures { λ r. ⌜ Went (createFree (view (now (arena .entry)) (now (work .entry))) rec (now (name .entry)) kind file room) tt Unit r ⌝ }
+    requires { ⌜ Led (now arena) (now first) (now next) ⌝ }
+    ensures { λ r. ⌜ Went (createFree (now (arena .entry)) rec (now (name .entry)) kind file room) tt Unit r ⌝ }
 {
-    let r = no_slot(arena, work, rec, name);
+    let r = no_slot(arena, first, next, rec, name);
     if r != 0 {
         return r;
     }
-    if there(arena, work, 1, &file) {
+    if exists(arena, first, next, 1, &file) {
         return 14;
     }
     if (kind == 2) & (rec.nlinks == 65535) {
@@ -107,6 +111,70 @@ fn create_free<'a>(
         return 16;
     }
     0
+}
+
+// What is asked once the handle is known.
+fn create_asks(
+    arena: &[u8],
+    first: &[u16],
+    next: &[u16],
+    mem: &[u8],
+    i: usize,
+    name: &[u8],
+    new: New,
+) -> u8
+    requires { ⌜ Led (now arena) (now first) (now next) ⌝ }
+    requires { ⌜ Whole (now mem) × (i < 34) ⌝ }
+    ensures { λ r. ⌜ Rest (createWork (fsAt (now (arena .entry)) (now (mem .entry))) i (now (name .entry)) (new .kind) (new .mode) (new .time) (new .file) (canHold (tableIn (now (mem .entry))))) (createMoves (fsAt (now (arena .entry)) (now (mem .entry))) i (now (name .entry)) (new .kind) (new .mode) (new .time) (new .file)) (length (now (name .entry)) ≤ 255) r ⌝ }
+{
+    let rec = rec_at(mem, i);
+    let r = create_ask(rec, name, new.kind);
+    if r != 0 {
+        return r;
+    }
+    let file = new.file;
+    let room = can_hold(mem);
+    create_free(arena, first, next, rec, name, new.kind, file, room)
+}
+
+fn create_led(
+    arena: &[u8],
+    chains: &mut [u16],
+    mem: &mut [u8],
+    h: Handle,
+    name: &[u8],
+    new: New,
+) -> ByHandle
+    requires { ⌜ Blank (now chains) × Whole (now mem) ⌝ }
+    ensures { λ r. ⌜ Rest (callCreate (now (arena .entry)) (tableIn (now (mem .entry))) h (now (name .entry)) (new .kind) (new .mode) (new .time) (new .file)) (holding (createMoves (fsAt (now (arena .entry)) (now (mem .exit))) (r .row) (now (name .entry)) (new .kind) (new .mode) (new .time) (new .file))) (Asked (now (arena .entry)) (now (mem .exit)) (now (name .entry)) (r .row)) (r .reason) ⌝ }
+{
+    let b = reach_read(arena, chains, mem, h);
+    if b.reason != 0 {
+        return b;
+    }
+    let c = &chains[..];
+    let r = create_asks(
+        arena,
+        &c[..4096],
+        &c[4096..8192],
+        &mem[..],
+        b.row,
+        name,
+        new,
+    );
+    ByHandle {
+        reason: r,
+        row: b.row,
+    }
+}
+
+// The frame of the chains is left before a workspace is made.
+fn create_asked(arena: &[u8], mem: &mut [u8], h: Handle, name: &[u8], new: New) -> ByHandle
+    requires { ⌜ Whole (now mem) ⌝ }
+    ensures { λ r. ⌜ Rest (callCreate (now (arena .entry)) (tableIn (now (mem .entry))) h (now (name .entry)) (new .kind) (new .mode) (new .time) (new .file)) (holding (createMoves (fsAt (now (arena .entry)) (now (mem .exit))) (r .row) (now (name .entry)) (new .kind) (new .mode) (new .time) (new .file))) (Asked (now (arena .entry)) (now (mem .exit)) (now (name .entry)) (r .row)) (r .reason) ⌝ }
+{
+    let mut chains = [0u16; 8192];
+    create_led(arena, &mut chains, mem, h, name, new)
 }
 
 // ---- the steps
@@ -214,32 +282,7 @@ fn create_moves(
     }
 }
 
-fn create_work(
-    arena: &[u8],
-    work: &mut [u8],
-    mem: &mut [u8],
-    i: usize,
-    name: &[u8],
-    new: New,
-    room: bool,
-) -> Opened
-    requires { ⌜ Ready (now arena) (now work) (now mem) × ((28 ≤ left (now work)) × (i < 34)) ⌝ }
-    ensures { λ r. ⌜ Went (createWork (fsOf (now (arena .entry)) (now (work .entry)) (now (mem .entry))) i (now (name .entry)) (new .kind) (new .mode) (new .time) (new .file) room) (openedAs (fsOf (now (arena .entry)) (now (work .exit)) (now (mem .exit))) (r .row)) (Still (now (arena .entry)) (now (work .entry)) (now (work .exit)) (now (mem .exit)) 28 × (r .row < 34)) (r .reason) ⌝ }
-{
-    let rec = rec_at(&mem[..], i);
-    let r = create_ask(rec, name, new.kind);
-    if r != 0 {
-        return Opened { reason: r, row: 0 };
-    }
-    let file = new.file;
-    let r = create_free(arena, &work[..], rec, name, new.kind, file, room);
-    if r != 0 {
-        return Opened { reason: r, row: 0 };
-    }
-    create_moves(arena, work, mem, i, name, new)
-}
-
-// The workspace has no block yet, and memory has the table.
+// The workspace has no block yet.
 fn create_in(
     arena: &mut [u8],
     work: &mut [u8],
@@ -247,13 +290,11 @@ fn create_in(
     i: usize,
     name: &[u8],
     new: New,
-    room: bool,
 ) -> Opened
-    requires { ⌜ Empty (now arena) (now work) 38 × ((length (now mem) ≡ 4899) × (i < 34)) ⌝ }
-    ensures { λ r. ⌜ EndedOpen (createWork (start (now (arena .entry)) (tableIn (now (mem .entry)))) i (now (name .entry)) (new .kind) (new .mode) (new .time) (new .file) room) (now (arena .entry)) (now (arena .exit)) (now (mem .exit)) (r .row) (r .reason) ⌝ }
+    requires { ⌜ Empty (now arena) (now work) 38 × (Whole (now mem) × ((i < 34) × (length (now name) ≤ 255))) ⌝ }
+    ensures { λ r. ⌜ EndedOpen (createMoves (fsAt (now (arena .entry)) (now (mem .entry))) i (now (name .entry)) (new .kind) (new .mode) (new .time) (new .file)) (now (arena .entry)) (now (arena .exit)) (now (mem .exit)) (r .row) (r .reason) ⌝ }
 {
-    load_meta(&arena[..], &work[..], mem);
-    let o = create_work(&arena[..], work, mem, i, name, new, room);
+    let o = create_moves(&arena[..], work, mem, i, name, new);
     if o.reason != 0 {
         return o;
     }
@@ -262,29 +303,21 @@ fn create_in(
 }
 
 // The workspace is made, and is gone once the steps are decided.
-fn create_begin(
-    arena: &mut [u8],
-    mem: &mut [u8],
-    i: usize,
-    name: &[u8],
-    new: New,
-    room: bool,
-) -> Opened
-    requires { ⌜ (legal (now arena) ≡ true) × ((length (now mem) ≡ 4899) × (i < 34)) ⌝ }
-    ensures { λ r. ⌜ EndedOpen (createWork (start (now (arena .entry)) (tableIn (now (mem .entry)))) i (now (name .entry)) (new .kind) (new .mode) (new .time) (new .file) room) (now (arena .entry)) (now (arena .exit)) (now (mem .exit)) (r .row) (r .reason) ⌝ }
+fn create_begin(arena: &mut [u8], mem: &mut [u8], i: usize, name: &[u8], new: New) -> Opened
+    requires { ⌜ Asked (now arena) (now mem) (now name) i ⌝ }
+    ensures { λ r. ⌜ EndedOpen (createMoves (fsAt (now (arena .entry)) (now (mem .entry))) i (now (name .entry)) (new .kind) (new .mode) (new .time) (new .file)) (now (arena .entry)) (now (arena .exit)) (now (mem .exit)) (r .row) (r .reason) ⌝ }
 {
     let mut work = [0u8; 19456];
     overlay::begin(&mut work);
-    create_in(arena, &mut work, mem, i, name, new, room)
+    create_in(arena, &mut work, mem, i, name, new)
 }
 
 // The hold on the node that was made.
 fn create_rows(arena: &mut [u8], mem: &mut [u8], i: usize, name: &[u8], new: New) -> Handed
-    requires { ⌜ (legal (now arena) ≡ true) × (Whole (now mem) × (i < 34)) ⌝ }
-    ensures { λ r. ⌜ EndedHeld (holding (createWork (start (now (arena .entry)) (tableIn (now (mem .entry)))) i (now (name .entry)) (new .kind) (new .mode) (new .time) (new .file) (canHold (tableIn (now (mem .entry)))))) (now (arena .entry)) (now (arena .exit)) (addedAs (r .handle) (tableIn (now (mem .exit)))) (r .reason) ⌝ }
+    requires { ⌜ Asked (now arena) (now mem) (now name) i ⌝ }
+    ensures { λ r. ⌜ EndedHeld (holding (createMoves (fsAt (now (arena .entry)) (now (mem .entry))) i (now (name .entry)) (new .kind) (new .mode) (new .time) (new .file))) (now (arena .entry)) (now (arena .exit)) (addedAs (r .handle) (tableIn (now (mem .exit)))) (r .reason) ⌝ }
 {
-    let room = can_hold(&mem[..]);
-    let o = create_begin(arena, mem, i, name, new, room);
+    let o = create_begin(arena, mem, i, name, new);
     hand(mem, o.reason, o.row)
 }
 
@@ -293,7 +326,7 @@ fn create_on(arena: &mut [u8], mem: &mut [u8], h: Handle, name: &[u8], new: New)
     requires { ⌜ Whole (now mem) ⌝ }
     ensures { λ r. ⌜ EndedHeld (callCreate (now (arena .entry)) (tableIn (now (mem .entry))) h (now (name .entry)) (new .kind) (new .mode) (new .time) (new .file)) (now (arena .entry)) (now (arena .exit)) (addedAs (r .handle) (tableIn (now (mem .exit)))) (r .reason) ⌝ }
 {
-    let b = reach(&arena[..], &mem[..], h);
+    let b = create_asked(&arena[..], mem, h, name, new);
     if b.reason != 0 {
         return not_handed(b.reason);
     }

@@ -33,14 +33,16 @@ use Rattle.sefs.specs.Nodes.{recAt, idAt, syncRow}
 use Rattle.sefs.specs.Slots.{lookTo, lookup}
 use Rattle.sefs.specs.Folders.{entry, direntAppend, nlinksInc}
 use Rattle.sefs.specs.Ask.{admit, byHandle, goodName, notLong, known, liveFolder, orExists, start}
-use Rattle.sefs.specs.Create.{After, linkSteps, callLink}
+use Rattle.sefs.specs.Create.{After, after, linkSteps, callLink}
 use Rattle.mem.specs.State.{fsOf, Ready, Still, Stepped}
 use Rattle.chains.proofs.Lookups.{lookup-is}
 use Rattle.calls.proofs.Asks.{Asks, asks-ensure, asks-then, asks-live, asked-not, asked-done, asked-went, answer-stop, answer-next}
-use Rattle.calls_steps.specs.Ends.{ending}
-use Rattle.calls_link.specs.Link.{linkAsk, linkChild, linkMoves, linkWork}
+use Rattle.nodes.specs.Steps.{fsAt}
+use Rattle.calls.specs.Asked.{reached, reachedTwo}
+use Rattle.calls_steps.specs.Ends.{Begun, Rest, on, off, ending}
+use Rattle.calls_link.specs.Link.{linkAsk, linkChild, linkMoves, linkWork, Asked}
 use Rattle.calls_steps.specs.Steps.{noSlot, syncTwo}
-use Rattle.calls_steps.proofs.Ends.{ending-bind, ending-both, bind-same}
+use Rattle.calls_steps.proofs.Ends.{ending-bind, ending-both, bind-same, begun-start, rest-off, rest-as, rest-then}
 use Rattle.calls_steps.proofs.Steps.{asks-good, asks-known, long}
 
 -- ---- the call is its questions and its steps
@@ -65,7 +67,7 @@ work-is s i name c =
     ending-both (ensure (not (isFolder (recAt s c .kind))) 9) (λ _. ensure (ltb (recAt s c .nlinks) 65535) 15) (λ _. linkMoves s i name c) _ (λ _.
     ending-bind (ensure (ltb (recAt s c .nlinks) 65535) 15) (λ _. linkMoves s i name c) _ (λ _. moves-is s i name c))))))))
 
-pub link-is : (a : List ℕ) (t : Table) (h : Handle) (name : List ℕ) (child : Handle) → callLink a t h name child ≡ bind (admit a t) (λ _. bind (byHandle t h) (λ i. bind (byHandle t child) (λ c. ending (linkWork (start a t) i name c))))
+link-is : (a : List ℕ) (t : Table) (h : Handle) (name : List ℕ) (child : Handle) → callLink a t h name child ≡ bind (admit a t) (λ _. bind (byHandle t h) (λ i. bind (byHandle t child) (λ c. ending (linkWork (start a t) i name c))))
 unfolding callLink
 link-is a t h name child =
     bind-same (admit a t) _ _ (λ _.
@@ -129,25 +131,40 @@ module _ {a w u n : List ℕ} {r : ℕ} (m name : List ℕ) (i c : ℕ) (rec : D
     unfolding linkMoves
     moves-done y d = stepped-next (λ s. bind (nlinksInc s c) (λ s. syncTwo s i c)) 3 9 (went-is slotted z) (went-has g z) (went-next _ (went-is h y) d) (omega arith)
 
--- ---- the questions and the steps
+-- ---- the questions before the steps
 
 module _ (s : Fs) (i c : ℕ) (name : List ℕ) (rec : DiskINode) (k : rec ≡ recAt s i) {P : Type 0} {x : ℕ} (g : Went (linkAsk rec name) tt P x) where
-  pub work-ask : (v : Fs) (Q : Type 0) → (x ≡ 0 → ⊥) → Went (linkWork s i name c) v Q x
+  pub work-ask : (x ≡ 0 → ⊥) → Rest (linkWork s i name c) (linkMoves s i name c) P x
   unfolding linkWork
-  work-ask v Q z = ill (above-zero _ z) (rw (← k, went-not g z))
+  work-ask z = rest-off z (rw (← k, went-not g z))
 
-  module _ {y : ℕ} (z : x ≡ 0) (d : List ℕ) (b : d ≡ s .arena) (h : Went (noSlot d rec name) tt Unit y) where
-    pub work-slot : (v : Fs) (Q : Type 0) → (y ≡ 0 → ⊥) → Went (linkWork s i name c) v Q y
+  module _ {y : ℕ} (z : x ≡ 0) (h : Went (noSlot (s .arena) rec name) tt Unit y) where
+    pub work-slot : (y ≡ 0 → ⊥) → Rest (linkWork s i name c) (linkMoves s i name c) P y
     unfolding linkWork
-    work-slot v Q o = ill (above-zero _ o) (rw (← k, went-is g z, ← b, went-not h o))
+    work-slot o = rest-off o (rw (← k, went-is g z, went-not h o))
 
-    module _ {w : ℕ} (child : DiskINode) (q : child ≡ recAt s c) (o : y ≡ 0) (f : Went (linkChild child) tt Unit w) where
-      pub work-child : (v : Fs) (Q : Type 0) → (w ≡ 0 → ⊥) → Went (linkWork s i name c) v Q w
-      unfolding linkWork
-      work-child v Q j = ill (above-zero _ j) (rw (← k, went-is g z, ← b, went-is h o, ← q, went-not f j))
+    pub work-child : {w : ℕ} (child : DiskINode) → child ≡ recAt s c → y ≡ 0 → Went (linkChild child) tt Unit w → Rest (linkWork s i name c) (linkMoves s i name c) P w
+    unfolding linkWork
+    work-child child q o (well e u) = on (rw (← k, went-is g z, went-is h o, ← q, e)) (went-has g z)
+    work-child child q o (ill l e) = off l (rw (← k, went-is g z, went-is h o, ← q, e))
 
-      pub work-moves : {v : Fs} {Q : Type 0} {r : ℕ} → w ≡ 0 → Went (linkMoves s i name c) v Q r → Went (linkWork s i name c) v Q r
-      unfolding linkWork
-      work-moves {v} {Q} {r} j m =
-          let e : linkWork s i name c ≡ linkMoves s i name c = rw (← k, went-is g z, ← b, went-is h o, ← q, went-is f j) in
-          subst (λ (u : Out Fs). Went u v Q r) (sym e) m
+-- the call, once its handles are known
+module _ (a first next m n : List ℕ) (h child : Handle) (name : List ℕ) {i c r : ℕ} (g : Went (reachedTwo a (tableIn m) h child) (i, c) (Begun a first next m n × ((i < 34) × (c < 34))) r) where
+  link-two : callLink a (tableIn m) h name child ≡ bind (reachedTwo a (tableIn m) h child) (λ p. ending (linkWork (start a (tableIn m)) (p .0) name (p .1)))
+  unfolding reachedTwo reached
+  link-two = link-is a (tableIn m) h name child ∙ go (admit a (tableIn m)) (byHandle (tableIn m) h) (byHandle (tableIn m) child)
+    where
+      go : (o : Out Unit) (b d : Out ℕ) → bind o (λ _. bind b (λ i. bind d (λ c. ending (linkWork (start a (tableIn m)) i name c))))
+          ≡ bind {A = ℕ × ℕ} (bind {B = ℕ × ℕ} (bind o (λ _. b)) (λ i. bind {B = ℕ × ℕ} d (λ j. done (i, j)))) (λ p. ending (linkWork (start a (tableIn m)) (p .0) name (p .1)))
+      go (done u) (done i) (done c) = refl
+      go (done u) (done i) (refused k) = refl
+      go (done u) (refused k) d = refl
+      go (refused k) b d = refl
+
+  pub link-not : {e : Out After} {Q : Type 0} → (r ≡ 0 → ⊥) → Rest (callLink a (tableIn m) h name child) e Q r
+  link-not z = rest-off z (link-two ∙ rw (went-not g z))
+
+  pub link-rows : {e : Out Fs} {q : ℕ} → r ≡ 0 → Rest (linkWork (fsAt a n) i name c) e (length name ≤ 255) q → Rest (callLink a (tableIn m) h name child) (ending e) (Asked a n name i c) q
+  link-rows z f =
+      let p = went-has g z in
+      rest-as (link-two ∙ rw (went-is g z, ← begun-start (p .0))) (λ l. record { legal = p .0 .led .whole; whole = p .0 .whole; folder = p .1 .0; child = p .1 .1; short = l }) (rest-then (λ s. done (after s)) f)

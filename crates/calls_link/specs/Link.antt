@@ -1,16 +1,20 @@
 -- The parts of the call link, as the code's functions have them.
-use mathlib.Core.Bool.{not}
+use mathlib.Core.Path.{_≡_}
+use mathlib.Core.Bool.{true, not}
 use mathlib.Core.List.{List}
-use Prim.Native.Nat.{ℕ}
+use Prim.Native.Nat.{ℕ, _<_, _≤_}
+use lib.ListN.{length}
 use lib.Dec.{ltb}
 use Rattle.structs.specs.Verdict.{isFolder}
 use Rattle.structs.specs.declared.DiskINode.{DiskINode}
 use Rattle.base.specs.Out.{Out, done, refused, ensure, _>>=_}
 use Rattle.base.specs.Reasons.{isDir, tooManyLinks}
+use Rattle.arena.specs.Blocks.{legal}
 use Rattle.sefs.specs.State.{Fs}
 use Rattle.sefs.specs.Nodes.{recAt, idAt}
 use Rattle.sefs.specs.Folders.{entry, direntAppend, nlinksInc}
 use Rattle.sefs.specs.Ask.{goodName, notLong, known, liveFolder}
+use Rattle.mem.specs.Mem.{Whole}
 use Rattle.calls_steps.specs.Steps.{noSlot, syncTwo}
 
 -- 5, 7, 8, 10: of the folder's record, and of the name
@@ -41,3 +45,11 @@ linkWork s i name c = do
   _ ← noSlot (s .arena) (recAt s i) name
   _ ← linkChild (recAt s c)
   linkMoves s i name c
+
+-- what is known once nothing refused: the arena a, the memory m, the name, and the rows of folder and child
+pub record Asked (a m name : List ℕ) (i c : ℕ) : Type 0 where
+  pub legal : legal a ≡ true
+  pub whole : Whole m
+  pub folder : i < 34
+  pub child : c < 34
+  pub short : length name ≤ 255

@@ -1,34 +1,32 @@
-// The call link. It decides on a view of the arena, and commits once nothing can refuse it any more.
+// The call link. It asks and reads by the chains of `sound`, decides its steps on a view of the arena, and commits once nothing can refuse it any more.
 ghost use mathlib.Core.Path.{_≡_};
-ghost use mathlib.Core.Bool.{true};
 ghost use Prim.Native.Nat.{_<_, _≤_};
 ghost use lib.ListN.{length};
 ghost use Rattle.base.specs.Out.{Went};
-ghost use Rattle.arena.specs.Blocks.{legal};
 ghost use Rattle.overlay.specs.View.{left};
 ghost use Rattle.overlay.proofs.Views.{Ready as Empty};
-ghost use Rattle.sefs.specs.Ask.{start};
 ghost use Rattle.sefs.specs.Create.{callLink};
+ghost use Rattle.chains.specs.Led.{Led};
+ghost use Rattle.nodes.specs.Steps.{fsAt};
 ghost use Rattle.mem.specs.Mem.{tableIn, Whole};
 ghost use Rattle.mem.specs.State.{fsOf, Ready, Stepped};
-ghost use Rattle.calls_steps.specs.Ends.{ending, Ended, Returned};
-ghost use Rattle.calls_link.specs.Link.{linkAsk, linkChild, linkMoves, linkWork};
+ghost use Rattle.calls.specs.Asked.{Blank};
+ghost use Rattle.calls_steps.specs.Ends.{Rest, ending, Ended, Returned};
+ghost use Rattle.calls_link.specs.Link.{linkAsk, linkChild, linkMoves, linkWork, Asked};
 use calls::After;
-use calls::admit_two;
-use calls::by_handle;
 use calls::good_name;
 use calls::known;
+use calls::led::ByTwo;
 use calls::live_folder;
 use calls::not_long;
 use calls::settle;
 use calls_steps::append_named;
 use calls_steps::no_slot;
+use calls_steps::reach_two_read;
 use calls_steps::sync_two;
 use folders::nlinks_inc;
-use holds::well_formed;
 use mem::put_table;
 use mem::rec_at;
-use nodes::meta::load_meta;
 use structs::DiskINode;
 use table::Handle;
 use table::Table;
@@ -65,6 +63,75 @@ fn link_child(rec: DiskINode) -> u8
     15
 }
 
+// What is asked once the handles are known.
+fn link_asks(
+    arena: &[u8],
+    first: &[u16],
+    next: &[u16],
+    mem: &[u8],
+    i: usize,
+    name: &[u8],
+    c: usize,
+) -> u8
+    requires { ⌜ Led (now arena) (now first) (now next) ⌝ }
+    requires { ⌜ Whole (now mem) × ((i < 34) × (c < 34)) ⌝ }
+    ensures { λ r. ⌜ Rest (linkWork (fsAt (now (arena .entry)) (now (mem .entry))) i (now (name .entry)) c) (linkMoves (fsAt (now (arena .entry)) (now (mem .entry))) i (now (name .entry)) c) (length (now (name .entry)) ≤ 255) r ⌝ }
+{
+    let rec = rec_at(mem, i);
+    let r = link_ask(rec, name);
+    if r != 0 {
+        return r;
+    }
+    let r = no_slot(arena, first, next, rec, name);
+    if r != 0 {
+        return r;
+    }
+    link_child(rec_at(mem, c))
+}
+
+fn link_led(
+    arena: &[u8],
+    chains: &mut [u16],
+    mem: &mut [u8],
+    h: Handle,
+    name: &[u8],
+    child: Handle,
+) -> ByTwo
+    requires { ⌜ Blank (now chains) × Whole (now mem) ⌝ }
+    ensures { λ r. ⌜ Rest (callLink (now (arena .entry)) (tableIn (now (mem .entry))) h (now (name .entry)) child) (ending (linkMoves (fsAt (now (arena .entry)) (now (mem .exit))) (r .row) (now (name .entry)) (r .other))) (Asked (now (arena .entry)) (now (mem .exit)) (now (name .entry)) (r .row) (r .other)) (r .reason) ⌝ }
+{
+    let b = reach_two_read(arena, chains, mem, h, child);
+    if b.reason != 0 {
+        return b;
+    }
+    let c = &chains[..];
+    let r = link_asks(
+        arena,
+        &c[..4096],
+        &c[4096..8192],
+        &mem[..],
+        b.row,
+        name,
+        b.other,
+    );
+    ByTwo {
+        reason: r,
+        row: b.row,
+        other: b.other,
+    }
+}
+
+// The frame of the chains is left before a workspace is made.
+fn link_asked(arena: &[u8], mem: &mut [u8], h: Handle, name: &[u8], child: Handle) -> ByTwo
+    requires { ⌜ Whole (now mem) ⌝ }
+    ensures { λ r. ⌜ Rest (callLink (now (arena .entry)) (tableIn (now (mem .entry))) h (now (name .entry)) child) (ending (linkMoves (fsAt (now (arena .entry)) (now (mem .exit))) (r .row) (now (name .entry)) (r .other))) (Asked (now (arena .entry)) (now (mem .exit)) (now (name .entry)) (r .row) (r .other)) (r .reason) ⌝ }
+{
+    let mut chains = [0u16; 8192];
+    link_led(arena, &mut chains, mem, h, name, child)
+}
+
+// ---- the steps
+
 fn link_moves(arena: &[u8], work: &mut [u8], mem: &mut [u8], i: usize, name: &[u8], c: usize) -> u8
     requires { ⌜ Ready (now arena) (now work) (now mem) × ((9 ≤ left (now work)) × ((i < 34) × ((c < 34) × (length (now name) ≤ 255)))) ⌝ }
     ensures { λ r. ⌜ Stepped (linkMoves (fsOf (now (arena .entry)) (now (work .entry)) (now (mem .entry))) i (now (name .entry)) c) (now (arena .entry)) (now (work .entry)) (now (work .exit)) (now (mem .exit)) 9 r ⌝ }
@@ -81,33 +148,12 @@ fn link_moves(arena: &[u8], work: &mut [u8], mem: &mut [u8], i: usize, name: &[u
     sync_two(arena, work, mem, i, c)
 }
 
-fn link_work(arena: &[u8], work: &mut [u8], mem: &mut [u8], i: usize, name: &[u8], c: usize) -> u8
-    requires { ⌜ Ready (now arena) (now work) (now mem) × ((9 ≤ left (now work)) × ((i < 34) × (c < 34))) ⌝ }
-    ensures { λ r. ⌜ Stepped (linkWork (fsOf (now (arena .entry)) (now (work .entry)) (now (mem .entry))) i (now (name .entry)) c) (now (arena .entry)) (now (work .entry)) (now (work .exit)) (now (mem .exit)) 9 r ⌝ }
-{
-    let rec = rec_at(&mem[..], i);
-    let r = link_ask(rec, name);
-    if r != 0 {
-        return r;
-    }
-    let r = no_slot(arena, &work[..], rec, name);
-    if r != 0 {
-        return r;
-    }
-    let r = link_child(rec_at(&mem[..], c));
-    if r != 0 {
-        return r;
-    }
-    link_moves(arena, work, mem, i, name, c)
-}
-
-// The workspace has no block yet, and memory has the table.
+// The workspace has no block yet.
 fn link_in(arena: &mut [u8], work: &mut [u8], mem: &mut [u8], i: usize, name: &[u8], c: usize) -> u8
-    requires { ⌜ Empty (now arena) (now work) 19 × ((length (now mem) ≡ 4899) × ((i < 34) × (c < 34))) ⌝ }
-    ensures { λ r. ⌜ Ended (ending (linkWork (start (now (arena .entry)) (tableIn (now (mem .entry)))) i (now (name .entry)) c)) (now (arena .entry)) (now (arena .exit)) (tableIn (now (mem .exit))) r ⌝ }
+    requires { ⌜ Empty (now arena) (now work) 19 × (Whole (now mem) × ((i < 34) × ((c < 34) × (length (now name) ≤ 255)))) ⌝ }
+    ensures { λ r. ⌜ Ended (ending (linkMoves (fsAt (now (arena .entry)) (now (mem .entry))) i (now (name .entry)) c)) (now (arena .entry)) (now (arena .exit)) (tableIn (now (mem .exit))) r ⌝ }
 {
-    load_meta(&arena[..], &work[..], mem);
-    let r = link_work(&arena[..], work, mem, i, name, c);
+    let r = link_moves(&arena[..], work, mem, i, name, c);
     if r != 0 {
         return r;
     }
@@ -117,8 +163,8 @@ fn link_in(arena: &mut [u8], work: &mut [u8], mem: &mut [u8], i: usize, name: &[
 
 // The workspace is made.
 fn link_rows(arena: &mut [u8], mem: &mut [u8], i: usize, name: &[u8], c: usize) -> u8
-    requires { ⌜ (legal (now arena) ≡ true) × ((length (now mem) ≡ 4899) × ((i < 34) × (c < 34))) ⌝ }
-    ensures { λ r. ⌜ Ended (ending (linkWork (start (now (arena .entry)) (tableIn (now (mem .entry)))) i (now (name .entry)) c)) (now (arena .entry)) (now (arena .exit)) (tableIn (now (mem .exit))) r ⌝ }
+    requires { ⌜ Asked (now arena) (now mem) (now name) i c ⌝ }
+    ensures { λ r. ⌜ Ended (ending (linkMoves (fsAt (now (arena .entry)) (now (mem .entry))) i (now (name .entry)) c)) (now (arena .entry)) (now (arena .exit)) (tableIn (now (mem .exit))) r ⌝ }
 {
     let mut work = [0u8; 9728];
     overlay::begin(&mut work);
@@ -130,13 +176,11 @@ fn link_on(arena: &mut [u8], mem: &mut [u8], h: Handle, name: &[u8], child: Hand
     requires { ⌜ Whole (now mem) ⌝ }
     ensures { λ r. ⌜ Ended (callLink (now (arena .entry)) (tableIn (now (mem .entry))) h (now (name .entry)) child) (now (arena .entry)) (now (arena .exit)) (tableIn (now (mem .exit))) r ⌝ }
 {
-    let b = by_handle(&mem[..], h);
-    let c = by_handle(&mem[..], child);
-    let r = admit_two(&arena[..], well_formed(&mem[..]), b, c);
-    if r != 0 {
-        return r;
+    let b = link_asked(&arena[..], mem, h, name, child);
+    if b.reason != 0 {
+        return b.reason;
     }
-    link_rows(arena, mem, b.row, name, c.row)
+    link_rows(arena, mem, b.row, name, b.other)
 }
 
 pub fn link(arena: &mut [u8], t: Table, h: Handle, name: &[u8], child: Handle) -> After

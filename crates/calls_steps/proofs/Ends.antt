@@ -6,7 +6,7 @@ use Prim.Native.Nat.{ℕ, zero, suc, _+_, _*_, _-_, _≤_, _<_}
 use native.Mathlib.Omega.{arith}
 use lib.ListN.{length, replicate}
 use Rattle.base.specs.Out.{Out, done, refused, bind, answer, Went, well, ill, said}
-use Rattle.base.proofs.Outs.{went-is, went-has, went-not, above-zero}
+use Rattle.base.proofs.Outs.{went-is, went-has, went-not, went-weaken, above-zero}
 use Rattle.arena.specs.Blocks.{blocks, legal}
 use Rattle.arena.proofs.Blocks.{legal-is}
 use Rattle.overlay.specs.View.{view, left, Fine, begun}
@@ -21,12 +21,14 @@ use Rattle.sefs.specs.Ask.{start, admit, byHandle}
 use Rattle.sefs.specs.Create.{After, after}
 use Rattle.mem.specs.Mem.{tableIn, metaIn, Whole}
 use Rattle.mem.specs.State.{fsOf, Ready, Still, Stepped}
+use Rattle.chains.specs.Led.{Led}
+use Rattle.nodes.specs.Steps.{fsAt}
 use Rattle.calls.specs.declared.After as answered
 use Rattle.calls.specs.Answers.{refusedWith, afterOf}
 use Rattle.calls.specs.Asked.{admitIf, firstOf}
 use Rattle.calls.proofs.Answers.{after-done, after-refused}
 use Rattle.calls.proofs.Asks.{Asks, asks-admitIf, admit-is, admitted-legal}
-use Rattle.calls_steps.specs.Ends.{arenaAfter, afterAs, ending, Ended, went, stuck, Returned}
+use Rattle.calls_steps.specs.Ends.{Begun, Rest, on, off, arenaAfter, afterAs, ending, Ended, went, stuck, Returned}
 
 -- ---- the start
 
@@ -38,6 +40,43 @@ started a w m l h k e = ready a w m (legal-is a l .whole) (legal-is a l .most) h
 pub fs-start : (a w m n : List ℕ) (k : ℕ) → views.Ready a w k → metaIn n ≡ loadMeta (view a w) → tableIn n ≡ tableIn m → fsOf a w n ≡ start a (tableIn m)
 unfolding fsOf
 fs-start a w m n k R e q = rw (e, q, R .is)
+
+-- the memory that a call has begun with is its state
+pub begun-start : {a first next m n : List ℕ} → Begun a first next m n → fsAt a n ≡ start a (tableIn m)
+begun-start b = rw (b .meta, b .table)
+
+-- and so is a workspace with no block
+pub fs-begun : (a w m : List ℕ) (k : ℕ) → views.Ready a w k → fsOf a w m ≡ fsAt a m
+unfolding fsOf
+fs-begun a w m k R = rw (R .is)
+
+-- ---- what a call asks before its steps
+
+pub rest-is : {A : Type 0} {o e : Out A} {P : Type 0} {r : ℕ} → Rest o e P r → r ≡ 0 → o ≡ e
+rest-is (on e p) z = e
+rest-is (off l e) z = absurd (omega arith)
+
+pub rest-has : {A : Type 0} {o e : Out A} {P : Type 0} {r : ℕ} → Rest o e P r → r ≡ 0 → P
+rest-has (on e p) z = p
+rest-has (off l e) z = absurd (omega arith)
+
+pub rest-not : {A : Type 0} {o e : Out A} {P : Type 0} {r : ℕ} → Rest o e P r → (r ≡ 0 → ⊥) → o ≡ refused r
+rest-not (on e p) z = absurd (z refl)
+rest-not (off l e) z = e
+
+-- a reason
+pub rest-off : {A : Type 0} {o e : Out A} {P : Type 0} {r : ℕ} → (r ≡ 0 → ⊥) → o ≡ refused r → Rest o e P r
+rest-off z e = off (above-zero _ z) e
+
+-- an outcome by another name, and more known of its rest
+pub rest-as : {A : Type 0} {o q e : Out A} {P Q : Type 0} {r : ℕ} → q ≡ o → (P → Q) → Rest o e P r → Rest q e Q r
+rest-as x f (on e p) = on (x ∙ e) (f p)
+rest-as x f (off l e) = off l (x ∙ e)
+
+-- what comes after it
+pub rest-then : {A B : Type 0} {o e : Out A} {P : Type 0} {r : ℕ} (f : A → Out B) → Rest o e P r → Rest (bind o f) (bind e f) P r
+rest-then f (on e p) = on (ap (λ x. bind x f) e) p
+rest-then f (off l e) = off l (rw e)
 
 -- ---- two handles
 
@@ -126,3 +165,12 @@ returned-refused t e k q = record { answer = q ∙ rw e; arena = k ∙ rw e }
 
 pub returned-one : (t : Table) (o : Out After) {a b c : List ℕ} {r s : answered.After} → Returned t o a b r → Returned t o a c s → (r ≡ s) × (b ≡ c)
 returned-one t o p q = (p .answer ∙ sym (q .answer), p .arena ∙ sym (q .arena))
+
+-- ---- how a call begins: the first questions, and then superblock and maps
+
+module _ {A R : Type 0} {o : Out A} {v : A} {r : ℕ} (a first next : List ℕ) (g : Went o v (Led a first next × R) r) where
+  pub begin-not : (Q : Type 0) → (r ≡ 0 → ⊥) → Went o v Q r
+  begin-not Q z = ill (above-zero r z) (went-not g z)
+
+  pub begin-read : (m d : List ℕ) → (metaIn d ≡ loadMeta a) × ((tableIn d ≡ tableIn m) × Whole d) → Went o v (Begun a first next m d × R) r
+  begin-read m d l = went-weaken (λ p. (record { led = p .0; meta = l .0; table = l .1 .0; whole = l .1 .1 }, p .1)) g

@@ -6,15 +6,14 @@ use Prim.Native.Nat.{ℕ, zero, suc, _+_, _-_, _/_, _%_, _<_, _≤_}
 use native.Mathlib.Omega.{arith}
 use lib.Dec.{eqb, ltb, leb}
 use borrow.Author.Tests.{ltb-true}
-use Rattle.base.specs.Out.{Out, done, refused, bind, answer, Went, well, ill}
+use Rattle.base.specs.Out.{Out, done, refused, bind, Went, well, ill}
 use Rattle.base.specs.Search.{foundBelow}
 use Rattle.base.proofs.Bools.{and-parts}
 use Rattle.base.proofs.Finds.{search-at}
-use Rattle.base.proofs.Outs.{above-zero, bind-is-done, went-is, went-has}
+use Rattle.base.proofs.Outs.{above-zero, bind-is-done, went-is, went-has, went-not}
 use Rattle.base.proofs.Searches.{found-at, found-nothing}
 use Rattle.table.specs.declared.Table.{Table}
 use Rattle.table.specs.Table.{rowAt, isNext, nextRow}
-use Rattle.table.specs.Formed.{wellFormed}
 use Rattle.table.proofs.Next.{Best, best-take, best-keep}
 use Rattle.arena.specs.Blocks.{legal}
 use Rattle.arena.specs.Places.{freeCount}
@@ -23,14 +22,14 @@ use Rattle.overlay.proofs.Views.{Ready as Empty, length-view}
 use Rattle.sefs.specs.State.{Fs}
 use Rattle.sefs.specs.Meta.{loadMeta}
 use Rattle.sefs.specs.Nodes.{idAt, syncRow}
-use Rattle.sefs.specs.Ask.{start}
+use Rattle.sefs.specs.Ask.{start, admit}
+use Rattle.sefs.specs.Create.{After}
 use Rattle.sefs.specs.Close.{syncFrom, callSync}
 use Rattle.mem.specs.Mem.{tableIn, metaIn, Whole}
 use Rattle.mem.specs.State.{fsOf, Stepped}
-use Rattle.calls.specs.Asked.{admitIf}
-use Rattle.calls.proofs.Asks.{asks-admitIf, asked-not, asked-done, admit-is, admitted-legal}
-use Rattle.calls_steps.specs.Ends.{ending, Ended, went}
-use Rattle.calls_steps.proofs.Ends.{ended-refused}
+use Rattle.chains.specs.Led.{Led}
+use Rattle.calls_steps.specs.Ends.{Rest, on, ending, Ended, went}
+use Rattle.calls_steps.proofs.Ends.{rest-off, ended-refused}
 use Rattle.calls_sync.specs.Sync.{stateOf, Judged, can, cannot, Does, Counted, Left}
 
 -- ---- answers
@@ -192,42 +191,33 @@ module _ (m : List ℕ) (i : ℕ) {a w u n : List ℕ} {r : ℕ} (E : Empty a w 
       left-is : done (fsOf a u n) ≡ done (stateOf (view a u) n)
       left-is = ap done (fs-view a u n)
 
--- ---- the start and the end
+-- ---- the end
 
-pub load-is : (a w l n : List ℕ) → Empty a w 10 → metaIn n ≡ loadMeta (view a w) → tableIn n ≡ tableIn l → stateOf a n ≡ start a (tableIn l)
+-- it was decided on a state by another name
+pub decided-start : {s z : Fs} {r : ℕ} → s ≡ z → Judged (syncFrom s 0 34) (λ _. Unit) r → Judged (syncFrom z 0 34) (λ _. Unit) r
+decided-start e g = rw (← e) g
+
+module _ (s : Fs) {r : ℕ} (g : Judged (syncFrom s 0 34) (λ _. Unit) r) where
+  pub ended-cannot : (a b : List ℕ) (u : Table) → (r ≡ 0 → ⊥) → b ≡ a → Ended (ending (syncFrom s 0 34)) a b u r
+  ended-cannot a b u n k = ended-refused n (ap ending (decided-not g n)) k
+
+  pub sync-can : r ≡ 0 → Does (syncFrom s 0 34)
+  sync-can n = let f = decided-has g n in (f .0, f .1)
+
+pub ended-stored : (s : Fs) (a b n : List ℕ) → syncFrom s 0 34 ≡ done (stateOf b n) → Ended (ending (syncFrom s 0 34)) a b (tableIn n) 0
 unfolding stateOf
-load-is a w l n E q k = rw (q, k, E .is)
-
--- it was decided on the state s, that is the one at the call's start
-module _ {s z : Fs} {r : ℕ} (e : s ≡ z) (g : Judged (syncFrom s 0 34) (λ _. Unit) r) where
-  pub decided-start : Judged (syncFrom z 0 34) (λ _. Unit) r
-  decided-start = rw (← e) g
-
-  pub ended-cannot : (a b : List ℕ) (u : Table) → (r ≡ 0 → ⊥) → b ≡ a → Ended (ending (syncFrom z 0 34)) a b u r
-  ended-cannot a b u n k = ended-refused n (ap ending (decided-not decided-start n)) k
-
-pub sync-can : {r : ℕ} (s : Fs) → Judged (syncFrom s 0 34) (λ _. Unit) r → r ≡ 0 → Does (syncFrom s 0 34)
-sync-can s g n = let f = decided-has g n in (f .0, f .1)
-
-pub ended-stored : {s z : Fs} (a b n : List ℕ) → s ≡ z → syncFrom s 0 34 ≡ done (stateOf b n) → Ended (ending (syncFrom z 0 34)) a b (tableIn n) 0
-unfolding stateOf
-ended-stored a b n e g = went (ap ending (sym (ap (λ (s : Fs). syncFrom s 0 34) e) ∙ g))
+ended-stored s a b n g = went (ap ending g)
 
 -- ---- the first questions, and the rest
 
-sync-is : (a : List ℕ) (t : Table) (formed : Bool) → formed ≡ wellFormed t → callSync a t ≡ bind (admitIf a formed) (λ _. ending (syncFrom (start a t) 0 34))
-unfolding callSync
-sync-is a t formed k = rw (admit-is a t ∙ ap (admitIf a) (sym k))
+module _ (a first next m : List ℕ) {r : ℕ} (g : Went (admit a (tableIn m)) tt (Led a first next) r) where
+  sync-is : callSync a (tableIn m) ≡ bind (admit a (tableIn m)) (λ _. ending (syncFrom (start a (tableIn m)) 0 34))
+  unfolding callSync
+  sync-is = refl
 
-module _ (a : List ℕ) (t : Table) (formed : Bool) (k : formed ≡ wellFormed t) (r : ℕ) (e : r ≡ answer (admitIf a formed)) where
-  pub sync-not : (r ≡ 0 → ⊥) → callSync a t ≡ refused r
-  sync-not z = sync-is a t formed k ∙ rw (asked-not (admitIf a formed) r e z)
+  pub sync-not : {e : Out After} {Q : Type 0} → (r ≡ 0 → ⊥) → Rest (callSync a (tableIn m)) e Q r
+  sync-not z = rest-off z (sync-is ∙ rw (went-not g z))
 
-  admitted : r ≡ 0 → admitIf a formed ≡ done tt
-  admitted z = asked-done (admitIf a formed) (asks-admitIf a formed) r e z
-
-  pub sync-goes : r ≡ 0 → callSync a t ≡ ending (syncFrom (start a t) 0 34)
-  sync-goes z = sync-is a t formed k ∙ rw (admitted z)
-
-  pub sync-legal : r ≡ 0 → legal a ≡ true
-  sync-legal z = admitted-legal a formed tt (admitted z)
+  pub sync-goes : (n : List ℕ) → r ≡ 0 → (metaIn n ≡ loadMeta a) × ((tableIn n ≡ tableIn m) × Whole n) → Rest (callSync a (tableIn m)) (ending (syncFrom (stateOf a n) 0 34)) ((legal a ≡ true) × Whole n) 0
+  unfolding stateOf
+  sync-goes n z l = on (sync-is ∙ rw (went-is g z, ← l .0, ← l .1 .0)) (went-has g z .whole, l .1 .1)

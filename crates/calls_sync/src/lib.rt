@@ -13,27 +13,26 @@ ghost use Rattle.arena.specs.Blocks.{legal};
 ghost use Rattle.overlay.proofs.Views.{Ready as Empty};
 ghost use Rattle.files.specs.Store.{putFile};
 ghost use Rattle.table.specs.Table.{rowAt, nextRow};
-ghost use Rattle.sefs.specs.Ask.{start};
 ghost use Rattle.sefs.specs.Meta.{metaFile};
 ghost use Rattle.sefs.specs.Nodes.{syncRow};
 ghost use Rattle.sefs.specs.Close.{syncFrom, callSync};
 ghost use Rattle.mem.specs.Mem.{tableIn, Whole};
-ghost use Rattle.calls_steps.specs.Ends.{ending, Ended, Returned};
+ghost use Rattle.calls.specs.Asked.{Blank};
+ghost use Rattle.calls_steps.specs.Ends.{Rest, ending, Ended, Returned};
 ghost use Rattle.calls_sync.specs.Sync.{stateOf, Judged, Does, isLacking, needed, Counted, Left};
 use base::copy;
 use base::index;
 use calls::After;
-use calls::admit;
+use calls::led::admit;
 use calls::settle;
 use files::find_data;
 use files::read::there;
-use holds::well_formed;
 use mem::dirty_at;
 use mem::id_at;
 use mem::put_dirty;
 use mem::put_table;
-use nodes::meta::load_meta;
 use nodes::sync_row;
+use nodes_read::meta::load_meta;
 use table::Table;
 
 // The row with the lowest id above that one, or 34: `best` is it among the rows passed.
@@ -179,16 +178,6 @@ fn try_rows<'a>(arena: &'a [u8], work: &'a [u8], mem: &mut [u8]) -> u8
     0
 }
 
-// Memory at the call's start.
-fn load(arena: &[u8], mem: &mut [u8])
-    requires { ⌜ (legal (now arena) ≡ true) × (length (now mem) ≡ 4899) ⌝ }
-    ensures { λ _. ⌜ (stateOf (now (arena .entry)) (now (mem .exit)) ≡ start (now (arena .entry)) (tableIn (now (mem .entry)))) × Whole (now (mem .exit)) ⌝ }
-{
-    let mut work = [0u8; 5120];
-    overlay::begin(&mut work);
-    load_meta(arena, &work, mem);
-}
-
 // 0 where every dirty row can be stored, else the reason that refuses the call. The counting marks rows, so it has a memory of its own.
 fn decide(arena: &[u8], mem: &[u8]) -> u8
     requires { ⌜ (legal (now arena) ≡ true) × Whole (now mem) ⌝ }
@@ -236,10 +225,9 @@ fn store_rows(arena: &mut [u8], mem: &mut [u8])
 
 // Once the arena and the table are admitted.
 fn sync_in(arena: &mut [u8], mem: &mut [u8]) -> u8
-    requires { ⌜ (legal (now arena) ≡ true) × (length (now mem) ≡ 4899) ⌝ }
-    ensures { λ r. ⌜ Ended (ending (syncFrom (start (now (arena .entry)) (tableIn (now (mem .entry)))) 0 34)) (now (arena .entry)) (now (arena .exit)) (tableIn (now (mem .exit))) r ⌝ }
+    requires { ⌜ (legal (now arena) ≡ true) × Whole (now mem) ⌝ }
+    ensures { λ r. ⌜ Ended (ending (syncFrom (stateOf (now (arena .entry)) (now (mem .entry))) 0 34)) (now (arena .entry)) (now (arena .exit)) (tableIn (now (mem .exit))) r ⌝ }
 {
-    load(&arena[..], mem);
     let r = decide(&arena[..], &mem[..]);
     if r != 0 {
         return r;
@@ -248,12 +236,36 @@ fn sync_in(arena: &mut [u8], mem: &mut [u8]) -> u8
     0
 }
 
+// ---- 1, 2, 3, and superblock and maps
+
+fn sync_led(arena: &[u8], chains: &mut [u16], mem: &mut [u8]) -> u8
+    requires { ⌜ Blank (now chains) × Whole (now mem) ⌝ }
+    ensures { λ r. ⌜ Rest (callSync (now (arena .entry)) (tableIn (now (mem .entry)))) (ending (syncFrom (stateOf (now (arena .entry)) (now (mem .exit))) 0 34)) ((legal (now (arena .entry)) ≡ true) × Whole (now (mem .exit))) r ⌝ }
+{
+    let r = admit(arena, chains, &mem[..]);
+    if r != 0 {
+        return r;
+    }
+    let c = &chains[..];
+    load_meta(arena, &c[..4096], &c[4096..8192], mem);
+    0
+}
+
+// The frame of the chains is left before a workspace is made.
+fn sync_asked(arena: &[u8], mem: &mut [u8]) -> u8
+    requires { ⌜ Whole (now mem) ⌝ }
+    ensures { λ r. ⌜ Rest (callSync (now (arena .entry)) (tableIn (now (mem .entry)))) (ending (syncFrom (stateOf (now (arena .entry)) (now (mem .exit))) 0 34)) ((legal (now (arena .entry)) ≡ true) × Whole (now (mem .exit))) r ⌝ }
+{
+    let mut chains = [0u16; 8192];
+    sync_led(arena, &mut chains, mem)
+}
+
 // The call on the table in memory.
 fn sync_on(arena: &mut [u8], mem: &mut [u8]) -> u8
     requires { ⌜ Whole (now mem) ⌝ }
     ensures { λ r. ⌜ Ended (callSync (now (arena .entry)) (tableIn (now (mem .entry)))) (now (arena .entry)) (now (arena .exit)) (tableIn (now (mem .exit))) r ⌝ }
 {
-    let r = admit(&arena[..], well_formed(&mem[..]));
+    let r = sync_asked(&arena[..], mem);
     if r != 0 {
         return r;
     }

@@ -7,9 +7,8 @@ use native.Mathlib.Omega.{arith}
 use lib.ListN.{length}
 use lib.Dec.{eqb, leb}
 use borrow.Author.Tests.{eq-eqb, ne-eqb, le-leb, lt-leb}
-use Rattle.base.specs.Out.{bind, answer, Went, ill}
-use Rattle.base.proofs.Outs.{went-is, went-has, went-next, went-stop, went-weaken, above-zero}
-use Rattle.overlay.specs.View.{view}
+use Rattle.base.specs.Out.{Out, bind, answer, Went}
+use Rattle.base.proofs.Outs.{went-is, went-has, went-not, went-next, went-stop, went-weaken}
 use Rattle.structs.specs.declared.DiskINode.{DiskINode}
 use Rattle.structs.specs.Layout.{entryOf}
 use Rattle.le.specs.Le.{leAt}
@@ -22,8 +21,11 @@ use Rattle.sefs.specs.Ask.{goodName, notLong, notSpecial, liveFolder}
 use Rattle.sefs.specs.Unlink.{notFull}
 use Rattle.mem.specs.Mem.{tableIn}
 use Rattle.mem.specs.State.{fsOf, Stepped}
+use Rattle.nodes.specs.Steps.{fsAt}
 use Rattle.calls.proofs.Asks.{Asks, asks-ensure, asks-then, asks-live, asked-done, asked-not, answer-stop, answer-next}
-use Rattle.calls_steps.proofs.Steps.{asks-good, asks-special, rec-of}
+use Rattle.calls_steps.specs.Ends.{Rest, on}
+use Rattle.calls_steps.proofs.Ends.{rest-off, rest-as}
+use Rattle.calls_steps.proofs.Steps.{asks-good, asks-special}
 use Rattle.calls_unlink.specs.Steps.{nameAsks, unlinkAsks, removeNode, removeId, removeName, unlinkIn}
 
 -- ---- questions
@@ -102,51 +104,48 @@ module _ (s : Fs) (i c k : ℕ) (a w u m : List ℕ) (r : ℕ) (g : Stepped (dir
       went-next (λ d. syncRow d i) (went-is g z)
       (went-weaken (λ p. record { fine = p .fine; whole = p .whole; room = omega (arith, went-has g z .room, p .room) }) h)
 
--- the node, whether it is full, the removal
-module _ (s : Fs) (i id k : ℕ) (a w m : List ℕ) (c r : ℕ) {P : Type 0} (g : Went (getNode s id) (opened (fsOf a w m) c) P r) where
-  pub id-stop : (v : Fs) {Q : Type 0} → (r ≡ 0 → ⊥) → Went (removeId s i id k) v Q r
+-- ---- before the steps
+
+-- the node, and whether it is full
+module _ (s d : Fs) (i id k c r : ℕ) {P : Type 0} (g : Went (getNode s id) (opened d c) P r) where
+  pub id-stop : {e : Out Fs} {Q : Type 0} → (r ≡ 0 → ⊥) → Rest (removeId s i id k) e Q r
   unfolding removeId
-  id-stop v z = went-stop (λ o. bind (notFull (recAt (o .state) (o .row))) (λ _. removeNode (o .state) i (o .row) k)) v z g
+  id-stop z = rest-off z (rw (went-not g z))
 
-  module _ (z : r ≡ 0) (x : DiskINode) (e : x ≡ rowAt (tableIn m) c .rec) (q : ℕ) (f : q ≡ answer (notFull x)) where
-    full-fs : q ≡ answer (notFull (recAt (fsOf a w m) c))
-    full-fs = f ∙ ap (λ (y : DiskINode). answer (notFull y)) (rec-of a w m c x e)
+  module _ (z : r ≡ 0) (x : DiskINode) (e : x ≡ recAt d c) (q : ℕ) (f : q ≡ answer (notFull x)) where
+    full-at : q ≡ answer (notFull (recAt d c))
+    full-at = f ∙ ap (λ (y : DiskINode). answer (notFull y)) e
 
-    pub id-full : (v : Fs) {Q : Type 0} → (q ≡ 0 → ⊥) → Went (removeId s i id k) v Q q
+    pub id-full : {e : Out Fs} {Q : Type 0} → (q ≡ 0 → ⊥) → Rest (removeId s i id k) e Q q
     unfolding removeId
-    id-full v y =
-        went-next (λ o. bind (notFull (recAt (o .state) (o .row))) (λ _. removeNode (o .state) i (o .row) k)) (went-is g z)
-        (ill (above-zero _ y) (rw (asked-not (notFull (recAt (fsOf a w m) c)) q full-fs y)))
+    id-full y = rest-off y (rw (went-is g z, asked-not (notFull (recAt d c)) q full-at y))
 
-    pub id-next : {v : Fs} {Q : Type 0} {p : ℕ} → q ≡ 0 → Went (removeNode (fsOf a w m) i c k) v Q p → Went (removeId s i id k) v Q p
+    pub id-next : {Q : Type 0} → q ≡ 0 → Q → Rest (removeId s i id k) (removeNode d i c k) Q 0
     unfolding removeId
-    id-next y h =
-        went-next (λ o. bind (notFull (recAt (o .state) (o .row))) (λ _. removeNode (o .state) i (o .row) k)) (went-is g z)
-        (went-next (λ _. removeNode (fsOf a w m) i c k) (asked-done (notFull (recAt (fsOf a w m) c)) (asks-full _) q full-fs y) h)
+    id-next y p = on (rw (went-is g z, asked-done (notFull (recAt d c)) (asks-full _) q full-at y)) p
 
 -- the slot, then what it names
-module _ (a w m : List ℕ) (i : ℕ) (name l : List ℕ) (k r : ℕ) {P : Type 0} (x : DiskINode) (e : x ≡ rowAt (tableIn m) i .rec) (g : Went (findSlot (view a w) x name) (record { place = k; entry = entryOf l }) P r) where
-  slot-fs : Went (findSlot (fsOf a w m .arena) (recAt (fsOf a w m) i) name) (record { place = k; entry = entryOf l }) P r
-  unfolding fsOf
-  slot-fs = rw e at g
+module _ (a m : List ℕ) (i : ℕ) (name l : List ℕ) (k r : ℕ) {P : Type 0} (x : DiskINode) (e : x ≡ rowAt (tableIn m) i .rec) (g : Went (findSlot a x name) (record { place = k; entry = entryOf l }) P r) where
+  slot-at : Went (findSlot a (rowAt (tableIn m) i .rec) name) (record { place = k; entry = entryOf l }) P r
+  slot-at = rw e at g
 
-  pub slot-stop : (v : Fs) {Q : Type 0} → (r ≡ 0 → ⊥) → Went (removeName (fsOf a w m) i name) v Q r
+  pub slot-stop : {e : Out Fs} {Q : Type 0} → (r ≡ 0 → ⊥) → Rest (removeName (fsAt a m) i name) e Q r
   unfolding removeName
-  slot-stop v z = went-stop (λ f. removeId (fsOf a w m) i (f .entry .id) (f .place)) v z slot-fs
+  slot-stop z = rest-off z (rw (went-not slot-at z))
 
-  pub slot-next : {v : Fs} {Q : Type 0} {q : ℕ} (id : ℕ) → id ≡ leAt l 0 4 → r ≡ 0 → Went (removeId (fsOf a w m) i id k) v Q q → Went (removeName (fsOf a w m) i name) v Q q
+  pub slot-next : {e : Out Fs} {Q : Type 0} {q : ℕ} (id : ℕ) → id ≡ leAt l 0 4 → r ≡ 0 → Rest (removeId (fsAt a m) i id k) e Q q → Rest (removeName (fsAt a m) i name) e Q q
   unfolding removeName entryOf
-  slot-next id d z h = went-next (λ f. removeId (fsOf a w m) i (f .entry .id) (f .place)) (went-is slot-fs z) (rw d at h)
+  slot-next id d z h = rest-as (rw (went-is slot-at z, d)) (λ p. p) h
 
--- the questions, then the steps
-module _ (a w m : List ℕ) (i : ℕ) (name : List ℕ) (r : ℕ) (x : DiskINode) (d : x ≡ rowAt (tableIn m) i .rec) (f : r ≡ answer (unlinkAsks x name)) where
-  asks-fs : r ≡ answer (unlinkAsks (recAt (fsOf a w m) i) name)
-  asks-fs = f ∙ ap (λ (y : DiskINode). answer (unlinkAsks y name)) (rec-of a w m i x d)
+-- the questions, then the slot
+module _ (a m : List ℕ) (i : ℕ) (name : List ℕ) (r : ℕ) (x : DiskINode) (d : x ≡ rowAt (tableIn m) i .rec) (f : r ≡ answer (unlinkAsks x name)) where
+  asks-at : r ≡ answer (unlinkAsks (rowAt (tableIn m) i .rec) name)
+  asks-at = f ∙ ap (λ (y : DiskINode). answer (unlinkAsks y name)) d
 
-  pub unlink-stop : (v : Fs) {Q : Type 0} → (r ≡ 0 → ⊥) → Went (unlinkIn (fsOf a w m) i name) v Q r
+  pub unlink-stop : {e : Out Fs} {Q : Type 0} → (r ≡ 0 → ⊥) → Rest (unlinkIn (fsAt a m) i name) e Q r
   unfolding unlinkIn
-  unlink-stop v z = ill (above-zero _ z) (rw (asked-not (unlinkAsks (recAt (fsOf a w m) i) name) r asks-fs z))
+  unlink-stop z = rest-off z (rw (asked-not (unlinkAsks (rowAt (tableIn m) i .rec) name) r asks-at z))
 
-  pub unlink-next : {v : Fs} {Q : Type 0} {q : ℕ} → r ≡ 0 → Went (removeName (fsOf a w m) i name) v Q q → Went (unlinkIn (fsOf a w m) i name) v Q q
+  pub unlink-next : {e : Out Fs} {Q : Type 0} {q : ℕ} → r ≡ 0 → Rest (removeName (fsAt a m) i name) e Q q → Rest (unlinkIn (fsAt a m) i name) e Q q
   unfolding unlinkIn
-  unlink-next z h = went-next (λ _. removeName (fsOf a w m) i name) (asked-done (unlinkAsks (recAt (fsOf a w m) i) name) (asks-unlink _ name) r asks-fs z) h
+  unlink-next z h = rest-as (rw (asked-done (unlinkAsks (rowAt (tableIn m) i .rec) name) (asks-unlink _ name) r asks-at z)) (λ p. p) h

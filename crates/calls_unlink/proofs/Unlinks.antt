@@ -1,9 +1,11 @@
 -- The call unlink, in its parts.
 use mathlib.Core.Path.{_≡_, refl, sym, _∙_}
+use mathlib.Core.Bool.{true}
 use mathlib.Core.List.{List}
-use Prim.Native.Nat.{ℕ}
+use Prim.Native.Nat.{ℕ, _<_}
 use Rattle.base.specs.Out.{Out, done, refused, bind, Went}
-use Rattle.base.proofs.Outs.{went-is, went-not, bind-assoc}
+use Rattle.base.proofs.Outs.{went-is, went-has, went-not, bind-assoc}
+use Rattle.arena.specs.Blocks.{legal}
 use Rattle.table.specs.declared.Table.{Table}
 use Rattle.table.specs.declared.Handle.{Handle}
 use Rattle.sefs.specs.State.{Fs}
@@ -14,8 +16,10 @@ use Rattle.sefs.specs.Ask.{admit, byHandle, goodName, notLong, notSpecial, live
 use Rattle.sefs.specs.Create.{After, after}
 use Rattle.sefs.specs.Unlink.{notFull, unlinkSteps, callUnlink}
 use Rattle.calls.specs.Asked.{reached}
-use Rattle.calls_steps.specs.Ends.{ending}
-use Rattle.calls_steps.proofs.Ends.{bind-same}
+use Rattle.mem.specs.Mem.{tableIn}
+use Rattle.nodes.specs.Steps.{fsAt}
+use Rattle.calls_steps.specs.Ends.{Begun, Rest, ending}
+use Rattle.calls_steps.proofs.Ends.{bind-same, begun-start, rest-off, rest-as, rest-then}
 use Rattle.calls_unlink.specs.Steps.{nameAsks, unlinkAsks, removeNode, removeId, removeName, unlinkIn}
 
 -- the questions first
@@ -56,9 +60,11 @@ unlink-is a t h name =
     bind-same (admit a t) _ _ (λ _. bind-same (byHandle t h) _ _ (λ i. row-is a t i name))
     ∙ sym (bind-assoc (admit a t) (λ _. byHandle t h) (λ i. ending (unlinkIn (start a t) i name)))
 
-module _ (a : List ℕ) (t : Table) (h : Handle) (name : List ℕ) {i n : ℕ} {P : Type 0} (g : Went (reached a t h) i P n) where
-  pub unlink-not : (n ≡ 0 → ⊥) → callUnlink a t h name ≡ refused n
-  unlink-not z = unlink-is a t h name ∙ rw (went-not g z)
+module _ (a first next m n : List ℕ) (h : Handle) (name : List ℕ) {i r : ℕ} (g : Went (reached a (tableIn m) h) i (Begun a first next m n × (i < 34)) r) where
+  pub unlink-not : {e : Out After} {Q : Type 0} → (r ≡ 0 → ⊥) → Rest (callUnlink a (tableIn m) h name) e Q r
+  unlink-not z = rest-off z (unlink-is a (tableIn m) h name ∙ rw (went-not g z))
 
-  pub unlink-row : n ≡ 0 → callUnlink a t h name ≡ ending (unlinkIn (start a t) i name)
-  unlink-row z = unlink-is a t h name ∙ rw (went-is g z)
+  pub unlink-row : {e : Out Fs} {Q : Type 0} {q : ℕ} → r ≡ 0 → Rest (unlinkIn (fsAt a n) i name) e Q q → Rest (callUnlink a (tableIn m) h name) (ending e) ((legal a ≡ true) × Q) q
+  unlink-row z f =
+      let b = went-has g z .0 in
+      rest-as (unlink-is a (tableIn m) h name ∙ rw (went-is g z, ← begun-start b)) (λ p. (b .led .whole, p)) (rest-then (λ s. done (after s)) f)

@@ -1,4 +1,4 @@
-// The call unlink: 7, 8, 9 (`.`, `..`, empty), 10, 11, 13, then the steps.
+// The call unlink: 5, 7, 8, 9 (`.`, `..`, empty), 10, 11, 13, then the steps.
 ghost use mathlib.Core.Path.{_≡_};
 ghost use mathlib.Core.Bool.{true};
 ghost use Prim.Native.Nat.{_<_, _≤_};
@@ -7,27 +7,28 @@ ghost use Rattle.arena.specs.Blocks.{legal};
 ghost use Rattle.base.specs.Out.{answer};
 ghost use Rattle.overlay.specs.View.{left};
 ghost use Rattle.overlay.proofs.Views.{Ready as Empty};
-ghost use Rattle.sefs.specs.Ask.{start};
 ghost use Rattle.sefs.specs.Unlink.{notFull, callUnlink};
+ghost use Rattle.chains.specs.Led.{Led};
+ghost use Rattle.nodes.specs.Steps.{fsAt};
 ghost use Rattle.mem.specs.Mem.{tableIn, Whole};
 ghost use Rattle.mem.specs.State.{fsOf, Ready, Stepped};
-ghost use Rattle.calls_steps.specs.Ends.{ending, Ended, Returned};
+ghost use Rattle.calls.specs.Asked.{Blank};
+ghost use Rattle.calls_steps.specs.Ends.{Rest, ending, Ended, Returned};
 ghost use Rattle.calls_unlink.specs.Steps.{nameAsks, unlinkAsks, removeNode, removeId, removeName, unlinkIn};
 use calls::After;
 use calls::good_name;
 use calls::live_folder;
 use calls::not_long;
 use calls::not_special;
-use calls::reach;
 use calls::settle;
+use calls_steps::reach_read;
+use chains::slots::find_slot;
 use folders::dirent_node_remove;
-use folders::slots::find_slot;
 use le::u32_at;
 use mem::put_table;
 use mem::rec_at;
-use nodes::get_node;
-use nodes::meta::load_meta;
 use nodes::sync_row;
+use nodes_read::get_node;
 use structs::DiskINode;
 use table::Handle;
 use table::Table;
@@ -75,6 +76,131 @@ fn not_full(rec: DiskINode) -> u8
     0
 }
 
+// What is found before the first store, where the reason is 0: the folder's row, the node's, and the place of the slot that names it.
+struct Picked {
+    reason: u8,
+    row: usize,
+    node: usize,
+    place: usize,
+}
+
+// Slot k of folder i names the node `id`.
+fn pick_id(
+    arena: &[u8],
+    first: &[u16],
+    next: &[u16],
+    mem: &mut [u8],
+    i: usize,
+    id: u32,
+    k: usize,
+) -> Picked
+    requires { ⌜ Led (now arena) (now first) (now next) ⌝ }
+    requires { ⌜ Whole (now mem) × (i < 34) ⌝ }
+    ensures { λ r. ⌜ Rest (removeId (fsAt (now (arena .entry)) (now (mem .entry))) i id k) (removeNode (fsAt (now (arena .entry)) (now (mem .exit))) (r .row) (r .node) (r .place)) (Whole (now (mem .exit)) × ((r .row < 34) × (r .node < 34))) (r .reason) ⌝ }
+{
+    let o = get_node(arena, first, next, mem, id);
+    if o.reason != 0 {
+        return Picked {
+            reason: o.reason,
+            row: 0,
+            node: 0,
+            place: 0,
+        };
+    }
+    let r = not_full(rec_at(&mem[..], o.row));
+    if r != 0 {
+        return Picked {
+            reason: r,
+            row: 0,
+            node: 0,
+            place: 0,
+        };
+    }
+    Picked {
+        reason: 0,
+        row: i,
+        node: o.row,
+        place: k,
+    }
+}
+
+fn pick_name(
+    arena: &[u8],
+    first: &[u16],
+    next: &[u16],
+    mem: &mut [u8],
+    i: usize,
+    name: &[u8],
+) -> Picked
+    requires { ⌜ Led (now arena) (now first) (now next) ⌝ }
+    requires { ⌜ Whole (now mem) × (i < 34) ⌝ }
+    ensures { λ r. ⌜ Rest (removeName (fsAt (now (arena .entry)) (now (mem .entry))) i (now (name .entry))) (removeNode (fsAt (now (arena .entry)) (now (mem .exit))) (r .row) (r .node) (r .place)) (Whole (now (mem .exit)) × ((r .row < 34) × (r .node < 34))) (r .reason) ⌝ }
+{
+    let mut slot = [0u8; 264];
+    let p = find_slot(arena, first, next, rec_at(&mem[..], i), name, &mut slot);
+    if p.reason != 0 {
+        return Picked {
+            reason: p.reason,
+            row: 0,
+            node: 0,
+            place: 0,
+        };
+    }
+    pick_id(arena, first, next, mem, i, u32_at(&slot, 0), p.place)
+}
+
+fn pick_in(
+    arena: &[u8],
+    first: &[u16],
+    next: &[u16],
+    mem: &mut [u8],
+    i: usize,
+    name: &[u8],
+) -> Picked
+    requires { ⌜ Led (now arena) (now first) (now next) ⌝ }
+    requires { ⌜ Whole (now mem) × (i < 34) ⌝ }
+    ensures { λ r. ⌜ Rest (unlinkIn (fsAt (now (arena .entry)) (now (mem .entry))) i (now (name .entry))) (removeNode (fsAt (now (arena .entry)) (now (mem .exit))) (r .row) (r .node) (r .place)) (Whole (now (mem .exit)) × ((r .row < 34) × (r .node < 34))) (r .reason) ⌝ }
+{
+    let r = unlink_ask(rec_at(&mem[..], i), name);
+    if r != 0 {
+        return Picked {
+            reason: r,
+            row: 0,
+            node: 0,
+            place: 0,
+        };
+    }
+    pick_name(arena, first, next, mem, i, name)
+}
+
+fn pick_led(arena: &[u8], chains: &mut [u16], mem: &mut [u8], h: Handle, name: &[u8]) -> Picked
+    requires { ⌜ Blank (now chains) × Whole (now mem) ⌝ }
+    ensures { λ r. ⌜ Rest (callUnlink (now (arena .entry)) (tableIn (now (mem .entry))) h (now (name .entry))) (ending (removeNode (fsAt (now (arena .entry)) (now (mem .exit))) (r .row) (r .node) (r .place))) ((legal (now (arena .entry)) ≡ true) × (Whole (now (mem .exit)) × ((r .row < 34) × (r .node < 34)))) (r .reason) ⌝ }
+{
+    let b = reach_read(arena, chains, mem, h);
+    if b.reason != 0 {
+        return Picked {
+            reason: b.reason,
+            row: 0,
+            node: 0,
+            place: 0,
+        };
+    }
+    let c = &chains[..];
+    pick_in(arena, &c[..4096], &c[4096..8192], mem, b.row, name)
+}
+
+// The frame of the chains is left before a workspace is made.
+fn pick(arena: &[u8], mem: &mut [u8], h: Handle, name: &[u8]) -> Picked
+    requires { ⌜ Whole (now mem) ⌝ }
+    ensures { λ r. ⌜ Rest (callUnlink (now (arena .entry)) (tableIn (now (mem .entry))) h (now (name .entry))) (ending (removeNode (fsAt (now (arena .entry)) (now (mem .exit))) (r .row) (r .node) (r .place))) ((legal (now (arena .entry)) ≡ true) × (Whole (now (mem .exit)) × ((r .row < 34) × (r .node < 34)))) (r .reason) ⌝ }
+{
+    let mut chains = [0u16; 8192];
+    pick_led(arena, &mut chains, mem, h, name)
+}
+
+// ---- the steps
+
 fn remove_node(arena: &[u8], work: &mut [u8], mem: &mut [u8], i: usize, c: usize, k: usize) -> u8
     requires { ⌜ Ready (now arena) (now work) (now mem) × ((21 ≤ left (now work)) × ((i < 34) × (c < 34))) ⌝ }
     ensures { λ r. ⌜ Stepped (removeNode (fsOf (now (arena .entry)) (now (work .entry)) (now (mem .entry))) i c k) (now (arena .entry)) (now (work .entry)) (now (work .exit)) (now (mem .exit)) 21 r ⌝ }
@@ -86,52 +212,12 @@ fn remove_node(arena: &[u8], work: &mut [u8], mem: &mut [u8], i: usize, c: usize
     sync_row(arena, work, mem, i)
 }
 
-// Slot k of folder i names the node `id`.
-fn remove_id(arena: &[u8], work: &mut [u8], mem: &mut [u8], i: usize, id: u32, k: usize) -> u8
-    requires { ⌜ Ready (now arena) (now work) (now mem) × ((21 ≤ left (now work)) × (i < 34)) ⌝ }
-    ensures { λ r. ⌜ Stepped (removeId (fsOf (now (arena .entry)) (now (work .entry)) (now (mem .entry))) i id k) (now (arena .entry)) (now (work .entry)) (now (work .exit)) (now (mem .exit)) 21 r ⌝ }
+// The workspace has no block yet.
+fn remove_in(arena: &mut [u8], work: &mut [u8], mem: &mut [u8], i: usize, c: usize, k: usize) -> u8
+    requires { ⌜ Empty (now arena) (now work) 31 × (Whole (now mem) × ((i < 34) × (c < 34))) ⌝ }
+    ensures { λ r. ⌜ Ended (ending (removeNode (fsAt (now (arena .entry)) (now (mem .entry))) i c k)) (now (arena .entry)) (now (arena .exit)) (tableIn (now (mem .exit))) r ⌝ }
 {
-    let o = get_node(arena, &work[..], mem, id);
-    if o.reason != 0 {
-        return o.reason;
-    }
-    let r = not_full(rec_at(&mem[..], o.row));
-    if r != 0 {
-        return r;
-    }
-    remove_node(arena, work, mem, i, o.row, k)
-}
-
-fn remove_name(arena: &[u8], work: &mut [u8], mem: &mut [u8], i: usize, name: &[u8]) -> u8
-    requires { ⌜ Ready (now arena) (now work) (now mem) × ((21 ≤ left (now work)) × (i < 34)) ⌝ }
-    ensures { λ r. ⌜ Stepped (removeName (fsOf (now (arena .entry)) (now (work .entry)) (now (mem .entry))) i (now (name .entry))) (now (arena .entry)) (now (work .entry)) (now (work .exit)) (now (mem .exit)) 21 r ⌝ }
-{
-    let mut slot = [0u8; 264];
-    let p = find_slot(arena, &work[..], rec_at(&mem[..], i), name, &mut slot);
-    if p.reason != 0 {
-        return p.reason;
-    }
-    remove_id(arena, work, mem, i, u32_at(&slot, 0), p.place)
-}
-
-fn unlink_steps(arena: &[u8], work: &mut [u8], mem: &mut [u8], i: usize, name: &[u8]) -> u8
-    requires { ⌜ Ready (now arena) (now work) (now mem) × ((21 ≤ left (now work)) × (i < 34)) ⌝ }
-    ensures { λ r. ⌜ Stepped (unlinkIn (fsOf (now (arena .entry)) (now (work .entry)) (now (mem .entry))) i (now (name .entry))) (now (arena .entry)) (now (work .entry)) (now (work .exit)) (now (mem .exit)) 21 r ⌝ }
-{
-    let r = unlink_ask(rec_at(&mem[..], i), name);
-    if r != 0 {
-        return r;
-    }
-    remove_name(arena, work, mem, i, name)
-}
-
-// The workspace has no block yet, and memory has the table.
-fn unlink_in(arena: &mut [u8], work: &mut [u8], mem: &mut [u8], i: usize, name: &[u8]) -> u8
-    requires { ⌜ Empty (now arena) (now work) 31 × ((length (now mem) ≡ 4899) × (i < 34)) ⌝ }
-    ensures { λ r. ⌜ Ended (ending (unlinkIn (start (now (arena .entry)) (tableIn (now (mem .entry)))) i (now (name .entry)))) (now (arena .entry)) (now (arena .exit)) (tableIn (now (mem .exit))) r ⌝ }
-{
-    load_meta(&arena[..], &work[..], mem);
-    let n = unlink_steps(&arena[..], work, mem, i, name);
+    let n = remove_node(&arena[..], work, mem, i, c, k);
     if n != 0 {
         return n;
     }
@@ -140,13 +226,13 @@ fn unlink_in(arena: &mut [u8], work: &mut [u8], mem: &mut [u8], i: usize, name: 
 }
 
 // The workspace is made.
-fn unlink_row(arena: &mut [u8], mem: &mut [u8], i: usize, name: &[u8]) -> u8
-    requires { ⌜ (legal (now arena) ≡ true) × ((length (now mem) ≡ 4899) × (i < 34)) ⌝ }
-    ensures { λ r. ⌜ Ended (ending (unlinkIn (start (now (arena .entry)) (tableIn (now (mem .entry)))) i (now (name .entry)))) (now (arena .entry)) (now (arena .exit)) (tableIn (now (mem .exit))) r ⌝ }
+fn remove(arena: &mut [u8], mem: &mut [u8], i: usize, c: usize, k: usize) -> u8
+    requires { ⌜ (legal (now arena) ≡ true) × (Whole (now mem) × ((i < 34) × (c < 34))) ⌝ }
+    ensures { λ r. ⌜ Ended (ending (removeNode (fsAt (now (arena .entry)) (now (mem .entry))) i c k)) (now (arena .entry)) (now (arena .exit)) (tableIn (now (mem .exit))) r ⌝ }
 {
     let mut work = [0u8; 15872];
     overlay::begin(&mut work);
-    unlink_in(arena, &mut work, mem, i, name)
+    remove_in(arena, &mut work, mem, i, c, k)
 }
 
 // The call on the table in memory.
@@ -154,11 +240,11 @@ fn unlink_on(arena: &mut [u8], mem: &mut [u8], h: Handle, name: &[u8]) -> u8
     requires { ⌜ Whole (now mem) ⌝ }
     ensures { λ r. ⌜ Ended (callUnlink (now (arena .entry)) (tableIn (now (mem .entry))) h (now (name .entry))) (now (arena .entry)) (now (arena .exit)) (tableIn (now (mem .exit))) r ⌝ }
 {
-    let b = reach(&arena[..], &mem[..], h);
-    if b.reason != 0 {
-        return b.reason;
+    let p = pick(&arena[..], mem, h, name);
+    if p.reason != 0 {
+        return p.reason;
     }
-    unlink_row(arena, mem, b.row, name)
+    remove(arena, mem, p.row, p.node, p.place)
 }
 
 pub fn unlink(arena: &mut [u8], t: Table, h: Handle, name: &[u8]) -> After

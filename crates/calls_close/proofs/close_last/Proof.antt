@@ -15,8 +15,7 @@ slice-aggregate-drop-in : tie.Need-slice-aggregate-drop-in
 slice-aggregate-drop-in c = search needs
 
 drop-in-requires : tie.Need-drop-in-requires
-drop-in-requires c κs =
-    (started _ _ 23 (c .before .before .before .before .before .before .before .before .pre .0) (omega arith) (omega arith) (c .before .before .before .before .begin .ensures), c .before .before .before .before .before .before .before .before .pre .1)
+drop-in-requires c κs = (started _ _ 23 (c .before .before .before .before .before .before .before .before .pre .0) (omega arith) (omega arith) (c .before .before .before .before .begin .ensures), c .before .before .before .before .before .before .before .before .pre .1)
 
 same-length : tie.Need-same-length
 same-length c = search needs

@@ -1,5 +1,7 @@
--- `calls_close::close_row`: by whether the hold was its row's last.
+-- `calls_close::close_row`: whether it was the row's last hold.
+use mathlib.Core.Path.{refl}
 use Rattle.calls_steps.specs.Ends.{went}
+use Rattle.nodes.specs.Steps.{fsAt}
 use Rattle.calls_steps.proofs.Ends.{ended-is}
 use Rattle.calls_close.proofs.Closes.{steps-last, steps-kept}
 use borrow.Author.Needs.{needs}
@@ -17,11 +19,13 @@ same-length-2 c = search needs
 
 returns : tie.Need-returns
 returns c =
-    ended-is (steps-last _ _ _ (c .before .before .before .before .before .before .before .if1 .taken)) (c .before .before .before .before .close-last .ensures)
+    let s = c .before .before .before .before .before .before .before .before .before .before .args in
+    ended-is (steps-last (fsAt (s .arena .now) (s .mem .now)) (s .last) (s .i) (c .before .before .before .before .before .before .before .if1 .taken)) (c .before .before .before .before .close-last .ensures)
 
 returns-2 : tie.Need-returns-2
 returns-2 c =
-    went (steps-kept _ _ _ (c .if1 .left))
+    let s = c .before .before .before .args in
+    went (steps-kept (fsAt (s .arena .now) (s .mem .now)) (s .last) (s .i) (c .if1 .left))
 
 pub close-row-spec : {M : Type 1} → statement M
 close-row-spec =

@@ -1,14 +1,11 @@
--- `calls_close::drop_in`: the state is that of the call's start; what the step left is written where it was done.
+-- `calls_close::drop_in`: what the steps left is written where they were done.
 use mathlib.Core.Path.{refl}
 use Rattle.base.proofs.Outs.{went-has}
 use Rattle.sefs.specs.Nodes.{dropNode}
-use Rattle.calls_steps.proofs.Ends.{fs-start, ended-not, ended-done}
+use Rattle.calls_steps.proofs.Ends.{fs-begun, ended-not, ended-done}
 use borrow.Author.Needs.{needs}
 use Rattle.calls_close.proofs.drop_in.Statement.{statement}
 use Rattle.calls_close.proofs.drop_in.Tie as tie
-
-load-meta-requires : tie.Need-load-meta-requires
-load-meta-requires c κs = search needs
 
 drop-node-requires : tie.Need-drop-node-requires
 drop-node-requires c κs = search needs
@@ -24,15 +21,11 @@ same-length-3 c = search needs
 
 returns : tie.Need-returns
 returns c =
-    let d = c .before .before .before .before .before in
-    let l = d .before .before .before .before .before .before in
-    let s = l .before .before .before .before .before .before .before in
-    ended-not (λ x. dropNode x (s .args .i)) _ _ _ (fs-start _ _ _ _ 23 (s .pre .0) (l .load-meta .ensures .0) (l .load-meta .ensures .1 .0)) (d .drop-node .ensures) (c .if1 .taken) refl
+    let s = c .before .before .before .before .before .before .before .before .before .before .before .before in
+    ended-not (λ x. dropNode x (s .args .i)) _ _ _ (fs-begun _ _ _ 23 (s .pre .0)) (c .before .before .before .before .before .drop-node .ensures) (c .if1 .taken) refl
 
 commit-requires : tie.Need-commit-requires
-commit-requires c κs =
-    let d = c .before .before .before .before .before .before .before in
-    went-has (d .drop-node .ensures) (c .before .before .if1 .left) .fine
+commit-requires c κs = went-has (c .before .before .before .before .before .before .before .drop-node .ensures) (c .before .before .if1 .left) .fine
 
 same-length-4 : tie.Need-same-length-4
 same-length-4 c = search needs
@@ -45,16 +38,13 @@ same-length-6 c = search needs
 
 returns-2 : tie.Need-returns-2
 returns-2 c =
-    let d = c .before .before .before .before .before .before .before .before .before .before in
-    let l = d .before .before .before .before .before .before in
-    let s = l .before .before .before .before .before .before .before in
-    ended-done (λ x. dropNode x (s .args .i)) _ _ _ _ (fs-start _ _ _ _ 23 (s .pre .0) (l .load-meta .ensures .0) (l .load-meta .ensures .1 .0)) (d .drop-node .ensures) (c .before .before .before .before .before .if1 .left) (c .before .before .commit .ensures)
+    let s = c .before .before .before .before .before .before .before .before .before .before .before .before .before .before .before .before .before in
+    ended-done (λ x. dropNode x (s .args .i)) _ _ _ _ (fs-begun _ _ _ 23 (s .pre .0)) (c .before .before .before .before .before .before .before .before .before .before .drop-node .ensures) (c .before .before .before .before .before .if1 .left) (c .before .before .commit .ensures)
 
 pub drop-in-spec : {M : Type 1} → statement M
 drop-in-spec =
     tie.close
     (tie.spec
-    load-meta-requires
     drop-node-requires
     same-length
     same-length-2

@@ -16,8 +16,8 @@ slice-aggregate-create-in c = search needs
 
 create-in-requires : tie.Need-create-in-requires
 create-in-requires c κs =
-    let s = c .before .before .before .before .before .before .before .before .before in
-    (started _ _ 38 (s .pre .0) (omega arith) (omega arith) (c .before .before .before .before .begin .ensures), s .pre .1)
+    let p = c .before .before .before .before .before .before .before .before .before .pre in
+    (started _ _ 38 (p .legal) (omega arith) (omega arith) (c .before .before .before .before .begin .ensures), (p .whole, (p .folder, p .short)))
 
 same-length : tie.Need-same-length
 same-length c = search needs

@@ -1,18 +1,15 @@
--- `calls_create::create_in`: the state is that of the call's start; what the steps left is written where they were done.
+-- `calls_create::create_in`: what the steps left is written where they were done.
 use mathlib.Core.Path.{refl}
 use Rattle.base.proofs.Outs.{went-has}
-use Rattle.calls_steps.proofs.Ends.{fs-start}
-use Rattle.calls_create.specs.Create.{createWork}
+use Rattle.calls_create.specs.Create.{createMoves}
+use Rattle.calls_steps.proofs.Ends.{fs-begun}
 use Rattle.calls_create.proofs.Held.{opens-not, opens-done}
 use borrow.Author.Needs.{needs}
 use Rattle.calls_create.proofs.create_in.Statement.{statement}
 use Rattle.calls_create.proofs.create_in.Tie as tie
 
-load-meta-requires : tie.Need-load-meta-requires
-load-meta-requires c κs = search needs
-
-create-work-requires : tie.Need-create-work-requires
-create-work-requires c κs = search needs
+create-moves-requires : tie.Need-create-moves-requires
+create-moves-requires c κs = search needs
 
 same-length : tie.Need-same-length
 same-length c = search needs
@@ -25,13 +22,11 @@ same-length-3 c = search needs
 
 returns : tie.Need-returns
 returns c =
-    let s = c .before .before .before .before .before .before .before .before .before .before .before .before .before .before .before .before .before .before .before .before in
-    let l = c .before .before .before .before .before .before .before .before .before .before .before .before in
-    opens-not (λ x. createWork x (s .args .i) (s .args .name .now) (s .args .new .kind) (s .args .new .mode) (s .args .new .time) (s .args .new .file) (s .args .room)) _ _ _ _ (fs-start _ _ _ _ 38 (s .pre .0) (l .load-meta .ensures .0) (l .load-meta .ensures .1 .0)) (c .before .before .before .before .before .before .create-work .ensures) (c .if1 .taken) refl
+    let s = c .before .before .before .before .before .before .before .before .before .before .before .before .before .before in
+    opens-not (λ x. createMoves x (s .args .i) (s .args .name .now) (s .args .new .kind) (s .args .new .mode) (s .args .new .time) (s .args .new .file)) _ _ _ _ (fs-begun _ _ _ 38 (s .pre .0)) (c .before .before .before .before .before .before .create-moves .ensures) (c .if1 .taken) refl
 
 commit-requires : tie.Need-commit-requires
-commit-requires c κs =
-    went-has (c .before .before .before .before .before .before .before .before .create-work .ensures) (c .before .before .if1 .left) .0 .fine
+commit-requires c κs = went-has (c .before .before .before .before .before .before .before .before .create-moves .ensures) (c .before .before .if1 .left) .0 .fine
 
 same-length-4 : tie.Need-same-length-4
 same-length-4 c = search needs
@@ -44,16 +39,14 @@ same-length-6 c = search needs
 
 returns-2 : tie.Need-returns-2
 returns-2 c =
-    let s = c .before .before .before .before .before .before .before .before .before .before .before .before .before .before .before .before .before .before .before .before .before .before .before .before .before in
-    let l = c .before .before .before .before .before .before .before .before .before .before .before .before .before .before .before .before .before in
-    opens-done (λ x. createWork x (s .args .i) (s .args .name .now) (s .args .new .kind) (s .args .new .mode) (s .args .new .time) (s .args .new .file) (s .args .room)) _ _ _ _ _ (fs-start _ _ _ _ 38 (s .pre .0) (l .load-meta .ensures .0) (l .load-meta .ensures .1 .0)) (c .before .before .before .before .before .before .before .before .before .before .before .create-work .ensures) (c .before .before .before .before .before .if1 .left) (c .before .before .commit .ensures)
+    let s = c .before .before .before .before .before .before .before .before .before .before .before .before .before .before .before .before .before .before .before in
+    opens-done (λ x. createMoves x (s .args .i) (s .args .name .now) (s .args .new .kind) (s .args .new .mode) (s .args .new .time) (s .args .new .file)) _ _ _ _ _ (fs-begun _ _ _ 38 (s .pre .0)) (c .before .before .before .before .before .before .before .before .before .before .before .create-moves .ensures) (c .before .before .before .before .before .if1 .left) (c .before .before .commit .ensures)
 
 pub create-in-spec : {M : Type 1} → statement M
 create-in-spec =
     tie.close
     (tie.spec
-    load-meta-requires
-    create-work-requires
+    create-moves-requires
     same-length
     same-length-2
     same-length-3

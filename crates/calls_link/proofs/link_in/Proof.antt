@@ -1,17 +1,14 @@
--- `calls_link::link_in`: the state is that of the call's start; what the steps left is written where they were done.
+-- `calls_link::link_in`: what the steps left is written where they were done.
 use mathlib.Core.Path.{refl}
 use Rattle.base.proofs.Outs.{went-has}
-use Rattle.calls_link.specs.Link.{linkWork}
-use Rattle.calls_steps.proofs.Ends.{fs-start, ended-not, ended-done}
+use Rattle.calls_link.specs.Link.{linkMoves}
+use Rattle.calls_steps.proofs.Ends.{fs-begun, ended-not, ended-done}
 use borrow.Author.Needs.{needs}
 use Rattle.calls_link.proofs.link_in.Statement.{statement}
 use Rattle.calls_link.proofs.link_in.Tie as tie
 
-load-meta-requires : tie.Need-load-meta-requires
-load-meta-requires c κs = search needs
-
-link-work-requires : tie.Need-link-work-requires
-link-work-requires c κs = search needs
+link-moves-requires : tie.Need-link-moves-requires
+link-moves-requires c κs = search needs
 
 same-length : tie.Need-same-length
 same-length c = search needs
@@ -24,14 +21,11 @@ same-length-3 c = search needs
 
 returns : tie.Need-returns
 returns c =
-    let d = c .before .before .before .before .before in
-    let l = d .before .before .before .before .before .before in
-    let s = c .before .before .before .before .before .before .before .before .before .before .before .before .before .before .before .before .before .before .before in
-    ended-not (λ x. linkWork x (s .args .i) (s .args .name .now) (s .args .c)) _ _ _ (fs-start _ _ _ _ 19 (s .pre .0) (l .load-meta .ensures .0) (l .load-meta .ensures .1 .0)) (d .link-work .ensures) (c .if1 .taken) refl
+    let s = c .before .before .before .before .before .before .before .before .before .before .before .before .before in
+    ended-not (λ x. linkMoves x (s .args .i) (s .args .name .now) (s .args .c)) _ _ _ (fs-begun _ _ _ 19 (s .pre .0)) (c .before .before .before .before .before .link-moves .ensures) (c .if1 .taken) refl
 
 commit-requires : tie.Need-commit-requires
-commit-requires c κs =
-    went-has (c .before .before .before .before .before .before .before .link-work .ensures) (c .before .before .if1 .left) .fine
+commit-requires c κs = went-has (c .before .before .before .before .before .before .before .link-moves .ensures) (c .before .before .if1 .left) .fine
 
 same-length-4 : tie.Need-same-length-4
 same-length-4 c = search needs
@@ -44,17 +38,14 @@ same-length-6 c = search needs
 
 returns-2 : tie.Need-returns-2
 returns-2 c =
-    let d = c .before .before .before .before .before .before .before .before .before .before in
-    let l = d .before .before .before .before .before .before in
-    let s = c .before .before .before .before .before .before .before .before .before .before .before .before .before .before .before .before .before .before .before .before .before .before .before .before in
-    ended-done (λ x. linkWork x (s .args .i) (s .args .name .now) (s .args .c)) _ _ _ _ (fs-start _ _ _ _ 19 (s .pre .0) (l .load-meta .ensures .0) (l .load-meta .ensures .1 .0)) (d .link-work .ensures) (c .before .before .before .before .before .if1 .left) (c .before .before .commit .ensures)
+    let s = c .before .before .before .before .before .before .before .before .before .before .before .before .before .before .before .before .before .before in
+    ended-done (λ x. linkMoves x (s .args .i) (s .args .name .now) (s .args .c)) _ _ _ _ (fs-begun _ _ _ 19 (s .pre .0)) (c .before .before .before .before .before .before .before .before .before .before .link-moves .ensures) (c .before .before .before .before .before .if1 .left) (c .before .before .commit .ensures)
 
 pub link-in-spec : {M : Type 1} → statement M
 link-in-spec =
     tie.close
     (tie.spec
-    load-meta-requires
-    link-work-requires
+    link-moves-requires
     same-length
     same-length-2
     same-length-3

@@ -16,7 +16,8 @@ slice-aggregate-link-in c = search needs
 
 link-in-requires : tie.Need-link-in-requires
 link-in-requires c κs =
-    (started _ _ 19 (c .before .before .before .before .before .before .before .before .before .pre .0) (omega arith) (omega arith) (c .before .before .before .before .begin .ensures), c .before .before .before .before .before .before .before .before .before .pre .1)
+    let p = c .before .before .before .before .before .before .before .before .before .pre in
+    (started _ _ 19 (p .legal) (omega arith) (omega arith) (c .before .before .before .before .begin .ensures), (p .whole, (p .folder, (p .child, p .short))))
 
 same-length : tie.Need-same-length
 same-length c = search needs
