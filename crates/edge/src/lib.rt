@@ -36,6 +36,7 @@ use calls_open::root;
 use calls_sync::sync;
 use calls_unlink::unlink;
 use ends::end_after;
+use ends::end_fresh;
 use ends::end_given;
 use ends::end_moved;
 use ends::end_told;
@@ -63,7 +64,7 @@ pub extern "C" fn dz_format(
         return 255;
     }
     let a = format(arena, time(sec, nsec), file_of(file));
-    end_after(table, a)
+    end_fresh(table, a)
 }
 
 #[no_mangle]
@@ -74,7 +75,7 @@ pub extern "C" fn dz_open(arena: &[u8], table: &mut [u8]) -> u32
         return 255;
     }
     let a = open(arena);
-    end_after(table, a)
+    end_fresh(table, a)
 }
 
 #[no_mangle]
