@@ -134,7 +134,7 @@ uint32_t dz_format(uint8_t *arena, size_t arena_len, uint8_t *table, size_t tabl
  * Changes: table. Reasons: BadArena, Damaged, WrongFs; Stuck. */
 uint32_t dz_open(const uint8_t *arena, size_t arena_len, uint8_t *table, size_t table_len);
 
-/* Stores all records that were changed in the table only, the superblock and the maps.
+/* Stores the records that were changed in the table only, as set metadata does. (Superblock and maps are stored by the calls that change them.)
  * Changes: arena, table. Reasons: BadArena, Damaged, BadTable; NoDeviceSpace, Stuck. */
 uint32_t dz_sync(uint8_t *arena, size_t arena_len, uint8_t *table, size_t table_len);
 

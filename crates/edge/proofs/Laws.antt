@@ -32,11 +32,12 @@ use Rattle.calls.specs.declared.Listed.the-variants as listeds
 use Rattle.calls.specs.Answers.{answerOf, answerNumber, gotOf, gotNumber, heldTable, toldOf, toldNumber, listedOf, listedNumber, laid}
 use Rattle.calls_steps.specs.Ends.{Returned}
 use Rattle.calls_create.specs.Held.{ReturnedHeld}
+use Rattle.calls_create.specs.declared.New.{New}
 use Rattle.calls_list.specs.declared.Moved.{Moved}
 use Rattle.calls_list.specs.Place.{movedAs}
 use Rattle.fsck.specs.declared.Verdict.{Verdict}
 use Rattle.fsck.specs.declared.Verdict.the-variants.{Pass, Fail}
-use Rattle.edge.specs.Words.{timeOf, handleWords, metadataWords, counted}
+use Rattle.edge.specs.Words.{timeOf, newOf, handleWords, metadataWords, counted}
 use Rattle.edge.specs.Edge.{sized, lent, Leaves, Makes, Holds, Sets, Tells, Shows, Lists, Counts, isDone, tableBy, heldTableBy, heldWordsBy, toldWordsBy, movedWordsBy}
 
 -- ---- a slice of a fixed size
@@ -53,16 +54,15 @@ module _ {A : Type 0} (n : ℕ) (l : List ℕ) (o : Out A) where
 pub time-is : {t : Timespec} {sec nsec : ℤ} → SFits w64 sec → SFits w64 nsec → t ≡ timeOf (toZ w64 (ofZ w64 sec)) (toZ w64 (ofZ w64 nsec)) → t ≡ timeOf sec nsec
 time-is {sec = sec} {nsec = nsec} f g e = e ∙ (λ x. timeOf (toZ-ofZ w64 sec f x) (toZ-ofZ w64 nsec g x))
 
+-- what a node is to be, from its parts
+pub new-is : {n : New} {kind mode : ℕ} {t u : Timespec} {f g : List ℕ} → n ≡ newOf kind mode t f → t ≡ u → f ≡ g → n ≡ newOf kind mode u g
+new-is {kind = kind} {mode = mode} e p q = e ∙ (λ x. newOf kind mode (p x) (q x))
+
 -- ---- an answer, by its case
 
 module _ (l : List ℕ) (t : Table) where
-  pub after-done : (x : Answer) {u : List ℕ} → isDone x ≡ true → u ≡ tableBytes t → (0 ≡ answerNumber x) × (u ≡ tableBy l x t)
-  after-done answers.Done e q = (refl, q)
-  after-done (answers.Refused n) e q = absurd (let z : _≡_ {A = ℕ} 0 1 = cc in omega arith)
-
-  pub after-refused : (x : Answer) → isDone x ≡ false → l ≡ tableBy l x t
-  after-refused answers.Done e = absurd (let z : _≡_ {A = ℕ} 0 1 = cc in omega arith)
-  after-refused (answers.Refused n) e = refl
+  pub not-done : (x : Answer) → isDone x ≡ false → l ≡ tableBy l x t
+  not-done x e = rw e
 
   pub given-held : (w : List ℕ) {u v : List ℕ} {x : Got} {h : Handle} → x ≡ gots.Held h → u ≡ tableBytes t → v ≡ handleWords h → (0 ≡ gotNumber x) × ((u ≡ heldTableBy l x t) × (v ≡ heldWordsBy w x))
   given-held w e p q = (rw e, (p ∙ rw e, q ∙ rw e))

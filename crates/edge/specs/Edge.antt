@@ -6,6 +6,7 @@ use Prim.Native.Nat.{ℕ, _+_, _/_}
 use lib.ListN.{length, getD}
 use lib.Dec.{eqb}
 use Rattle.base.specs.Out.{Out, done, refused, guard, answer, kept}
+use Rattle.base.specs.Search.{pick}
 use Rattle.table.specs.declared.Table.{Table}
 use Rattle.table.specs.declared.Added.{Added}
 use Rattle.table_bytes.specs.Layout.{tableBytes}
@@ -88,8 +89,7 @@ isDone answers.Done = true
 isDone (answers.Refused n) = false
 
 abbrev pub tableBy : List ℕ → Answer → Table → List ℕ
-tableBy l answers.Done t = tableBytes t
-tableBy l (answers.Refused n) t = l
+tableBy l x t = pick (isDone x) (tableBytes t) l
 
 abbrev pub heldTableBy : List ℕ → Got → Table → List ℕ
 heldTableBy l (gots.Held h) t = tableBytes t

@@ -1,6 +1,7 @@
 // How an answer leaves: its number, and what it changes of the lent bytes and words, on success only.
 ghost use mathlib.Core.Path.{_≡_};
 ghost use lib.ListN.{length};
+ghost use Rattle.base.specs.Search.{pick};
 ghost use Rattle.table_bytes.specs.Layout.{tableBytes};
 ghost use Rattle.calls.specs.Answers.{answerNumber, gotNumber, toldNumber, listedNumber};
 ghost use Rattle.edge.specs.Words.{counted};
@@ -20,11 +21,15 @@ use fsck::Verdict;
 use table::Table;
 use table_bytes::write_table;
 
-// That a table has 4,370 bytes is known of a parameter alone, by its type.
-fn put_table(table: &mut [u8], t: Table)
+// A refusal writes nothing. (As a branch of the callers this would cost them one more table of stack.) That a table has 4,370 bytes is
+// known of a parameter alone, by its type.
+fn put_table(table: &mut [u8], t: Table, done: bool)
     requires { ⌜ length (now table) ≡ 4370 ⌝ }
-    ensures { λ _. ⌜ now (table .exit) ≡ tableBytes t ⌝ }
+    ensures { λ _. ⌜ now (table .exit) ≡ pick done (tableBytes t) (now (table .entry)) ⌝ }
 {
+    if !done {
+        return;
+    }
     write_table(table, t);
 }
 
@@ -52,11 +57,20 @@ pub fn end_after(table: &mut [u8], a: After) -> u32
 {
     let t = a.table;
     let r = a.answer;
+    put_table(table, t, is_done(r));
+    number(r)
+}
+
+// The same, for format and open: they are given no table, and so take less stack.
+pub fn end_fresh(table: &mut [u8], a: After) -> u32
+    requires { ⌜ length (now table) ≡ 4370 ⌝ }
+    ensures { λ r. ⌜ (r ≡ answerNumber (a .answer)) × (now (table .exit) ≡ tableBy (now (table .entry)) (a .answer) (a .table)) ⌝ }
+{
+    let r = a.answer;
     if !is_done(r) {
         return number(r);
     }
-    put_table(table, t);
-    0
+    end_after(table, a)
 }
 
 pub fn end_given(table: &mut [u8], out: &mut [u64], g: Given) -> u32
@@ -69,7 +83,7 @@ pub fn end_given(table: &mut [u8], out: &mut [u64], g: Given) -> u32
     let a = g.answer;
     match a {
         Got::Held(h) => {
-            put_table(table, t);
+            put_table(table, t, true);
             put_handle(out, h);
             0
         }

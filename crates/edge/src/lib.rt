@@ -36,6 +36,7 @@ use calls_open::open;
 use calls_sync::sync;
 use calls_unlink::unlink;
 use ends::end_after;
+use ends::end_fresh;
 use ends::end_given;
 use ends::end_moved;
 use ends::end_told;
@@ -43,6 +44,21 @@ use ends::end_verdict;
 use ends::number;
 use fsck::check;
 use table_bytes::read_table;
+
+// Bytes, words, and what a slice of another size is answered with, as in the header.
+const TABLE: usize = 4370;
+
+const FILE_NAME: usize = 16;
+
+const HANDLE_WORDS: usize = 2;
+
+const METADATA_WORDS: usize = 14;
+
+const COUNTS_WORDS: usize = 3;
+
+const NEXT_WORDS: usize = 1;
+
+const WRONG_SIZE: u32 = 255;
 
 // ---- the whole image
 
@@ -56,33 +72,33 @@ pub extern "C" fn dz_format(
 ) -> u32
     ensures { λ r. ⌜ Leaves (sized 4370 (now (table .entry)) (sized 16 (now (file .entry)) (formatted (callFormat (now (arena .entry)) (timeOf sec nsec) (now (file .entry)))))) (now (arena .entry)) (now (arena .exit)) (now (table .entry)) (now (table .exit)) r ⌝ }
 {
-    if table.len() != 4370 {
-        return 255;
+    if table.len() != TABLE {
+        return WRONG_SIZE;
     }
-    if file.len() != 16 {
-        return 255;
+    if file.len() != FILE_NAME {
+        return WRONG_SIZE;
     }
     let a = format(arena, time(sec, nsec), file_of(file));
-    end_after(table, a)
+    end_fresh(table, a)
 }
 
 #[no_mangle]
 pub extern "C" fn dz_open(arena: &[u8], table: &mut [u8]) -> u32
     ensures { λ r. ⌜ Sets (sized 4370 (now (table .entry)) (callOpen (now (arena .entry)))) (now (table .entry)) (now (table .exit)) r ⌝ }
 {
-    if table.len() != 4370 {
-        return 255;
+    if table.len() != TABLE {
+        return WRONG_SIZE;
     }
     let a = open(arena);
-    end_after(table, a)
+    end_fresh(table, a)
 }
 
 #[no_mangle]
 pub extern "C" fn dz_sync(arena: &mut [u8], table: &mut [u8]) -> u32
     ensures { λ r. ⌜ Leaves (sized 4370 (now (table .entry)) (callSync (now (arena .entry)) (tableOf (now (table .entry))))) (now (arena .entry)) (now (arena .exit)) (now (table .entry)) (now (table .exit)) r ⌝ }
 {
-    if table.len() != 4370 {
-        return 255;
+    if table.len() != TABLE {
+        return WRONG_SIZE;
     }
     let a = sync(arena, read_table(&table[..]));
     end_after(table, a)
@@ -93,11 +109,11 @@ pub extern "C" fn dz_sync(arena: &mut [u8], table: &mut [u8]) -> u32
 pub extern "C" fn dz_check(arena: &[u8], table: &[u8], out: &mut [u64]) -> u32
     ensures { λ r. ⌜ Counts (sized 4370 (now (table .entry)) (sized 3 (now (out .entry)) (counted (verdictOf (now (arena .entry)) (tableOf (now (table .entry))))))) (now (out .entry)) (now (out .exit)) r ⌝ }
 {
-    if table.len() != 4370 {
-        return 255;
+    if table.len() != TABLE {
+        return WRONG_SIZE;
     }
-    if out.len() != 3 {
-        return 255;
+    if out.len() != COUNTS_WORDS {
+        return WRONG_SIZE;
     }
     let v = check(arena, read_table(table));
     end_verdict(out, v)
@@ -109,11 +125,11 @@ pub extern "C" fn dz_check(arena: &[u8], table: &[u8], out: &mut [u64]) -> u32
 pub extern "C" fn dz_root(arena: &[u8], table: &mut [u8], out: &mut [u64]) -> u32
     ensures { λ r. ⌜ Holds (sized 4370 (now (table .entry)) (sized 2 (now (out .entry)) (callRoot (now (arena .entry)) (tableOf (now (table .entry)))))) (now (table .entry)) (now (table .exit)) (now (out .entry)) (now (out .exit)) r ⌝ }
 {
-    if table.len() != 4370 {
-        return 255;
+    if table.len() != TABLE {
+        return WRONG_SIZE;
     }
-    if out.len() != 2 {
-        return 255;
+    if out.len() != HANDLE_WORDS {
+        return WRONG_SIZE;
     }
     let g = root(arena, read_table(&table[..]));
     end_given(table, out, g)
@@ -130,11 +146,11 @@ pub extern "C" fn dz_find(
 ) -> u32
     ensures { λ r. ⌜ Holds (sized 4370 (now (table .entry)) (sized 2 (now (out .entry)) (callFind (now (arena .entry)) (tableOf (now (table .entry))) (handleOf hold stamp) (now (name .entry))))) (now (table .entry)) (now (table .exit)) (now (out .entry)) (now (out .exit)) r ⌝ }
 {
-    if table.len() != 4370 {
-        return 255;
+    if table.len() != TABLE {
+        return WRONG_SIZE;
     }
-    if out.len() != 2 {
-        return 255;
+    if out.len() != HANDLE_WORDS {
+        return WRONG_SIZE;
     }
     let g = find(arena, read_table(&table[..]), handle(hold, stamp), name);
     end_given(table, out, g)
@@ -144,8 +160,8 @@ pub extern "C" fn dz_find(
 pub extern "C" fn dz_close(arena: &mut [u8], table: &mut [u8], hold: u32, stamp: u64) -> u32
     ensures { λ r. ⌜ Leaves (sized 4370 (now (table .entry)) (callClose (now (arena .entry)) (tableOf (now (table .entry))) (handleOf hold stamp))) (now (arena .entry)) (now (arena .exit)) (now (table .entry)) (now (table .exit)) r ⌝ }
 {
-    if table.len() != 4370 {
-        return 255;
+    if table.len() != TABLE {
+        return WRONG_SIZE;
     }
     let a = close(arena, read_table(&table[..]), handle(hold, stamp));
     end_after(table, a)
@@ -169,14 +185,14 @@ pub extern "C" fn dz_create(
 ) -> u32
     ensures { λ r. ⌜ Makes (sized 4370 (now (table .entry)) (sized 16 (now (file .entry)) (sized 2 (now (out .entry)) (callCreate (now (arena .entry)) (tableOf (now (table .entry))) (handleOf hold stamp) (now (name .entry)) kind mode (timeOf sec nsec) (now (file .entry)))))) (now (arena .entry)) (now (arena .exit)) (now (table .entry)) (now (table .exit)) (now (out .entry)) (now (out .exit)) r ⌝ }
 {
-    if table.len() != 4370 {
-        return 255;
+    if table.len() != TABLE {
+        return WRONG_SIZE;
     }
-    if file.len() != 16 {
-        return 255;
+    if file.len() != FILE_NAME {
+        return WRONG_SIZE;
     }
-    if out.len() != 2 {
-        return 255;
+    if out.len() != HANDLE_WORDS {
+        return WRONG_SIZE;
     }
     let new = new_node(kind, mode, time(sec, nsec), file_of(file));
     let g = create(
@@ -201,8 +217,8 @@ pub extern "C" fn dz_link(
 ) -> u32
     ensures { λ r. ⌜ Leaves (sized 4370 (now (table .entry)) (callLink (now (arena .entry)) (tableOf (now (table .entry))) (handleOf hold stamp) (now (name .entry)) (handleOf «child_hold» «child_stamp»))) (now (arena .entry)) (now (arena .exit)) (now (table .entry)) (now (table .exit)) r ⌝ }
 {
-    if table.len() != 4370 {
-        return 255;
+    if table.len() != TABLE {
+        return WRONG_SIZE;
     }
     let child = handle(child_hold, child_stamp);
     let a = link(
@@ -225,8 +241,8 @@ pub extern "C" fn dz_unlink(
 ) -> u32
     ensures { λ r. ⌜ Leaves (sized 4370 (now (table .entry)) (callUnlink (now (arena .entry)) (tableOf (now (table .entry))) (handleOf hold stamp) (now (name .entry)))) (now (arena .entry)) (now (arena .exit)) (now (table .entry)) (now (table .exit)) r ⌝ }
 {
-    if table.len() != 4370 {
-        return 255;
+    if table.len() != TABLE {
+        return WRONG_SIZE;
     }
     let a = unlink(arena, read_table(&table[..]), handle(hold, stamp), name);
     end_after(table, a)
@@ -245,8 +261,8 @@ pub extern "C" fn dz_move(
 ) -> u32
     ensures { λ r. ⌜ Leaves (sized 4370 (now (table .entry)) (callMove (now (arena .entry)) (tableOf (now (table .entry))) (handleOf hold stamp) (now (old .entry)) (handleOf «to_hold» «to_stamp») (now (name .entry)))) (now (arena .entry)) (now (arena .exit)) (now (table .entry)) (now (table .exit)) r ⌝ }
 {
-    if table.len() != 4370 {
-        return 255;
+    if table.len() != TABLE {
+        return WRONG_SIZE;
     }
     let to = handle(to_hold, to_stamp);
     let a = move_(
@@ -272,11 +288,11 @@ pub extern "C" fn dz_metadata(
 ) -> u32
     ensures { λ r. ⌜ Tells (sized 4370 (now (table .entry)) (sized 14 (now (out .entry)) (callMetadata (now (arena .entry)) (tableOf (now (table .entry))) (handleOf hold stamp)))) (now (out .entry)) (now (out .exit)) r ⌝ }
 {
-    if table.len() != 4370 {
-        return 255;
+    if table.len() != TABLE {
+        return WRONG_SIZE;
     }
-    if out.len() != 14 {
-        return 255;
+    if out.len() != METADATA_WORDS {
+        return WRONG_SIZE;
     }
     let t = metadata(arena, read_table(table), handle(hold, stamp));
     end_told(out, t)
@@ -300,8 +316,8 @@ pub extern "C" fn dz_set_metadata(
 ) -> u32
     ensures { λ r. ⌜ Sets (sized 4370 (now (table .entry)) (callSet (now (arena .entry)) (tableOf (now (table .entry))) (handleOf hold stamp) mode uid gid (timeOf asec ansec) (timeOf msec mnsec) (timeOf csec cnsec))) (now (table .entry)) (now (table .exit)) r ⌝ }
 {
-    if table.len() != 4370 {
-        return 255;
+    if table.len() != TABLE {
+        return WRONG_SIZE;
     }
     let h = handle(hold, stamp);
     let atime = time(asec, ansec);
@@ -325,8 +341,8 @@ pub extern "C" fn dz_get_entry(
 ) -> u32
     ensures { λ r. ⌜ Shows (sized 4370 (now (table .entry)) (callEntry (now (arena .entry)) (tableOf (now (table .entry))) (handleOf hold stamp) slot (length (now (out .entry))))) (now (out .entry)) (now (out .exit)) r ⌝ }
 {
-    if table.len() != 4370 {
-        return 255;
+    if table.len() != TABLE {
+        return WRONG_SIZE;
     }
     let a = get_entry(arena, read_table(table), handle(hold, stamp), slot, out);
     number(a)
@@ -344,11 +360,11 @@ pub extern "C" fn dz_list(
 ) -> u32
     ensures { λ r. ⌜ Lists (sized 4370 (now (table .entry)) (sized 1 (now (next .entry)) (callListing (now (arena .entry)) (tableOf (now (table .entry))) (handleOf hold stamp) (getD (now (next .entry)) 0 0) (length (now (out .entry)))))) (now (out .entry)) (now (out .exit)) (now (next .entry)) (now (next .exit)) r ⌝ }
 {
-    if table.len() != 4370 {
-        return 255;
+    if table.len() != TABLE {
+        return WRONG_SIZE;
     }
-    if next.len() != 1 {
-        return 255;
+    if next.len() != NEXT_WORDS {
+        return WRONG_SIZE;
     }
     let from = next[0];
     let m = list_on(arena, read_table(table), handle(hold, stamp), from, out);

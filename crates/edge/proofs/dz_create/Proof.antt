@@ -1,8 +1,7 @@
 -- `edge::dz_create`: 255 where a size is wrong; else the call on what it is given, and how it ends.
 use mathlib.Core.Path.{sym, _∙_}
 use Rattle.sefs.specs.Create.{callCreate}
-use Rattle.edge.specs.Words.{newOf}
-use Rattle.edge.proofs.Laws.{sized-is, sized-not, time-is, makes-not, makes}
+use Rattle.edge.proofs.Laws.{sized-is, sized-not, time-is, new-is, makes-not, makes}
 use borrow.Author.Needs.{needs}
 use Rattle.edge.proofs.dz_create.Statement.{statement}
 use Rattle.edge.proofs.dz_create.Tie as tie
@@ -63,7 +62,7 @@ returns-4 c =
     let n = r .before .before .before in
     let i = n .before .before .before in
     let s = i .before .before .before .before .before .before .before .before in
-    let new = n .new-node .ensures ∙ (λ x. newOf (s .args .kind) (s .args .mode) (time-is (s .fits .sec) (s .fits .nsec) (n .before .before .time .ensures) x) (n .before .file-of .ensures x)) in
+    let new = new-is (n .new-node .ensures) (time-is (s .fits .sec) (s .fits .nsec) (n .before .before .time .ensures)) (n .before .file-of .ensures) in
     makes (sized-is 4370 (s .args .table .now) _ (i .before .before .if1 .left) ∙ sized-is 16 (s .args .file .now) _ (i .before .if2 .left) ∙ sized-is 2 (s .args .out .now) _ (i .if3 .left) ∙ (λ x. callCreate (s .args .arena .now) (sym (r .read-table .ensures) x) (sym (h .handle .ensures) x) (s .args .name .now) (sym new x .kind) (sym new x .mode) (sym new x .time) (sym new x .file))) (f .create .ensures) (e .end-given .ensures)
 
 pub dz-create-spec : {M : Type 1} → statement M

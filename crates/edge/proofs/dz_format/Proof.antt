@@ -26,8 +26,8 @@ file-of-requires c κs = search needs
 format-requires : tie.Need-format-requires
 format-requires c κs = search needs
 
-end-after-requires : tie.Need-end-after-requires
-end-after-requires c κs = search needs
+end-fresh-requires : tie.Need-end-fresh-requires
+end-fresh-requires c κs = search needs
 
 same-length : tie.Need-same-length
 same-length c = search needs
@@ -42,7 +42,7 @@ returns-3 c =
     let n = f .before in
     let i = n .before .before .before in
     let s = i .before .before .before .before .before in
-    leaves (sized-is 4370 (s .args .table .now) _ (i .before .if1 .left) ∙ sized-is 16 (s .args .file .now) _ (i .if2 .left) ∙ (λ x. formatted (callFormat (s .args .arena .now) (sym (time-is (s .fits .sec) (s .fits .nsec) (n .before .time .ensures)) x) (sym (n .file-of .ensures) x)))) (f .format .ensures) (e .end-after .ensures)
+    leaves (sized-is 4370 (s .args .table .now) _ (i .before .if1 .left) ∙ sized-is 16 (s .args .file .now) _ (i .if2 .left) ∙ (λ x. formatted (callFormat (s .args .arena .now) (sym (time-is (s .fits .sec) (s .fits .nsec) (n .before .time .ensures)) x) (sym (n .file-of .ensures) x)))) (f .format .ensures) (e .end-fresh .ensures)
 
 pub dz-format-spec : {M : Type 1} → statement M
 dz-format-spec =
@@ -53,7 +53,7 @@ dz-format-spec =
     time-requires
     file-of-requires
     format-requires
-    end-after-requires
+    end-fresh-requires
     same-length
     same-length-2
     returns-3)

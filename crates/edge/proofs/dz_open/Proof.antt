@@ -13,8 +13,8 @@ returns c =
 open-requires : tie.Need-open-requires
 open-requires c κs = search needs
 
-end-after-requires : tie.Need-end-after-requires
-end-after-requires c κs = search needs
+end-fresh-requires : tie.Need-end-fresh-requires
+end-fresh-requires c κs = search needs
 
 same-length : tie.Need-same-length
 same-length c = search needs
@@ -25,7 +25,7 @@ returns-2 c =
     let f = e .before .before in
     let i = f .before in
     let s = i .before .before .before in
-    sets emptyTable (sized-is 4370 (s .args .table .now) _ (i .if1 .left)) (f .open .ensures) (e .end-after .ensures)
+    sets emptyTable (sized-is 4370 (s .args .table .now) _ (i .if1 .left)) (f .open .ensures) (e .end-fresh .ensures)
 
 pub dz-open-spec : {M : Type 1} → statement M
-dz-open-spec = tie.close (tie.spec returns open-requires end-after-requires same-length returns-2)
+dz-open-spec = tie.close (tie.spec returns open-requires end-fresh-requires same-length returns-2)
