@@ -1,35 +1,40 @@
 -- From the questions to the steps: what the code's ways out show of a move.
-use mathlib.Core.Path.{_≡_, sym, _∙_, ap, subst}
+use mathlib.Core.Path.{_≡_, refl, sym, _∙_, ap, subst}
+use mathlib.Core.Bool.{true}
 use mathlib.Core.List.{List}
 use Prim.Native.Nat.{ℕ, _≤_, _<_}
+use native.Mathlib.Omega.{arith}
+use lib.ListN.{length}
 use borrow.Author.Tests.{eq-eqb, ne-eqb}
-use Rattle.base.specs.Out.{Out, done, bind, Went, well, ill}
+use Rattle.base.specs.Out.{Out, done, refused, bind, Went, well, ill}
 use Rattle.base.specs.Search.{foundBelow}
-use Rattle.base.proofs.Outs.{went-is, went-has, went-next, went-stop, went-weaken}
+use Rattle.base.proofs.Outs.{went-is, went-has, went-not, went-next, went-stop, went-weaken}
 use Rattle.base.proofs.Searches.{found-at, found-nothing}
 use Rattle.le.specs.Le.{leAt}
 use Rattle.structs.specs.declared.DiskINode.{DiskINode}
+use Rattle.structs.specs.declared.DiskEntry.{DiskEntry}
 use Rattle.structs.specs.Layout.{entryOf}
-use Rattle.overlay.specs.View.{view}
+use Rattle.arena.specs.Blocks.{legal}
 use Rattle.table.specs.Table.{rowAt}
+use Rattle.table.specs.declared.Handle.{Handle}
+use Rattle.sefs.specs.State.{Fs}
+use Rattle.sefs.specs.Ask.{admit, byHandle, start}
 use Rattle.sefs.specs.Nodes.{recAt, opened, getNode}
 use Rattle.sefs.specs.Slots.{slotAt, lookTo, lookup, findSlot}
-use Rattle.sefs.specs.Create.{After}
-use Rattle.sefs.specs.Move.{replace, moveTo}
+use Rattle.sefs.specs.Create.{After, after}
+use Rattle.sefs.specs.Move.{renamed, replace, moveTo, callMove}
 use Rattle.mem.specs.Mem.{tableIn, Whole}
-use Rattle.mem.specs.State.{fsOf, Stepped}
+use Rattle.mem.specs.State.{Stepped}
+use Rattle.nodes.specs.Steps.{fsAt}
 use Rattle.chains.proofs.Lookups.{lookup-is}
-use Rattle.calls_steps.proofs.Steps.{rec-of}
-use Rattle.calls_move.specs.declared.Course.{Course}
-use Rattle.calls_move.specs.declared.Course.the-variants.{Same, Refused}
+use Rattle.calls.specs.Asked.{reached, reachedTwo}
+use Rattle.calls_steps.specs.Ends.{Begun, Rest, on, off, ending}
+use Rattle.calls_steps.proofs.Ends.{begun-start, rest-off, rest-as}
 use Rattle.calls_move_steps.specs.declared.Gone.the-variants.{Free}
-use Rattle.calls_move_steps.specs.Steps.{moveNamed, moveOver}
-use Rattle.calls_move.specs.Parts.{Both, both, openTwo, knownTwo, replaceNode, replaceNamed, moveFound, moveAsks, moveWork}
-use Rattle.calls_move.specs.Courses.{courseOf, Decided, same}
-use Rattle.calls_move.proofs.Courses.{decided-next, decided-stop, decided-steps}
-use Rattle.calls_move_steps.proofs.Steps.{find-fs}
+use Rattle.calls_move_steps.specs.Steps.{moveSlot, moveNamed, moveOver}
 use Rattle.calls_move_steps.proofs.Moves.{steps-is}
-use Rattle.calls_move.proofs.Moves.{replace-is}
+use Rattle.calls_move.specs.Parts.{Both, both, openTwo, knownTwo, replaceNode, replaceNamed, moveFound, moveAsks, moveWork, planSteps, planned, Planned, Ready}
+use Rattle.calls_move.proofs.Moves.{replace-is, move-is}
 
 -- ---- both nodes opened
 
@@ -37,97 +42,144 @@ went-map : {A B : Type 0} {o : Out A} {v : A} {P : Type 0} {r : ℕ} (f : A → 
 went-map f (well e p) = well (rw e) p
 went-map f (ill l e) = ill l (rw e)
 
-module _ (a w m n : List ℕ) (new was d : ℕ) {r : ℕ} (g : Went (getNode (fsOf a w m) new) (opened (fsOf a w n) d) (Whole n × (d < 34)) r) where
-  pub two-stop : (v : Both) {Q : Type 0} → (r ≡ 0 → ⊥) → Went (openTwo (fsOf a w m) new was) v Q r
+module _ (a m n : List ℕ) (new was d : ℕ) {r : ℕ} (g : Went (getNode (fsAt a m) new) (opened (fsAt a n) d) (Whole n × (d < 34)) r) where
+  pub two-stop : (v : Both) {Q : Type 0} → (r ≡ 0 → ⊥) → Went (openTwo (fsAt a m) new was) v Q r
   unfolding openTwo
   two-stop v z = went-stop _ v z g
 
-  pub two-next : (q : List ℕ) (c : ℕ) {x : ℕ} → r ≡ 0 → Went (getNode (fsOf a w n) was) (opened (fsOf a w q) c) (Whole q × (c < 34)) x
-      → Went (openTwo (fsOf a w m) new was) (both (fsOf a w q) d c) (Whole q × ((d < 34) × (c < 34))) x
+  pub two-next : (q : List ℕ) (c : ℕ) {x : ℕ} → r ≡ 0 → Went (getNode (fsAt a n) was) (opened (fsAt a q) c) (Whole q × (c < 34)) x
+      → Went (openTwo (fsAt a m) new was) (both (fsAt a q) d c) (Whole q × ((d < 34) × (c < 34))) x
   unfolding openTwo
   two-next q c z h =
       went-next (λ d. bind (getNode (d .state) was) (λ c. done (both (c .state) (d .row) (c .row)))) (went-is g z)
       (went-weaken (λ k. (k .0, (went-has g z .1, k .1))) (went-map (λ c. both (c .state) d (c .row)) h))
 
+-- ---- the ways of a plan
+
+module _ (z s : Fs) (i j : ℕ) (old name : List ℕ) (e : DiskEntry) (k d c : ℕ) where
+  pub plan-same : (way : ℕ) → way ≡ 0 → planned z s way i j old name e k d c ≡ done (after z)
+  unfolding planned
+  plan-same way q = rw (eq-eqb way 0 q)
+
+  pub plan-goes : (way : ℕ) → (way ≡ 0 → ⊥) → planned z s way i j old name e k d c ≡ ending (planSteps s way i j old name e k d c)
+  unfolding planned
+  plan-goes way q = rw (ne-eqb way 0 q)
+
+  pub plan-free : (way : ℕ) → way ≡ 1 → planSteps s way i j old name e k d c ≡ moveSlot s i j k e Free
+  unfolding planSteps
+  plan-free way q = rw (eq-eqb way 1 q)
+
+  pub plan-onto : (way : ℕ) → (way ≡ 1 → ⊥) → planSteps s way i j old name e k d c ≡ moveOver s i j old name c d k
+  unfolding planSteps
+  plan-onto way q = rw (ne-eqb way 1 q)
+
+-- the moved slot takes fewer blocks than a node in another's place
+pub slot-more : {o : Out Fs} {a w u m : List ℕ} {r : ℕ} → Stepped o a w u m 45 r → Stepped o a w u m 58 r
+slot-more g = went-weaken (λ p. record { fine = p .fine; whole = p .whole; room = omega (arith, p .room) }) g
+
 -- ---- the new name exists
 
-module _ (a w m n : List ℕ) (i j : ℕ) (old name : List ℕ) (k new was d c : ℕ) {r : ℕ} {P : Type 0} (g : Went (openTwo (fsOf a w m) new was) (both (fsOf a w n) d c) P r) where
-  pub node-stop : (u q : List ℕ) → (r ≡ 0 → ⊥) → Decided (replaceNode (fsOf a w m) i j old name k new was) (fsOf a w m) a u q (Refused r)
+module _ (a m n : List ℕ) (i j : ℕ) (old name : List ℕ) (k new was d c : ℕ) {r : ℕ} {P : Type 0} (g : Went (openTwo (fsAt a m) new was) (both (fsAt a n) d c) P r) where
+  pub node-stop : {e : Out After} {Q : Type 0} → (r ≡ 0 → ⊥) → Rest (replaceNode (fsAt a m) i j old name k new was) e Q r
   unfolding replaceNode
-  node-stop u q z = decided-stop _ z g
+  node-stop z = rest-off z (rw (went-not g z))
 
-  module _ {p : ℕ} {Q : Type 0} (z : r ≡ 0) (x y : DiskINode) (e : x ≡ rowAt (tableIn n) c .rec) (f : y ≡ rowAt (tableIn n) d .rec) (h : Went (knownTwo x y) tt Q p) where
-    known-fs : Went (knownTwo (recAt (fsOf a w n) c) (recAt (fsOf a w n) d)) tt Q p
-    known-fs = rw (rec-of a w n c x e, rec-of a w n d y f) at h
+  module _ {p : ℕ} {R : Type 0} (z : r ≡ 0) (x y : DiskINode) (e : x ≡ rowAt (tableIn n) c .rec) (f : y ≡ rowAt (tableIn n) d .rec) (h : Went (knownTwo x y) tt R p) where
+    known-at : Went (knownTwo (rowAt (tableIn n) c .rec) (rowAt (tableIn n) d .rec)) tt R p
+    known-at = rw (e, f) at h
 
-    pub node-unknown : (u q : List ℕ) → (p ≡ 0 → ⊥) → Decided (replaceNode (fsOf a w m) i j old name k new was) (fsOf a w m) a u q (Refused p)
+    pub node-unknown : {e : Out After} {Q : Type 0} → (p ≡ 0 → ⊥) → Rest (replaceNode (fsAt a m) i j old name k new was) e Q p
     unfolding replaceNode
-    node-unknown u q o = decided-next _ (went-is g z) (decided-stop _ o known-fs)
+    node-unknown o = rest-off o (rw (went-is g z, went-not known-at o))
 
-    pub node-same : (u q : List ℕ) → p ≡ 0 → was ≡ new → Decided (replaceNode (fsOf a w m) i j old name k new was) (fsOf a w m) a u q Same
-    unfolding replaceNode
-    node-same u q o l = decided-next _ (went-is g z) (decided-next _ (went-is known-fs o) (same (rw (eq-eqb was new l))))
+    pub node-same : {Q : Type 0} (v : DiskEntry) → p ≡ 0 → was ≡ new → Q → Rest (replaceNode (fsAt a m) i j old name k new was) (planned (fsAt a m) (fsAt a n) 0 i j old name v k d c) Q 0
+    unfolding replaceNode planned
+    node-same v o l q = on (rw (went-is g z, went-is known-at o, eq-eqb was new l)) q
 
-    pub node-over : {u q : List ℕ} {v : ℕ} {t : Course} → p ≡ 0 → (was ≡ new → ⊥) → Stepped (moveOver (fsOf a w n) i j old name c d k) a w u q 58 v → t ≡ courseOf v
-        → Decided (replaceNode (fsOf a w m) i j old name k new was) (fsOf a w m) a u q t
-    unfolding replaceNode
-    node-over o l b q =
-        decided-next _ (went-is g z) (decided-next _ (went-is known-fs o) (rw (ne-eqb was new l) (decided-steps (fsOf a w m) b q)))
+    pub node-over : {Q : Type 0} (v : DiskEntry) → p ≡ 0 → (was ≡ new → ⊥) → Q → Rest (replaceNode (fsAt a m) i j old name k new was) (planned (fsAt a m) (fsAt a n) 2 i j old name v k d c) Q 0
+    unfolding replaceNode planned planSteps
+    node-over v o l q = on (rw (went-is g z, went-is known-at o, ne-eqb was new l)) q
 
--- the old name is found first
-module _ (a w m : List ℕ) (i j : ℕ) (old name l : List ℕ) (k p new r : ℕ) {P : Type 0} (x : DiskINode) (e : x ≡ rowAt (tableIn m) i .rec) (g : Went (findSlot (view a w) x old) (record { place = p; entry = entryOf l }) P r) where
-  pub named-stop : (u q : List ℕ) → (r ≡ 0 → ⊥) → Decided (replaceNamed (fsOf a w m) i j old name k new) (fsOf a w m) a u q (Refused r)
+-- ---- the old name is found
+
+module _ (a m : List ℕ) (i j : ℕ) (old name l : List ℕ) (p r : ℕ) {P : Type 0} (x : DiskINode) (e : x ≡ rowAt (tableIn m) i .rec) (g : Went (findSlot a x old) (record { place = p; entry = entryOf l }) P r) where
+  old-at : Went (findSlot a (rowAt (tableIn m) i .rec) old) (record { place = p; entry = entryOf l }) P r
+  old-at = rw e at g
+
+  pub named-stop : {e : Out After} {Q : Type 0} (k new : ℕ) → (r ≡ 0 → ⊥) → Rest (replaceNamed (fsAt a m) i j old name k new) e Q r
   unfolding replaceNamed
-  named-stop u q z = decided-stop _ z (find-fs a w m i old x e g)
+  named-stop k new z = rest-off z (rw (went-not old-at z))
 
-  pub named-next : {u q : List ℕ} {c : Course} (was : ℕ) → was ≡ leAt l 0 4 → r ≡ 0 → Decided (replaceNode (fsOf a w m) i j old name k new was) (fsOf a w m) a u q c → Decided (replaceNamed (fsOf a w m) i j old name k new) (fsOf a w m) a u q c
+  pub named-next : {e : Out After} {Q : Type 0} {q : ℕ} (k new was : ℕ) → was ≡ leAt l 0 4 → r ≡ 0 → Rest (replaceNode (fsAt a m) i j old name k new was) e Q q → Rest (replaceNamed (fsAt a m) i j old name k new) e Q q
   unfolding replaceNamed entryOf
-  named-next was d z h = decided-next (λ f. replaceNode (fsOf a w m) i j old name k new (f .entry .id)) (went-is (find-fs a w m i old x e g) z) (rw d at h)
+  named-next k new was d z h = rest-as (rw (went-is old-at z, d)) (λ p. p) h
+
+  -- and the new name is free
+  pub free-stop : {e : Out After} {Q : Type 0} → (r ≡ 0 → ⊥) → Rest (ending (moveNamed (fsAt a m) i j old name Free)) e Q r
+  unfolding moveNamed
+  free-stop z = rest-off z (rw (went-not old-at z))
+
+  pub free-next : {Q : Type 0} (v : DiskEntry) (d c : ℕ) → r ≡ 0 → v ≡ renamed (entryOf l) name → Q → Rest (ending (moveNamed (fsAt a m) i j old name Free)) (planned (fsAt a m) (fsAt a m) 1 i j old name v p d c) Q 0
+  unfolding moveNamed planned planSteps
+  free-next v d c z q h = on (rw (went-is old-at z, q)) h
 
 -- ---- the new name is looked for
 
-module _ (a w m : List ℕ) (i j : ℕ) (old name : List ℕ) {k r : ℕ} {P : Type 0} (x : DiskINode) (e : x ≡ rowAt (tableIn m) j .rec) (g : Went (lookTo (view a w) x name (x .blocks)) k P r) where
-  look-fs : Went (lookup (fsOf a w m .arena) (recAt (fsOf a w m) j) name) (foundBelow k (x .blocks)) P r
-  unfolding fsOf
-  look-fs = subst (λ (y : DiskINode). Went (lookup (view a w) y name) (foundBelow k (x .blocks)) P r) e (lookup-is (view a w) x name g)
+module _ (a m : List ℕ) (i j : ℕ) (old name : List ℕ) {k r : ℕ} {P : Type 0} (x : DiskINode) (e : x ≡ rowAt (tableIn m) j .rec) (g : Went (lookTo a x name (x .blocks)) k P r) where
+  look-at : Went (lookup a (rowAt (tableIn m) j .rec) name) (foundBelow k (x .blocks)) P r
+  look-at = subst (λ (y : DiskINode). Went (lookup a y name) (foundBelow k (x .blocks)) P r) e (lookup-is a x name g)
 
-  pub found-stop : (u q : List ℕ) → (r ≡ 0 → ⊥) → Decided (moveFound (fsOf a w m) i j old name) (fsOf a w m) a u q (Refused r)
+  pub found-stop : {e : Out After} {Q : Type 0} → (r ≡ 0 → ⊥) → Rest (moveFound (fsAt a m) i j old name) e Q r
   unfolding moveFound
-  found-stop u q z = decided-stop _ z look-fs
+  found-stop z = rest-off z (rw (went-not look-at z))
 
-  at-fs : (l : List ℕ) → slotAt (view a w) x k ≡ done (entryOf l) → slotAt (fsOf a w m .arena) (recAt (fsOf a w m) j) k ≡ done (entryOf l)
-  unfolding fsOf
-  at-fs l f = subst (λ (y : DiskINode). slotAt (view a w) y k ≡ done (entryOf l)) e f
-
-  there : {u q : List ℕ} {c : Course} (l : List ℕ) → slotAt (view a w) x k ≡ done (entryOf l) → Decided (replaceNamed (fsOf a w m) i j old name k (entryOf l .id)) (fsOf a w m) a u q c
-      → Decided (replace (fsOf a w m) i j old name k) (fsOf a w m) a u q c
-  there {u} {q} {c} l f h =
-      subst (λ (o : Out After). Decided o (fsOf a w m) a u q c) (sym (replace-is (fsOf a w m) i j old name k))
-      (decided-next (λ e. replaceNamed (fsOf a w m) i j old name k (e .id)) (at-fs l f) h)
-
-  pub found-there : {u q : List ℕ} {c : Course} (l : List ℕ) (new : ℕ) → r ≡ 0 → k < x .blocks → slotAt (view a w) x k ≡ done (entryOf l) → new ≡ leAt l 0 4
-      → Decided (replaceNamed (fsOf a w m) i j old name k new) (fsOf a w m) a u q c → Decided (moveFound (fsOf a w m) i j old name) (fsOf a w m) a u q c
+  pub found-there : {e : Out After} {Q : Type 0} {q : ℕ} (l : List ℕ) (new : ℕ) → r ≡ 0 → k < x .blocks → slotAt a x k ≡ done (entryOf l) → new ≡ leAt l 0 4
+      → Rest (replaceNamed (fsAt a m) i j old name k new) e Q q → Rest (moveFound (fsAt a m) i j old name) e Q q
   unfolding moveFound entryOf
   found-there l new z b f d h =
-      decided-next (moveTo (fsOf a w m) i j old name) (went-is look-fs z ∙ ap done (found-at k (x .blocks) b)) (there l f (rw d at h))
+      rest-as
+      (rw (went-is look-at z, found-at k (x .blocks) b) (replace-is (fsAt a m) i j old name k
+      ∙ rw (subst (λ (y : DiskINode). slotAt a y k ≡ done (entryOf l)) e f, d)))
+      (λ p. p) h
 
-  pub found-free : {u q : List ℕ} {c : Course} {v : ℕ} → r ≡ 0 → x .blocks ≤ k → Stepped (moveNamed (fsOf a w m) i j old name Free) a w u q 45 v → c ≡ courseOf v
-      → Decided (moveFound (fsOf a w m) i j old name) (fsOf a w m) a u q c
+  pub found-free : {e : Out After} {Q : Type 0} {q : ℕ} → r ≡ 0 → x .blocks ≤ k → Rest (ending (moveNamed (fsAt a m) i j old name Free)) e Q q → Rest (moveFound (fsAt a m) i j old name) e Q q
   unfolding moveFound
-  found-free {u} {q} {c} z b h t =
-      decided-next (moveTo (fsOf a w m) i j old name) (went-is look-fs z ∙ ap done (found-nothing k (x .blocks) b))
-      (subst (λ (o : Out After). Decided o (fsOf a w m) a u q c) (sym (steps-is (fsOf a w m) i j old name Free)) (decided-steps (fsOf a w m) h t))
+  found-free z b h = rest-as (rw (went-is look-at z, found-nothing k (x .blocks) b) (steps-is (fsAt a m) i j old name Free)) (λ p. p) h
 
 -- ---- the questions, then the rest
 
-module _ (a w m : List ℕ) (i j : ℕ) (old name : List ℕ) {r : ℕ} {P : Type 0} (x y : DiskINode) (e : x ≡ rowAt (tableIn m) i .rec) (f : y ≡ rowAt (tableIn m) j .rec) (g : Went (moveAsks x y old name) tt P r) where
-  asks-fs : Went (moveAsks (recAt (fsOf a w m) i) (recAt (fsOf a w m) j) old name) tt P r
-  asks-fs = rw (rec-of a w m i x e, rec-of a w m j y f) at g
+module _ (a m : List ℕ) (i j : ℕ) (old name : List ℕ) {r : ℕ} {P : Type 0} (x y : DiskINode) (e : x ≡ rowAt (tableIn m) i .rec) (f : y ≡ rowAt (tableIn m) j .rec) (g : Went (moveAsks x y old name) tt P r) where
+  asks-at : Went (moveAsks (rowAt (tableIn m) i .rec) (rowAt (tableIn m) j .rec) old name) tt P r
+  asks-at = rw (e, f) at g
 
-  pub work-stop : (u q : List ℕ) → (r ≡ 0 → ⊥) → Decided (moveWork (fsOf a w m) i j old name) (fsOf a w m) a u q (Refused r)
+  pub work-stop : {e : Out After} {Q : Type 0} → (r ≡ 0 → ⊥) → Rest (moveWork (fsAt a m) i j old name) e Q r
   unfolding moveWork
-  work-stop u q z = decided-stop _ z asks-fs
+  work-stop z = rest-off z (rw (went-not asks-at z))
 
-  pub work-next : {u q : List ℕ} {c : Course} → r ≡ 0 → Decided (moveFound (fsOf a w m) i j old name) (fsOf a w m) a u q c → Decided (moveWork (fsOf a w m) i j old name) (fsOf a w m) a u q c
+  pub work-next : {e : Out After} {Q : Type 0} {q : ℕ} → r ≡ 0 → Rest (moveFound (fsAt a m) i j old name) e Q q → Rest (moveWork (fsAt a m) i j old name) e (P × Q) q
   unfolding moveWork
-  work-next z h = decided-next _ (went-is asks-fs z) h
+  work-next z h = rest-as (rw (went-is asks-at z)) (λ p. (went-has asks-at z, p)) h
+
+-- the call, once its handles are known
+module _ (a first next m n : List ℕ) (h target : Handle) (old name : List ℕ) {i j r : ℕ} (g : Went (reachedTwo a (tableIn m) h target) (i, j) (Begun a first next m n × ((i < 34) × (j < 34))) r) where
+  move-two : callMove a (tableIn m) h old target name ≡ bind (reachedTwo a (tableIn m) h target) (λ p. moveWork (start a (tableIn m)) (p .0) (p .1) old name)
+  unfolding reachedTwo reached
+  move-two = move-is a (tableIn m) h old target name ∙ go (admit a (tableIn m)) (byHandle (tableIn m) h) (byHandle (tableIn m) target)
+    where
+      go : (o : Out Unit) (b d : Out ℕ) → bind o (λ _. bind b (λ i. bind d (λ j. moveWork (start a (tableIn m)) i j old name)))
+          ≡ bind {A = ℕ × ℕ} (bind {B = ℕ × ℕ} (bind o (λ _. b)) (λ i. bind {B = ℕ × ℕ} d (λ j. done (i, j)))) (λ p. moveWork (start a (tableIn m)) (p .0) (p .1) old name)
+      go (done u) (done i) (done c) = refl
+      go (done u) (done i) (refused k) = refl
+      go (done u) (refused k) d = refl
+      go (refused k) b d = refl
+
+  pub move-not : {e : Out After} {Q : Type 0} → (r ≡ 0 → ⊥) → Rest (callMove a (tableIn m) h old target name) e Q r
+  move-not z = rest-off z (move-two ∙ rw (went-not g z))
+
+  pub move-rows : {y slot : List ℕ} {way x w d c q : ℕ} (e : Fs → Out After) → r ≡ 0
+      → Rest (moveWork (fsAt a n) i j old name) (e (fsAt a n)) ((length name ≤ 255) × (Planned y way x w d c × (length slot ≡ 264))) q
+      → Rest (callMove a (tableIn m) h old target name) (e (start a (tableIn m))) (Ready a y name slot way x w d c) q
+  move-rows {y} {slot} {way} {x} {w} {d} {c} {q} e z f =
+      let b = went-has g z .0 in
+      subst (λ (t : Fs). Rest (callMove a (tableIn m) h old target name) (e t) (Ready a y name slot way x w d c) q) (begun-start b)
+      (rest-as (move-two ∙ rw (went-is g z, ← begun-start b)) (λ p. record { legal = b .led .whole; plan = p .1 .0; short = p .0; long = p .1 .1 }) f)

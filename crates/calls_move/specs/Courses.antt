@@ -5,10 +5,7 @@ use Prim.Native.Nat.{ℕ, _<_}
 use lib.Dec.{eqb}
 use Rattle.base.specs.Out.{Out, done, refused}
 use Rattle.base.specs.Search.{pick}
-use Rattle.overlay.specs.View.{Fine}
-use Rattle.sefs.specs.State.{Fs}
-use Rattle.sefs.specs.Create.{After, after}
-use Rattle.mem.specs.State.{fsOf}
+use Rattle.sefs.specs.Create.{After}
 use Rattle.table.specs.declared.Table.{Table}
 use Rattle.calls.specs.declared.After as answered
 use Rattle.calls.specs.Answers.{doneWith, refusedWith}
@@ -18,12 +15,6 @@ use Rattle.calls_move.specs.declared.Course.the-variants.{Made, Same, Re
 -- by the number that the steps answered
 unfoldable pub courseOf : ℕ → Course
 courseOf n = pick (eqb n 0) Made (Refused n)
-
--- a move from the state s, that its definition sends to o, comes to a course: the workspace is u and the memory is m
-pub data Decided (o : Out After) (s : Fs) (a u m : List ℕ) : Course → Type 0 where
-  made : o ≡ done (after (fsOf a u m)) → Fine a u → Decided o s a u m Made
-  same : o ≡ done (after s) → Decided o s a u m Same
-  turned : {r : ℕ} → 0 < r → o ≡ refused r → Decided o s a u m (Refused r)
 
 -- the move itself: the arena was a and is b, memory's table was t and is u
 pub data Moved (o : Out After) (t : Table) (a b : List ℕ) (u : Table) : Course → Type 0 where

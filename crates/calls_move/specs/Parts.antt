@@ -1,10 +1,16 @@
 -- Parts of the definition of move, as the code's functions have them.
+use mathlib.Core.Path.{_≡_}
+use mathlib.Core.Bool.{true}
 use mathlib.Core.List.{List}
-use Prim.Native.Nat.{ℕ}
+use Prim.Native.Nat.{ℕ, _<_, _≤_}
+use lib.ListN.{length}
 use lib.Dec.{eqb}
 use Rattle.base.specs.Out.{Out, done, _>>=_}
 use Rattle.base.specs.Search.{pick}
 use Rattle.structs.specs.declared.DiskINode.{DiskINode}
+use Rattle.structs.specs.declared.DiskEntry.{DiskEntry}
+use Rattle.arena.specs.Blocks.{legal}
+use Rattle.table.specs.Table.{rowAt}
 use Rattle.sefs.specs.State.{Fs}
 use Rattle.sefs.specs.Nodes.{recAt, getNode}
 use Rattle.sefs.specs.Slots.{lookup, findSlot}
@@ -12,7 +18,9 @@ use Rattle.sefs.specs.Ask.{goodName, notLong, notSpecial, known, liveFolder}
 use Rattle.sefs.specs.Create.{After, after}
 use Rattle.sefs.specs.Move.{moveTo}
 use Rattle.calls_steps.specs.Ends.{ending}
-use Rattle.calls_move_steps.specs.Steps.{moveOver}
+use Rattle.mem.specs.Mem.{tableIn, Whole}
+use Rattle.calls_move_steps.specs.declared.Gone.the-variants.{Free}
+use Rattle.calls_move_steps.specs.Steps.{Typed, moveSlot, moveOver}
 
 -- ---- the new name exists
 
@@ -90,3 +98,29 @@ unfoldable pub moveWork : Fs → ℕ → ℕ → List ℕ → List ℕ → Out A
 moveWork s i j old name = do
   _ ← moveAsks (recAt s i) (recAt s j) old name
   moveFound s i j old name
+
+-- ---- a move that is decided but for its steps
+
+-- by its way: 1, the new name is free and e is the moved slot; else node c goes in the place of node d
+unfoldable pub planSteps : Fs → ℕ → ℕ → ℕ → List ℕ → List ℕ → DiskEntry → ℕ → ℕ → ℕ → Out Fs
+planSteps s way i j old name e k d c = pick (eqb way 1) (moveSlot s i j k e Free) (moveOver s i j old name c d k)
+
+-- 0: both names are one node's, and nothing changes; z is the state at the call's start
+unfoldable pub planned : Fs → Fs → ℕ → ℕ → ℕ → List ℕ → List ℕ → DiskEntry → ℕ → ℕ → ℕ → Out After
+planned z s way i j old name e k d c = pick (eqb way 0) (done (after z)) (ending (planSteps s way i j old name e k d c))
+
+-- what is known of it, with the memory m
+pub record Planned (m : List ℕ) (way i j d c : ℕ) : Type 0 where
+  pub whole : Whole m
+  pub source : i < 34
+  pub target : j < 34
+  pub gone : d < 34
+  pub moved : c < 34
+  pub typed : (way ≡ 1 → ⊥) → Typed (rowAt (tableIn m) c .rec) × Typed (rowAt (tableIn m) d .rec)
+
+-- and once nothing refused: the arena a, the new name, the moved slot
+pub record Ready (a m name slot : List ℕ) (way i j d c : ℕ) : Type 0 where
+  pub legal : legal a ≡ true
+  pub plan : Planned m way i j d c
+  pub short : length name ≤ 255
+  pub long : length slot ≡ 264

@@ -1,25 +1,28 @@
 // The call move: 5; the source 7, 8; 9, 10 for either name; the target 7, 8; where the new name exists 11, the same node, type rules; then the steps.
-// It decides on a view of the arena, and commits once nothing can refuse it any more.
+// It asks and reads by the chains of `sound`, decides its steps on a view of the arena, and commits once nothing can refuse it any more.
 ghost use mathlib.Core.Path.{_≡_};
-ghost use mathlib.Core.Bool.{true};
-ghost use Prim.Native.Nat.{_<_, _≤_};
+ghost use mathlib.Core.List.{List};
+ghost use Prim.Native.Nat.{ℕ, _<_, _≤_};
 ghost use lib.ListN.{length};
-ghost use Rattle.arena.specs.Blocks.{legal};
+ghost use Rattle.structs.specs.Layout.{entryOf};
+ghost use Rattle.structs.specs.declared.DiskEntry.{DiskEntry};
 ghost use Rattle.base.specs.Out.{Went};
 ghost use Rattle.overlay.specs.View.{left};
 ghost use Rattle.overlay.proofs.Views.{Ready as Empty};
 ghost use Rattle.sefs.specs.Ask.{start};
 ghost use Rattle.sefs.specs.Move.{callMove};
 ghost use Rattle.mem.specs.Mem.{tableIn, Whole};
-ghost use Rattle.mem.specs.State.{fsOf, Ready};
-ghost use Rattle.calls_steps.specs.Ends.{Returned};
-ghost use Rattle.calls_move_steps.specs.Steps.{Typed};
-ghost use Rattle.calls_move.specs.Parts.{both, openTwo, knownTwo, replaceNode, replaceNamed, moveFound, goodTwo, plainTwo, shortTwo, lateAsks, moveAsks, moveWork};
-ghost use Rattle.calls_move.specs.Courses.{courseOf, courseAs, Decided, Moved};
+ghost use Rattle.mem.specs.State.{fsOf, Stepped, Ready as Begins};
+ghost use Rattle.chains.specs.Led.{Led};
+ghost use Rattle.nodes.specs.Steps.{fsAt};
+ghost use Rattle.calls.specs.Asked.{Blank};
+ghost use Rattle.calls_steps.specs.Ends.{Rest, ending, Ended, Returned};
+ghost use Rattle.calls_move_steps.specs.declared.Gone.the-variants.{Free};
+ghost use Rattle.calls_move_steps.specs.Steps.{Typed, moveNamed};
+ghost use Rattle.calls_move.specs.Parts.{both, openTwo, knownTwo, replaceNode, replaceNamed, moveFound, goodTwo, plainTwo, shortTwo, lateAsks, moveAsks, moveWork, planSteps, planned, Planned, Ready};
+ghost use Rattle.calls_move.specs.Courses.{courseOf, courseAs, Moved};
 use base::index;
 use calls::After;
-use calls::admit_two;
-use calls::by_handle;
 use calls::done;
 use calls::good_name;
 use calls::known;
@@ -29,16 +32,16 @@ use calls::not_special;
 use calls::refused;
 use calls_move_steps::Gone;
 use calls_move_steps::move_onto;
-use calls_move_steps::move_steps;
-use folders::slots::find_slot;
-use folders::slots::lookup;
-use holds::well_formed;
+use calls_move_steps::move_slot;
+use calls_move_steps::rename;
+use calls_steps::reach_two_read;
+use chains::slots::find_slot;
+use chains::slots::lookup;
 use le::u32_at;
 use mem::put_table;
 use mem::rec_at;
 use mem::table_at;
-use nodes::get_node;
-use nodes::meta::load_meta;
+use nodes_read::get_node;
 use structs::DiskINode;
 use table::Handle;
 use table::Table;
@@ -59,7 +62,7 @@ fn as_course(reason: u8) -> Course
     Course::Refused(reason)
 }
 
-// ---- the new name exists: 11 for the old name, same node, then type rules
+// ---- before the first store: what is asked, and found by the chains of `sound`
 
 // The rows of the replaced and of the moved node, where the reason is 0.
 struct Pair {
@@ -68,11 +71,12 @@ struct Pair {
     moved: usize,
 }
 
-fn open_two<'a>(arena: &'a [u8], work: &'a [u8], mem: &mut [u8], new: u32, was: u32) -> Pair
-    requires { ⌜ Ready (now arena) (now work) (now mem) ⌝ }
-    ensures { λ r. ⌜ Went (openTwo (fsOf (now (arena .entry)) (now (work .entry)) (now (mem .entry))) new was) (both (fsOf (now (arena .entry)) (now (work .entry)) (now (mem .exit))) (r .gone) (r .moved)) (Whole (now (mem .exit)) × ((r .gone < 34) × (r .moved < 34))) (r .reason) ⌝ }
+fn open_two(arena: &[u8], first: &[u16], next: &[u16], mem: &mut [u8], new: u32, was: u32) -> Pair
+    requires { ⌜ Led (now arena) (now first) (now next) ⌝ }
+    requires { ⌜ Whole (now mem) ⌝ }
+    ensures { λ r. ⌜ Went (openTwo (fsAt (now (arena .entry)) (now (mem .entry))) new was) (both (fsAt (now (arena .entry)) (now (mem .exit))) (r .gone) (r .moved)) (Whole (now (mem .exit)) × ((r .gone < 34) × (r .moved < 34))) (r .reason) ⌝ }
 {
-    let d = get_node(arena, work, mem, new);
+    let d = get_node(arena, first, next, mem, new);
     if d.reason != 0 {
         return Pair {
             reason: d.reason,
@@ -80,7 +84,7 @@ fn open_two<'a>(arena: &'a [u8], work: &'a [u8], mem: &mut [u8], new: u32, was: 
             moved: 0,
         };
     }
-    let c = get_node(arena, work, mem, was);
+    let c = get_node(arena, first, next, mem, was);
     Pair {
         reason: c.reason,
         gone: d.row,
@@ -99,83 +103,186 @@ fn known_two(moved: DiskINode, gone: DiskINode) -> u8
     known(gone)
 }
 
+// A move that is decided but for its steps, where the reason is 0. Its way is 0: both names are one node's, and nothing changes; 1: the new name is
+// free, and the slot at `place` is moved; 2: the moved node goes in the place of the one that is gone, which slot `place` of the target names.
+struct Plan {
+    reason: u8,
+    way: u8,
+    row: usize,
+    other: usize,
+    place: usize,
+    gone: usize,
+    moved: usize,
+}
+
 // Slot k of the target names node `new`, and the old name is node `was`.
-fn replace_node(
+fn plan_node(
     arena: &[u8],
-    work: &mut [u8],
+    first: &[u16],
+    next: &[u16],
     mem: &mut [u8],
     i: usize,
     j: usize,
-    old: &[u8],
-    name: &[u8],
     k: usize,
     new: u32,
     was: u32,
-) -> Course
-    requires { ⌜ Ready (now arena) (now work) (now mem) × ((58 ≤ left (now work)) × ((i < 34) × ((j < 34) × (length (now name) ≤ 255)))) ⌝ }
-    ensures { λ c. ⌜ Decided (replaceNode (fsOf (now (arena .entry)) (now (work .entry)) (now (mem .entry))) i j (now (old .entry)) (now (name .entry)) k new was) (fsOf (now (arena .entry)) (now (work .entry)) (now (mem .entry))) (now (arena .entry)) (now (work .exit)) (now (mem .exit)) c ⌝ }
+) -> Plan
+    requires { ⌜ Led (now arena) (now first) (now next) ⌝ }
+    requires { ⌜ Whole (now mem) × ((i < 34) × (j < 34)) ⌝ }
+    ensures { λ r. ⌜ ((old name : List ℕ) (e : DiskEntry) → Rest (replaceNode (fsAt (now (arena .entry)) (now (mem .entry))) i j old name k new was) (planned (fsAt (now (arena .entry)) (now (mem .entry))) (fsAt (now (arena .entry)) (now (mem .exit))) (r .way) (r .row) (r .other) old name e (r .place) (r .gone) (r .moved)) (Planned (now (mem .exit)) (r .way) (r .row) (r .other) (r .gone) (r .moved)) (r .reason)) ⌝ }
 {
-    let p = open_two(arena, &work[..], mem, new, was);
+    let p = open_two(arena, first, next, mem, new, was);
     if p.reason != 0 {
-        return Course::Refused(p.reason);
+        return Plan {
+            reason: p.reason,
+            way: 0,
+            row: 0,
+            other: 0,
+            place: 0,
+            gone: 0,
+            moved: 0,
+        };
     }
     let r = known_two(rec_at(&mem[..], p.moved), rec_at(&mem[..], p.gone));
     if r != 0 {
-        return Course::Refused(r);
+        return Plan {
+            reason: r,
+            way: 0,
+            row: 0,
+            other: 0,
+            place: 0,
+            gone: 0,
+            moved: 0,
+        };
     }
     if was == new {
-        return Course::Same;
+        return Plan {
+            reason: 0,
+            way: 0,
+            row: i,
+            other: j,
+            place: k,
+            gone: p.gone,
+            moved: p.moved,
+        };
     }
-    as_course(move_onto(arena, work, mem, i, j, old, name, p.moved, p.gone, k))
+    Plan {
+        reason: 0,
+        way: 2,
+        row: i,
+        other: j,
+        place: k,
+        gone: p.gone,
+        moved: p.moved,
+    }
 }
 
-fn replace(
+// The old name is found first.
+fn plan_named(
     arena: &[u8],
-    work: &mut [u8],
+    first: &[u16],
+    next: &[u16],
     mem: &mut [u8],
     i: usize,
     j: usize,
     old: &[u8],
-    name: &[u8],
     k: usize,
     new: u32,
-) -> Course
-    requires { ⌜ Ready (now arena) (now work) (now mem) × ((58 ≤ left (now work)) × ((i < 34) × ((j < 34) × (length (now name) ≤ 255)))) ⌝ }
-    ensures { λ c. ⌜ Decided (replaceNamed (fsOf (now (arena .entry)) (now (work .entry)) (now (mem .entry))) i j (now (old .entry)) (now (name .entry)) k new) (fsOf (now (arena .entry)) (now (work .entry)) (now (mem .entry))) (now (arena .entry)) (now (work .exit)) (now (mem .exit)) c ⌝ }
+) -> Plan
+    requires { ⌜ Led (now arena) (now first) (now next) ⌝ }
+    requires { ⌜ Whole (now mem) × ((i < 34) × (j < 34)) ⌝ }
+    ensures { λ r. ⌜ ((name : List ℕ) (e : DiskEntry) → Rest (replaceNamed (fsAt (now (arena .entry)) (now (mem .entry))) i j (now (old .entry)) name k new) (planned (fsAt (now (arena .entry)) (now (mem .entry))) (fsAt (now (arena .entry)) (now (mem .exit))) (r .way) (r .row) (r .other) (now (old .entry)) name e (r .place) (r .gone) (r .moved)) (Planned (now (mem .exit)) (r .way) (r .row) (r .other) (r .gone) (r .moved)) (r .reason)) ⌝ }
 {
     let mut slot = [0u8; 264];
-    let p = find_slot(arena, &work[..], rec_at(&mem[..], i), old, &mut slot);
+    let p = find_slot(arena, first, next, rec_at(&mem[..], i), old, &mut slot);
     if p.reason != 0 {
-        return Course::Refused(p.reason);
+        return Plan {
+            reason: p.reason,
+            way: 0,
+            row: 0,
+            other: 0,
+            place: 0,
+            gone: 0,
+            moved: 0,
+        };
     }
-    replace_node(arena, work, mem, i, j, old, name, k, new, u32_at(&slot, 0))
+    plan_node(arena, first, next, mem, i, j, k, new, u32_at(&slot, 0))
 }
 
-fn move_decide(
+// The new name is free: the moved slot, with its new name, goes to `slot`.
+fn plan_free(
     arena: &[u8],
-    work: &mut [u8],
-    mem: &mut [u8],
+    first: &[u16],
+    next: &[u16],
+    mem: &[u8],
+    slot: &mut [u8],
     i: usize,
     j: usize,
     old: &[u8],
     name: &[u8],
-) -> Course
-    requires { ⌜ Ready (now arena) (now work) (now mem) × ((58 ≤ left (now work)) × ((i < 34) × ((j < 34) × (length (now name) ≤ 255)))) ⌝ }
-    ensures { λ c. ⌜ Decided (moveFound (fsOf (now (arena .entry)) (now (work .entry)) (now (mem .entry))) i j (now (old .entry)) (now (name .entry))) (fsOf (now (arena .entry)) (now (work .entry)) (now (mem .entry))) (now (arena .entry)) (now (work .exit)) (now (mem .exit)) c ⌝ }
+) -> Plan
+    requires { ⌜ Led (now arena) (now first) (now next) ⌝ }
+    requires { ⌜ Whole (now mem) × ((i < 34) × ((j < 34) × ((length (now name) ≤ 255) × (length (now slot) ≡ 264)))) ⌝ }
+    ensures { λ r. ⌜ Rest (ending (moveNamed (fsAt (now (arena .entry)) (now (mem .entry))) i j (now (old .entry)) (now (name .entry)) Free)) (planned (fsAt (now (arena .entry)) (now (mem .entry))) (fsAt (now (arena .entry)) (now (mem .entry))) (r .way) (r .row) (r .other) (now (old .entry)) (now (name .entry)) (entryOf (now (slot .exit))) (r .place) (r .gone) (r .moved)) (Planned (now (mem .entry)) (r .way) (r .row) (r .other) (r .gone) (r .moved)) (r .reason) ⌝ }
 {
-    let rec = rec_at(&mem[..], j);
-    let mut slot = [0u8; 264];
-    let l = lookup(arena, &work[..], rec, name, &mut slot);
-    if l.reason != 0 {
-        return Course::Refused(l.reason);
+    let p = find_slot(arena, first, next, rec_at(mem, i), old, slot);
+    if p.reason != 0 {
+        return Plan {
+            reason: p.reason,
+            way: 0,
+            row: 0,
+            other: 0,
+            place: 0,
+            gone: 0,
+            moved: 0,
+        };
     }
-    if l.place < index(rec.blocks) {
-        return replace(arena, work, mem, i, j, old, name, l.place, u32_at(&slot, 0));
+    rename(slot, name);
+    Plan {
+        reason: 0,
+        way: 1,
+        row: i,
+        other: j,
+        place: p.place,
+        gone: 0,
+        moved: 0,
     }
-    as_course(move_steps(arena, work, mem, i, j, old, name, Gone::Free))
 }
 
-// ---- the order of reasons
+fn plan_found(
+    arena: &[u8],
+    first: &[u16],
+    next: &[u16],
+    mem: &mut [u8],
+    slot: &mut [u8],
+    i: usize,
+    j: usize,
+    old: &[u8],
+    name: &[u8],
+) -> Plan
+    requires { ⌜ Led (now arena) (now first) (now next) ⌝ }
+    requires { ⌜ Whole (now mem) × ((i < 34) × ((j < 34) × ((length (now name) ≤ 255) × (length (now slot) ≡ 264)))) ⌝ }
+    ensures { λ r. ⌜ Rest (moveFound (fsAt (now (arena .entry)) (now (mem .entry))) i j (now (old .entry)) (now (name .entry))) (planned (fsAt (now (arena .entry)) (now (mem .entry))) (fsAt (now (arena .entry)) (now (mem .exit))) (r .way) (r .row) (r .other) (now (old .entry)) (now (name .entry)) (entryOf (now (slot .exit))) (r .place) (r .gone) (r .moved)) (Planned (now (mem .exit)) (r .way) (r .row) (r .other) (r .gone) (r .moved)) (r .reason) ⌝ }
+{
+    let rec = rec_at(&mem[..], j);
+    let l = lookup(arena, first, next, rec, name, slot);
+    if l.reason != 0 {
+        return Plan {
+            reason: l.reason,
+            way: 0,
+            row: 0,
+            other: 0,
+            place: 0,
+            gone: 0,
+            moved: 0,
+        };
+    }
+    if l.place < index(rec.blocks) {
+        let new = u32_at(&slot[..], 0);
+        return plan_named(arena, first, next, mem, i, j, old, l.place, new);
+    }
+    plan_free(arena, first, next, &mem[..], slot, i, j, old, name)
+}
 
 fn good_names(old: &[u8], name: &[u8]) -> u8
     ensures { λ r. ⌜ Went (goodTwo (now (old .entry)) (now (name .entry))) tt Unit r ⌝ }
@@ -235,23 +342,123 @@ fn move_ask(source: DiskINode, target: DiskINode, old: &[u8], name: &[u8]) -> u8
     ask_late(target, old, name)
 }
 
-fn move_work(
+// The questions, and then what the names lead to.
+fn plan_work(
     arena: &[u8],
-    work: &mut [u8],
+    first: &[u16],
+    next: &[u16],
     mem: &mut [u8],
+    slot: &mut [u8],
     i: usize,
     j: usize,
     old: &[u8],
     name: &[u8],
-) -> Course
-    requires { ⌜ Ready (now arena) (now work) (now mem) × ((58 ≤ left (now work)) × ((i < 34) × (j < 34))) ⌝ }
-    ensures { λ c. ⌜ Decided (moveWork (fsOf (now (arena .entry)) (now (work .entry)) (now (mem .entry))) i j (now (old .entry)) (now (name .entry))) (fsOf (now (arena .entry)) (now (work .entry)) (now (mem .entry))) (now (arena .entry)) (now (work .exit)) (now (mem .exit)) c ⌝ }
+) -> Plan
+    requires { ⌜ Led (now arena) (now first) (now next) ⌝ }
+    requires { ⌜ Whole (now mem) × ((i < 34) × ((j < 34) × (length (now slot) ≡ 264))) ⌝ }
+    ensures { λ r. ⌜ Rest (moveWork (fsAt (now (arena .entry)) (now (mem .entry))) i j (now (old .entry)) (now (name .entry))) (planned (fsAt (now (arena .entry)) (now (mem .entry))) (fsAt (now (arena .entry)) (now (mem .exit))) (r .way) (r .row) (r .other) (now (old .entry)) (now (name .entry)) (entryOf (now (slot .exit))) (r .place) (r .gone) (r .moved)) ((length (now (name .entry)) ≤ 255) × (Planned (now (mem .exit)) (r .way) (r .row) (r .other) (r .gone) (r .moved) × (length (now (slot .exit)) ≡ 264))) (r .reason) ⌝ }
 {
     let r = move_ask(rec_at(&mem[..], i), rec_at(&mem[..], j), old, name);
     if r != 0 {
-        return Course::Refused(r);
+        return Plan {
+            reason: r,
+            way: 0,
+            row: 0,
+            other: 0,
+            place: 0,
+            gone: 0,
+            moved: 0,
+        };
     }
-    move_decide(arena, work, mem, i, j, old, name)
+    plan_found(arena, first, next, mem, slot, i, j, old, name)
+}
+
+fn plan_led(
+    arena: &[u8],
+    chains: &mut [u16],
+    mem: &mut [u8],
+    slot: &mut [u8],
+    h: Handle,
+    old: &[u8],
+    target: Handle,
+    name: &[u8],
+) -> Plan
+    requires { ⌜ Blank (now chains) × (Whole (now mem) × (length (now slot) ≡ 264)) ⌝ }
+    ensures { λ r. ⌜ Rest (callMove (now (arena .entry)) (tableIn (now (mem .entry))) h (now (old .entry)) target (now (name .entry))) (planned (start (now (arena .entry)) (tableIn (now (mem .entry)))) (fsAt (now (arena .entry)) (now (mem .exit))) (r .way) (r .row) (r .other) (now (old .entry)) (now (name .entry)) (entryOf (now (slot .exit))) (r .place) (r .gone) (r .moved)) (Ready (now (arena .entry)) (now (mem .exit)) (now (name .entry)) (now (slot .exit)) (r .way) (r .row) (r .other) (r .gone) (r .moved)) (r .reason) ⌝ }
+{
+    let b = reach_two_read(arena, chains, mem, h, target);
+    if b.reason != 0 {
+        return Plan {
+            reason: b.reason,
+            way: 0,
+            row: 0,
+            other: 0,
+            place: 0,
+            gone: 0,
+            moved: 0,
+        };
+    }
+    let c = &chains[..];
+    plan_work(
+        arena,
+        &c[..4096],
+        &c[4096..8192],
+        mem,
+        slot,
+        b.row,
+        b.other,
+        old,
+        name,
+    )
+}
+
+// The frame of the chains is left before a workspace is made.
+fn decide(
+    arena: &[u8],
+    mem: &mut [u8],
+    slot: &mut [u8],
+    h: Handle,
+    old: &[u8],
+    target: Handle,
+    name: &[u8],
+) -> Plan
+    requires { ⌜ Whole (now mem) × (length (now slot) ≡ 264) ⌝ }
+    ensures { λ r. ⌜ Rest (callMove (now (arena .entry)) (tableIn (now (mem .entry))) h (now (old .entry)) target (now (name .entry))) (planned (start (now (arena .entry)) (tableIn (now (mem .entry)))) (fsAt (now (arena .entry)) (now (mem .exit))) (r .way) (r .row) (r .other) (now (old .entry)) (now (name .entry)) (entryOf (now (slot .exit))) (r .place) (r .gone) (r .moved)) (Ready (now (arena .entry)) (now (mem .exit)) (now (name .entry)) (now (slot .exit)) (r .way) (r .row) (r .other) (r .gone) (r .moved)) (r .reason) ⌝ }
+{
+    let mut chains = [0u16; 8192];
+    plan_led(arena, &mut chains, mem, slot, h, old, target, name)
+}
+
+// ---- the steps
+
+fn move_planned(
+    arena: &[u8],
+    work: &mut [u8],
+    mem: &mut [u8],
+    slot: &[u8],
+    p: Plan,
+    old: &[u8],
+    name: &[u8],
+) -> u8
+    requires { ⌜ Begins (now arena) (now work) (now mem) × (58 ≤ left (now work)) ⌝ }
+    requires { ⌜ Ready (now arena) (now mem) (now name) (now slot) (p .way) (p .row) (p .other) (p .gone) (p .moved) ⌝ }
+    ensures { λ r. ⌜ Stepped (planSteps (fsOf (now (arena .entry)) (now (work .entry)) (now (mem .entry))) (p .way) (p .row) (p .other) (now (old .entry)) (now (name .entry)) (entryOf (now (slot .entry))) (p .place) (p .gone) (p .moved)) (now (arena .entry)) (now (work .entry)) (now (work .exit)) (now (mem .exit)) 58 r ⌝ }
+{
+    if p.way == 1 {
+        return move_slot(arena, work, mem, p.row, p.other, p.place, slot, Gone::Free);
+    }
+    move_onto(
+        arena,
+        work,
+        mem,
+        p.row,
+        p.other,
+        old,
+        name,
+        p.moved,
+        p.gone,
+        p.place,
+    )
 }
 
 // The workspace has no block yet.
@@ -259,41 +466,53 @@ fn move_in(
     arena: &mut [u8],
     work: &mut [u8],
     mem: &mut [u8],
-    i: usize,
-    j: usize,
+    slot: &[u8],
+    p: Plan,
     old: &[u8],
     name: &[u8],
-) -> Course
-    requires { ⌜ Empty (now arena) (now work) 68 × ((length (now mem) ≡ 4899) × ((i < 34) × (j < 34))) ⌝ }
-    ensures { λ c. ⌜ Moved (moveWork (start (now (arena .entry)) (tableIn (now (mem .entry)))) i j (now (old .entry)) (now (name .entry))) (tableIn (now (mem .entry))) (now (arena .entry)) (now (arena .exit)) (tableIn (now (mem .exit))) c ⌝ }
+) -> u8
+    requires { ⌜ Empty (now arena) (now work) 68 × Ready (now arena) (now mem) (now name) (now slot) (p .way) (p .row) (p .other) (p .gone) (p .moved) ⌝ }
+    ensures { λ r. ⌜ Ended (ending (planSteps (fsAt (now (arena .entry)) (now (mem .entry))) (p .way) (p .row) (p .other) (now (old .entry)) (now (name .entry)) (entryOf (now (slot .entry))) (p .place) (p .gone) (p .moved))) (now (arena .entry)) (now (arena .exit)) (tableIn (now (mem .exit))) r ⌝ }
 {
-    load_meta(&arena[..], &work[..], mem);
-    let c = move_work(&arena[..], work, mem, i, j, old, name);
-    match c {
-        Course::Made => {
-            overlay::commit(arena, &work[..]);
-            Course::Made
-        }
-        Course::Same => Course::Same,
-        Course::Refused(r) => Course::Refused(r),
+    let r = move_planned(&arena[..], work, mem, slot, p, old, name);
+    if r != 0 {
+        return r;
     }
+    overlay::commit(arena, &work[..]);
+    0
 }
 
 // The workspace is made.
-fn move_rows(
-    arena: &mut [u8],
-    mem: &mut [u8],
-    i: usize,
-    j: usize,
-    old: &[u8],
-    name: &[u8],
-) -> Course
-    requires { ⌜ (legal (now arena) ≡ true) × ((length (now mem) ≡ 4899) × ((i < 34) × (j < 34))) ⌝ }
-    ensures { λ c. ⌜ Moved (moveWork (start (now (arena .entry)) (tableIn (now (mem .entry)))) i j (now (old .entry)) (now (name .entry))) (tableIn (now (mem .entry))) (now (arena .entry)) (now (arena .exit)) (tableIn (now (mem .exit))) c ⌝ }
+fn move_rows(arena: &mut [u8], mem: &mut [u8], slot: &[u8], p: Plan, old: &[u8], name: &[u8]) -> u8
+    requires { ⌜ Ready (now arena) (now mem) (now name) (now slot) (p .way) (p .row) (p .other) (p .gone) (p .moved) ⌝ }
+    ensures { λ r. ⌜ Ended (ending (planSteps (fsAt (now (arena .entry)) (now (mem .entry))) (p .way) (p .row) (p .other) (now (old .entry)) (now (name .entry)) (entryOf (now (slot .entry))) (p .place) (p .gone) (p .moved))) (now (arena .entry)) (now (arena .exit)) (tableIn (now (mem .exit))) r ⌝ }
 {
     let mut work = [0u8; 34816];
     overlay::begin(&mut work);
-    move_in(arena, &mut work, mem, i, j, old, name)
+    move_in(arena, &mut work, mem, slot, p, old, name)
+}
+
+// With the place where the moved slot goes.
+fn move_with(
+    arena: &mut [u8],
+    mem: &mut [u8],
+    slot: &mut [u8],
+    h: Handle,
+    old: &[u8],
+    target: Handle,
+    name: &[u8],
+) -> Course
+    requires { ⌜ Whole (now mem) × (length (now slot) ≡ 264) ⌝ }
+    ensures { λ c. ⌜ Moved (callMove (now (arena .entry)) (tableIn (now (mem .entry))) h (now (old .entry)) target (now (name .entry))) (tableIn (now (mem .entry))) (now (arena .entry)) (now (arena .exit)) (tableIn (now (mem .exit))) c ⌝ }
+{
+    let p = decide(&arena[..], mem, slot, h, old, target, name);
+    if p.reason != 0 {
+        return Course::Refused(p.reason);
+    }
+    if p.way == 0 {
+        return Course::Same;
+    }
+    as_course(move_rows(arena, mem, &slot[..], p, old, name))
 }
 
 // The call on the table in memory.
@@ -308,13 +527,8 @@ fn move_on(
     requires { ⌜ Whole (now mem) ⌝ }
     ensures { λ c. ⌜ Moved (callMove (now (arena .entry)) (tableIn (now (mem .entry))) h (now (old .entry)) target (now (name .entry))) (tableIn (now (mem .entry))) (now (arena .entry)) (now (arena .exit)) (tableIn (now (mem .exit))) c ⌝ }
 {
-    let b = by_handle(&mem[..], h);
-    let c = by_handle(&mem[..], target);
-    let r = admit_two(&arena[..], well_formed(&mem[..]), b, c);
-    if r != 0 {
-        return Course::Refused(r);
-    }
-    move_rows(arena, mem, b.row, c.row, old, name)
+    let mut slot = [0u8; 264];
+    move_with(arena, mem, &mut slot, h, old, target, name)
 }
 
 // What the call answers: the table as memory has it where the node was moved, else the one that the call was given.

@@ -171,7 +171,7 @@ fn move_between(
     move_rest(arena, work, mem, i, j, u32_at(moved, 0), gone)
 }
 
-fn move_slot(
+pub fn move_slot(
     arena: &[u8],
     work: &mut [u8],
     mem: &mut [u8],
@@ -191,7 +191,7 @@ fn move_slot(
 }
 
 // The moved slot keeps the old slot's id and type.
-fn rename(slot: &mut [u8], name: &[u8])
+pub fn rename(slot: &mut [u8], name: &[u8])
     requires { ⌜ (length (now slot) ≡ 264) × ((length (now name) ≤ 255)) ⌝ }
     ensures { λ r. ⌜ entryOf (now (slot .exit)) ≡ renamed (entryOf (now (slot .entry))) (now (name .entry)) ⌝ }
 {

@@ -1,32 +1,18 @@
--- `calls_move::move_in`: the state is that of the call's start; by the course.
+-- `calls_move::move_in`: what the steps left is written where they were done.
 use mathlib.Core.Path.{refl}
-use Rattle.mem.specs.Mem.{tableIn}
-use Rattle.calls_steps.proofs.Ends.{fs-start}
-use Rattle.calls_move.specs.Parts.{moveWork}
-use Rattle.calls_move.proofs.Courses.{made-fine, moved-made, moved-same, moved-not}
+use native.Mathlib.Omega.{arith}
+use Rattle.base.proofs.Outs.{went-has}
+use Rattle.structs.specs.Layout.{entryOf}
+use Rattle.calls_move.specs.Parts.{planSteps}
+use Rattle.calls_steps.proofs.Ends.{fs-begun, ended-not, ended-done}
 use borrow.Author.Needs.{needs}
 use Rattle.calls_move.proofs.move_in.Statement.{statement}
 use Rattle.calls_move.proofs.move_in.Tie as tie
 
-load-meta-requires : tie.Need-load-meta-requires
-load-meta-requires c κs = search needs
-
-move-work-requires : tie.Need-move-work-requires
-move-work-requires c κs = search needs
-
-enum-told : tie.Need-enum-told
-enum-told c = search needs
-
-commit-requires : tie.Need-commit-requires
-commit-requires c κs =
-    let s = c .before .before .before .before .before .before .before .before .before .before .before .before .before .before .before .before .before .before .before .before .before .before .before in
-    made-fine (λ x. moveWork x (s .args .i) (s .args .j) (s .args .old .now) (s .args .name .now)) (c .before .before .before .before .before .before .before .before .move-work .ensures) (c .before .before .enum-told .given .1)
-
-enum-told-2 : tie.Need-enum-told-2
-enum-told-2 c = search needs
-
-enum-known-c : tie.Need-enum-known-c
-enum-known-c c = search needs
+move-planned-requires : tie.Need-move-planned-requires
+move-planned-requires c κs =
+    let p = c .before .before .before .before .before .before .before .before .before .pre in
+    ((record { fine = p .0 .fine; whole = p .1 .plan .whole }, omega (arith, p .0 .room)), p .1)
 
 same-length : tie.Need-same-length
 same-length c = search needs
@@ -39,8 +25,11 @@ same-length-3 c = search needs
 
 returns : tie.Need-returns
 returns c =
-    let s = c .before .before .before .before .before .before .before .before .before .before .before .before .before .before .before .before .before .before .before .before .before .before .before .before .before .before in
-    moved-made (tableIn (s .args .mem .now)) (λ x. moveWork x (s .args .i) (s .args .j) (s .args .old .now) (s .args .name .now)) (fs-start _ _ _ _ 68 (s .pre .0) (c .before .before .before .before .before .before .before .before .before .before .before .before .before .before .before .before .before .load-meta .ensures .0) (c .before .before .before .before .before .before .before .before .before .before .before .before .before .before .before .before .before .load-meta .ensures .1 .0)) (c .before .before .before .before .before .before .before .before .before .before .before .move-work .ensures) (c .before .before .before .before .before .enum-told .given .1) (c .before .before .commit .ensures)
+    let s = c .before .before .before .before .before .before .before .before .before .before .before .before .before .before .before in
+    ended-not (λ x. planSteps x (s .args .p .way) (s .args .p .row) (s .args .p .other) (s .args .old .now) (s .args .name .now) (entryOf (s .args .slot .now)) (s .args .p .place) (s .args .p .gone) (s .args .p .moved)) _ _ _ (fs-begun _ _ _ 68 (s .pre .0)) (c .before .before .before .before .before .move-planned .ensures) (c .if1 .taken) refl
+
+commit-requires : tie.Need-commit-requires
+commit-requires c κs = went-has (c .before .before .before .before .before .before .before .move-planned .ensures) (c .before .before .if1 .left) .fine
 
 same-length-4 : tie.Need-same-length-4
 same-length-4 c = search needs
@@ -53,42 +42,20 @@ same-length-6 c = search needs
 
 returns-2 : tie.Need-returns-2
 returns-2 c =
-    let s = c .before .before .before .before .before .before .before .before .before .before .before .before .before .before .before .before .before .before .before .before .before in
-    moved-same (tableIn (s .args .mem .now)) (λ x. moveWork x (s .args .i) (s .args .j) (s .args .old .now) (s .args .name .now)) (fs-start _ _ _ _ 68 (s .pre .0) (c .before .before .before .before .before .before .before .before .before .before .before .before .load-meta .ensures .0) (c .before .before .before .before .before .before .before .before .before .before .before .before .load-meta .ensures .1 .0)) (c .before .before .before .before .before .before .move-work .ensures) _ (c .enum-told2 .given .1) refl
-
-same-length-7 : tie.Need-same-length-7
-same-length-7 c = search needs
-
-same-length-8 : tie.Need-same-length-8
-same-length-8 c = search needs
-
-same-length-9 : tie.Need-same-length-9
-same-length-9 c = search needs
-
-returns-3 : tie.Need-returns-3
-returns-3 c =
-    let s = c .before .before .before .before .before .before .before .before .before .before .before .before .before .before .before .before .before .before .before .before .before .before in
-    moved-not (tableIn (s .args .mem .now)) (λ x. moveWork x (s .args .i) (s .args .j) (s .args .old .now) (s .args .name .now)) (fs-start _ _ _ _ 68 (s .pre .0) (c .before .before .before .before .before .before .before .before .before .before .before .before .before .load-meta .ensures .0) (c .before .before .before .before .before .before .before .before .before .before .before .before .before .load-meta .ensures .1 .0)) (c .before .before .before .before .before .before .before .move-work .ensures) _ _ (c .before .c .given .1) refl
+    let s = c .before .before .before .before .before .before .before .before .before .before .before .before .before .before .before .before .before .before .before .before in
+    ended-done (λ x. planSteps x (s .args .p .way) (s .args .p .row) (s .args .p .other) (s .args .old .now) (s .args .name .now) (entryOf (s .args .slot .now)) (s .args .p .place) (s .args .p .gone) (s .args .p .moved)) _ _ _ _ (fs-begun _ _ _ 68 (s .pre .0)) (c .before .before .before .before .before .before .before .before .before .before .move-planned .ensures) (c .before .before .before .before .before .if1 .left) (c .before .before .commit .ensures)
 
 pub move-in-spec : {M : Type 1} → statement M
 move-in-spec =
     tie.close
     (tie.spec
-    load-meta-requires
-    move-work-requires
-    enum-told
-    commit-requires
-    enum-told-2
-    enum-known-c
+    move-planned-requires
     same-length
     same-length-2
     same-length-3
     returns
+    commit-requires
     same-length-4
     same-length-5
     same-length-6
-    returns-2
-    same-length-7
-    same-length-8
-    same-length-9
-    returns-3)
+    returns-2)

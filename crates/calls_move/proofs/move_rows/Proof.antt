@@ -15,9 +15,7 @@ slice-aggregate-move-in : tie.Need-slice-aggregate-move-in
 slice-aggregate-move-in c = search needs
 
 move-in-requires : tie.Need-move-in-requires
-move-in-requires c κs =
-    let s = c .before .before .before .before .before .before .before .before .before .before in
-    (started _ _ 68 (s .pre .0) (omega arith) (omega arith) (c .before .before .before .before .begin .ensures), s .pre .1)
+move-in-requires c κs = (started _ _ 68 (c .before .before .before .before .before .before .before .before .before .before .before .pre .legal) (omega arith) (omega arith) (c .before .before .before .before .begin .ensures), c .before .before .before .before .before .before .before .before .before .before .before .pre)
 
 same-length : tie.Need-same-length
 same-length c = search needs
