@@ -1,17 +1,15 @@
 -- From what a call's function returns to what the C function leaves.
-use mathlib.Core.Path.{_≡_, refl, sym, _∙_, ap}
-use mathlib.Core.Bool.{Bool, true, false}
+use mathlib.Core.Path.{_≡_, _∙_}
+use mathlib.Core.Bool.{false}
 use mathlib.Core.List.{List, [], _∷_}
-use Prim.Native.Nat.{ℕ, _+_, _/_}
-use native.Mathlib.Omega.{arith}
+use Prim.Native.Nat.{ℕ}
 use lib.IntN.{ℤ}
 use lib.ListN.{length, getD}
-use lib.Dec.{eqb}
 use mir.Syntax.{w64}
 use mir.Val.{SFits, toZ, ofZ}
 use mir.ValLaws.{toZ-ofZ}
 use borrow.Author.Tests.{eq-eqb, ne-eqb}
-use Rattle.base.specs.Out.{Out, done, refused, guard, kept}
+use Rattle.base.specs.Out.{Out, done, refused, kept}
 use Rattle.structs.specs.declared.Timespec.{Timespec}
 use Rattle.table.specs.declared.Table.{Table}
 use Rattle.table.specs.declared.Handle.{Handle}
@@ -20,7 +18,6 @@ use Rattle.table_bytes.specs.Layout.{tableBytes}
 use Rattle.sefs.specs.declared.Metadata.{Metadata}
 use Rattle.sefs.specs.Create.{After, Given}
 use Rattle.calls.specs.declared.Answer.{Answer}
-use Rattle.calls.specs.declared.Answer.the-variants as answers
 use Rattle.calls.specs.declared.After as answered
 use Rattle.calls.specs.declared.Got.{Got}
 use Rattle.calls.specs.declared.Got.the-variants as gots
@@ -29,16 +26,16 @@ use Rattle.calls.specs.declared.Told.{Told}
 use Rattle.calls.specs.declared.Told.the-variants as tolds
 use Rattle.calls.specs.declared.Listed.{Listed}
 use Rattle.calls.specs.declared.Listed.the-variants as listeds
-use Rattle.calls.specs.Answers.{answerOf, answerNumber, gotOf, gotNumber, heldTable, toldOf, toldNumber, listedOf, listedNumber, laid}
+use Rattle.calls.specs.Answers.{answerOf, answerNumber, gotOf, gotNumber, heldTable, toldOf, toldNumber, listedNumber, laid}
 use Rattle.calls_steps.specs.Ends.{Returned}
 use Rattle.calls_create.specs.Held.{ReturnedHeld}
 use Rattle.calls_create.specs.declared.New.{New}
 use Rattle.calls_list.specs.declared.Moved.{Moved}
 use Rattle.calls_list.specs.Place.{movedAs}
 use Rattle.fsck.specs.declared.Verdict.{Verdict}
-use Rattle.fsck.specs.declared.Verdict.the-variants.{Pass, Fail}
+use Rattle.fsck.specs.declared.Verdict.the-variants.{Pass}
 use Rattle.edge.specs.Words.{timeOf, newOf, handleWords, metadataWords, counted}
-use Rattle.edge.specs.Edge.{sized, lent, Leaves, Makes, Holds, Sets, Tells, Shows, Lists, Counts, isDone, tableBy, heldTableBy, heldWordsBy, toldWordsBy, movedWordsBy}
+use Rattle.edge.specs.Edge.{sized, Leaves, Makes, Holds, Sets, Tells, Shows, Lists, Counts, isDone, tableBy, heldTableBy, heldWordsBy, toldWordsBy, movedWordsBy}
 
 -- ---- a slice of a fixed size
 
@@ -74,20 +71,11 @@ module _ (w : List ℕ) where
   pub told-tells : {v : List ℕ} {x : Told} {m : Metadata} → x ≡ tolds.Tells m → v ≡ metadataWords m → (0 ≡ toldNumber x) × (v ≡ toldWordsBy w x)
   told-tells e q = (rw e, q ∙ rw e)
 
-  pub told-refused : {x : Told} {n : ℕ} → x ≡ tolds.Refused n → (n ≡ toldNumber x) × (w ≡ toldWordsBy w x)
-  told-refused e = (rw e, rw e)
-
   pub moved-slots : {v : List ℕ} {x : Listed} {n next : ℕ} → x ≡ listeds.Slots n → v ≡ next ∷ [] → (0 ≡ listedNumber x) × (v ≡ movedWordsBy w x next)
   moved-slots e q = (rw e, q ∙ rw e)
 
-  pub moved-refused : {x : Listed} {n : ℕ} (next : ℕ) → x ≡ listeds.Refused n → (n ≡ listedNumber x) × (w ≡ movedWordsBy w x next)
-  moved-refused next e = (rw e, rw e)
-
   pub counts-pass : {v : List ℕ} {x : Verdict} {a b c : ℕ} → x ≡ Pass a b c → v ≡ a ∷ b ∷ c ∷ [] → Counts (counted x) w v 0
   counts-pass e q = record { number = rw e; words = q ∙ rw e }
-
-  pub counts-fail : {x : Verdict} {n : ℕ} → x ≡ Fail n → Counts (counted x) w w n
-  counts-fail e = record { number = rw e; words = rw e }
 
 -- ---- a refusal leaves all as it was: so does a slice of a wrong size
 

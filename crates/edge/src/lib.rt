@@ -4,7 +4,6 @@ mod args;
 mod ends;
 mod results;
 
-ghost use mathlib.Core.Path.{_≡_};
 ghost use lib.ListN.{length, getD};
 ghost use Rattle.table_bytes.specs.Layout.{tableOf};
 ghost use Rattle.sefs.specs.Close.{callSync, callClose};
