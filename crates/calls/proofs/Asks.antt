@@ -30,7 +30,7 @@ use Rattle.sound.proofs.Chains.{length-firsts, length-nexts}
 use Rattle.sefs.specs.Ask.{admitArena, admit, byHandle, orBadHandle, known, folder, notRemoved, liveFolder}
 use Rattle.sefs.specs.Read.{readable}
 use Rattle.chains.specs.Led.{Led}
-use Rattle.calls.specs.Asked.{admitIf, firstOf, reached, Reached, reachedTwo, Blank}
+use Rattle.calls.specs.Asked.{reached, reachedTwo, Blank}
 
 -- a refusal has a reason's number, and no reason's number is 0
 abbrev pub Asks : {A : Type 0} → Out A → Type 0
@@ -75,14 +75,6 @@ answer-next (refused n) f (said l) r e z = absurd (omega arith)
 
 -- ---- the questions
 
-pub asks-arena : (a : List ℕ) → Asks (admitArena a)
-unfolding admitArena
-asks-arena a = asks-then (asks-ensure (legal a) 1 (omega arith)) (λ _. asks-ensure (sound a) 2 (omega arith))
-
-pub asks-admitIf : (a : List ℕ) (formed : Bool) → Asks (admitIf a formed)
-unfolding admitIf
-asks-admitIf a formed = asks-then (asks-arena a) (λ _. asks-ensure formed 3 (omega arith))
-
 pub asks-live : (r : DiskINode) → Asks (liveFolder r)
 unfolding liveFolder
 asks-live r =
@@ -119,29 +111,6 @@ module _ (r : DiskINode) where
   unfolding readable
   readable-next e = rw e
 
--- those of an arena and a table
-module _ (a : List ℕ) (formed : Bool) (n : ℕ) where
-  pub admit-stop : n ≡ answer (admitArena a) → (n ≡ 0 → ⊥) → n ≡ answer (admitIf a formed)
-  unfolding admitIf
-  admit-stop e z = answer-stop (admitArena a) (λ _. ensure formed 3) n e z
-
-  pub admit-next : n ≡ answer (admitArena a) → n ≡ 0 → answer (ensure formed 3) ≡ answer (admitIf a formed)
-  unfolding admitIf
-  admit-next e z = answer-next (admitArena a) (λ _. ensure formed 3) (asks-arena a) n e z
-
--- an arena that is admitted has a legal length
-pub admitted-legal : (a : List ℕ) (formed : Bool) (u : Unit) → admitIf a formed ≡ done u → legal a ≡ true
-unfolding admitIf admitArena
-admitted-legal a formed u e = go (legal a) refl
-  where
-    go : (b : Bool) → legal a ≡ b → b ≡ true
-    go true q = refl
-    go false q = absurd (let z : _≡_ {A = ℕ} 0 1 = cc in omega arith)
-
-pub admit-is : (a : List ℕ) (t : Table) → admit a t ≡ admitIf a (wellFormed t)
-unfolding admit admitIf
-admit-is a t = refl
-
 -- a name is bad by reason 5, or by none
 pub early : (v : NameVerdict) → earlyReason v ≡ answer (ensure (eqb (earlyReason v) 0) 5)
 early (Good long) = refl
@@ -163,21 +132,6 @@ handle-at t h i e = well (rw e) (live-below t h i e)
 
 pub handle-not : (t : Table) (h : Handle) (i : ℕ) → liveRow t h ≡ Nothing → Went (byHandle t h) i (i < 34) 4
 handle-not t h i e = ill {r = 4} (omega arith) (rw e)
-
-pub first-not : (r s : ℕ) → (r ≡ 0 → ⊥) → r ≡ firstOf r s
-first-not zero s z = absurd (z refl)
-first-not (suc r) s z = refl
-
--- the reason of the first questions and the handle's, together: every call with one handle begins so
-pub went-reached : (a : List ℕ) (t : Table) (h : Handle) (row reason r : ℕ) → Went (byHandle t h) row (row < 34) reason
-    → r ≡ firstOf (answer (admitIf a (wellFormed t))) reason → Went (reached a t h) row (Reached a row) r
-unfolding reached
-went-reached a t h row reason r g e = rw (admit-is a t) (go (admitIf a (wellFormed t)) refl (asks-admitIf a (wellFormed t)) e)
-  where
-    go : (o : Out Unit) → admitIf a (wellFormed t) ≡ o → Asks o → r ≡ firstOf (answer o) reason → Went (bind o (λ _. byHandle t h)) row (Reached a row) r
-    go (done u) q s f = rw f (went-weaken (λ l. record { legal = admitted-legal a (wellFormed t) u q; below = l }) g)
-    go (refused zero) q (said l) f = absurd (omega arith)
-    go (refused (suc n)) q (said l) f = rw f (ill l refl)
 
 -- a call with one handle, after its first questions
 module _ {A : Type 0} {P : Type 0} (a : List ℕ) (t : Table) (h : Handle) (f : ℕ → Out A) (row r : ℕ) (g : Went (reached a t h) row P r) where

@@ -7,16 +7,15 @@ ghost use Prim.Native.Nat.{ℕ, _<_};
 ghost use lib.ListN.{length};
 ghost use Rattle.base.specs.Out.{Went, answer};
 ghost use Rattle.table.specs.Table.{addHold};
-ghost use Rattle.sefs.specs.Ask.{admitArena, byHandle, goodName, notLong, notSpecial, liveFolder, notRemoved};
+ghost use Rattle.sefs.specs.Ask.{byHandle, goodName, notLong, notSpecial, liveFolder, notRemoved};
 ghost use Rattle.sefs.specs.Ask.{known as knownType, folder as isFolder};
 ghost use Rattle.sefs.specs.Read.{readable as readableAs};
 ghost use Rattle.mem.specs.Mem.{tableIn, Whole};
 ghost use Rattle.calls.specs.Answers.{doneWith, refusedWith, notGiven, notHanded, addedAs, afterOf, givenOf};
-ghost use Rattle.calls.specs.Asked.{admitIf, firstOf, reached, Reached};
+ghost use Rattle.calls.specs.Asked.{reached};
 use base::Found;
 use holds::add_hold;
 use holds::live;
-use holds::well_formed;
 use mem::table_at;
 use sefs::Metadata;
 use structs::DiskINode;
@@ -143,34 +142,6 @@ pub fn settle_held(t: Table, mem: &[u8], h: Handed) -> Given
     }
 }
 
-// ---- 1, 2, 3
-
-pub fn admit_arena(arena: &[u8]) -> u8
-    ensures { λ r. ⌜ r ≡ answer (admitArena (now (arena .entry))) ⌝ }
-{
-    if !arena::legal(arena) {
-        return 1;
-    }
-    if !sound::sound(arena) {
-        return 2;
-    }
-    0
-}
-
-// `formed`: whether the table is well formed.
-pub fn admit(arena: &[u8], formed: bool) -> u8
-    ensures { λ r. ⌜ r ≡ answer (admitIf (now (arena .entry)) formed) ⌝ }
-{
-    let r = admit_arena(arena);
-    if r != 0 {
-        return r;
-    }
-    if formed {
-        return 0;
-    }
-    3
-}
-
 // ---- names
 
 // 5: a zero byte inside, or not UTF-8.
@@ -283,39 +254,11 @@ pub fn by_handle(mem: &[u8], h: Handle) -> ByHandle
     }
 }
 
-// The first of two reasons.
-fn first(r: u8, s: u8) -> u8
-    ensures { λ x. ⌜ x ≡ firstOf r s ⌝ }
-{
-    if r != 0 {
-        return r;
-    }
-    s
-}
-
-// 1, 2, 3, 4.
-pub fn admit_by(arena: &[u8], formed: bool, b: ByHandle) -> u8
-    ensures { λ r. ⌜ r ≡ firstOf (answer (admitIf (now (arena .entry)) formed)) (b .reason) ⌝ }
-{
-    first(admit(arena, formed), b.reason)
-}
-
-// The same for two handles.
-pub fn admit_two(arena: &[u8], formed: bool, b: ByHandle, c: ByHandle) -> u8
-    ensures { λ r. ⌜ r ≡ firstOf (firstOf (answer (admitIf (now (arena .entry)) formed)) (b .reason)) (c .reason) ⌝ }
-{
-    first(admit_by(arena, formed, b), c.reason)
-}
-
-// What a call with one handle asks first: 1, 2, 3, 4.
+// What a call with one handle asks first, where it reads no file: 1, 2, 3, 4.
 pub fn reach(arena: &[u8], mem: &[u8], h: Handle) -> ByHandle
     requires { ⌜ Whole (now mem) ⌝ }
-    ensures { λ r. ⌜ Went (reached (now (arena .entry)) (tableIn (now (mem .entry))) h) (r .row) (Reached (now (arena .entry)) (r .row)) (r .reason) ⌝ }
+    ensures { λ r. ⌜ Went (reached (now (arena .entry)) (tableIn (now (mem .entry))) h) (r .row) (r .row < 34) (r .reason) ⌝ }
 {
-    let b = by_handle(mem, h);
-    let r = admit_by(arena, well_formed(mem), b);
-    ByHandle {
-        reason: r,
-        row: b.row,
-    }
+    let mut chains = [0u16; 8192];
+    led::reach(arena, &mut chains, mem, h)
 }

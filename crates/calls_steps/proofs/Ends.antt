@@ -25,9 +25,7 @@ use Rattle.chains.specs.Led.{Led}
 use Rattle.nodes.specs.Steps.{fsAt}
 use Rattle.calls.specs.declared.After as answered
 use Rattle.calls.specs.Answers.{refusedWith, afterOf}
-use Rattle.calls.specs.Asked.{admitIf, firstOf}
 use Rattle.calls.proofs.Answers.{after-done, after-refused}
-use Rattle.calls.proofs.Asks.{Asks, asks-admitIf, admit-is, admitted-legal}
 use Rattle.calls_steps.specs.Ends.{Begun, Rest, on, off, arenaAfter, afterAs, ending, Ended, went, stuck, Returned}
 
 -- ---- the start
@@ -35,11 +33,6 @@ use Rattle.calls_steps.specs.Ends.{Begun, Rest, on, off, arenaAfter, aft
 -- a workspace of m blocks of zeros, made ready
 pub started : (a w : List ℕ) (m : ℕ) → legal a ≡ true → 10 ≤ m → m ≤ 255 → w ≡ begun (replicate (512 * m) 0) → views.Ready a w m
 started a w m l h k e = ready a w m (legal-is a l .whole) (legal-is a l .most) h k e
-
--- memory and workspace at a call's start are its state
-pub fs-start : (a w m n : List ℕ) (k : ℕ) → views.Ready a w k → metaIn n ≡ loadMeta (view a w) → tableIn n ≡ tableIn m → fsOf a w n ≡ start a (tableIn m)
-unfolding fsOf
-fs-start a w m n k R e q = rw (e, q, R .is)
 
 -- the memory that a call has begun with is its state
 pub begun-start : {a first next m n : List ℕ} → Begun a first next m n → fsAt a n ≡ start a (tableIn m)
@@ -77,43 +70,6 @@ rest-as x f (off l e) = off l (x ∙ e)
 pub rest-then : {A B : Type 0} {o e : Out A} {P : Type 0} {r : ℕ} (f : A → Out B) → Rest o e P r → Rest (bind o f) (bind e f) P r
 rest-then f (on e p) = on (ap (λ x. bind x f) e) p
 rest-then f (off l e) = off l (rw e)
-
--- ---- two handles
-
--- the reason that the first questions and two handles give
-abbrev pub twoOf : List ℕ → Bool → ℕ → ℕ → ℕ
-twoOf a formed b c = firstOf (firstOf (answer (admitIf a formed)) b) c
-
--- they did not refuse
-pub two-admits : (a : List ℕ) (formed : Bool) (b c r : ℕ) → r ≡ twoOf a formed b c → r ≡ 0 → (admitIf a formed ≡ done tt) × ((b ≡ 0) × (c ≡ 0))
-two-admits a formed b c r e z = go (admitIf a formed) (asks-admitIf a formed) b e
-  where
-    go : (o : Out Unit) → Asks o → (b : ℕ) → r ≡ firstOf (firstOf (answer o) b) c → (o ≡ done tt) × ((b ≡ 0) × (c ≡ 0))
-    go (done u) s zero e = (refl, (refl, sym e ∙ z))
-    go (done u) s (suc b) e = absurd (omega arith)
-    go (refused zero) (said l) b e = absurd (omega arith)
-    go (refused (suc n)) (said l) b e = absurd (omega arith)
-
-pub two-legal : (a : List ℕ) (formed : Bool) (b c r : ℕ) → r ≡ twoOf a formed b c → r ≡ 0 → legal a ≡ true
-two-legal a formed b c r e z = admitted-legal a formed tt (two-admits a formed b c r e z .0)
-
-module _ {A : Type 0} (a : List ℕ) (t : Table) (formed : Bool) (h g : Handle) (f : ℕ → ℕ → Out A) {b c i j r : ℕ} {P Q : Type 0} (k : formed ≡ wellFormed t) (p : Went (byHandle t h) i P b) (q : Went (byHandle t g) j Q c) (e : r ≡ twoOf a formed b c) where
-  admits : admit a t ≡ admitIf a formed
-  admits = admit-is a t ∙ ap (admitIf a) (sym k)
-
-  pub two-next : r ≡ 0 → bind (admit a t) (λ _. bind (byHandle t h) (λ i. bind (byHandle t g) (f i))) ≡ f i j
-  two-next z = let k = two-admits a formed b c r e z in rw (admits, k .0, went-is p (k .1 .0), went-is q (k .1 .1))
-
-  pub two-stop : (r ≡ 0 → ⊥) → bind (admit a t) (λ _. bind (byHandle t h) (λ i. bind (byHandle t g) (f i))) ≡ refused r
-  two-stop z = rw admits (go (admitIf a formed) (asks-admitIf a formed) p q e)
-    where
-      go : {b c : ℕ} (o : Out Unit) → Asks o → Went (byHandle t h) i P b → Went (byHandle t g) j Q c → r ≡ firstOf (firstOf (answer o) b) c → bind o (λ _. bind (byHandle t h) (λ i. bind (byHandle t g) (f i))) ≡ refused r
-      go (done u) s (well x _) (well y _) e = absurd (z e)
-      go (done u) s (well x _) (ill {r = n} l y) e = rw (x, y, e)
-      go (done u) s (ill {r = zero} l x) y e = absurd (omega arith)
-      go (done u) s (ill {r = suc n} l x) y e = rw (x, e)
-      go (refused zero) (said l) x y e = absurd (omega arith)
-      go (refused (suc n)) (said l) x y e = rw e
 
 -- ---- the end
 

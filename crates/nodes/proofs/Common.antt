@@ -6,10 +6,14 @@ use Prim.Native.Nat.{ℕ, zero, suc, _+_, _-_, _≤_, _<_}
 use native.Mathlib.Nat.{eq-or-lt-of-le}
 use native.Mathlib.Omega.{arith}
 use lib.ListN.{length, drop, take}
+use lib.Dec.{leb}
 use Rattle.base.proofs.Parts.{part-part}
 use Rattle.base.specs.Out.{Out, done, refused, bind, answer, kept, Ok, went, said, Went, well, ill}
 use Rattle.base.specs.Parts.{part, back, paste}
 use Rattle.base.proofs.Lists.{part-paste, part-paste-other}
+use Rattle.base.proofs.Outs.{ok-guard}
+use Rattle.arena.specs.Fields.{File}
+use Rattle.files.specs.Read.{there, lengthOf, readFile}
 
 -- ---- parts
 
@@ -54,3 +58,8 @@ row-stops f g h r k (suc n) l e =
     (λ (q : k ≡ suc n). subst (λ (x : ℕ). f x ≡ refused r) q e)
     (λ (q : k < suc n). h n ∙ ap (λ o. bind o (g n)) (row-stops f g h r k n (omega arith) e))
     (eq-or-lt-of-le l)
+
+-- a read that is refused is refused with 19
+pub read-ok : (a : List ℕ) (f : File) (p n : ℕ) → Ok (λ _. Unit) (λ n. n ≡ 19) (readFile a f p n)
+unfolding readFile
+read-ok a f p n = ok-guard (there a f) 19 refl (λ _. ok-guard (leb (p + n) (lengthOf a f)) 19 refl (λ _. went tt))

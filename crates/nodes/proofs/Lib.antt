@@ -1,6 +1,5 @@
 pub mod Common
 pub mod Bytes
-pub mod Loads
 pub mod Steps
 pub mod Ids
 pub mod Nodes

@@ -1,24 +1,22 @@
-// Superblock and free maps: read at a call's start, changed in memory, stored by sync_meta (000's SEFS).
+// Superblock and free maps: changed in memory, stored by sync_meta (000's SEFS).
 ghost use mathlib.Core.Path.{_≡_};
 ghost use mathlib.Core.Bool.{true};
 ghost use mathlib.Core.List.{List};
 ghost use Prim.Native.Nat.{ℕ, _+_, _*_, _-_, _<_, _≤_};
 ghost use lib.ListN.{length, getD};
 ghost use lib.Dec.{ltb};
-ghost use Rattle.base.specs.Out.{Went, answer, kept, done};
+ghost use Rattle.base.specs.Out.{Went, done};
 ghost use Rattle.base.specs.Parts.{part};
 ghost use Rattle.base.specs.Search.{pick};
 ghost use Rattle.overlay.specs.View.{view, left, Fine};
 ghost use Rattle.overlay.specs.Steps.{Did};
-ghost use Rattle.files.specs.Read.{readFile};
 ghost use Rattle.files.specs.Store.{putFile};
-ghost use Rattle.sefs.specs.Meta.{metaFile, mapAt, loadMaps, loadMeta, storeMaps, syncMeta, firstBit, isUsed, addGroup, takeBit, allocBlock, freeBlock};
+ghost use Rattle.sefs.specs.Meta.{metaFile, mapAt, storeMaps, syncMeta, firstBit, isUsed, addGroup, takeBit, allocBlock, freeBlock};
 ghost use Rattle.mem.specs.Mem.{tableIn, superIn, mapsIn, metaIn, Whole};
 ghost use Rattle.nodes.specs.Steps.{metaOf};
 ghost use Rattle.mem.specs.State.{fsOf, Ready, Still, Stepped};
 use base::Found;
 use base::index;
-use files::read::read;
 use files::store::cut;
 use files::store::put;
 use mem::add_group;
@@ -27,10 +25,8 @@ use mem::first_bit;
 use mem::has_meta;
 use mem::map_bytes;
 use mem::put_bit;
-use mem::put_flag;
 use mem::super_at;
 use mem::super_bytes;
-use structs::super_block_at;
 
 // The id that was allocated, where the reason is 0.
 #[repr(C)]
@@ -39,85 +35,12 @@ pub struct Allocated {
     pub id: u32,
 }
 
-// ---- reading
-
-fn read_meta<'a>(arena: &'a [u8], work: &'a [u8], pos: usize, out: &mut [u8]) -> u8
-    requires { ⌜ Fine (now arena) (now work) ⌝ }
-    ensures { λ r. ⌜ r ≡ answer (readFile (view (now (arena .entry)) (now (work .entry))) metaFile pos (length (now (out .entry)))) ⌝ }
-    ensures { λ _. ⌜ now (out .exit) ≡ kept (now (out .entry)) (readFile (view (now (arena .entry)) (now (work .entry))) metaFile pos (length (now (out .entry)))) ⌝ }
-{
-    let meta = [0u8; 16];
-    read(arena, work, 0, &meta, pos, out)
-}
-
 // Group g's map is block 1024g + 1, and a block has 128 bytes.
 pub fn map_at(g: usize) -> usize
     requires { ⌜ g < 4 ⌝ }
     ensures { λ r. ⌜ r ≡ mapAt g ⌝ }
 {
     128 * (1024 * g + 1)
-}
-
-pub fn load_super<'a>(arena: &'a [u8], work: &'a [u8], mem: &mut [u8]) -> u8
-    requires { ⌜ Fine (now arena) (now work) × (length (now mem) ≡ 4899) ⌝ }
-    ensures { λ r. ⌜ Went (readFile (view (now (arena .entry)) (now (work .entry))) metaFile 0 16) (part (now (mem .exit)) 4371 4387) Unit r ⌝ }
-    ensures { λ _. ⌜ part (now (mem .exit)) 0 4371 ≡ part (now (mem .entry)) 0 4371 ⌝ }
-{
-    read_meta(arena, work, 0, &mut mem[4371..4387])
-}
-
-fn load_map<'a>(arena: &'a [u8], work: &'a [u8], mem: &mut [u8], g: usize) -> u8
-    requires { ⌜ Fine (now arena) (now work) × ((length (now mem) ≡ 4899) × (g < 4)) ⌝ }
-    ensures { λ r. ⌜ Went (readFile (view (now (arena .entry)) (now (work .entry))) metaFile (mapAt g) 128) (part (now (mem .exit)) (4387 + 128 * g) (4387 + 128 * g + 128)) Unit r ⌝ }
-    ensures { λ _. ⌜ part (now (mem .exit)) 0 (4387 + 128 * g) ≡ part (now (mem .entry)) 0 (4387 + 128 * g) ⌝ }
-{
-    let o = 4387 + 128 * g;
-    read_meta(arena, work, map_at(g), &mut mem[o..o + 128])
-}
-
-// The maps of the first n groups.
-pub fn load_maps<'a>(arena: &'a [u8], work: &'a [u8], mem: &mut [u8], n: usize) -> u8
-    requires { ⌜ Fine (now arena) (now work) × ((length (now mem) ≡ 4899) × (n ≤ 4)) ⌝ }
-    ensures { λ r. ⌜ Went (loadMaps (view (now (arena .entry)) (now (work .entry))) n) (part (now (mem .exit)) 4387 (4387 + 128 * n)) Unit r ⌝ }
-    ensures { λ _. ⌜ part (now (mem .exit)) 0 4387 ≡ part (now (mem .entry)) 0 4387 ⌝ }
-{
-    let mut g: usize = 0;
-    while g < n {
-        let r = load_map(arena, work, mem, g);
-        if r != 0 {
-            return r;
-        }
-        g = g + 1;
-    }
-    0
-}
-
-fn read_all<'a>(arena: &'a [u8], work: &'a [u8], mem: &mut [u8]) -> u8
-    requires { ⌜ Fine (now arena) (now work) × (length (now mem) ≡ 4899) ⌝ }
-    ensures { λ r. ⌜ Went (loadMeta (view (now (arena .entry)) (now (work .entry)))) (metaOf (now (mem .exit))) ((0 < superIn (now (mem .exit)) .groups) × (superIn (now (mem .exit)) .groups ≤ 4)) r ⌝ }
-    ensures { λ _. ⌜ part (now (mem .exit)) 0 4371 ≡ part (now (mem .entry)) 0 4371 ⌝ }
-{
-    let r = load_super(arena, work, mem);
-    if r != 0 {
-        return r;
-    }
-    let groups = super_block_at(&mem[..], 4371).groups;
-    if groups == 0 {
-        return 19;
-    }
-    if groups > 4 {
-        return 19;
-    }
-    load_maps(arena, work, mem, index(groups))
-}
-
-// At a call's start: whether they could be read is kept beside them, and a step that needs them sticks where they could not.
-pub fn load_meta<'a>(arena: &'a [u8], work: &'a [u8], mem: &mut [u8])
-    requires { ⌜ Fine (now arena) (now work) × (length (now mem) ≡ 4899) ⌝ }
-    ensures { λ r. ⌜ (metaIn (now (mem .exit)) ≡ loadMeta (view (now (arena .entry)) (now (work .entry)))) × ((tableIn (now (mem .exit)) ≡ tableIn (now (mem .entry))) × Whole (now (mem .exit))) ⌝ }
-{
-    let r = read_all(arena, work, mem);
-    put_flag(mem, r == 0);
 }
 
 // ---- storing: superblock first, then the maps of all groups in rising order

@@ -1,24 +1,18 @@
--- `calls::reach`: the law of the first questions.
-use mathlib.Core.Path.{_∙_, ap}
-use mathlib.Core.Bool.{Bool}
+-- `calls::reach`: the chains' place is zero, and they are dropped.
+use Rattle.base.proofs.Outs.{went-weaken}
+use Rattle.calls.proofs.Asks.{blank}
 use borrow.Author.Needs.{needs}
-use Rattle.calls.proofs.Asks.{went-reached}
-use Rattle.base.specs.Out.{answer}
-use Rattle.calls.specs.Asked.{admitIf, firstOf}
 use Rattle.calls.proofs.reach.Statement.{statement}
 use Rattle.calls.proofs.reach.Tie as tie
 
-by-handle-requires : tie.Need-by-handle-requires
-by-handle-requires c κs = search needs
+slice-aggregate-reach : tie.Need-slice-aggregate-reach
+slice-aggregate-reach c = search needs
 
-well-formed-requires : tie.Need-well-formed-requires
-well-formed-requires c κs = search needs
-
-admit-by-requires : tie.Need-admit-by-requires
-admit-by-requires c κs = search needs
+reach-requires : tie.Need-reach-requires
+reach-requires c κs = (blank, c .before .before .before .pre)
 
 returns : tie.Need-returns
-returns c = went-reached _ _ _ _ _ _ (c .before .before .by-handle .ensures) (c .admit-by .ensures ∙ ap (λ (b : Bool). firstOf (answer (admitIf (c .before .before .before .before .before .args .arena .now) b)) (c .before .before .by-handle .result .reason)) (c .before .well-formed .ensures))
+returns c = went-weaken (λ p. p .1) (c .before .reach .ensures)
 
 pub reach-spec : {M : Type 1} → statement M
-reach-spec = tie.close (tie.spec by-handle-requires well-formed-requires admit-by-requires returns)
+reach-spec = tie.close (tie.spec slice-aggregate-reach reach-requires returns)

@@ -24,7 +24,7 @@ returns c =
     sym (ap toldOf (call-stop (s .arena .now) t (s .h) (λ i. told (rowAt t i .id) (rowAt t i .rec)) _ _ (b .reach .ensures) (c .if1 .taken)))
 
 row-at-requires : tie.Need-row-at-requires
-row-at-requires c κs = (c .before .before .before .before .before .pre, went-has (c .before .before .reach .ensures) (c .if1 .left) .below)
+row-at-requires c κs = (c .before .before .before .before .before .pre, went-has (c .before .before .reach .ensures) (c .if1 .left))
 
 tell-requires : tie.Need-tell-requires
 tell-requires c κs = search needs

@@ -30,13 +30,13 @@ returns c =
     ill (above-zero _ (c .if1 .taken)) (call-stop (a .arena .now) t (a .h) f _ _ (b .reach .ensures) (c .if1 .taken))
 
 rec-at-requires : tie.Need-rec-at-requires
-rec-at-requires c κs = (c .before .before .before .before .before .before .before .pre, went-has (c .before .before .before .reach .ensures) (c .before .if1 .left) .below)
+rec-at-requires c κs = (c .before .before .before .before .before .before .before .pre, went-has (c .before .before .before .reach .ensures) (c .before .if1 .left))
 
 changed-requires : tie.Need-changed-requires
 changed-requires c κs = search needs
 
 set-rec-requires : tie.Need-set-rec-requires
-set-rec-requires c κs = (c .before .before .before .before .before .before .before .before .before .before .pre, went-has (c .before .before .before .before .before .before .reach .ensures) (c .before .before .before .before .if1 .left) .below)
+set-rec-requires c κs = (c .before .before .before .before .before .before .before .before .before .before .pre, went-has (c .before .before .before .before .before .before .reach .ensures) (c .before .before .before .before .if1 .left))
 
 same-length-2 : tie.Need-same-length-2
 same-length-2 c = search needs

@@ -10,8 +10,7 @@ use Rattle.overlay.specs.View.{view}
 use Rattle.files.specs.Read.{readFile}
 use Rattle.sefs.specs.Meta.{metaFile}
 use Rattle.mem.specs.State.{fsOf}
-use Rattle.nodes.proofs.Common.{ok-refused, went-answer}
-use Rattle.nodes.proofs.Loads.{read-ok}
+use Rattle.nodes.proofs.Common.{ok-refused, went-answer, read-ok}
 use Rattle.nodes.proofs.Nodes.{load-stop, load-is}
 use Rattle.nodes.proofs.load_node.Statement.{statement}
 use Rattle.nodes.proofs.load_node.Tie as tie

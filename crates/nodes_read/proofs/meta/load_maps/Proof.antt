@@ -7,7 +7,7 @@ use Rattle.base.specs.Out.{done, well}
 use Rattle.base.specs.Parts.{part}
 use Rattle.sefs.specs.Meta.{loadMaps}
 use Rattle.nodes.proofs.Common.{part-agree}
-use Rattle.nodes.proofs.Loads.{maps-none, maps-turn, maps-stop}
+use Rattle.nodes_read.proofs.Loads.{maps-none, maps-turn, maps-stop}
 use Rattle.nodes_read.proofs.meta.load_maps.Statement.{statement}
 use Rattle.nodes_read.proofs.meta.load_maps.Tie as tie
 

@@ -1,6 +1,6 @@
 -- `nodes_read::meta::load_meta`: the mark says whether they could be read.
 use mathlib.Core.Path.{_∙_}
-use Rattle.nodes.proofs.Loads.{loaded}
+use Rattle.nodes_read.proofs.Loads.{loaded}
 use borrow.Author.Needs.{needs}
 use Rattle.nodes_read.proofs.meta.load_meta.Statement.{statement}
 use Rattle.nodes_read.proofs.meta.load_meta.Tie as tie

@@ -4,7 +4,7 @@ use native.Mathlib.Omega.{arith}
 use Rattle.base.proofs.Outs.{went-is}
 use Rattle.structs.specs.declared.SuperBlock.{SuperBlock}
 use Rattle.nodes.proofs.Common.{part-agree}
-use Rattle.nodes.proofs.Loads.{super-is, meta-stop, meta-few, meta-many, meta-read}
+use Rattle.nodes_read.proofs.Loads.{super-is, meta-stop, meta-few, meta-many, meta-read}
 use borrow.Author.Needs.{needs}
 use Rattle.nodes_read.proofs.meta.read_all.Statement.{statement}
 use Rattle.nodes_read.proofs.meta.read_all.Tie as tie
