@@ -1,2 +1,1 @@
 pub mod Desks
-pub mod Sizes

@@ -1,15 +1,6 @@
 // The call script (docs/REPLAY.md): a script, a lent arena and a lent text buffer; one line for each call.
-// What is kept between two runs stands in a lent desk:
-//   0     the table's bytes
-//   4370  the arena's length, u64
-//   4378  the place in the script, u64
-//   4386  1 once the script has ended
-mod args;
-mod lines;
+// What is kept between two runs stands in a lent desk (script/src/lib.rt).
 mod perform;
-mod reads;
-mod shape;
-mod text;
 mod writes;
 
 ghost use mathlib.Core.Path.{_≡_};
@@ -21,8 +12,8 @@ ghost use Rattle.replay_lib.specs.Steps.{Primed, Gone, endedIn, toGo};
 use le::put_u64;
 use le::u64_at;
 use perform::perform;
+use script::text::put_word;
 use table_bytes::write_table;
-use text::put_word;
 
 pub const DESK: usize = 4387;
 

@@ -2,17 +2,19 @@
 ghost use mathlib.Core.Path.{_≡_};
 ghost use Prim.Native.Nat.{_+_, _≤_};
 ghost use lib.ListN.{length};
-ghost use Rattle.replay_lib.specs.Shape.{named1, named2};
-use crate::args::file_at;
-use crate::args::handle_at;
-use crate::args::name_end;
-use crate::args::new_at;
-use crate::args::time_at;
-use crate::lines::put_after;
-use crate::lines::put_fresh;
-use crate::lines::put_given;
+ghost use Rattle.script.specs.Shape.{named1, named2};
 use calls::After;
 use calls::Given;
+use calls_create::New;
+use le::u16_at;
+use le::u32_at;
+use script::args::file_at;
+use script::args::handle_at;
+use script::args::name_end;
+use script::args::time_at;
+use script::lines::put_after;
+use script::lines::put_fresh;
+use script::lines::put_given;
 use table_bytes::read_table;
 
 // ---- format, sync, close
@@ -61,6 +63,18 @@ pub fn call_close(
 }
 
 // ---- create, link, unlink, move: names
+
+// What create makes, 38 bytes.
+fn new_at(script: &[u8], at: usize) -> New
+    requires { ⌜ at + 38 ≤ length (now script) ⌝ }
+{
+    New {
+        kind: u32_at(script, at),
+        mode: u16_at(script, at + 4),
+        time: time_at(script, at + 6),
+        file: file_at(script, at + 22),
+    }
+}
 
 fn create(script: &[u8], at: usize, desk: &[u8], arena: &mut [u8]) -> Given
     requires { ⌜ at + (named1 (now script) at 13 + 38) ≤ length (now script) ⌝ }

@@ -1,6 +1,6 @@
 -- `do_call`: the byte tells the size.
-use Rattle.replay_lib.specs.Shape.{sizeBy}
-use Rattle.replay_lib.proofs.Sizes.{bytes-there}
+use Rattle.script.specs.Shape.{sizeBy}
+use Rattle.script.proofs.Sizes.{bytes-there}
 use borrow.Author.Needs.{needs}
 use Rattle.replay_lib.proofs.perform.do_call.Statement.{statement}
 use Rattle.replay_lib.proofs.perform.do_call.Tie as tie

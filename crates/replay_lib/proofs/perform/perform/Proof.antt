@@ -4,7 +4,7 @@ use Prim.Native.Nat.{_<_}
 use lib.ListN.{length}
 use lib.Seq.{length-take-le}
 use native.Mathlib.Omega.{arith}
-use Rattle.replay_lib.proofs.Sizes.{there, not-zero}
+use Rattle.script.proofs.Sizes.{there, not-zero}
 use borrow.Author.Needs.{needs}
 use Rattle.replay_lib.proofs.perform.perform.Statement.{statement}
 use Rattle.replay_lib.proofs.perform.perform.Tie as tie

@@ -1,0 +1,285 @@
+// The call script's calls that change no byte of the arena. The caller has seen that the command is whole, and put the call's name.
+ghost use mathlib.Core.Path.{_≡_};
+ghost use Prim.Native.Nat.{_+_, _≤_};
+ghost use lib.ListN.{length};
+ghost use Rattle.le.specs.Le.{leAt};
+ghost use Rattle.script.specs.Shape.{There, named1};
+use base::index16;
+use calls::After;
+use calls_list::Moved;
+use calls_list::list_on;
+use fsck::Verdict;
+use le::u16_at;
+use le::u64_at;
+use script::args::handle_at;
+use script::args::name_end;
+use script::args::time_at;
+use script::lines::put_after;
+use script::lines::put_answer;
+use script::lines::put_fail;
+use script::lines::put_fresh;
+use script::lines::put_given;
+use script::lines::put_listed;
+use script::lines::put_output;
+use script::lines::put_pass;
+use script::lines::put_told;
+use script::text::put_value;
+use script::text::put_word;
+use table_bytes::read_table;
+
+// ---- open, root, check: no arguments
+
+fn call_open(desk: &mut [u8], arena: &[u8], text: &mut [u8], w: usize) -> usize
+    requires { ⌜ (length (now desk) ≡ 4387) × (w + 400 ≤ length (now text)) ⌝ }
+    ensures { λ r. ⌜ r ≤ w + 400 ⌝ }
+{
+    let a = calls_open::open(arena);
+    put_fresh(desk, text, w, a)
+}
+
+fn call_root(desk: &mut [u8], arena: &[u8], text: &mut [u8], w: usize) -> usize
+    requires { ⌜ (length (now desk) ≡ 4387) × (w + 400 ≤ length (now text)) ⌝ }
+    ensures { λ r. ⌜ r ≤ w + 400 ⌝ }
+{
+    let g = calls_find::root(arena, read_table(&desk[..]));
+    put_given(desk, text, w, g)
+}
+
+fn put_verdict(text: &mut [u8], w: usize, v: Verdict) -> usize
+    requires { ⌜ w + 86 ≤ length (now text) ⌝ }
+    ensures { λ r. ⌜ r ≤ w + 86 ⌝ }
+{
+    match v {
+        Verdict::Pass {
+            nodes,
+            unused,
+            free,
+        } => put_pass(text, w, nodes, unused, free),
+        Verdict::Fail(rule) => put_fail(text, w, rule),
+    }
+}
+
+fn call_check(desk: &[u8], arena: &[u8], text: &mut [u8], w: usize) -> usize
+    requires { ⌜ (length (now desk) ≡ 4387) × (w + 400 ≤ length (now text)) ⌝ }
+    ensures { λ r. ⌜ r ≤ w + 400 ⌝ }
+{
+    let r = fsck::check(arena, read_table(desk));
+    put_verdict(text, w, r)
+}
+
+// ---- find
+
+fn call_find(
+    script: &[u8],
+    at: usize,
+    desk: &mut [u8],
+    arena: &[u8],
+    text: &mut [u8],
+    w: usize,
+) -> usize
+    requires { ⌜ at + named1 (now script) at 13 ≤ length (now script) ⌝ }
+    requires { ⌜ (length (now desk) ≡ 4387) × (w + 400 ≤ length (now text)) ⌝ }
+    ensures { λ r. ⌜ r ≤ w + 400 ⌝ }
+{
+    let h = handle_at(script, at + 1);
+    let s = at + 15;
+    let e = name_end(script, at + 13);
+    let g = calls_find::find(arena, read_table(&desk[..]), h, &script[s..e]);
+    put_given(desk, text, w, g)
+}
+
+// ---- metadata, set metadata
+
+fn call_metadata(
+    script: &[u8],
+    at: usize,
+    desk: &[u8],
+    arena: &[u8],
+    text: &mut [u8],
+    w: usize,
+) -> usize
+    requires { ⌜ at + 13 ≤ length (now script) ⌝ }
+    requires { ⌜ (length (now desk) ≡ 4387) × (w + 400 ≤ length (now text)) ⌝ }
+    ensures { λ r. ⌜ r ≤ w + 400 ⌝ }
+{
+    let h = handle_at(script, at + 1);
+    let t = calls_metadata::metadata(arena, read_table(desk), h);
+    put_told(text, w, t)
+}
+
+fn set(script: &[u8], at: usize, desk: &[u8], arena: &[u8]) -> After
+    requires { ⌜ (at + 79 ≤ length (now script)) × (length (now desk) ≡ 4387) ⌝ }
+{
+    calls_metadata::set_metadata(
+        arena,
+        read_table(desk),
+        handle_at(script, at + 1),
+        u16_at(script, at + 13),
+        u64_at(script, at + 15),
+        u64_at(script, at + 23),
+        time_at(script, at + 31),
+        time_at(script, at + 47),
+        time_at(script, at + 63),
+    )
+}
+
+fn call_set(
+    script: &[u8],
+    at: usize,
+    desk: &mut [u8],
+    arena: &[u8],
+    text: &mut [u8],
+    w: usize,
+) -> usize
+    requires { ⌜ at + 79 ≤ length (now script) ⌝ }
+    requires { ⌜ (length (now desk) ≡ 4387) × (w + 400 ≤ length (now text)) ⌝ }
+    ensures { λ r. ⌜ r ≤ w + 400 ⌝ }
+{
+    let a = set(script, at, &desk[..], arena);
+    put_after(desk, text, w, a)
+}
+
+// ---- get entry, listing: the output has 8,192 bytes, all 238, of which the call is lent the first
+
+fn put_238(out: &mut [u8]) {
+    let n = out.len();
+    let mut i: usize = 0;
+    while i < n {
+        out[i] = 238;
+        i = i + 1;
+    }
+}
+
+fn put_entry(
+    script: &[u8],
+    at: usize,
+    desk: &[u8],
+    arena: &[u8],
+    out: &mut [u8],
+    text: &mut [u8],
+    w: usize,
+) -> usize
+    requires { ⌜ at + 23 ≤ length (now script) ⌝ }
+    requires { ⌜ (length (now desk) ≡ 4387) × (w + 24 ≤ length (now text)) ⌝ }
+    ensures { λ r. ⌜ r ≤ w + 24 ⌝ }
+{
+    let h = handle_at(script, at + 1);
+    let k = u64_at(script, at + 13);
+    let a = calls_entry::get_entry(arena, read_table(desk), h, k, out);
+    put_answer(text, w, a)
+}
+
+fn entry_words(
+    script: &[u8],
+    at: usize,
+    desk: &[u8],
+    arena: &[u8],
+    out: &mut [u8],
+    text: &mut [u8],
+    w: usize,
+) -> usize
+    requires { ⌜ (at + 23 ≤ length (now script)) × (leAt (now script) (at + 21) 2 ≤ length (now out)) ⌝ }
+    requires { ⌜ (length (now desk) ≡ 4387) × (w + 400 ≤ length (now text)) ⌝ }
+    ensures { λ r. ⌜ r ≤ w + 400 ⌝ }
+{
+    put_238(out);
+    let n = index16(u16_at(script, at + 21));
+    let u = put_entry(script, at, desk, arena, &mut out[..n], text, w);
+    put_output(text, u, &out[..])
+}
+
+fn call_entry(
+    script: &[u8],
+    at: usize,
+    desk: &[u8],
+    arena: &[u8],
+    text: &mut [u8],
+    w: usize,
+) -> usize
+    requires { ⌜ (at + 23 ≤ length (now script)) × (leAt (now script) (at + 21) 2 ≤ 8192) ⌝ }
+    requires { ⌜ (length (now desk) ≡ 4387) × (w + 400 ≤ length (now text)) ⌝ }
+    ensures { λ r. ⌜ r ≤ w + 400 ⌝ }
+{
+    let mut out = [0u8; 8192];
+    entry_words(script, at, desk, arena, &mut out, text, w)
+}
+
+fn put_list(text: &mut [u8], w: usize, m: Moved, out: &[u8]) -> usize
+    requires { ⌜ w + 400 ≤ length (now text) ⌝ }
+    ensures { λ r. ⌜ r ≤ w + 400 ⌝ }
+{
+    let l = m.answer;
+    let a = put_listed(text, w, l);
+    let b = put_output(text, a, out);
+    let c = put_word(text, b, b" p");
+    put_value(text, c, m.next)
+}
+
+fn list(script: &[u8], at: usize, desk: &[u8], arena: &[u8], out: &mut [u8]) -> Moved
+    requires { ⌜ (at + 23 ≤ length (now script)) × (length (now desk) ≡ 4387) ⌝ }
+{
+    let h = handle_at(script, at + 1);
+    let next = u64_at(script, at + 13);
+    list_on(arena, read_table(desk), h, next, out)
+}
+
+fn list_words(
+    script: &[u8],
+    at: usize,
+    desk: &[u8],
+    arena: &[u8],
+    out: &mut [u8],
+    text: &mut [u8],
+    w: usize,
+) -> usize
+    requires { ⌜ (at + 23 ≤ length (now script)) × (leAt (now script) (at + 21) 2 ≤ length (now out)) ⌝ }
+    requires { ⌜ (length (now desk) ≡ 4387) × (w + 400 ≤ length (now text)) ⌝ }
+    ensures { λ r. ⌜ r ≤ w + 400 ⌝ }
+{
+    put_238(out);
+    let n = index16(u16_at(script, at + 21));
+    let m = list(script, at, desk, arena, &mut out[..n]);
+    put_list(text, w, m, &out[..])
+}
+
+fn call_list(
+    script: &[u8],
+    at: usize,
+    desk: &[u8],
+    arena: &[u8],
+    text: &mut [u8],
+    w: usize,
+) -> usize
+    requires { ⌜ (at + 23 ≤ length (now script)) × (leAt (now script) (at + 21) 2 ≤ 8192) ⌝ }
+    requires { ⌜ (length (now desk) ≡ 4387) × (w + 400 ≤ length (now text)) ⌝ }
+    ensures { λ r. ⌜ r ≤ w + 400 ⌝ }
+{
+    let mut out = [0u8; 8192];
+    list_words(script, at, desk, arena, &mut out, text, w)
+}
+
+// ---- the command by its byte: 17 to 19, 24 to 27, 30
+
+pub fn do_read(
+    script: &[u8],
+    at: usize,
+    desk: &mut [u8],
+    arena: &[u8],
+    text: &mut [u8],
+    w: usize,
+) -> usize
+    requires { ⌜ There (now script) at ⌝ }
+    requires { ⌜ (length (now desk) ≡ 4387) × (w + 400 ≤ length (now text)) ⌝ }
+    ensures { λ r. ⌜ r ≤ w + 400 ⌝ }
+{
+    match script[at] {
+        17 => call_open(desk, arena, text, w),
+        18 => call_root(desk, arena, text, w),
+        19 => call_find(script, at, desk, arena, text, w),
+        24 => call_metadata(script, at, &desk[..], arena, text, w),
+        25 => call_set(script, at, desk, arena, text, w),
+        26 => call_entry(script, at, &desk[..], arena, text, w),
+        27 => call_list(script, at, &desk[..], arena, text, w),
+        _ => call_check(&desk[..], arena, text, w),
+    }
+}
