@@ -1,8 +1,8 @@
--- `lesson::marks`: a block's first byte stands at 512 times its number.
+-- `lesson_lib::lines::marks`: a block's first byte stands at 512 times its number.
 use Prim.Native.Nat.{_≤_, _-_}
 use borrow.Author.Needs.{needs}
-use Rattle.lesson.proofs.marks.Statement.{statement}
-use Rattle.lesson.proofs.marks.Tie as tie
+use Rattle.lesson_lib.proofs.lines.marks.Statement.{statement}
+use Rattle.lesson_lib.proofs.lines.marks.Tie as tie
 
 abbrev Inv-loop : tie.InvT-loop
 Inv-loop arena k₀ k = k ≤ 16

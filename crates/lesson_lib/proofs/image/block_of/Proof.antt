@@ -1,9 +1,9 @@
--- `lesson::image::block_of`: only blocks of the arena are looked at.
+-- `lesson_lib::image::block_of`: only blocks of the arena are looked at.
 use Prim.Native.Nat.{_≤_, _-_}
 use native.Mathlib.Omega.{arith}
 use borrow.Author.Needs.{needs}
-use Rattle.lesson.proofs.image.block_of.Statement.{statement}
-use Rattle.lesson.proofs.image.block_of.Tie as tie
+use Rattle.lesson_lib.proofs.image.block_of.Statement.{statement}
+use Rattle.lesson_lib.proofs.image.block_of.Tie as tie
 
 abbrev Inv-loop : tie.InvT-loop
 Inv-loop arena which name p k₀ k = k ≤ 16

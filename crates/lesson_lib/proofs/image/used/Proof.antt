@@ -1,4 +1,4 @@
--- `lesson::image::used`: no more blocks are free than there are.
+-- `lesson_lib::image::used`: no more blocks are free than there are.
 use mathlib.Core.Path.{_≡_}
 use mathlib.Core.List.{List}
 use Prim.Native.Nat.{ℕ, _≤_}
@@ -9,8 +9,8 @@ use Rattle.base.proofs.Counts.{countTo-le}
 use Rattle.arena.specs.Blocks.{blk, blocks}
 use Rattle.arena.specs.Fields.{isFree}
 use Rattle.arena.specs.Places.{freeCount}
-use Rattle.lesson.proofs.image.used.Statement.{statement}
-use Rattle.lesson.proofs.image.used.Tie as tie
+use Rattle.lesson_lib.proofs.image.used.Statement.{statement}
+use Rattle.lesson_lib.proofs.image.used.Tie as tie
 
 free-le : (a : List ℕ) → length a ≡ 8192 → freeCount a ≤ 16
 unfolding freeCount

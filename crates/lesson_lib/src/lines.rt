@@ -1,0 +1,94 @@
+// Lines that several scenes print.
+use crate::image;
+use crate::image::FIRST_MAP;
+use crate::say;
+use crate::say::text;
+use crate::world::create;
+use crate::world::handle;
+use calls::Given;
+use calls::Told;
+use calls_entry::get_entry;
+use calls_metadata::metadata;
+use table::Handle;
+use table::Table;
+use utf8::first_zero;
+
+// One letter for a block, by its first byte: free, a file's head, data.
+fn mark(tag: u8) {
+    match tag {
+        0 => text(b"."),
+        1 => text(b"H"),
+        _ => text(b"D"),
+    }
+}
+
+fn marks(arena: &[u8; 8192]) {
+    let mut k: usize = 0;
+    while k < 16 {
+        mark(arena[512 * k]);
+        k = k + 1;
+    }
+}
+
+// How many blocks are in use, and which.
+pub fn blocks_line(arena: &[u8; 8192]) {
+    say::number(b"  ", image::used(arena), b" blocks are in use: ");
+    marks(arena);
+    text(b"\n");
+}
+
+pub fn numbers_line(arena: &[u8; 8192]) {
+    say::number(b"  ", image::unused(arena), b" node numbers are free");
+    say::number(
+        b"; the first map byte is ",
+        image::meta_byte(arena, FIRST_MAP) as u64,
+        b".\n",
+    );
+}
+
+// What a handle tells, after a text: its node's number and links.
+pub fn handle_line(arena: &[u8], t: Table, h: Handle, before: &[u8]) {
+    text(before);
+    let told = metadata(arena, t, h);
+    match told {
+        Told::Tells(m) => {
+            say::number(b"node ", m.inode as u64, b"");
+            say::number(b", links ", m.nlinks as u64, b"");
+        }
+        Told::Refused(r) => say::refusal(r),
+    }
+}
+
+// A new node in the root, and what its handle tells.
+pub fn create_line(
+    arena: &mut [u8],
+    t: Table,
+    root: Handle,
+    name: &[u8],
+    kind: u32,
+    n: u8,
+) -> Given {
+    let g = create(arena, t, root, name, kind, n);
+    let a = g.answer;
+    let u = g.table;
+    text(b"  create ");
+    text(name);
+    say::got(b": ", a);
+    handle_line(&arena[..], u, handle(a), b"; it is ");
+    text(b".\n");
+    g
+}
+
+// A stored name, up to its zero.
+fn stored(name: &[u8]) {
+    let n = first_zero(name);
+    text(&name[..n]);
+}
+
+// The name in a slot of the root, after a text.
+pub fn slot_line(arena: &[u8], t: Table, root: Handle, before: &[u8], k: u64) {
+    let mut slot = [0u8; 264];
+    get_entry(arena, t, root, k, &mut slot);
+    text(before);
+    stored(&slot[4..260]);
+}
