@@ -5,8 +5,8 @@ use Rattle.base.specs.Out.{Out, done, refused, kept}
 use Rattle.table.specs.declared.Table.{Table}
 use Rattle.table.specs.declared.Added.{Added}
 use Rattle.calls.specs.Answers.{answerOf, doneWith, refusedWith, heldWith, notGiven, afterOf, givenOf}
-use Rattle.calls.specs.declared.After.{After}
-use Rattle.calls.specs.declared.Given.{Given}
+use Rattle.calls.specs.declared.Reply.{Reply}
+use Rattle.calls.specs.declared.HeldReply.{HeldReply}
 use lib.Dec.{eqb}
 use borrow.Author.Tests.{eq-eqb, ne-eqb}
 
@@ -27,9 +27,9 @@ unfolding givenOf
 given-refused t x n z = rw (ne-eqb n 0 z)
 
 -- an answer with a table, from the outcome
-module _ (t : Table) (o : Out Table) (r : After) where
+module _ (t : Table) (o : Out Table) (r : Reply) where
   pub done-after : (u : Table) → o ≡ done u → r ≡ doneWith u → (r .answer ≡ answerOf o) × (r .table ≡ kept t o)
-  done-after u e q = (ap (λ (x : After). x .answer) q ∙ sym (ap answerOf e), ap (λ (x : After). x .table) q ∙ sym (ap (kept t) e))
+  done-after u e q = (ap (λ (x : Reply). x .answer) q ∙ sym (ap answerOf e), ap (λ (x : Reply). x .table) q ∙ sym (ap (kept t) e))
 
   pub refused-after : (n : ℕ) → o ≡ refused n → r ≡ refusedWith t n → (r .answer ≡ answerOf o) × (r .table ≡ kept t o)
-  refused-after n e q = (ap (λ (x : After). x .answer) q ∙ sym (ap answerOf e), ap (λ (x : After). x .table) q ∙ sym (ap (kept t) e))
+  refused-after n e q = (ap (λ (x : Reply). x .answer) q ∙ sym (ap answerOf e), ap (λ (x : Reply). x .table) q ∙ sym (ap (kept t) e))

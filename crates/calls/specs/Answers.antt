@@ -20,8 +20,8 @@ use Rattle.calls.specs.declared.Told.{Told}
 use Rattle.calls.specs.declared.Told.the-variants as tolds
 use Rattle.calls.specs.declared.Listed.{Listed}
 use Rattle.calls.specs.declared.Listed.the-variants as listeds
-use Rattle.calls.specs.declared.After.{After}
-use Rattle.calls.specs.declared.Given.{Given}
+use Rattle.calls.specs.declared.Reply.{Reply}
+use Rattle.calls.specs.declared.HeldReply.{HeldReply}
 use Rattle.calls.specs.declared.Handed.{Handed}
 
 -- ---- a call that gives nothing else
@@ -84,16 +84,16 @@ pub data Laid (o : Out (List ℕ)) (out now : List ℕ) (n : ℕ) : ℕ → Type
 
 -- ---- an answer with a table
 
-abbrev pub doneWith : Table → After
+abbrev pub doneWith : Table → Reply
 doneWith t = record { answer = answers.Done; table = t }
 
-abbrev pub refusedWith : Table → ℕ → After
+abbrev pub refusedWith : Table → ℕ → Reply
 refusedWith t n = record { answer = answers.Refused n; table = t }
 
-abbrev pub heldWith : Added → Given
+abbrev pub heldWith : Added → HeldReply
 heldWith x = record { answer = gots.Held (x .handle); table = x .table }
 
-abbrev pub notGiven : Table → ℕ → Given
+abbrev pub notGiven : Table → ℕ → HeldReply
 notGiven t n = record { answer = gots.Refused n; table = t }
 
 -- a hold that was made, and the table with it
@@ -105,8 +105,8 @@ abbrev pub notHanded : ℕ → Handed
 notHanded n = record { reason = n; handle = record { hold = 0; stamp = 0 } }
 
 -- by a reason's number: t is the table that the call was given, u the one that its steps left
-unfoldable pub afterOf : Table → Table → ℕ → After
+unfoldable pub afterOf : Table → Table → ℕ → Reply
 afterOf t u n = pick (eqb n 0) (doneWith u) (refusedWith t n)
 
-unfoldable pub givenOf : Table → Added → ℕ → Given
+unfoldable pub givenOf : Table → Added → ℕ → HeldReply
 givenOf t x n = pick (eqb n 0) (heldWith x) (notGiven t n)

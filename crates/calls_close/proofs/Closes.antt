@@ -16,9 +16,9 @@ use Rattle.sefs.specs.Create.{After, after}
 use Rattle.sefs.specs.Close.{closeSteps, callClose}
 use Rattle.calls.specs.Asked.{reached}
 use Rattle.mem.specs.Mem.{tableIn, metaIn}
-use Rattle.nodes.specs.Steps.{fsAt}
-use Rattle.calls_steps.specs.Ends.{Rest, on, ending}
-use Rattle.calls_steps.proofs.Ends.{rest-off}
+use Rattle.steps.specs.Ends.{Rest, on, ending}
+use Rattle.steps.proofs.Ends.{rest-off}
+use Rattle.mem.specs.State.{fsAt}
 
 -- the first questions, and the rest
 close-is : (a : List ℕ) (t : Table) (h : Handle) → callClose a t h ≡ bind (reached a t h) (λ i. ending (closeSteps (start a (closeHold t (h .hold) .table)) (closeHold t (h .hold) .last) i))

@@ -3,17 +3,18 @@ ghost use mathlib.Core.Path.{_≡_};
 ghost use Prim.Native.Nat.{_<_};
 ghost use mathlib.Core.Bool.{true};
 ghost use Rattle.arena.specs.Blocks.{legal};
-ghost use Rattle.overlay.proofs.Views.{Ready as Empty};
+ghost use Rattle.overlay.specs.View.{Empty};
 ghost use Rattle.sefs.specs.Nodes.{dropNode};
 ghost use Rattle.sefs.specs.Close.{closeSteps, callClose};
 ghost use Rattle.mem.specs.Mem.{tableIn, Whole};
-ghost use Rattle.nodes.specs.Steps.{fsAt};
 ghost use Rattle.calls.specs.Asked.{Blank};
-ghost use Rattle.calls_steps.specs.Ends.{Rest, ending, Ended, Returned};
-use calls::After;
+ghost use Rattle.steps.specs.Ends.{Rest, ending, Ended, Returned};
+ghost use Rattle.mem.specs.State.{fsAt};
+use calls::Reply;
 use calls::led::reach;
 use calls::settle;
 use holds::close_hold;
+use mem::MEMORY;
 use mem::put_table;
 use nodes::drop_node;
 use nodes_read::meta::load_meta;
@@ -104,10 +105,10 @@ fn close_on(arena: &mut [u8], mem: &mut [u8], h: Handle) -> u8
     close_row(arena, mem, b.last, b.row)
 }
 
-pub fn close(arena: &mut [u8], t: Table, h: Handle) -> After
+pub fn close(arena: &mut [u8], t: Table, h: Handle) -> Reply
     ensures { λ r. ⌜ Returned t (callClose (now (arena .entry)) t h) (now (arena .entry)) (now (arena .exit)) r ⌝ }
 {
-    let mut mem = [0u8; 4899];
+    let mut mem = [0u8; MEMORY];
     put_table(&mut mem, t);
     let r = close_on(arena, &mut mem, h);
     settle(t, &mem, r)

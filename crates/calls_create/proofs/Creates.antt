@@ -9,7 +9,7 @@ use lib.Dec.{eqb, ltb, leb}
 use borrow.Author.Tests.{eq-eqb, ne-eqb}
 use Rattle.base.specs.Out.{Out, done, refused, bind, ensure, answer, Went, well, ill}
 use Rattle.base.proofs.Outs.{went-is, went-has, went-not, went-stop, went-next, went-weaken, above-zero}
-use Rattle.structs.specs.Verdict.{isFolder}
+use Rattle.structs.specs.Types.{isFolder}
 use Rattle.structs.specs.declared.DiskINode.{DiskINode}
 use Rattle.structs.specs.declared.Timespec.{Timespec}
 use Rattle.arena.specs.Fields.{file}
@@ -25,15 +25,14 @@ use Rattle.sefs.specs.Folders.{entry, direntInit, direntAppend, nlinksInc}
 use Rattle.sefs.specs.Ask.{admit, byHandle, goodName, notLong, liveFolder, orExists, start}
 use Rattle.sefs.specs.Create.{Given, birth, nameFolder, named, given, createSteps, callCreate}
 use Rattle.mem.specs.Mem.{tableIn, Whole}
-use Rattle.nodes.specs.Steps.{fsAt}
-use Rattle.mem.specs.State.{fsOf, Ready, Still, Stepped}
+use Rattle.mem.specs.State.{fsOf, Ready, Still, Stepped, fsAt}
 use Rattle.folders.proofs.States.{stepped-next}
 use Rattle.calls.specs.Asked.{reached}
 use Rattle.calls.proofs.Asks.{asks-live, asked-done, asked-went, call-stop, call-next}
-use Rattle.calls_steps.specs.Steps.{noSlot, syncTwo}
-use Rattle.calls_steps.proofs.Steps.{asks-good, long}
-use Rattle.calls_steps.specs.Ends.{Begun, Rest, on, off}
-use Rattle.calls_steps.proofs.Ends.{bind-same, begun-start, rest-off, rest-as, rest-then}
+use Rattle.steps.specs.Steps.{noSlot, syncTwo}
+use Rattle.steps.proofs.Steps.{asks-good, long}
+use Rattle.steps.specs.Ends.{Begun, Rest, on, off}
+use Rattle.steps.proofs.Ends.{bind-same, begun-start, rest-off, rest-as, rest-then}
 use Rattle.calls_create.specs.Create.{createAsk, createFree, createSync, createRest, createMoves, createWork, Asked}
 use Rattle.calls_create.specs.Held.{holding}
 use Rattle.calls_create.proofs.Held.{holding-bind, holding-both}

@@ -16,6 +16,7 @@ use calls::long;
 use calls::readable;
 use chains::slots::end_of;
 use chains::slots::named_slot;
+use mem::MEMORY;
 use mem::put_table;
 use mem::rec_at;
 use structs::DiskINode;
@@ -125,7 +126,7 @@ pub fn get_entry(arena: &[u8], t: Table, h: Handle, k: u64, out: &mut [u8]) -> A
     ensures { λ r. ⌜ r ≡ answerOf (callEntry (now (arena .entry)) t h k (length (now (out .entry)))) ⌝ }
     ensures { λ _. ⌜ now (out .exit) ≡ laid (now (out .entry)) (callEntry (now (arena .entry)) t h k (length (now (out .entry)))) ⌝ }
 {
-    let mut mem = [0u8; 4899];
+    let mut mem = [0u8; MEMORY];
     put_table(&mut mem, t);
     entry_on(arena, &mem, h, k, out)
 }

@@ -23,15 +23,15 @@ use Rattle.sefs.specs.Slots.{Slot, findSlot}
 use Rattle.sefs.specs.Ask.{admit, goodName, notLong, known, folder, start}
 use Rattle.sefs.specs.Open.{callRoot, callFind, holdNode}
 use Rattle.mem.specs.Mem.{tableIn, metaIn, Whole}
-use Rattle.nodes.specs.Steps.{fsAt}
 use Rattle.calls.specs.Answers.{gotOf, heldTable, givenOf, notHanded}
 use Rattle.calls.specs.Asked.{reached}
-use Rattle.calls.specs.declared.Given.{Given}
+use Rattle.calls.specs.declared.HeldReply.{HeldReply}
 use Rattle.calls.specs.declared.Handed.{Handed}
 use Rattle.calls.proofs.Answers.{given-held, given-refused}
 use Rattle.calls.proofs.Asks.{Asks, asks-ensure, asks-then, asked-not, asked-done, call-stop, call-next, answer-stop, answer-next}
 use Rattle.calls.proofs.General.{went-last, went-as}
 use Rattle.calls_find.specs.Finds.{Gives, giveNode, giveNamed, notOrphan, findName, findFolder, findAsk, findId, findIn}
+use Rattle.mem.specs.State.{fsAt}
 
 -- ---- a node opened, and the hold on it
 
@@ -57,16 +57,16 @@ pub not-handed : {o : Out Added} {x : Added} {n : ℕ} {r : Handed} → 0 < n �
 not-handed l e q = rw q (ill l e)
 
 -- by a reason's number, and by the outcome
-given-is : (t : Table) {o : Out Added} {x : Added} {P : Type 0} {n : ℕ} {r : Given} → Went o x P n → r ≡ givenOf t x n → Gives t o r
+given-is : (t : Table) {o : Out Added} {x : Added} {P : Type 0} {n : ℕ} {r : HeldReply} → Went o x P n → r ≡ givenOf t x n → Gives t o r
 given-is t {x = x} (well e p) q =
     let h = q ∙ sym (given-held t x 0 refl) in
-    (ap (λ (y : Given). y .answer) h ∙ sym (ap gotOf e), ap (λ (y : Given). y .table) h ∙ sym (ap (heldTable t) e))
+    (ap (λ (y : HeldReply). y .answer) h ∙ sym (ap gotOf e), ap (λ (y : HeldReply). y .table) h ∙ sym (ap (heldTable t) e))
 given-is t {x = x} (ill {r = n} l e) q =
     let h = q ∙ sym (given-refused t x n (λ z. omega arith)) in
-    (ap (λ (y : Given). y .answer) h ∙ sym (ap gotOf e), ap (λ (y : Given). y .table) h ∙ sym (ap (heldTable t) e))
+    (ap (λ (y : HeldReply). y .answer) h ∙ sym (ap gotOf e), ap (λ (y : HeldReply). y .table) h ∙ sym (ap (heldTable t) e))
 
 -- the same, where the table that memory was given is known by another name
-pub given-table : (f : Table → Out Added) (t : Table) {u v : Table} {x : Added} {P : Type 0} {n : ℕ} {r : Given} → u ≡ v → Went (f u) x P n → r ≡ givenOf t x n → Gives t (f v) r
+pub given-table : (f : Table → Out Added) (t : Table) {u v : Table} {x : Added} {P : Type 0} {n : ℕ} {r : HeldReply} → u ≡ v → Went (f u) x P n → r ≡ givenOf t x n → Gives t (f v) r
 given-table f t q g e = rw (← q) (given-is t g e)
 
 -- ---- 16, and then the opening

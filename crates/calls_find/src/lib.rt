@@ -7,13 +7,13 @@ ghost use Rattle.table.specs.Table.{addHold};
 ghost use Rattle.sefs.specs.Ask.{start};
 ghost use Rattle.sefs.specs.Open.{callRoot, callFind, holdNode};
 ghost use Rattle.chains.specs.Led.{Led};
-ghost use Rattle.mem.specs.Mem.{tableIn, Whole};
+ghost use Rattle.mem.specs.Mem.{tableIn, Whole, memorySize};
 ghost use Rattle.table.specs.Table.{rowAt};
 ghost use Rattle.calls.specs.Answers.{addedAs};
 ghost use Rattle.calls.specs.Asked.{Blank};
 ghost use Rattle.calls_find.specs.Finds.{Gives, giveNode, giveNamed, notOrphan, findName, findFolder, findAsk, findId, findIn};
-use calls::Given;
 use calls::Handed;
+use calls::HeldReply;
 use calls::folder;
 use calls::good_name;
 use calls::hand;
@@ -26,6 +26,7 @@ use calls::settle_held;
 use chains::slots::find_slot;
 use holds::can_hold;
 use le::u32_at;
+use mem::MEMORY;
 use mem::put_table;
 use mem::rec_at;
 use nodes::Opened;
@@ -40,7 +41,7 @@ use utf8::is_dots;
 
 fn open_node(arena: &[u8], first: &[u16], next: &[u16], mem: &mut [u8], id: u32) -> Opened
     requires { ⌜ Led (now arena) (now first) (now next) ⌝ }
-    requires { ⌜ length (now mem) ≡ 4899 ⌝ }
+    requires { ⌜ length (now mem) ≡ memorySize ⌝ }
     ensures { λ r. ⌜ Went (holdNode (start (now (arena .entry)) (tableIn (now (mem .entry)))) id) (addHold (tableIn (now (mem .exit))) (r .row)) (Whole (now (mem .exit)) × (r .row < 34)) (r .reason) ⌝ }
 {
     load_meta(arena, first, next, mem);
@@ -49,7 +50,7 @@ fn open_node(arena: &[u8], first: &[u16], next: &[u16], mem: &mut [u8], id: u32)
 
 fn hold_node(arena: &[u8], first: &[u16], next: &[u16], mem: &mut [u8], id: u32) -> Handed
     requires { ⌜ Led (now arena) (now first) (now next) ⌝ }
-    requires { ⌜ length (now mem) ≡ 4899 ⌝ }
+    requires { ⌜ length (now mem) ≡ memorySize ⌝ }
     ensures { λ r. ⌜ Went (holdNode (start (now (arena .entry)) (tableIn (now (mem .entry)))) id) (addedAs (r .handle) (tableIn (now (mem .exit)))) Unit (r .reason) ⌝ }
 {
     let o = open_node(arena, first, next, mem, id);
@@ -92,10 +93,10 @@ fn root_on(arena: &[u8], mem: &mut [u8]) -> Handed
     root_led(arena, &mut chains, mem)
 }
 
-pub fn root(arena: &[u8], t: Table) -> Given
+pub fn root(arena: &[u8], t: Table) -> HeldReply
     ensures { λ r. ⌜ Gives t (callRoot (now (arena .entry)) t) r ⌝ }
 {
-    let mut mem = [0u8; 4899];
+    let mut mem = [0u8; MEMORY];
     put_table(&mut mem, t);
     let h = root_on(arena, &mut mem);
     settle_held(t, &mem, h)
@@ -231,10 +232,10 @@ fn find_on(arena: &[u8], mem: &mut [u8], h: Handle, name: &[u8]) -> Handed
     find_led(arena, &mut chains, mem, h, name)
 }
 
-pub fn find(arena: &[u8], t: Table, h: Handle, name: &[u8]) -> Given
+pub fn find(arena: &[u8], t: Table, h: Handle, name: &[u8]) -> HeldReply
     ensures { λ r. ⌜ Gives t (callFind (now (arena .entry)) t h (now (name .entry))) r ⌝ }
 {
-    let mut mem = [0u8; 4899];
+    let mut mem = [0u8; MEMORY];
     put_table(&mut mem, t);
     let r = find_on(arena, &mut mem, h, name);
     settle_held(t, &mem, r)

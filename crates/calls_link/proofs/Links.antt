@@ -12,7 +12,7 @@ use Rattle.base.specs.Search.{foundBelow}
 use Rattle.base.proofs.Outs.{went-is, went-has, went-not, went-stop, went-next, above-zero, bind-assoc}
 use Rattle.base.proofs.Searches.{found-at, found-nothing}
 use Rattle.base.proofs.Parts.{getD-zero-list}
-use Rattle.structs.specs.Verdict.{isFolder}
+use Rattle.structs.specs.Types.{isFolder}
 use Rattle.structs.specs.declared.DiskINode.{DiskINode}
 use Rattle.structs.specs.declared.DiskEntry.{DiskEntry}
 use Rattle.structs.specs.Layout.{entryOf, entryBytes}
@@ -34,16 +34,15 @@ use Rattle.sefs.specs.Slots.{lookTo, lookup}
 use Rattle.sefs.specs.Folders.{entry, direntAppend, nlinksInc}
 use Rattle.sefs.specs.Ask.{admit, byHandle, goodName, notLong, known, liveFolder, orExists, start}
 use Rattle.sefs.specs.Create.{After, after, linkSteps, callLink}
-use Rattle.mem.specs.State.{fsOf, Ready, Still, Stepped}
+use Rattle.mem.specs.State.{fsOf, Ready, Still, Stepped, fsAt}
 use Rattle.chains.proofs.Lookups.{lookup-is}
 use Rattle.calls.proofs.Asks.{Asks, asks-ensure, asks-then, asks-live, asked-not, asked-done, asked-went, answer-stop, answer-next}
-use Rattle.nodes.specs.Steps.{fsAt}
 use Rattle.calls.specs.Asked.{reached, reachedTwo}
-use Rattle.calls_steps.specs.Ends.{Begun, Rest, on, off, ending}
+use Rattle.steps.specs.Ends.{Begun, Rest, on, off, ending}
 use Rattle.calls_link.specs.Link.{linkAsk, linkChild, linkMoves, linkWork, Asked}
-use Rattle.calls_steps.specs.Steps.{noSlot, syncTwo}
-use Rattle.calls_steps.proofs.Ends.{ending-bind, ending-both, bind-same, begun-start, rest-off, rest-as, rest-then}
-use Rattle.calls_steps.proofs.Steps.{asks-good, asks-known, long}
+use Rattle.steps.specs.Steps.{noSlot, syncTwo}
+use Rattle.steps.proofs.Ends.{ending-bind, ending-both, bind-same, begun-start, rest-off, rest-as, rest-then}
+use Rattle.steps.proofs.Steps.{asks-good, asks-known, long}
 
 -- ---- the call is its questions and its steps
 

@@ -3,30 +3,29 @@ ghost use mathlib.Core.Path.{_≡_};
 ghost use Prim.Native.Nat.{_<_, _≤_};
 ghost use lib.ListN.{length};
 ghost use Rattle.base.specs.Out.{Went};
-ghost use Rattle.overlay.specs.View.{left};
-ghost use Rattle.overlay.proofs.Views.{Ready as Empty};
+ghost use Rattle.overlay.specs.View.{left, Empty};
 ghost use Rattle.sefs.specs.Create.{callLink};
 ghost use Rattle.chains.specs.Led.{Led};
-ghost use Rattle.nodes.specs.Steps.{fsAt};
 ghost use Rattle.mem.specs.Mem.{tableIn, Whole};
-ghost use Rattle.mem.specs.State.{fsOf, Ready, Stepped};
+ghost use Rattle.mem.specs.State.{fsOf, Ready, Stepped, fsAt};
 ghost use Rattle.calls.specs.Asked.{Blank};
-ghost use Rattle.calls_steps.specs.Ends.{Rest, ending, Ended, Returned};
+ghost use Rattle.steps.specs.Ends.{Rest, ending, Ended, Returned};
 ghost use Rattle.calls_link.specs.Link.{linkAsk, linkChild, linkMoves, linkWork, Asked};
-use calls::After;
+use calls::Reply;
 use calls::good_name;
 use calls::known;
 use calls::led::ByTwo;
 use calls::live_folder;
 use calls::not_long;
 use calls::settle;
-use calls_steps::append_named;
-use calls_steps::no_slot;
-use calls_steps::reach_two_read;
-use calls_steps::sync_two;
 use folders::nlinks_inc;
+use mem::MEMORY;
 use mem::put_table;
 use mem::rec_at;
+use steps::append_named;
+use steps::no_slot;
+use steps::reach_two_read;
+use steps::sync_two;
 use structs::DiskINode;
 use table::Handle;
 use table::Table;
@@ -183,10 +182,10 @@ fn link_on(arena: &mut [u8], mem: &mut [u8], h: Handle, name: &[u8], child: Hand
     link_rows(arena, mem, b.row, name, b.other)
 }
 
-pub fn link(arena: &mut [u8], t: Table, h: Handle, name: &[u8], child: Handle) -> After
+pub fn link(arena: &mut [u8], t: Table, h: Handle, name: &[u8], child: Handle) -> Reply
     ensures { λ r. ⌜ Returned t (callLink (now (arena .entry)) t h (now (name .entry)) child) (now (arena .entry)) (now (arena .exit)) r ⌝ }
 {
-    let mut mem = [0u8; 4899];
+    let mut mem = [0u8; MEMORY];
     put_table(&mut mem, t);
     let r = link_on(arena, &mut mem, h, name, child);
     settle(t, &mem, r)

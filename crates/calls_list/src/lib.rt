@@ -20,6 +20,7 @@ use calls::led::reach;
 use calls::long;
 use calls::readable;
 use chains::slots::end_of;
+use mem::MEMORY;
 use mem::put_table;
 use mem::rec_at;
 use slots::list_check;
@@ -181,7 +182,7 @@ pub fn list_from(arena: &[u8], t: Table, h: Handle, next: u64, out: &mut [u8]) -
     ensures { λ r. ⌜ r ≡ listedOf (callListing (now (arena .entry)) t h next (length (now (out .entry)))) ⌝ }
     ensures { λ _. ⌜ now (out .exit) ≡ laid (now (out .entry)) (callListing (now (arena .entry)) t h next (length (now (out .entry)))) ⌝ }
 {
-    let mut mem = [0u8; 4899];
+    let mut mem = [0u8; MEMORY];
     put_table(&mut mem, t);
     listing_on(arena, &mem, h, next, out)
 }

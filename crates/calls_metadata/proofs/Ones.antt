@@ -8,7 +8,7 @@ use Rattle.table.specs.declared.Table.{Table}
 use Rattle.table.specs.declared.Handle.{Handle}
 use Rattle.sefs.specs.Read.{callMetadata, callSet}
 use Rattle.calls.specs.Answers.{answerOf, toldOf}
-use Rattle.calls.specs.declared.After.{After}
+use Rattle.calls.specs.declared.Reply.{Reply}
 use Rattle.calls.specs.declared.Told.{Told}
 
 module _ (a : List ℕ) (t : Table) (h : Handle) where
@@ -16,8 +16,8 @@ module _ (a : List ℕ) (t : Table) (h : Handle) where
   metadata-one r s p q = p ∙ sym q
 
   module _ (mode uid gid : ℕ) (atime mtime ctime : Timespec) where
-    abbrev Set : After → Type 0
+    abbrev Set : Reply → Type 0
     Set r = (r .answer ≡ answerOf (callSet a t h mode uid gid atime mtime ctime)) × (r .table ≡ kept t (callSet a t h mode uid gid atime mtime ctime))
 
-    pub set-metadata-one : (r s : After) → Set r → Set s → r ≡ s
+    pub set-metadata-one : (r s : Reply) → Set r → Set s → r ≡ s
     set-metadata-one r s p q = λ x. record { answer = (p .0 ∙ sym (q .0)) x; table = (p .1 ∙ sym (q .1)) x }

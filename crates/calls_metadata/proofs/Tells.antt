@@ -10,7 +10,7 @@ use Rattle.table.specs.declared.Table.{Table}
 use Rattle.sefs.specs.Ask.{known}
 use Rattle.sefs.specs.Read.{metadataOf}
 use Rattle.calls.specs.Answers.{answerOf, afterOf}
-use Rattle.calls.specs.declared.After.{After}
+use Rattle.calls.specs.declared.Reply.{Reply}
 use Rattle.calls.proofs.Answers.{after-done, after-refused, done-after, refused-after}
 use Rattle.calls.proofs.Asks.{asks-ensure, asked-not, asked-done}
 use Rattle.calls_metadata.specs.Tell.{told}
@@ -28,6 +28,6 @@ above : {r : ℕ} → 0 < r → r ≡ 0 → ⊥
 above l z = omega arith
 
 -- what set metadata answers, by the table that memory has afterwards; v is the one that it had
-pub settled : (f : Table → Out Table) {v t u : Table} {n : ℕ} {x : After} → v ≡ t → Went (f v) u Unit n → x ≡ afterOf t u n → (x .answer ≡ answerOf (f t)) × (x .table ≡ kept t (f t))
+pub settled : (f : Table → Out Table) {v t u : Table} {n : ℕ} {x : Reply} → v ≡ t → Went (f v) u Unit n → x ≡ afterOf t u n → (x .answer ≡ answerOf (f t)) × (x .table ≡ kept t (f t))
 settled f {t = t} {u = u} {x = x} e (well q p) k = done-after t (f t) x u (sym (ap f e) ∙ q) (k ∙ sym (after-done t u 0 refl))
 settled f {t = t} {u = u} {x = x} e (ill {r = r} l q) k = refused-after t (f t) x r (sym (ap f e) ∙ q) (k ∙ sym (after-refused t u r (above l)))

@@ -2,18 +2,19 @@
 ghost use mathlib.Core.Path.{_≡_};
 ghost use Rattle.base.specs.Out.{kept, Went};
 ghost use Rattle.base.specs.Search.{pick};
-ghost use Rattle.structs.specs.Verdict.{isFolder};
+ghost use Rattle.structs.specs.Types.{isFolder};
 ghost use Rattle.sefs.specs.Read.{metadataOf, callMetadata, callSet};
 ghost use Rattle.sefs.specs.Read.{changed as changedAs};
 ghost use Rattle.mem.specs.Mem.{tableIn, Whole};
 ghost use Rattle.calls.specs.Answers.{answerOf, toldOf};
 ghost use Rattle.calls_metadata.specs.Tell.{told};
-use calls::After;
+use calls::Reply;
 use calls::Told;
 use calls::known;
 use calls::long;
 use calls::reach;
 use calls::settle;
+use mem::MEMORY;
 use mem::put_table;
 use mem::rec_at;
 use mem::row_at;
@@ -84,7 +85,7 @@ fn metadata_on(arena: &[u8], mem: &[u8], h: Handle) -> Told
 pub fn metadata(arena: &[u8], t: Table, h: Handle) -> Told
     ensures { λ r. ⌜ r ≡ toldOf (callMetadata (now (arena .entry)) t h) ⌝ }
 {
-    let mut mem = [0u8; 4899];
+    let mut mem = [0u8; MEMORY];
     put_table(&mut mem, t);
     metadata_on(arena, &mem, h)
 }
@@ -158,10 +159,10 @@ pub fn set_metadata(
     atime: Timespec,
     mtime: Timespec,
     ctime: Timespec,
-) -> After
+) -> Reply
     ensures { λ r. ⌜ (r .answer ≡ answerOf (callSet (now (arena .entry)) t h mode uid gid atime mtime ctime)) × (r .table ≡ kept t (callSet (now (arena .entry)) t h mode uid gid atime mtime ctime)) ⌝ }
 {
-    let mut mem = [0u8; 4899];
+    let mut mem = [0u8; MEMORY];
     put_table(&mut mem, t);
     let r = set_on(arena, &mut mem, h, mode, uid, gid, atime, mtime, ctime);
     settle(t, &mem, r)

@@ -24,16 +24,15 @@ use Rattle.sefs.specs.Slots.{slotAt, lookTo, lookup, findSlot}
 use Rattle.sefs.specs.Create.{After, after}
 use Rattle.sefs.specs.Move.{renamed, replace, moveTo, callMove}
 use Rattle.mem.specs.Mem.{tableIn, Whole}
-use Rattle.mem.specs.State.{Stepped}
-use Rattle.nodes.specs.Steps.{fsAt}
+use Rattle.mem.specs.State.{Stepped, fsAt}
 use Rattle.chains.proofs.Lookups.{lookup-is}
 use Rattle.calls.specs.Asked.{reached, reachedTwo}
-use Rattle.calls_steps.specs.Ends.{Begun, Rest, on, off, ending}
-use Rattle.calls_steps.proofs.Ends.{begun-start, rest-off, rest-as}
-use Rattle.calls_move_steps.specs.declared.Gone.the-variants.{Free}
-use Rattle.calls_move_steps.specs.Steps.{moveSlot, moveNamed, moveOver}
-use Rattle.calls_move_steps.proofs.Moves.{steps-is}
-use Rattle.calls_move.specs.Parts.{Both, both, openTwo, knownTwo, replaceNode, replaceNamed, moveFound, moveAsks, moveWork, planSteps, planned, Planned, Ready}
+use Rattle.steps.specs.Ends.{Begun, Rest, on, off, ending}
+use Rattle.steps.proofs.Ends.{begun-start, rest-off, rest-as}
+use Rattle.move_steps.specs.declared.Gone.the-variants.{Free}
+use Rattle.move_steps.specs.Steps.{moveSlot, moveNamed, moveOver}
+use Rattle.move_steps.proofs.Moves.{steps-is}
+use Rattle.calls_move.specs.Parts.{Both, both, openTwo, knownTwo, replaceNode, replaceNamed, moveFound, moveAsks, moveWork, planSteps, planned, Planned, Agreed}
 use Rattle.calls_move.proofs.Moves.{replace-is, move-is}
 
 -- ---- both nodes opened
@@ -178,8 +177,8 @@ module _ (a first next m n : List ℕ) (h target : Handle) (old name : List ℕ)
 
   pub move-rows : {y slot : List ℕ} {way x w d c q : ℕ} (e : Fs → Out After) → r ≡ 0
       → Rest (moveWork (fsAt a n) i j old name) (e (fsAt a n)) ((length name ≤ 255) × (Planned y way x w d c × (length slot ≡ 264))) q
-      → Rest (callMove a (tableIn m) h old target name) (e (start a (tableIn m))) (Ready a y name slot way x w d c) q
+      → Rest (callMove a (tableIn m) h old target name) (e (start a (tableIn m))) (Agreed a y name slot way x w d c) q
   move-rows {y} {slot} {way} {x} {w} {d} {c} {q} e z f =
       let b = went-has g z .0 in
-      subst (λ (t : Fs). Rest (callMove a (tableIn m) h old target name) (e t) (Ready a y name slot way x w d c) q) (begun-start b)
+      subst (λ (t : Fs). Rest (callMove a (tableIn m) h old target name) (e t) (Agreed a y name slot way x w d c) q) (begun-start b)
       (rest-as (move-two ∙ rw (went-is g z, ← begun-start b)) (λ p. record { legal = b .led .whole; plan = p .1 .0; short = p .0; long = p .1 .1 }) f)

@@ -17,10 +17,10 @@ use Rattle.sefs.specs.Create.{After, after}
 use Rattle.sefs.specs.Unlink.{notFull, unlinkSteps, callUnlink}
 use Rattle.calls.specs.Asked.{reached}
 use Rattle.mem.specs.Mem.{tableIn}
-use Rattle.nodes.specs.Steps.{fsAt}
-use Rattle.calls_steps.specs.Ends.{Begun, Rest, ending}
-use Rattle.calls_steps.proofs.Ends.{bind-same, begun-start, rest-off, rest-as, rest-then}
+use Rattle.steps.specs.Ends.{Begun, Rest, ending}
+use Rattle.steps.proofs.Ends.{bind-same, begun-start, rest-off, rest-as, rest-then}
 use Rattle.calls_unlink.specs.Steps.{nameAsks, unlinkAsks, removeNode, removeId, removeName, unlinkIn}
+use Rattle.mem.specs.State.{fsAt}
 
 -- the questions first
 asks-is : (g l s n : Out Unit) (o : Out Fs) (r : Out After) → r ≡ ending o

@@ -5,30 +5,29 @@ ghost use Prim.Native.Nat.{_<_, _≤_};
 ghost use lib.ListN.{length};
 ghost use Rattle.arena.specs.Blocks.{legal};
 ghost use Rattle.base.specs.Out.{answer};
-ghost use Rattle.overlay.specs.View.{left};
-ghost use Rattle.overlay.proofs.Views.{Ready as Empty};
+ghost use Rattle.overlay.specs.View.{left, Empty};
 ghost use Rattle.sefs.specs.Unlink.{notFull, callUnlink};
 ghost use Rattle.chains.specs.Led.{Led};
-ghost use Rattle.nodes.specs.Steps.{fsAt};
 ghost use Rattle.mem.specs.Mem.{tableIn, Whole};
-ghost use Rattle.mem.specs.State.{fsOf, Ready, Stepped};
+ghost use Rattle.mem.specs.State.{fsOf, Ready, Stepped, fsAt};
 ghost use Rattle.calls.specs.Asked.{Blank};
-ghost use Rattle.calls_steps.specs.Ends.{Rest, ending, Ended, Returned};
+ghost use Rattle.steps.specs.Ends.{Rest, ending, Ended, Returned};
 ghost use Rattle.calls_unlink.specs.Steps.{nameAsks, unlinkAsks, removeNode, removeId, removeName, unlinkIn};
-use calls::After;
+use calls::Reply;
 use calls::good_name;
 use calls::live_folder;
 use calls::not_long;
 use calls::not_special;
 use calls::settle;
-use calls_steps::reach_read;
 use chains::slots::find_slot;
 use folders::dirent_node_remove;
 use le::u32_at;
+use mem::MEMORY;
 use mem::put_table;
 use mem::rec_at;
 use nodes::sync_row;
 use nodes_read::get_node;
+use steps::reach_read;
 use structs::DiskINode;
 use table::Handle;
 use table::Table;
@@ -247,10 +246,10 @@ fn unlink_on(arena: &mut [u8], mem: &mut [u8], h: Handle, name: &[u8]) -> u8
     remove(arena, mem, p.row, p.node, p.place)
 }
 
-pub fn unlink(arena: &mut [u8], t: Table, h: Handle, name: &[u8]) -> After
+pub fn unlink(arena: &mut [u8], t: Table, h: Handle, name: &[u8]) -> Reply
     ensures { λ r. ⌜ Returned t (callUnlink (now (arena .entry)) t h (now (name .entry))) (now (arena .entry)) (now (arena .exit)) r ⌝ }
 {
-    let mut mem = [0u8; 4899];
+    let mut mem = [0u8; MEMORY];
     put_table(&mut mem, t);
     let r = unlink_on(arena, &mut mem, h, name);
     settle(t, &mem, r)

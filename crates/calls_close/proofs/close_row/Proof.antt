@@ -1,12 +1,12 @@
 -- `calls_close::close_row`: whether it was the row's last hold.
 use mathlib.Core.Path.{refl}
-use Rattle.calls_steps.specs.Ends.{went}
-use Rattle.nodes.specs.Steps.{fsAt}
-use Rattle.calls_steps.proofs.Ends.{ended-is}
+use Rattle.steps.specs.Ends.{went}
+use Rattle.steps.proofs.Ends.{ended-is}
 use Rattle.calls_close.proofs.Closes.{steps-last, steps-kept}
 use borrow.Author.Needs.{needs}
 use Rattle.calls_close.proofs.close_row.Statement.{statement}
 use Rattle.calls_close.proofs.close_row.Tie as tie
+use Rattle.mem.specs.State.{fsAt}
 
 close-last-requires : tie.Need-close-last-requires
 close-last-requires c κs = search needs

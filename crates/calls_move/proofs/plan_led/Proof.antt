@@ -3,12 +3,12 @@ use mathlib.Core.Path.{sym, _∙_}
 use Rattle.base.proofs.Outs.{went-has}
 use Rattle.structs.specs.Layout.{entryOf}
 use Rattle.sound.proofs.Chains.{length-firsts}
-use Rattle.nodes.specs.Steps.{fsAt}
 use Rattle.calls_move.specs.Parts.{planned}
 use Rattle.calls_move.proofs.Decisions.{move-not, move-rows}
 use borrow.Author.Needs.{needs}
 use Rattle.calls_move.proofs.plan_led.Statement.{statement}
 use Rattle.calls_move.proofs.plan_led.Tie as tie
+use Rattle.mem.specs.State.{fsAt}
 
 reach-two-read-requires : tie.Need-reach-two-read-requires
 reach-two-read-requires c κs = search needs

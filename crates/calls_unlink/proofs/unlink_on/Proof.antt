@@ -1,6 +1,6 @@
 -- `calls_unlink::unlink_on`: what is found first, and the steps.
 use mathlib.Core.Path.{refl}
-use Rattle.calls_steps.proofs.Ends.{rest-is, rest-has, rest-not, ended-is, ended-refused}
+use Rattle.steps.proofs.Ends.{rest-is, rest-has, rest-not, ended-is, ended-refused}
 use borrow.Author.Needs.{needs}
 use Rattle.calls_unlink.proofs.unlink_on.Statement.{statement}
 use Rattle.calls_unlink.proofs.unlink_on.Tie as tie
