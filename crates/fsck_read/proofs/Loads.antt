@@ -74,7 +74,7 @@ put-is m d p b size F some few e f =
     let size-d : length d ≡ memorySize = subst (λ (x : List ℕ). length x ≡ memorySize) (sym e) (length-set m 4370 1 ∙ size) in
     let mark : getD d 4370 0 ≡ 1 = subst (λ (x : List ℕ). getD x 4370 0 ≡ 1) (sym e) (getD-set-same m 4370 1 0 (omega arith)) in
     let fit : 4371 + length (superBytes b) ≤ length d = omega (arith, length-superBytes b) in
-    let s : memory.storedSuper (paste d 4371 (superBytes b)) ≡ b = super-put d d b size-d refl mark F some few in
+    let s : memory.superIn (paste d 4371 (superBytes b)) ≡ b = super-put d d b size-d refl mark F some few in
     subst (λ (x : List ℕ). Put m x b) (sym f) (record {
       loaded = record {
         whole = record {
@@ -169,7 +169,7 @@ module _ (a : List ℕ) (n : ℕ) (is : n ≡ pick (there a metaFile) (suc (leng
       groups-are = g-is ∙ ap (λ (x : SuperBlock). x .groups) b-is
 
       super-maps : Of a p
-      unfolding memory.storedMaps storedMaps
+      unfolding memory.mapsIn storedMaps
       super-maps = record {
         super = P .super ∙ b-is;
         maps = ap (λ (x : ℕ). part p 4387 (4387 + 128 * x)) (ap (λ (x : SuperBlock). x .groups) (P .super) ∙ sym g-is) ∙ maps-are ∙ ap (mapsTo a) groups-are;

@@ -27,7 +27,7 @@ use Rattle.mem.specs.Mem as memory
 use Rattle.rules.specs.Image.{run, storedSuper, storedMaps, idsIn, isNode, storedBytes, recBy, recOf, isOpen, nodeCount}
 use Rattle.fsck_read.specs.Loaded.{Loaded, Of}
 
-pub groups-some : (m : List ℕ) → Loaded m → (0 < memory.storedSuper m .groups) × (memory.storedSuper m .groups ≤ 4)
+pub groups-some : (m : List ℕ) → Loaded m → (0 < memory.superIn m .groups) × (memory.superIn m .groups ≤ 4)
 groups-some m L = (L .whole .some (L .read), L .whole .few (L .read))
 
 -- ---- nodes
@@ -37,14 +37,14 @@ and-third true b = and-false b
 and-third false b = refl
 
 module _ (a m : List ℕ) (O : Of a m) where
-  pub ids-is : 1024 * memory.storedSuper m .groups ≡ idsIn a
+  pub ids-is : 1024 * memory.superIn m .groups ≡ idsIn a
   ids-is = ap (λ (b : SuperBlock). 1024 * b .groups) (O .super)
 
-  pub node-past : (id n : ℕ) → n ≡ 1024 * memory.storedSuper m .groups → n ≤ id → false ≡ isNode a id
+  pub node-past : (id n : ℕ) → n ≡ 1024 * memory.superIn m .groups → n ≤ id → false ≡ isNode a id
   unfolding isNode
   node-past id n e l = sym (rw (le-ltb id (idsIn a) (omega (arith, ids-is))) refl)
 
-  pub node-bit : (id n : ℕ) (b : Bool) → n ≡ 1024 * memory.storedSuper m .groups → id < n → (id ≡ 0 → ⊥) → (id % 1024 ≡ 1 → ⊥) → b ≡ bitAt (memory.storedMaps m) id
+  pub node-bit : (id n : ℕ) (b : Bool) → n ≡ 1024 * memory.superIn m .groups → id < n → (id ≡ 0 → ⊥) → (id % 1024 ≡ 1 → ⊥) → b ≡ bitAt (memory.mapsIn m) id
       → not b ≡ isNode a id
   unfolding isNode
   node-bit id n b e l z o q =

@@ -33,17 +33,17 @@ use Rattle.fsck_read.specs.Loaded.{Of, mapsClear}
 
 -- ---- the maps' own bits
 
-pub clear-none : (m : List ℕ) → allTo (λ i. not (bitAt (memory.storedMaps m) (1024 * i + 1))) 0 ≡ true
-clear-none m = allTo-all (λ i. not (bitAt (memory.storedMaps m) (1024 * i + 1))) 0 (λ j l. absurd (omega arith))
+pub clear-none : (m : List ℕ) → allTo (λ i. not (bitAt (memory.mapsIn m) (1024 * i + 1))) 0 ≡ true
+clear-none m = allTo-all (λ i. not (bitAt (memory.mapsIn m) (1024 * i + 1))) 0 (λ j l. absurd (omega arith))
 
-module _ (m : List ℕ) (n : ℕ) (is : n ≡ memory.storedSuper m .groups) where
-  pub clear-not : (g : ℕ) → g < n → bitAt (memory.storedMaps m) (1024 * g + 1) ≡ true → false ≡ mapsClear m
+module _ (m : List ℕ) (n : ℕ) (is : n ≡ memory.superIn m .groups) where
+  pub clear-not : (g : ℕ) → g < n → bitAt (memory.mapsIn m) (1024 * g + 1) ≡ true → false ≡ mapsClear m
   unfolding mapsClear
-  clear-not g l e = sym (allTo-false (λ i. not (bitAt (memory.storedMaps m) (1024 * i + 1))) (memory.storedSuper m .groups) g (omega arith) (ap not e))
+  clear-not g l e = sym (allTo-false (λ i. not (bitAt (memory.mapsIn m) (1024 * i + 1))) (memory.superIn m .groups) g (omega arith) (ap not e))
 
-  pub clear-all : (g : ℕ) → g ≤ n → n ≤ g → allTo (λ i. not (bitAt (memory.storedMaps m) (1024 * i + 1))) g ≡ true → true ≡ mapsClear m
+  pub clear-all : (g : ℕ) → g ≤ n → n ≤ g → allTo (λ i. not (bitAt (memory.mapsIn m) (1024 * i + 1))) g ≡ true → true ≡ mapsClear m
   unfolding mapsClear
-  clear-all g l h e = sym e ∙ ap (allTo (λ i. not (bitAt (memory.storedMaps m) (1024 * i + 1)))) (let z : g ≡ n = omega arith in z ∙ is)
+  clear-all g l h e = sym e ∙ ap (allTo (λ i. not (bitAt (memory.mapsIn m) (1024 * i + 1)))) (let z : g ≡ n = omega arith in z ∙ is)
 
 -- ---- a row
 
@@ -95,19 +95,19 @@ rows-all a t i l g e = sym e ∙ ap (allTo (rowAllowed a t)) (let z : i ≡ 34 =
 -- ---- rule 4
 
 module _ (a m : List ℕ) (O : Of a m) where
-  bit-is : (id : ℕ) (b : Bool) → b ≡ bitAt (memory.storedMaps m) id → bitAt (storedMaps a) id ≡ b
+  bit-is : (id : ℕ) (b : Bool) → b ≡ bitAt (memory.mapsIn m) id → bitAt (storedMaps a) id ≡ b
   bit-is id b e = sym (e ∙ ap (λ (x : List ℕ). bitAt x id) (O .maps))
 
   clear-is : mapsClear m ≡ allTo (λ g. not (bitAt (storedMaps a) (1024 * g + 1))) (storedSuper a .groups)
   unfolding mapsClear
   clear-is = ap₂ (λ (x : List ℕ) (b : SuperBlock). allTo (λ g. not (bitAt x (1024 * g + 1))) (b .groups)) (O .maps) (O .super)
 
-  module _ (t : Table) (x : Bool) (x-is : x ≡ bitAt (memory.storedMaps m) 0) where
+  module _ (t : Table) (x : Bool) (x-is : x ≡ bitAt (memory.mapsIn m) 0) where
     pub four-zero : x ≡ true → false ≡ test4 a t
     unfolding test4
     four-zero e = sym (rw (bit-is 0 x x-is ∙ e))
 
-    module _ (off : x ≡ false) (y : Bool) (y-is : y ≡ bitAt (memory.storedMaps m) 2) where
+    module _ (off : x ≡ false) (y : Bool) (y-is : y ≡ bitAt (memory.mapsIn m) 2) where
       pub four-root : y ≡ true → false ≡ test4 a t
       unfolding test4
       four-root e = sym (rw (bit-is 0 x x-is ∙ off, bit-is 2 y y-is ∙ e))

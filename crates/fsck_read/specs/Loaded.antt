@@ -21,8 +21,8 @@ pub record Loaded (m : List ℕ) : Type 0 where
 
 -- they are the arena's
 pub record Of (a m : List ℕ) : Type 0 where
-  pub super : memory.storedSuper m ≡ storedSuper a
-  pub maps : memory.storedMaps m ≡ storedMaps a
+  pub super : memory.superIn m ≡ storedSuper a
+  pub maps : memory.mapsIn m ≡ storedMaps a
 
 -- ---- how they come there
 
@@ -41,10 +41,10 @@ pub record Mapped (a m d : List ℕ) (n : ℕ) : Type 0 where
 -- the superblock was put, with the mark that it is there, and neither table nor maps changed
 pub record Put (m d : List ℕ) (b : SuperBlock) : Type 0 where
   pub loaded : Loaded d
-  pub super : memory.storedSuper d ≡ b
+  pub super : memory.superIn d ≡ b
   pub front : part d 0 4370 ≡ part m 0 4370
   pub maps : part d 4387 memorySize ≡ part m 4387 memorySize
 
 -- the bits of the maps' own blocks are clear
 unfoldable pub mapsClear : List ℕ → Bool
-mapsClear m = allTo (λ g. not (bitAt (memory.storedMaps m) (1024 * g + 1))) (memory.storedSuper m .groups)
+mapsClear m = allTo (λ g. not (bitAt (memory.mapsIn m) (1024 * g + 1))) (memory.superIn m .groups)

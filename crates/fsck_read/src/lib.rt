@@ -125,7 +125,7 @@ pub fn rule3(arena: &[u8], first: &[u16], next: &[u16], mem: &mut [u8]) -> bool
 // How many ids the maps have.
 pub fn ids(mem: &[u8]) -> usize
     requires { ⌜ Loaded (now mem) ⌝ }
-    ensures { λ r. ⌜ (r ≡ 1024 * memory.storedSuper (now (mem .entry)) .groups) × ((1024 ≤ r) × (r ≤ 4096)) ⌝ }
+    ensures { λ r. ⌜ (r ≡ 1024 * memory.superIn (now (mem .entry)) .groups) × ((1024 ≤ r) × (r ≤ 4096)) ⌝ }
     ensures { λ r. ⌜ ((a : List ℕ) → Of a (now (mem .entry)) → r ≡ idsIn a) ⌝ }
 {
     1024 * index(super_at(mem).groups)
