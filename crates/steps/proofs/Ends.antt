@@ -121,11 +121,11 @@ returned-refused t e k q = record { answer = q ∙ rw e; arena = k ∙ rw e }
 pub returned-one : (t : Table) (o : Out After) {a b c : List ℕ} {r s : answered.Reply} → Returned t o a b r → Returned t o a c s → (r ≡ s) × (b ≡ c)
 returned-one t o p q = (p .answer ∙ sym (q .answer), p .arena ∙ sym (q .arena))
 
--- ---- how a call begins: the first questions, and then superblock and maps
+-- ---- how a call begins: the handles' rows, and then superblock and maps
 
-module _ {A R : Type 0} {o : Out A} {v : A} {r : ℕ} (a first next : List ℕ) (g : Went o v (Led a first next × R) r) where
+module _ {A R : Type 0} {o : Out A} {v : A} {r : ℕ} (g : Went o v R r) where
   pub begin-not : (Q : Type 0) → (r ≡ 0 → ⊥) → Went o v Q r
   begin-not Q z = ill (above-zero r z) (went-not g z)
 
-  pub begin-read : (m d : List ℕ) → (metaIn d ≡ loadMeta a) × ((tableIn d ≡ tableIn m) × Whole d) → Went o v (Begun a first next m d × R) r
-  begin-read m d l = went-weaken (λ p. (record { led = p .0; meta = l .0; table = l .1 .0; whole = l .1 .1 }, p .1)) g
+  pub begin-read : {a first next : List ℕ} (m d : List ℕ) → Led a first next → (metaIn d ≡ loadMeta a) × ((tableIn d ≡ tableIn m) × Whole d) → Went o v (Begun a first next m d × R) r
+  begin-read m d k l = went-weaken (λ p. (record { led = k; meta = l .0; table = l .1 .0; whole = l .1 .1 }, p)) g
