@@ -9,9 +9,8 @@ use Rattle.base.specs.Out.{Out, done, refused, bind, answer, Went, well, ill, s
 use Rattle.base.proofs.Outs.{went-is, went-has, went-not, went-weaken, above-zero}
 use Rattle.arena.specs.Blocks.{blocks, legal}
 use Rattle.arena.proofs.Blocks.{legal-is}
-use Rattle.overlay.specs.View.{view, left, Fine, begun}
+use Rattle.overlay.specs.View.{view, left, Fine, begun, Empty}
 use Rattle.overlay.proofs.Views.{ready}
-use Rattle.overlay.proofs.Views as views
 use Rattle.table.specs.declared.Table.{Table}
 use Rattle.table.specs.declared.Handle.{Handle}
 use Rattle.table.specs.Formed.{wellFormed}
@@ -30,7 +29,7 @@ use Rattle.steps.specs.Ends.{Begun, Rest, on, off, arenaAfter, afterAs, 
 -- ---- the start
 
 -- a workspace of m blocks of zeros, made ready
-pub started : (a w : List ℕ) (m : ℕ) → legal a ≡ true → 10 ≤ m → m ≤ 255 → w ≡ begun (replicate (512 * m) 0) → views.Ready a w m
+pub started : (a w : List ℕ) (m : ℕ) → legal a ≡ true → 10 ≤ m → m ≤ 255 → w ≡ begun (replicate (512 * m) 0) → Empty a w m
 started a w m l h k e = ready a w m (legal-is a l .whole) (legal-is a l .most) h k e
 
 -- the memory that a call has begun with is its state
@@ -38,7 +37,7 @@ pub begun-start : {a first next m n : List ℕ} → Begun a first next m n → f
 begun-start b = rw (b .meta, b .table)
 
 -- and so is a workspace with no block
-pub fs-begun : (a w m : List ℕ) (k : ℕ) → views.Ready a w k → fsOf a w m ≡ fsAt a m
+pub fs-begun : (a w m : List ℕ) (k : ℕ) → Empty a w k → fsOf a w m ≡ fsAt a m
 unfolding fsOf
 fs-begun a w m k R = rw (R .is)
 
