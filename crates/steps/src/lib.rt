@@ -29,13 +29,7 @@ use table::Handle;
 // ---- before the first store: what a call asks, and reads by the chains of `sound`, once arena and table are tested
 
 // 4, and superblock and maps.
-pub fn reach_read(
-    arena: &[u8],
-    first: &[u16],
-    next: &[u16],
-    mem: &mut [u8],
-    h: Handle,
-) -> ByHandle
+pub fn reach_read(arena: &[u8], first: &[u16], next: &[u16], mem: &mut [u8], h: Handle) -> ByHandle
     requires { ⌜ Admitted (now arena) (now first) (now next) (now mem) ⌝ }
     ensures { λ r. ⌜ Went (byHandle (tableIn (now (mem .entry))) h) (r .row) (Begun (now (arena .entry)) (now (first .entry)) (now (next .entry)) (now (mem .entry)) (now (mem .exit)) × (r .row < 34)) (r .reason) ⌝ }
 {
