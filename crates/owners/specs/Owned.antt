@@ -1,5 +1,5 @@
 -- What an owner keeps and promises: an arena and a table that nobody else writes, seen once by the check or by format, and beside the arena its
--- chains. The functions here have the relations of the C edge; these two stand before and after them.
+-- chains. The functions here have the relations of the C edge; what is defined here stands before and after them.
 use mathlib.Core.Path.{_≡_}
 use mathlib.Core.Bool.{true}
 use mathlib.Core.List.{List}
@@ -13,6 +13,7 @@ use Rattle.table_bytes.specs.Layout.{tableOf}
 use Rattle.arena.specs.Blocks.{blocks, legal}
 use Rattle.sound.specs.Sound.{sound}
 use Rattle.sound.specs.Chain.{Chains, firsts, nexts}
+use Rattle.calls.specs.Asked.{Admitted}
 use Rattle.edge.specs.Edge.{sized}
 
 -- the words c are the chains of all blocks of the arena a
@@ -27,6 +28,11 @@ pub record Owned (a c t : List ℕ) : Type 0 where
   pub chained : Chained a c
   pub size : length t ≡ 4370
   pub formed : wellFormed (tableOf t) ≡ true
+
+-- the same while a call runs, with the table in the memory m
+pub record Kept (a c m : List ℕ) : Type 0 where
+  pub chained : Chained a c
+  pub admitted : Admitted a (firsts c) (nexts c) m
 
 -- the words were c and are d: the chains where the number is 0; 255 where they are not 8,192, 1 where the arena's length is not legal, and
 -- then nothing changes
