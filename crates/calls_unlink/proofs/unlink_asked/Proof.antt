@@ -1,56 +1,50 @@
+-- `calls_unlink::unlink_asked`: arena and table, then the rest by the chains that were left.
+use mathlib.Core.Path.{sym}
+use Rattle.base.proofs.Outs.{went-has, went-not}
+use Rattle.sound.proofs.Chains.{length-firsts}
+use Rattle.mem.specs.Mem.{tableIn}
+use Rattle.calls.proofs.Asks.{blank}
+use Rattle.steps.proofs.Ends.{rest-off}
+use Rattle.calls_unlink.proofs.Unlinks.{unlink-refused}
 use borrow.Author.Needs.{needs}
 use Rattle.calls_unlink.proofs.unlink_asked.Statement.{statement}
 use Rattle.calls_unlink.proofs.unlink_asked.Tie as tie
-use Rattle.calls_unlink.proofs.unlink_asked.Reads as reads
-use Rattle.calls_unlink.proofs.unlink_asked.Lts as lts
-use Rattle.calls.proofs.led.admit.Reads as admit-reads
-use Rattle.calls_unlink.proofs.unlink_led.Reads as unlink-led-reads
 
--- src/lib.rt:206:26
 slice-aggregate-admit : tie.Need-slice-aggregate-admit
 slice-aggregate-admit c = search needs
 
--- src/lib.rt:206:9
 admit-requires : tie.Need-admit-requires
-admit-requires c κs = ?
+admit-requires c κs = (blank, c .before .before .before .before .before .pre)
 
--- src/lib.rt:208:9
 same-length : tie.Need-same-length
 same-length c = search needs
 
--- src/lib.rt:208:9
 returns : tie.Need-returns
-returns c = ?
+returns c =
+    let s = c .before .before .before .before .before .before .before .before .args in
+    rest-off (c .if1 .taken) (unlink-refused (s .arena .now) (tableIn (s .mem .now)) (s .h) (s .name .now) (went-not (c .before .before .admit .ensures) (c .if1 .taken)))
 
--- src/lib.rt:215:9
 slice-aggregate-c : tie.Need-slice-aggregate-c
 slice-aggregate-c c = search needs
 
--- src/lib.rt:216:23
 slice-aggregate-unlink-led : tie.Need-slice-aggregate-unlink-led
-slice-aggregate-unlink-led c = ?
+slice-aggregate-unlink-led c = sym (length-firsts (c .before .before .before .before .admit .last .1 .0) (c .before .before .before .before .admit .kept .1 .0))
 
--- src/lib.rt:216:35
 sub-unlink-led : tie.Need-sub-unlink-led
 sub-unlink-led c = search needs
 
--- src/lib.rt:216:35
 part-unlink-led-start : tie.Need-part-unlink-led-start
 part-unlink-led-start c = search needs
 
--- src/lib.rt:216:35
 part-unlink-led-end : tie.Need-part-unlink-led-end
 part-unlink-led-end c = search needs
 
--- src/lib.rt:216:5
 unlink-led-requires : tie.Need-unlink-led-requires
-unlink-led-requires c κs = ?
+unlink-led-requires c κs = went-has (c .before .before .before .before .before .before .admit .ensures) (c .before .before .before .before .if1 .left)
 
--- src/lib.rt:201:1
 same-length-2 : tie.Need-same-length-2
 same-length-2 c = search needs
 
--- src/lib.rt:201:1
 returns-2 : tie.Need-returns-2
 returns-2 c = search needs
 
