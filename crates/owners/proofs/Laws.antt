@@ -2,7 +2,7 @@
 use mathlib.Core.Path.{_≡_, refl, sym, _∙_, ap, subst}
 use mathlib.Core.Bool.{true, false}
 use mathlib.Core.List.{List}
-use Prim.Native.Nat.{ℕ, _+_, _-_, _<_, _≤_}
+use Prim.Native.Nat.{ℕ, _+_, _-_, _/_, _<_, _≤_}
 use native.Mathlib.Omega.{arith}
 use lib.ListN.{length, getD, set, length-set}
 use lib.Seq.{take-all, getD-set-same}
@@ -24,12 +24,14 @@ use Rattle.sound.specs.Chain.{Chains, firsts, nexts}
 use Rattle.sound.proofs.Chains.{length-firsts, length-nexts}
 use Rattle.mem.specs.Mem.{tableIn, Whole, memorySize}
 use Rattle.mem.proofs.Mems.{back-paste, table-kept}
-use Rattle.calls.specs.Answers.{addedAs}
+use Rattle.calls.specs.Answers.{addedAs, Laid, lay, leave}
 use Rattle.calls.specs.Asked.{Admitted}
 use Rattle.edge.specs.Words.{handleWords}
-use Rattle.edge.specs.Edge.{Holds, Sets}
+use Rattle.sefs.specs.Create.{After}
+use Rattle.steps.specs.Ends.{Ended, went, stopped}
+use Rattle.edge.specs.Edge.{Leaves, Holds, Sets, Shows}
 use Rattle.edge.proofs.Laws.{sized-is, sized-not}
-use Rattle.owners.specs.Owned.{Owned, Builds}
+use Rattle.owners.specs.Owned.{Chained, Owned, Kept, Builds}
 
 -- ---- the promise
 
@@ -47,6 +49,9 @@ admitted {a = a} {c = c} o e w = record {
   whole = w;
   formed = ap wellFormed e ∙ o .formed;
 }
+
+pub keeps : {a c t m : List ℕ} → Owned a c t → tableIn m ≡ tableOf t → Whole m → Kept a c m
+keeps o e w = record { chained = o .chained; admitted = admitted o e w }
 
 -- ---- the beginning: the flag is cleared, and the table's bytes t are laid over their place
 
@@ -84,6 +89,26 @@ pub own-sets : {o p : Out Table} {u : Table} {t b : List ℕ} {P : Type 0} {r n 
     → (n ≡ r) × (b ≡ pick (eqb r 0) (tableBytes u) t) → Sets p t b n
 own-sets e (well f x) E = rw (e, f) (record { number = E .0; table = E .1 })
 own-sets {u = u} {t = t} e (ill {r = r} l f) E = rw (e, f) (record { number = E .0; table = E .1 ∙ sym (passed-over (tableBytes u) t r (λ q. omega arith)) })
+
+-- sync, close, link, unlink, move
+pub own-leaves : {o p : Out After} {u : Table} {a c t b : List ℕ} {r n : ℕ} → p ≡ o → Ended o a c u r
+    → (n ≡ r) × (b ≡ pick (eqb r 0) (tableBytes u) t) → Leaves p a c t b n
+own-leaves e (went f) E = rw (e, f) (record { number = E .0; arena = refl; table = E .1 })
+own-leaves {u = u} {t = t} e (stopped {r = r} l f k) E = rw (e, f) (record { number = E .0; arena = k; table = E .1 ∙ sym (passed-over (tableBytes u) t r (λ q. omega arith)) })
+
+-- get entry
+pub own-shows : {o p : Out (List ℕ)} {x y : List ℕ} {k n : ℕ} → p ≡ o → Laid o x y k n → Shows p x y n
+own-shows e (lay f l k) = rw (e, f) (record { number = refl; output = k })
+own-shows e (leave l f k) = rw (e, f) (record { number = refl; output = k })
+
+-- ---- the chains afterwards
+
+pub rechained : {a c d : List ℕ} → Chained a c → {b : List ℕ} → length d ≡ length c → Chains b (firsts d) (nexts d) (blocks b) → Chained b d
+rechained k e n = record { size = e ∙ k .size; chains = n }
+
+-- an arena that is as long as it was has as many blocks
+pub as-many : (a b : List ℕ) → legal a ≡ true → length b ≡ length a → blocks b ≤ 4096
+as-many a b l e = subst (λ (n : ℕ). n / 512 ≤ 4096) (sym e) (legal-is a l .most)
 
 -- ---- the chains by themselves
 
