@@ -1,37 +1,56 @@
 -- From an owner's promise to what the calls ask for, and from what they leave to the relations of the C edge.
 use mathlib.Core.Path.{_≡_, refl, sym, _∙_, ap, subst}
-use mathlib.Core.Bool.{true, false}
-use mathlib.Core.List.{List}
-use Prim.Native.Nat.{ℕ, _+_, _-_, _/_, _<_, _≤_}
+use mathlib.Core.Bool.{Bool, true, false, not, _&&_}
+use mathlib.Core.List.{List, [], _∷_}
+use Prim.Native.Nat.{ℕ, _+_, _*_, _-_, _/_, _<_, _≤_}
 use native.Mathlib.Omega.{arith}
 use lib.ListN.{length, getD, set, length-set}
 use lib.Seq.{take-all, getD-set-same}
-use lib.Dec.{eqb}
-use borrow.Author.Tests.{ne-eqb}
+use lib.Dec.{eqb, ltb}
+use borrow.Author.Tests.{ne-eqb, ltb-true}
 use Rattle.base.specs.Out.{Out, done, refused, Went, well, ill}
 use Rattle.base.specs.Parts.{part, back, paste}
 use Rattle.base.specs.Search.{pick}
-use Rattle.base.proofs.Lists.{length-paste, getD-paste-out}
+use Rattle.base.proofs.Bools.{and-parts}
+use Rattle.base.proofs.Lists.{length-part, length-paste, getD-paste-out}
+use Rattle.base.proofs.Parts.{part-all}
+use Rattle.le.specs.Le.{Bytes}
+use Rattle.structs.proofs.Layouts.{recordOf-fits}
 use Rattle.structs.proofs.Places.{part-written}
+use Rattle.table.specs.declared.Row.{Row}
 use Rattle.table.specs.declared.Table.{Table}
 use Rattle.table.specs.declared.Handle.{Handle}
 use Rattle.table.specs.declared.Added.{Added}
+use Rattle.table.specs.Table.{rowAt, freeRowAt}
 use Rattle.table.specs.Formed.{wellFormed}
-use Rattle.table_bytes.specs.Layout.{tableOf, tableBytes}
+use Rattle.table_bytes.specs.Layout.{rowFrom, tableOf, tableBytes}
 use Rattle.arena.specs.Blocks.{blocks, legal}
 use Rattle.arena.proofs.Blocks.{legal-is}
 use Rattle.sound.specs.Chain.{Chains, firsts, nexts}
 use Rattle.sound.proofs.Chains.{length-firsts, length-nexts}
 use Rattle.mem.specs.Mem.{tableIn, Whole, memorySize}
-use Rattle.mem.proofs.Mems.{back-paste, table-kept}
-use Rattle.calls.specs.Answers.{addedAs, Laid, lay, leave}
+use Rattle.mem.proofs.Mems.{back-paste, row-read, table-kept}
+use Rattle.calls.specs.Answers.{addedAs, listedOf, listedNumber, Lays, Laid, lay, leave}
+use Rattle.calls.specs.declared.Listed.{Listed}
+use Rattle.calls.specs.declared.Listed.the-variants.{Slots, Refused}
 use Rattle.calls.specs.Asked.{Admitted}
+use Rattle.calls.proofs.Asks as asks
+use Rattle.calls_list.proofs.Places.{listing-left, listed-slots}
+use Rattle.calls_create.specs.Held.{EndedHeld}
+use Rattle.calls_create.specs.Held as made
 use Rattle.edge.specs.Words.{handleWords}
-use Rattle.sefs.specs.Create.{After}
-use Rattle.steps.specs.Ends.{Ended, went, stopped}
-use Rattle.edge.specs.Edge.{Leaves, Holds, Sets, Shows}
+use Rattle.sefs.specs.Ask.{admit}
+use Rattle.sefs.specs.State.{Fs}
+use Rattle.sefs.specs.Nodes.{dropNode, syncRow}
+use Rattle.sefs.specs.Close.{closeSteps}
+use Rattle.sefs.specs.Create.{After, Given}
+use Rattle.sefs.specs.Read.{callListing}
+use Rattle.mem.specs.State.{fsAt}
+use Rattle.steps.specs.Ends.{arenaAfter, ending, Ended, went, stopped}
+use Rattle.calls_close.proofs.Closes.{steps-last, steps-kept}
+use Rattle.edge.specs.Edge.{Leaves, Makes, Holds, Sets, Shows, Lists}
 use Rattle.edge.proofs.Laws.{sized-is, sized-not}
-use Rattle.owners.specs.Owned.{Chained, Owned, Kept, Builds}
+use Rattle.owners.specs.Owned.{Chained, Owned, Kept, Builds, listedWordsBy}
 
 -- ---- the promise
 
@@ -49,6 +68,10 @@ admitted {a = a} {c = c} o e w = record {
   whole = w;
   formed = ap wellFormed e ∙ o .formed;
 }
+
+-- so nothing of 1, 2 and 3 comes
+pub not-refused : {a c t m : List ℕ} → Owned a c t → tableIn m ≡ tableOf t → Whole m → admit a (tableIn m) ≡ done tt
+not-refused o e w = asks.admitted (admitted o e w)
 
 pub keeps : {a c t m : List ℕ} → Owned a c t → tableIn m ≡ tableOf t → Whole m → Kept a c m
 keeps o e w = record { chained = o .chained; admitted = admitted o e w }
@@ -96,6 +119,49 @@ pub own-leaves : {o p : Out After} {u : Table} {a c t b : List ℕ} {r n : ℕ} 
 own-leaves e (went f) E = rw (e, f) (record { number = E .0; arena = refl; table = E .1 })
 own-leaves {u = u} {t = t} e (stopped {r = r} l f k) E = rw (e, f) (record { number = E .0; arena = k; table = E .1 ∙ sym (passed-over (tableBytes u) t r (λ q. omega arith)) })
 
+-- create
+pub own-makes : {o p : Out Given} {h : Handle} {u : Table} {a c t b w v : List ℕ} {r n : ℕ} → p ≡ o → EndedHeld o a c (addedAs h u) r
+    → (n ≡ r) × (b ≡ pick (eqb r 0) (tableBytes u) t) → v ≡ pick (eqb r 0) (handleWords h) w → Makes p a c t b w v n
+own-makes e (made.held f) E k = rw (e, f) (record { number = E .0; arena = refl; table = E .1; words = k })
+own-makes {h = h} {u = u} {t = t} {w = w} e (made.stopped {r = r} l f q) E k =
+    let z : r ≡ 0 → ⊥ = λ q. omega arith in
+    rw (e, f) (record { number = E .0; arena = q; table = E .1 ∙ sym (passed-over (tableBytes u) t r z); words = k ∙ sym (passed-over (handleWords h) w r z) })
+
+-- listing
+pub own-lists : {o p : Out (List ℕ)} {x y w v : List ℕ} {n : ℕ} {l : Listed} → p ≡ o → Lays listedOf o x y l
+    → (n ≡ listedNumber l) × (v ≡ listedWordsBy w (getD w 0 0) l) → Lists p x y w v n
+own-lists {o = done z} e G E = rw e (record { number = E .0 ∙ rw (G .0); output = G .1; words = E .1 ∙ rw (G .0) })
+own-lists {o = refused m} e G E = rw e (record { number = E .0 ∙ rw (G .0); output = G .1; words = E .1 ∙ rw (G .0) })
+
+-- a row's count of slots fits its type, so the slot to go on with does
+blocks-in : (t : List ℕ) → Bytes t → length t ≡ 4370 → (i : ℕ) → i < 34 → rowAt (tableOf t) i .rec .blocks < 4294967296
+unfolding rowFrom
+blocks-in t B L i k =
+    let r : List ℕ = part t (117 * i) (117 * i + 117) in
+    let n : length r ≡ 117 = length-part t (117 * i) (117 * i + 117) (omega arith) (omega (arith, L)) ∙ omega arith in
+    let F = recordOf-fits (part r 5 117) (part-all (λ x. x < 256) r (omega arith) (part-all (λ x. x < 256) t (omega arith) B (117 * i) (117 * i + 117)) 5 117) (length-part r 5 117 (omega arith) (omega (arith, n))) in
+    subst (λ (x : Row). x .rec .blocks < 4294967296) (sym (row-read t i k)) (F .blocks)
+
+pub listed-room : (a t m : List ℕ) (h : Handle) (from room : ℕ) (l : Listed) → Bytes t → length t ≡ 4370 → tableIn m ≡ tableOf t → from < 18446744073709551616
+    → l ≡ listedOf (callListing a (tableIn m) h from room) → (n : ℕ) → l ≡ Slots n → from + n < 18446744073709551616
+listed-room a t m h from room l B L e F q n k =
+    let s = listed-slots n (callListing a (tableIn m) h from room) l q k in
+    let f = listing-left a (tableIn m) h from room (s .0) (s .1) in
+    let b : rowAt (tableIn m) (f .0) .rec .blocks < 4294967296 = subst (λ (x : Table). rowAt x (f .0) .rec .blocks < 4294967296) (sym e) (blocks-in t B L (f .0) (f .1)) in
+    omega (arith, s .2, f .2, b, F)
+
+-- the word, by the listing's answer
+module _ (w : List ℕ) (from : ℕ) where
+  pub listed-slots-word : {v : List ℕ} {l : Listed} {n : ℕ} → l ≡ Slots n → v ≡ (from + n) ∷ [] → (0 ≡ listedNumber l) × (v ≡ listedWordsBy w from l)
+  listed-slots-word e q = (rw e, q ∙ rw e)
+
+  pub listed-refused-word : {l : Listed} {n : ℕ} → l ≡ Refused n → (n ≡ listedNumber l) × (w ≡ listedWordsBy w from l)
+  listed-refused-word e = (rw e, rw e)
+
+-- a move whose names are one node's: memory's table is v again
+pub own-same : {o : Out After} {a : List ℕ} {u v : Table} → o ≡ done (record { arena = a; table = u }) → v ≡ u → Ended o a a v 0
+own-same {a = a} e q = went (e ∙ ap (λ (x : Table). done (record { arena = a; table = x })) (sym q))
+
 -- get entry
 pub own-shows : {o p : Out (List ℕ)} {x y : List ℕ} {k n : ℕ} → p ≡ o → Laid o x y k n → Shows p x y n
 own-shows e (lay f l k) = rw (e, f) (record { number = refl; output = k })
@@ -109,6 +175,35 @@ rechained k e n = record { size = e ∙ k .size; chains = n }
 -- an arena that is as long as it was has as many blocks
 pub as-many : (a b : List ℕ) → legal a ≡ true → length b ≡ length a → blocks b ≤ 4096
 as-many a b l e = subst (λ (n : ℕ). n / 512 ≤ 4096) (sym e) (legal-is a l .most)
+
+-- ---- a close that stores nothing
+
+ended-same : {o : Out After} {x : After} {a b : List ℕ} {u : Table} {r : ℕ} → o ≡ done x → x .arena ≡ a → Ended o a b u r → b ≡ a
+ended-same {a = a} e k (went f) = ap (arenaAfter a) (sym f ∙ e) ∙ k
+ended-same e k (stopped l f q) = q
+
+-- a clean row that has a link is only cleared
+abbrev stored : List ℕ → ℕ → Bool
+stored m i = not (rowAt (tableIn m) i .dirty) && ltb 0 (rowAt (tableIn m) i .rec .nlinks)
+
+off : (b : Bool) → not b ≡ true → b ≡ false
+off true e = sym e
+off false e = refl
+
+on : (b : Bool) → not b ≡ false → b ≡ true
+on true e = refl
+on false e = sym e
+
+drop-clean : (a m : List ℕ) (i : ℕ) → stored m i ≡ true → ending (dropNode (fsAt a m) i) ≡ done (record { arena = a; table = freeRowAt (tableIn m) i })
+unfolding dropNode syncRow
+drop-clean a m i e =
+    let p = and-parts (not (rowAt (tableIn m) i .dirty)) (ltb 0 (rowAt (tableIn m) i .rec .nlinks)) e in
+    let n = ne-eqb (rowAt (tableIn m) i .rec .nlinks) 0 (λ z. let l = ltb-true 0 (rowAt (tableIn m) i .rec .nlinks) (p .1) in omega (arith, l, z)) in
+    rw (off (rowAt (tableIn m) i .dirty) (p .0), n)
+
+pub close-same : (a b m : List ℕ) (last : Bool) (i : ℕ) {u : Table} {r : ℕ} → (last && not (stored m i)) ≡ false → Ended (ending (closeSteps (fsAt a m) last i)) a b u r → b ≡ a
+close-same a b m true i e E = ended-same (steps-last (fsAt a m) true i refl ∙ drop-clean a m i (on (stored m i) e)) refl E
+close-same a b m false i e E = ended-same (steps-kept (fsAt a m) false i refl) refl E
 
 -- ---- the chains by themselves
 

@@ -1,15 +1,21 @@
 // How an owner's call begins and ends: the table's bytes are in memory while it runs, and are written back on success only.
 ghost use mathlib.Core.Path.{_≡_};
+ghost use Prim.Native.Nat.{ℕ, _+_, _<_};
 ghost use lib.ListN.{length};
 ghost use lib.Dec.{eqb};
 ghost use Rattle.base.specs.Search.{pick};
 ghost use Rattle.table_bytes.specs.Layout.{tableOf, tableBytes};
 ghost use Rattle.mem.specs.Mem.{tableIn, Whole, memorySize};
+ghost use Rattle.calls.specs.Answers.{listedNumber};
+ghost use Rattle.calls.specs.declared.Listed.the-variants.{Slots};
 ghost use Rattle.edge.specs.Words.{handleWords};
+ghost use Rattle.owners.specs.Owned.{listedWordsBy};
 use base::copy;
 use calls::Handed;
+use calls::Listed;
 use edge::ends::put_table;
 use edge::results::put_handle;
+use edge::results::put_next;
 use mem::put_flag;
 use mem::table_at;
 
@@ -47,4 +53,18 @@ pub fn end_held(table: &mut [u8], out: &mut [u64], mem: &[u8], h: Handed) -> u32
     let reason = h.reason;
     put_held(out, h);
     end_after(table, mem, reason)
+}
+
+// The listing began at slot `from`.
+pub fn end_listed(next: &mut [u64], from: u64, l: Listed) -> u32
+    requires { ⌜ (length (now next) ≡ 1) × ((n : ℕ) → l ≡ Slots n → from + n < 18446744073709551616) ⌝ }
+    ensures { λ r. ⌜ (r ≡ listedNumber l) × (now (next .exit) ≡ listedWordsBy (now (next .entry)) from l) ⌝ }
+{
+    match l {
+        Listed::Slots(n) => {
+            put_next(next, from + n as u64);
+            0
+        }
+        Listed::Refused(r) => r as u32,
+    }
 }
