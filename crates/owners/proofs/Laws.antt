@@ -155,9 +155,6 @@ module _ (w : List ℕ) (from : ℕ) where
   pub listed-slots-word : {v : List ℕ} {l : Listed} {n : ℕ} → l ≡ Slots n → v ≡ (from + n) ∷ [] → (0 ≡ listedNumber l) × (v ≡ listedWordsBy w from l)
   listed-slots-word e q = (rw e, q ∙ rw e)
 
-  pub listed-refused-word : {l : Listed} {n : ℕ} → l ≡ Refused n → (n ≡ listedNumber l) × (w ≡ listedWordsBy w from l)
-  listed-refused-word e = (rw e, rw e)
-
 -- a move whose names are one node's: memory's table is v again
 pub own-same : {o : Out After} {a : List ℕ} {u v : Table} → o ≡ done (record { arena = a; table = u }) → v ≡ u → Ended o a a v 0
 own-same {a = a} e q = went (e ∙ ap (λ (x : Table). done (record { arena = a; table = x })) (sym q))

@@ -17,6 +17,7 @@ ghost use Rattle.calls.specs.Answers.{addedAs};
 ghost use Rattle.steps.specs.Ends.{ending, Ended};
 ghost use Rattle.calls_create.specs.Held.{EndedHeld};
 ghost use Rattle.owners.specs.Owned.{Chained, Kept};
+use crate::ends::begin;
 use calls::Handed;
 use calls::not_handed;
 use calls_close::close_led;
@@ -33,7 +34,6 @@ use calls_sync::sync_in;
 use calls_sync::sync_led;
 use calls_unlink::remove;
 use calls_unlink::unlink_led;
-use crate::ends::begin;
 use sound::chain_all;
 use table::Handle;
 
@@ -48,13 +48,7 @@ fn stores(mem: &[u8], last: bool, i: usize) -> bool
 }
 
 // Where nothing is stored, the chains stay right.
-fn close_kept(
-    arena: &mut [u8],
-    chains: &mut [u16],
-    mem: &mut [u8],
-    last: bool,
-    i: usize,
-) -> u8
+fn close_kept(arena: &mut [u8], chains: &mut [u16], mem: &mut [u8], last: bool, i: usize) -> u8
     requires { ⌜ Chained (now arena) (now chains) × ((legal (now arena) ≡ true) × (Whole (now mem) × (i < 34))) ⌝ }
     ensures { λ r. ⌜ Ended (ending (closeSteps (fsAt (now (arena .entry)) (now (mem .entry))) last i)) (now (arena .entry)) (now (arena .exit)) (tableIn (now (mem .exit))) r ⌝ }
     ensures { λ _. ⌜ Chained (now (arena .exit)) (now (chains .exit)) ⌝ }
@@ -140,13 +134,7 @@ pub fn link_on(
     r
 }
 
-pub fn unlink_on(
-    arena: &mut [u8],
-    chains: &mut [u16],
-    mem: &mut [u8],
-    h: Handle,
-    name: &[u8],
-) -> u8
+pub fn unlink_on(arena: &mut [u8], chains: &mut [u16], mem: &mut [u8], h: Handle, name: &[u8]) -> u8
     requires { ⌜ Kept (now arena) (now chains) (now mem) ⌝ }
     ensures { λ r. ⌜ Ended (callUnlink (now (arena .entry)) (tableIn (now (mem .entry))) h (now (name .entry))) (now (arena .entry)) (now (arena .exit)) (tableIn (now (mem .exit))) r ⌝ }
     ensures { λ _. ⌜ Chained (now (arena .exit)) (now (chains .exit)) ⌝ }
