@@ -5,7 +5,7 @@ use mathlib.Core.List.{List}
 use Prim.Native.Nat.{ℕ, _/_, _<_}
 use lib.ListN.{length}
 use lib.Dec.{eqb}
-use Rattle.base.specs.Out.{Out, done, refused}
+use Rattle.base.specs.Out.{Out, done, refused, kept}
 use Rattle.base.specs.Parts.{paste}
 use Rattle.base.specs.Search.{pick}
 use Rattle.table.specs.declared.Table.{Table}
@@ -20,8 +20,8 @@ use Rattle.calls.specs.declared.Told.{Told}
 use Rattle.calls.specs.declared.Told.the-variants as tolds
 use Rattle.calls.specs.declared.Listed.{Listed}
 use Rattle.calls.specs.declared.Listed.the-variants as listeds
-use Rattle.calls.specs.declared.After.{After}
-use Rattle.calls.specs.declared.Given.{Given}
+use Rattle.calls.specs.declared.Reply.{Reply}
+use Rattle.calls.specs.declared.HeldReply.{HeldReply}
 use Rattle.calls.specs.declared.Handed.{Handed}
 
 -- ---- a call that gives nothing else
@@ -82,18 +82,26 @@ pub data Laid (o : Out (List ℕ)) (out now : List ℕ) (n : ℕ) : ℕ → Type
   lay : {l : List ℕ} → o ≡ done l → length l ≡ n → now ≡ paste out 0 l → Laid o out now n 0
   leave : {r : ℕ} → 0 < r → o ≡ refused r → now ≡ out → Laid o out now n r
 
+-- the answer f that the outcome gives, and its bytes at the output's start: the output was `out` and is `now`
+abbrev pub Lays : {A : Type 0} → (Out (List ℕ) → A) → Out (List ℕ) → List ℕ → List ℕ → A → Type 0
+Lays f o out now r = (r ≡ f o) × (now ≡ laid out o)
+
 -- ---- an answer with a table
 
-abbrev pub doneWith : Table → After
+-- what the outcome says, with its table; t is the one that stays where it is refused
+abbrev pub Replies : Table → Out Table → Reply → Type 0
+Replies t o r = (r .answer ≡ answerOf o) × (r .table ≡ kept t o)
+
+abbrev pub doneWith : Table → Reply
 doneWith t = record { answer = answers.Done; table = t }
 
-abbrev pub refusedWith : Table → ℕ → After
+abbrev pub refusedWith : Table → ℕ → Reply
 refusedWith t n = record { answer = answers.Refused n; table = t }
 
-abbrev pub heldWith : Added → Given
+abbrev pub heldWith : Added → HeldReply
 heldWith x = record { answer = gots.Held (x .handle); table = x .table }
 
-abbrev pub notGiven : Table → ℕ → Given
+abbrev pub notGiven : Table → ℕ → HeldReply
 notGiven t n = record { answer = gots.Refused n; table = t }
 
 -- a hold that was made, and the table with it
@@ -105,8 +113,8 @@ abbrev pub notHanded : ℕ → Handed
 notHanded n = record { reason = n; handle = record { hold = 0; stamp = 0 } }
 
 -- by a reason's number: t is the table that the call was given, u the one that its steps left
-unfoldable pub afterOf : Table → Table → ℕ → After
+unfoldable pub afterOf : Table → Table → ℕ → Reply
 afterOf t u n = pick (eqb n 0) (doneWith u) (refusedWith t n)
 
-unfoldable pub givenOf : Table → Added → ℕ → Given
+unfoldable pub givenOf : Table → Added → ℕ → HeldReply
 givenOf t x n = pick (eqb n 0) (heldWith x) (notGiven t n)

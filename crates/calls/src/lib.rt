@@ -7,18 +7,19 @@ ghost use Prim.Native.Nat.{ℕ, _<_};
 ghost use lib.ListN.{length};
 ghost use Rattle.base.specs.Out.{Went, answer};
 ghost use Rattle.table.specs.Table.{addHold};
-ghost use Rattle.sefs.specs.Ask.{byHandle, goodName, notLong, notSpecial, liveFolder, notRemoved};
+ghost use Rattle.sefs.specs.Ask.{admit, byHandle, goodName, notLong, notSpecial, liveFolder, notRemoved};
 ghost use Rattle.sefs.specs.Ask.{known as knownType, folder as isFolder};
 ghost use Rattle.sefs.specs.Read.{readable as readableAs};
-ghost use Rattle.mem.specs.Mem.{tableIn, Whole};
+ghost use Rattle.mem.specs.Mem.{tableIn, Whole, memorySize};
 ghost use Rattle.calls.specs.Answers.{doneWith, refusedWith, notGiven, notHanded, addedAs, afterOf, givenOf};
-ghost use Rattle.calls.specs.Asked.{reached};
+ghost use Rattle.calls.specs.Asked.{byTwo};
 use base::Found;
 use holds::add_hold;
 use holds::live;
 use mem::table_at;
 use sefs::Metadata;
 use structs::DiskINode;
+use structs::is_type;
 use table::Handle;
 use table::Table;
 
@@ -46,46 +47,46 @@ pub enum Listed {
 }
 
 // An answer, and the table afterwards: the one that the call was given, where it is refused.
-pub struct After {
+pub struct Reply {
     pub answer: Answer,
     pub table: Table,
 }
 
-pub struct Given {
+pub struct HeldReply {
     pub answer: Got,
     pub table: Table,
 }
 
-pub fn done(t: Table) -> After
+pub fn done(t: Table) -> Reply
     ensures { λ r. ⌜ r ≡ doneWith t ⌝ }
 {
-    After {
+    Reply {
         answer: Answer::Done,
         table: t,
     }
 }
 
-pub fn refused(t: Table, reason: u8) -> After
+pub fn refused(t: Table, reason: u8) -> Reply
     ensures { λ r. ⌜ r ≡ refusedWith t reason ⌝ }
 {
-    After {
+    Reply {
         answer: Answer::Refused(reason),
         table: t,
     }
 }
 
-pub fn not_given(t: Table, reason: u8) -> Given
+pub fn not_given(t: Table, reason: u8) -> HeldReply
     ensures { λ r. ⌜ r ≡ notGiven t reason ⌝ }
 {
-    Given {
+    HeldReply {
         answer: Got::Refused(reason),
         table: t,
     }
 }
 
 // What a call answers once its steps are decided: the table as memory has it, or the one that the call was given.
-pub fn settle(t: Table, mem: &[u8], reason: u8) -> After
-    requires { ⌜ length (now mem) ≡ 4899 ⌝ }
+pub fn settle(t: Table, mem: &[u8], reason: u8) -> Reply
+    requires { ⌜ length (now mem) ≡ memorySize ⌝ }
     ensures { λ r. ⌜ r ≡ afterOf t (tableIn (now (mem .entry))) reason ⌝ }
 {
     if reason != 0 {
@@ -127,8 +128,8 @@ pub fn hand(mem: &mut [u8], reason: u8, row: usize) -> Handed
 }
 
 // The same for a call that makes a hold.
-pub fn settle_held(t: Table, mem: &[u8], h: Handed) -> Given
-    requires { ⌜ length (now mem) ≡ 4899 ⌝ }
+pub fn settle_held(t: Table, mem: &[u8], h: Handed) -> HeldReply
+    requires { ⌜ length (now mem) ≡ memorySize ⌝ }
     ensures { λ r. ⌜ r ≡ givenOf t (addedAs (h .handle) (tableIn (now (mem .entry)))) (h .reason) ⌝ }
 {
     if h.reason != 0 {
@@ -136,7 +137,7 @@ pub fn settle_held(t: Table, mem: &[u8], h: Handed) -> Given
     }
     let handle = h.handle;
     let u = table_at(mem);
-    Given {
+    HeldReply {
         answer: Got::Held(handle),
         table: u,
     }
@@ -177,7 +178,7 @@ pub fn not_special(name: &[u8]) -> u8
 pub fn known(rec: DiskINode) -> u8
     ensures { λ r. ⌜ r ≡ answer (knownType rec) ⌝ }
 {
-    if (0 < rec.kind) & (rec.kind <= 4) {
+    if is_type(rec.kind) {
         return 0;
     }
     19
@@ -254,11 +255,45 @@ pub fn by_handle(mem: &[u8], h: Handle) -> ByHandle
     }
 }
 
-// What a call with one handle asks first, where it reads no file: 1, 2, 3, 4.
-pub fn reach(arena: &[u8], mem: &[u8], h: Handle) -> ByHandle
+// The rows of two handles, where the reason is 0.
+pub struct ByTwo {
+    pub reason: u8,
+    pub row: usize,
+    pub other: usize,
+}
+
+// One handle after the other.
+pub fn by_two(mem: &[u8], h: Handle, k: Handle) -> ByTwo
     requires { ⌜ Whole (now mem) ⌝ }
-    ensures { λ r. ⌜ Went (reached (now (arena .entry)) (tableIn (now (mem .entry))) h) (r .row) (r .row < 34) (r .reason) ⌝ }
+    ensures { λ r. ⌜ Went (byTwo (tableIn (now (mem .entry))) h k) (r .row, r .other) ((r .row < 34) × (r .other < 34)) (r .reason) ⌝ }
+{
+    let b = by_handle(mem, h);
+    if b.reason != 0 {
+        let r = b.reason;
+        return ByTwo {
+            reason: r,
+            row: 0,
+            other: 0,
+        };
+    }
+    let c = by_handle(mem, k);
+    let r = c.reason;
+    let i = b.row;
+    let j = c.row;
+    ByTwo {
+        reason: r,
+        row: i,
+        other: j,
+    }
+}
+
+// ---- arena and table
+
+// 1, 2, 3, where no file is read: the frame of the chains is left.
+pub fn admitted(arena: &[u8], mem: &[u8]) -> u8
+    requires { ⌜ Whole (now mem) ⌝ }
+    ensures { λ r. ⌜ Went (admit (now (arena .entry)) (tableIn (now (mem .entry)))) tt Unit r ⌝ }
 {
     let mut chains = [0u16; 8192];
-    led::reach(arena, &mut chains, mem, h)
+    led::admit(arena, &mut chains, mem)
 }

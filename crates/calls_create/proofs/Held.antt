@@ -15,11 +15,11 @@ use Rattle.sefs.specs.Nodes.{Opened, opened}
 use Rattle.sefs.specs.Create.{Given}
 use Rattle.mem.specs.Mem.{tableIn, Whole}
 use Rattle.mem.specs.State.{fsOf, Still}
-use Rattle.calls.specs.declared.Given as answered
+use Rattle.calls.specs.declared.HeldReply as answered
 use Rattle.calls.specs.declared.Handed.{Handed}
 use Rattle.calls.specs.Answers.{notHanded, givenOf}
 use Rattle.calls.proofs.Answers.{given-held, given-refused}
-use Rattle.calls_create.specs.Held.{holding, leaving, EndedOpen, opens, stays, EndedHeld, held, stuck, ReturnedHeld}
+use Rattle.calls_create.specs.Held.{holding, leaving, EndedOpen, opens, stays, EndedHeld, held, stopped, ReturnedHeld}
 
 -- what ends a chain ends its last step
 pub holding-bind : {A : Type 0} (m : Out A) (f : A → Out Opened) (g : A → Out Given) → ((x : A) → g x ≡ holding (f x)) → bind m g ≡ holding (bind m f)
@@ -47,7 +47,7 @@ opens-has (stays l e k) z = absurd (omega arith)
 -- the hold x on that row
 pub handed : {o : Out Opened} {a b m : List ℕ} {x : Added} {row n r : ℕ} → r ≡ n → (n ≡ 0 → addHold (tableIn m) row ≡ x) → EndedOpen o a b m row n → EndedHeld (holding o) a b x r
 handed {b = b} k h (opens w l e) = rw k (held (e ∙ ap (λ (y : Added). done (leaving b y)) (h refl)))
-handed k h (stays l e j) = rw k (stuck l (rw e) j)
+handed k h (stays l e j) = rw k (stopped l (rw e) j)
 
 -- an outcome by another name
 pub held-is : {o p : Out Given} {a b : List ℕ} {x : Added} {n : ℕ} → o ≡ p → EndedHeld p a b x n → EndedHeld o a b x n
@@ -55,13 +55,13 @@ held-is e g = rw e g
 
 -- a call that is refused before its steps
 pub held-refused : {o : Out Given} {a b : List ℕ} {x : Added} {n : ℕ} {r : Handed} → (n ≡ 0 → ⊥) → o ≡ refused n → b ≡ a → r ≡ notHanded n → EndedHeld o a b x (r .reason)
-held-refused z e k q = rw q (stuck (above-zero _ z) e k)
+held-refused z e k q = rw q (stopped (above-zero _ z) e k)
 
 -- what the call returns, by the number that its steps answered
-returned-ended : (t : Table) {o : Out Given} {a b : List ℕ} {x : Added} {n : ℕ} {r : answered.Given} → EndedHeld o a b x n → r ≡ givenOf t x n → ReturnedHeld t o a b r
+returned-ended : (t : Table) {o : Out Given} {a b : List ℕ} {x : Added} {n : ℕ} {r : answered.HeldReply} → EndedHeld o a b x n → r ≡ givenOf t x n → ReturnedHeld t o a b r
 returned-ended t {x = x} (held e) q = record { answer = q ∙ sym (given-held t x 0 refl) ∙ rw e; arena = rw e }
-returned-ended t {x = x} (stuck {r = n} l e k) q = record { answer = q ∙ sym (given-refused t x n (λ z. omega arith)) ∙ rw e; arena = k ∙ rw e }
+returned-ended t {x = x} (stopped {r = n} l e k) q = record { answer = q ∙ sym (given-refused t x n (λ z. omega arith)) ∙ rw e; arena = k ∙ rw e }
 
 -- the same, where the table that memory was given is known by another name
-pub returned-table : (f : Table → Out Given) (t : Table) {u v : Table} {a b : List ℕ} {x : Added} {n : ℕ} {r : answered.Given} → u ≡ v → EndedHeld (f u) a b x n → r ≡ givenOf t x n → ReturnedHeld t (f v) a b r
+pub returned-table : (f : Table → Out Given) (t : Table) {u v : Table} {a b : List ℕ} {x : Added} {n : ℕ} {r : answered.HeldReply} → u ≡ v → EndedHeld (f u) a b x n → r ≡ givenOf t x n → ReturnedHeld t (f v) a b r
 returned-table f t q g e = rw (← q) (returned-ended t g e)

@@ -5,7 +5,7 @@ use mathlib.Core.List.{List}
 use Prim.Native.Nat.{ℕ, _<_, _≤_}
 use lib.ListN.{length}
 use lib.Dec.{eqb}
-use Rattle.structs.specs.Verdict.{isFolder, isType}
+use Rattle.structs.specs.Types.{isFolder, isType}
 use Rattle.structs.specs.declared.DiskINode.{DiskINode}
 use Rattle.structs.specs.declared.Timespec.{Timespec}
 use Rattle.base.specs.Out.{Out, done, ensure, _>>=_}
@@ -20,7 +20,7 @@ use Rattle.sefs.specs.Folders.{entry, direntAppend}
 use Rattle.sefs.specs.Ask.{goodName, notLong, liveFolder}
 use Rattle.sefs.specs.Create.{birth, named}
 use Rattle.mem.specs.Mem.{Whole}
-use Rattle.calls_steps.specs.Steps.{noSlot, syncTwo}
+use Rattle.steps.specs.Steps.{noSlot, syncTwo}
 
 -- 5, 6, 7, 8, 10: of the folder's record, the name and the type
 unfoldable pub createAsk : DiskINode → List ℕ → ℕ → Out Unit

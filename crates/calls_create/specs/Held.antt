@@ -9,7 +9,7 @@ use Rattle.table.specs.Table.{addHold}
 use Rattle.sefs.specs.Nodes.{Opened}
 use Rattle.sefs.specs.Create.{Given, given}
 use Rattle.mem.specs.Mem.{tableIn, Whole}
-use Rattle.calls.specs.declared.Given as answered
+use Rattle.calls.specs.declared.HeldReply as answered
 use Rattle.calls.specs.Answers.{heldWith, notGiven}
 
 -- "A refusal returns its number only; arena, table .. keep their bytes"
@@ -17,7 +17,7 @@ abbrev pub arenaHeld : List ℕ → Out Given → List ℕ
 arenaHeld a (done x) = x .arena
 arenaHeld a (refused n) = a
 
-abbrev pub heldAs : Table → Out Given → answered.Given
+abbrev pub heldAs : Table → Out Given → answered.HeldReply
 heldAs t (done x) = heldWith (record { table = x .table; handle = x .handle })
 heldAs t (refused n) = notGiven t n
 
@@ -36,9 +36,9 @@ pub data EndedOpen (o : Out Opened) (a b m : List ℕ) (row : ℕ) : ℕ → Typ
 -- with the hold on that row: x is the handle, and memory's table
 pub data EndedHeld (o : Out Given) (a b : List ℕ) (x : Added) : ℕ → Type 0 where
   held : o ≡ done (leaving b x) → EndedHeld o a b x 0
-  stuck : {r : ℕ} → 0 < r → o ≡ refused r → b ≡ a → EndedHeld o a b x r
+  stopped : {r : ℕ} → 0 < r → o ≡ refused r → b ≡ a → EndedHeld o a b x r
 
 -- the call, that its definition sends to o, returns r: t is the table that it was given, the arena was a and is b
-pub record ReturnedHeld (t : Table) (o : Out Given) (a b : List ℕ) (r : answered.Given) : Type 0 where
+pub record ReturnedHeld (t : Table) (o : Out Given) (a b : List ℕ) (r : answered.HeldReply) : Type 0 where
   pub answer : r ≡ heldAs t o
   pub arena : b ≡ arenaHeld a o

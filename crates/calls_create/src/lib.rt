@@ -6,46 +6,47 @@ ghost use Prim.Native.Nat.{ℕ, _<_, _≤_};
 ghost use lib.ListN.{length};
 ghost use Rattle.base.specs.Out.{Went};
 ghost use Rattle.arena.specs.Blocks.{legal};
-ghost use Rattle.overlay.specs.View.{view, left, Fine};
-ghost use Rattle.overlay.proofs.Views.{Ready as Empty};
-ghost use Rattle.structs.specs.Verdict.{isType};
+ghost use Rattle.overlay.specs.View.{view, left, Fine, Empty};
+ghost use Rattle.structs.specs.Types.{isType};
 ghost use Rattle.table.specs.Table.{canHold};
 ghost use Rattle.sefs.specs.Nodes.{opened as openedAs};
 ghost use Rattle.sefs.specs.Create.{birth as bornOf, nameFolder, named, callCreate};
 ghost use Rattle.chains.specs.Led.{Led};
-ghost use Rattle.nodes.specs.Steps.{fsAt};
 ghost use Rattle.mem.specs.Mem.{tableIn, Whole};
-ghost use Rattle.calls.specs.Asked.{Blank};
-ghost use Rattle.calls_steps.specs.Ends.{Rest};
-ghost use Rattle.mem.specs.State.{fsOf, Ready, Still, Stepped};
+ghost use Rattle.calls.specs.Asked.{Admitted};
+ghost use Rattle.steps.specs.Ends.{Rest};
+ghost use Rattle.mem.specs.State.{fsOf, Ready, Still, Stepped, fsAt};
 ghost use Rattle.calls.specs.Answers.{addedAs};
 ghost use Rattle.calls_create.specs.Create.{createAsk, createFree, createSync, createRest, createMoves, createWork, Asked};
 ghost use Rattle.calls_create.specs.Held.{holding, EndedOpen, EndedHeld, ReturnedHeld};
 use calls::ByHandle;
-use calls::Given;
 use calls::Handed;
+use calls::HeldReply;
 use calls::good_name;
 use calls::hand;
+use calls::led::admit;
 use calls::live_folder;
 use calls::not_handed;
 use calls::not_long;
 use calls::settle_held;
-use calls_steps::append_named;
-use calls_steps::no_slot;
-use calls_steps::reach_read;
-use calls_steps::sync_two;
 use chains::exists;
 use folders::dirent_init;
 use folders::nlinks_inc;
 use holds::can_hold;
+use mem::MEMORY;
 use mem::id_at;
 use mem::put_table;
 use mem::rec_at;
 use nodes::Opened;
 use nodes::meta::sync_meta;
 use nodes::new_node;
+use steps::append_named;
+use steps::no_slot;
+use steps::reach_read;
+use steps::sync_two;
 use structs::DiskINode;
 use structs::Timespec;
+use structs::is_type;
 use table::Handle;
 use table::Table;
 
@@ -60,12 +61,6 @@ pub struct New {
 
 // ---- 5, 6, 7, 8, 10, 12, 14, 15, 16
 
-fn good_kind(kind: u32) -> bool
-    ensures { λ r. ⌜ r ≡ isType kind ⌝ }
-{
-    (0 < kind) & (kind <= 4)
-}
-
 fn create_ask(rec: DiskINode, name: &[u8], kind: u32) -> u8
     ensures { λ r. ⌜ Went (createAsk rec (now (name .entry)) kind) tt (length (now (name .entry)) ≤ 255) r ⌝ }
 {
@@ -73,7 +68,7 @@ fn create_ask(rec: DiskINode, name: &[u8], kind: u32) -> u8
     if r != 0 {
         return r;
     }
-    if !good_kind(kind) {
+    if !is_type(kind) {
         return 6;
     }
     let r = live_folder(rec);
@@ -137,31 +132,24 @@ fn create_asks(
     create_free(arena, first, next, rec, name, new.kind, file, room)
 }
 
-fn create_led(
+// What follows the tests of arena and table, by the chains that they left.
+pub fn create_led(
     arena: &[u8],
-    chains: &mut [u16],
+    first: &[u16],
+    next: &[u16],
     mem: &mut [u8],
     h: Handle,
     name: &[u8],
     new: New,
 ) -> ByHandle
-    requires { ⌜ Blank (now chains) × Whole (now mem) ⌝ }
+    requires { ⌜ Admitted (now arena) (now first) (now next) (now mem) ⌝ }
     ensures { λ r. ⌜ Rest (callCreate (now (arena .entry)) (tableIn (now (mem .entry))) h (now (name .entry)) (new .kind) (new .mode) (new .time) (new .file)) (holding (createMoves (fsAt (now (arena .entry)) (now (mem .exit))) (r .row) (now (name .entry)) (new .kind) (new .mode) (new .time) (new .file))) (Asked (now (arena .entry)) (now (mem .exit)) (now (name .entry)) (r .row)) (r .reason) ⌝ }
 {
-    let b = reach_read(arena, chains, mem, h);
+    let b = reach_read(arena, first, next, mem, h);
     if b.reason != 0 {
         return b;
     }
-    let c = &chains[..];
-    let r = create_asks(
-        arena,
-        &c[..4096],
-        &c[4096..8192],
-        &mem[..],
-        b.row,
-        name,
-        new,
-    );
+    let r = create_asks(arena, first, next, &mem[..], b.row, name, new);
     ByHandle {
         reason: r,
         row: b.row,
@@ -174,7 +162,12 @@ fn create_asked(arena: &[u8], mem: &mut [u8], h: Handle, name: &[u8], new: New) 
     ensures { λ r. ⌜ Rest (callCreate (now (arena .entry)) (tableIn (now (mem .entry))) h (now (name .entry)) (new .kind) (new .mode) (new .time) (new .file)) (holding (createMoves (fsAt (now (arena .entry)) (now (mem .exit))) (r .row) (now (name .entry)) (new .kind) (new .mode) (new .time) (new .file))) (Asked (now (arena .entry)) (now (mem .exit)) (now (name .entry)) (r .row)) (r .reason) ⌝ }
 {
     let mut chains = [0u16; 8192];
-    create_led(arena, &mut chains, mem, h, name, new)
+    let r = admit(arena, &mut chains, &mem[..]);
+    if r != 0 {
+        return ByHandle { reason: r, row: 0 };
+    }
+    let c = &chains[..];
+    create_led(arena, &c[..4096], &c[4096..8192], mem, h, name, new)
 }
 
 // ---- the steps
@@ -313,7 +306,7 @@ fn create_begin(arena: &mut [u8], mem: &mut [u8], i: usize, name: &[u8], new: Ne
 }
 
 // The hold on the node that was made.
-fn create_rows(arena: &mut [u8], mem: &mut [u8], i: usize, name: &[u8], new: New) -> Handed
+pub fn create_rows(arena: &mut [u8], mem: &mut [u8], i: usize, name: &[u8], new: New) -> Handed
     requires { ⌜ Asked (now arena) (now mem) (now name) i ⌝ }
     ensures { λ r. ⌜ EndedHeld (holding (createMoves (fsAt (now (arena .entry)) (now (mem .entry))) i (now (name .entry)) (new .kind) (new .mode) (new .time) (new .file))) (now (arena .entry)) (now (arena .exit)) (addedAs (r .handle) (tableIn (now (mem .exit)))) (r .reason) ⌝ }
 {
@@ -333,10 +326,10 @@ fn create_on(arena: &mut [u8], mem: &mut [u8], h: Handle, name: &[u8], new: New)
     create_rows(arena, mem, b.row, name, new)
 }
 
-pub fn create(arena: &mut [u8], t: Table, h: Handle, name: &[u8], new: New) -> Given
+pub fn create(arena: &mut [u8], t: Table, h: Handle, name: &[u8], new: New) -> HeldReply
     ensures { λ r. ⌜ ReturnedHeld t (callCreate (now (arena .entry)) t h (now (name .entry)) (new .kind) (new .mode) (new .time) (new .file)) (now (arena .entry)) (now (arena .exit)) r ⌝ }
 {
-    let mut mem = [0u8; 4899];
+    let mut mem = [0u8; MEMORY];
     put_table(&mut mem, t);
     let o = create_on(arena, &mut mem, h, name, new);
     settle_held(t, &mem, o)

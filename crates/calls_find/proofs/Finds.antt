@@ -20,18 +20,17 @@ use Rattle.sefs.specs.State.{Fs}
 use Rattle.sefs.specs.Meta.{loadMeta}
 use Rattle.sefs.specs.Nodes.{Opened, opened, getNode}
 use Rattle.sefs.specs.Slots.{Slot, findSlot}
-use Rattle.sefs.specs.Ask.{admit, goodName, notLong, known, folder, start}
+use Rattle.sefs.specs.Ask.{admit, byHandle, goodName, notLong, known, folder, start}
 use Rattle.sefs.specs.Open.{callRoot, callFind, holdNode}
 use Rattle.mem.specs.Mem.{tableIn, metaIn, Whole}
-use Rattle.nodes.specs.Steps.{fsAt}
 use Rattle.calls.specs.Answers.{gotOf, heldTable, givenOf, notHanded}
-use Rattle.calls.specs.Asked.{reached}
-use Rattle.calls.specs.declared.Given.{Given}
+use Rattle.calls.specs.declared.HeldReply.{HeldReply}
 use Rattle.calls.specs.declared.Handed.{Handed}
 use Rattle.calls.proofs.Answers.{given-held, given-refused}
 use Rattle.calls.proofs.Asks.{Asks, asks-ensure, asks-then, asked-not, asked-done, call-stop, call-next, answer-stop, answer-next}
 use Rattle.calls.proofs.General.{went-last, went-as}
 use Rattle.calls_find.specs.Finds.{Gives, giveNode, giveNamed, notOrphan, findName, findFolder, findAsk, findId, findIn}
+use Rattle.mem.specs.State.{fsAt}
 
 -- ---- a node opened, and the hold on it
 
@@ -57,16 +56,16 @@ pub not-handed : {o : Out Added} {x : Added} {n : ℕ} {r : Handed} → 0 < n �
 not-handed l e q = rw q (ill l e)
 
 -- by a reason's number, and by the outcome
-given-is : (t : Table) {o : Out Added} {x : Added} {P : Type 0} {n : ℕ} {r : Given} → Went o x P n → r ≡ givenOf t x n → Gives t o r
+given-is : (t : Table) {o : Out Added} {x : Added} {P : Type 0} {n : ℕ} {r : HeldReply} → Went o x P n → r ≡ givenOf t x n → Gives t o r
 given-is t {x = x} (well e p) q =
     let h = q ∙ sym (given-held t x 0 refl) in
-    (ap (λ (y : Given). y .answer) h ∙ sym (ap gotOf e), ap (λ (y : Given). y .table) h ∙ sym (ap (heldTable t) e))
+    (ap (λ (y : HeldReply). y .answer) h ∙ sym (ap gotOf e), ap (λ (y : HeldReply). y .table) h ∙ sym (ap (heldTable t) e))
 given-is t {x = x} (ill {r = n} l e) q =
     let h = q ∙ sym (given-refused t x n (λ z. omega arith)) in
-    (ap (λ (y : Given). y .answer) h ∙ sym (ap gotOf e), ap (λ (y : Given). y .table) h ∙ sym (ap (heldTable t) e))
+    (ap (λ (y : HeldReply). y .answer) h ∙ sym (ap gotOf e), ap (λ (y : HeldReply). y .table) h ∙ sym (ap (heldTable t) e))
 
 -- the same, where the table that memory was given is known by another name
-pub given-table : (f : Table → Out Added) (t : Table) {u v : Table} {x : Added} {P : Type 0} {n : ℕ} {r : Given} → u ≡ v → Went (f u) x P n → r ≡ givenOf t x n → Gives t (f v) r
+pub given-table : (f : Table → Out Added) (t : Table) {u v : Table} {x : Added} {P : Type 0} {n : ℕ} {r : HeldReply} → u ≡ v → Went (f u) x P n → r ≡ givenOf t x n → Gives t (f v) r
 given-table f t q g e = rw (← q) (given-is t g e)
 
 -- ---- 16, and then the opening
@@ -82,16 +81,14 @@ module _ (a : List ℕ) (t : Table) (id : ℕ) where
 
 -- ---- root
 
-module _ {P : Type 0} (a : List ℕ) (t : Table) {n : ℕ} (g : Went (admit a t) tt P n) where
-  root-is : callRoot a t ≡ bind (admit a t) (λ _. giveNode a t 2)
+module _ (a : List ℕ) (t : Table) where
+  pub root-refused : {n : ℕ} → admit a t ≡ refused n → callRoot a t ≡ refused n
+  unfolding callRoot
+  root-refused q = rw q
+
+  pub root-next : admit a t ≡ done tt → callRoot a t ≡ giveNode a t 2
   unfolding callRoot giveNode
-  root-is = refl
-
-  pub root-stop : (n ≡ 0 → ⊥) → callRoot a t ≡ refused n
-  root-stop z = root-is ∙ rw (went-not g z)
-
-  pub root-next : n ≡ 0 → callRoot a t ≡ giveNode a t 2
-  root-next z = root-is ∙ rw (went-is g z)
+  root-next q = rw q
 
 -- ---- find
 
@@ -188,11 +185,15 @@ rest-is : (a : List ℕ) (t : Table) (name : List ℕ) (r : DiskINode) → rest 
 unfolding giveNamed findIn findAsk findFolder findName findId giveNode
 rest-is a t name r = grouped (λ id. bind (ensure (canHold t) 16) (λ _. holdNode (start a t) id)) (goodName name) (known r) (folder r) (notLong name) (notOrphan r name) (findSlot a r name)
 
-module _ {P : Type 0} (a : List ℕ) (t : Table) (h : Handle) (name : List ℕ) (row r : ℕ) (g : Went (reached a t h) row P r) where
+pub find-refused : (a : List ℕ) (t : Table) (h : Handle) (name : List ℕ) {n : ℕ} → admit a t ≡ refused n → callFind a t h name ≡ refused n
+unfolding callFind
+find-refused a t h name q = rw q
+
+module _ {P : Type 0} (a : List ℕ) (t : Table) (h : Handle) (name : List ℕ) (q : admit a t ≡ done tt) (row r : ℕ) (g : Went (byHandle t h) row P r) where
   pub find-stop : (r ≡ 0 → ⊥) → callFind a t h name ≡ refused r
   unfolding callFind
-  find-stop z = call-stop a t h (λ i. rest a t name (rowAt t i .rec)) row r g z
+  find-stop z = call-stop a t h q (λ i. rest a t name (rowAt t i .rec)) row r g z
 
   pub find-next : r ≡ 0 → callFind a t h name ≡ giveNamed a t (rowAt t row .rec) name
   unfolding callFind
-  find-next z = call-next a t h (λ i. rest a t name (rowAt t i .rec)) row r g z ∙ rest-is a t name (rowAt t row .rec)
+  find-next z = call-next a t h q (λ i. rest a t name (rowAt t i .rec)) row r g z ∙ rest-is a t name (rowAt t row .rec)

@@ -7,14 +7,14 @@ use Rattle.table.specs.declared.Table.{Table}
 use Rattle.table.specs.declared.Handle.{Handle}
 use Rattle.table.specs.declared.Added.{Added}
 use Rattle.sefs.specs.Open.{callRoot, callFind}
-use Rattle.calls.specs.declared.Given.{Given}
+use Rattle.calls.specs.declared.HeldReply.{HeldReply}
 use Rattle.calls_find.specs.Finds.{Gives}
 
-gives-one : (t : Table) (o : Out Added) (r s : Given) → Gives t o r → Gives t o s → r ≡ s
+gives-one : (t : Table) (o : Out Added) (r s : HeldReply) → Gives t o r → Gives t o s → r ≡ s
 gives-one t o r s p q = λ x. record { answer = (p .0 ∙ sym (q .0)) x; table = (p .1 ∙ sym (q .1)) x }
 
-pub root-one : (a : List ℕ) (t : Table) (r s : Given) → Gives t (callRoot a t) r → Gives t (callRoot a t) s → r ≡ s
+pub root-one : (a : List ℕ) (t : Table) (r s : HeldReply) → Gives t (callRoot a t) r → Gives t (callRoot a t) s → r ≡ s
 root-one a t r s p q = gives-one t (callRoot a t) r s p q
 
-pub find-one : (a : List ℕ) (t : Table) (h : Handle) (name : List ℕ) (r s : Given) → Gives t (callFind a t h name) r → Gives t (callFind a t h name) s → r ≡ s
+pub find-one : (a : List ℕ) (t : Table) (h : Handle) (name : List ℕ) (r s : HeldReply) → Gives t (callFind a t h name) r → Gives t (callFind a t h name) s → r ≡ s
 find-one a t h name r s p q = gives-one t (callFind a t h name) r s p q

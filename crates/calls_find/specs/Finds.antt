@@ -15,10 +15,10 @@ use Rattle.sefs.specs.Ask.{start, goodName, known, folder, notLong}
 use Rattle.sefs.specs.Open.{holdNode}
 use Rattle.sefs.specs.Slots.{findSlot}
 use Rattle.calls.specs.Answers.{gotOf, heldTable}
-use Rattle.calls.specs.declared.Given.{Given}
+use Rattle.calls.specs.declared.HeldReply.{HeldReply}
 
 -- a call that makes a hold answers what its outcome says, with the outcome's table
-abbrev pub Gives : Table → Out Added → Given → Type 0
+abbrev pub Gives : Table → Out Added → HeldReply → Type 0
 Gives t o r = (r .answer ≡ gotOf o) × (r .table ≡ heldTable t o)
 
 -- ---- 16, then the opening

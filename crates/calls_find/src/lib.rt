@@ -7,25 +7,26 @@ ghost use Rattle.table.specs.Table.{addHold};
 ghost use Rattle.sefs.specs.Ask.{start};
 ghost use Rattle.sefs.specs.Open.{callRoot, callFind, holdNode};
 ghost use Rattle.chains.specs.Led.{Led};
-ghost use Rattle.mem.specs.Mem.{tableIn, Whole};
+ghost use Rattle.mem.specs.Mem.{tableIn, Whole, memorySize};
 ghost use Rattle.table.specs.Table.{rowAt};
 ghost use Rattle.calls.specs.Answers.{addedAs};
-ghost use Rattle.calls.specs.Asked.{Blank};
+ghost use Rattle.calls.specs.Asked.{Admitted};
 ghost use Rattle.calls_find.specs.Finds.{Gives, giveNode, giveNamed, notOrphan, findName, findFolder, findAsk, findId, findIn};
-use calls::Given;
 use calls::Handed;
+use calls::HeldReply;
+use calls::by_handle;
 use calls::folder;
 use calls::good_name;
 use calls::hand;
 use calls::known;
 use calls::led::admit;
-use calls::led::reach;
 use calls::not_handed;
 use calls::not_long;
 use calls::settle_held;
 use chains::slots::find_slot;
 use holds::can_hold;
 use le::u32_at;
+use mem::MEMORY;
 use mem::put_table;
 use mem::rec_at;
 use nodes::Opened;
@@ -40,7 +41,7 @@ use utf8::is_dots;
 
 fn open_node(arena: &[u8], first: &[u16], next: &[u16], mem: &mut [u8], id: u32) -> Opened
     requires { ⌜ Led (now arena) (now first) (now next) ⌝ }
-    requires { ⌜ length (now mem) ≡ 4899 ⌝ }
+    requires { ⌜ length (now mem) ≡ memorySize ⌝ }
     ensures { λ r. ⌜ Went (holdNode (start (now (arena .entry)) (tableIn (now (mem .entry)))) id) (addHold (tableIn (now (mem .exit))) (r .row)) (Whole (now (mem .exit)) × (r .row < 34)) (r .reason) ⌝ }
 {
     load_meta(arena, first, next, mem);
@@ -49,7 +50,7 @@ fn open_node(arena: &[u8], first: &[u16], next: &[u16], mem: &mut [u8], id: u32)
 
 fn hold_node(arena: &[u8], first: &[u16], next: &[u16], mem: &mut [u8], id: u32) -> Handed
     requires { ⌜ Led (now arena) (now first) (now next) ⌝ }
-    requires { ⌜ length (now mem) ≡ 4899 ⌝ }
+    requires { ⌜ length (now mem) ≡ memorySize ⌝ }
     ensures { λ r. ⌜ Went (holdNode (start (now (arena .entry)) (tableIn (now (mem .entry)))) id) (addedAs (r .handle) (tableIn (now (mem .exit)))) Unit (r .reason) ⌝ }
 {
     let o = open_node(arena, first, next, mem, id);
@@ -70,17 +71,12 @@ fn give_node(arena: &[u8], first: &[u16], next: &[u16], mem: &mut [u8], id: u32)
 
 // ---- root
 
-// The call, with the place where the chains go; so below, too.
-fn root_led(arena: &[u8], chains: &mut [u16], mem: &mut [u8]) -> Handed
-    requires { ⌜ Blank (now chains) × Whole (now mem) ⌝ }
+// What follows the tests of arena and table, by the chains that they left; so below, too.
+pub fn root_led(arena: &[u8], first: &[u16], next: &[u16], mem: &mut [u8]) -> Handed
+    requires { ⌜ Admitted (now arena) (now first) (now next) (now mem) ⌝ }
     ensures { λ r. ⌜ Went (callRoot (now (arena .entry)) (tableIn (now (mem .entry)))) (addedAs (r .handle) (tableIn (now (mem .exit)))) Unit (r .reason) ⌝ }
 {
-    let r = admit(arena, chains, &mem[..]);
-    if r != 0 {
-        return not_handed(r);
-    }
-    let c = &chains[..];
-    give_node(arena, &c[..4096], &c[4096..8192], mem, 2)
+    give_node(arena, first, next, mem, 2)
 }
 
 // The call on the table in memory; so below, too.
@@ -89,13 +85,18 @@ fn root_on(arena: &[u8], mem: &mut [u8]) -> Handed
     ensures { λ r. ⌜ Went (callRoot (now (arena .entry)) (tableIn (now (mem .entry)))) (addedAs (r .handle) (tableIn (now (mem .exit)))) Unit (r .reason) ⌝ }
 {
     let mut chains = [0u16; 8192];
-    root_led(arena, &mut chains, mem)
+    let r = admit(arena, &mut chains, &mem[..]);
+    if r != 0 {
+        return not_handed(r);
+    }
+    let c = &chains[..];
+    root_led(arena, &c[..4096], &c[4096..8192], mem)
 }
 
-pub fn root(arena: &[u8], t: Table) -> Given
+pub fn root(arena: &[u8], t: Table) -> HeldReply
     ensures { λ r. ⌜ Gives t (callRoot (now (arena .entry)) t) r ⌝ }
 {
-    let mut mem = [0u8; 4899];
+    let mut mem = [0u8; MEMORY];
     put_table(&mut mem, t);
     let h = root_on(arena, &mut mem);
     settle_held(t, &mem, h)
@@ -211,16 +212,22 @@ fn give_named(
     give_node(arena, first, next, mem, n.id)
 }
 
-fn find_led(arena: &[u8], chains: &mut [u16], mem: &mut [u8], h: Handle, name: &[u8]) -> Handed
-    requires { ⌜ Blank (now chains) × Whole (now mem) ⌝ }
+pub fn find_led(
+    arena: &[u8],
+    first: &[u16],
+    next: &[u16],
+    mem: &mut [u8],
+    h: Handle,
+    name: &[u8],
+) -> Handed
+    requires { ⌜ Admitted (now arena) (now first) (now next) (now mem) ⌝ }
     ensures { λ r. ⌜ Went (callFind (now (arena .entry)) (tableIn (now (mem .entry))) h (now (name .entry))) (addedAs (r .handle) (tableIn (now (mem .exit)))) Unit (r .reason) ⌝ }
 {
-    let b = reach(arena, chains, &mem[..], h);
+    let b = by_handle(&mem[..], h);
     if b.reason != 0 {
         return not_handed(b.reason);
     }
-    let c = &chains[..];
-    give_named(arena, &c[..4096], &c[4096..8192], mem, b.row, name)
+    give_named(arena, first, next, mem, b.row, name)
 }
 
 fn find_on(arena: &[u8], mem: &mut [u8], h: Handle, name: &[u8]) -> Handed
@@ -228,13 +235,18 @@ fn find_on(arena: &[u8], mem: &mut [u8], h: Handle, name: &[u8]) -> Handed
     ensures { λ r. ⌜ Went (callFind (now (arena .entry)) (tableIn (now (mem .entry))) h (now (name .entry))) (addedAs (r .handle) (tableIn (now (mem .exit)))) Unit (r .reason) ⌝ }
 {
     let mut chains = [0u16; 8192];
-    find_led(arena, &mut chains, mem, h, name)
+    let r = admit(arena, &mut chains, &mem[..]);
+    if r != 0 {
+        return not_handed(r);
+    }
+    let c = &chains[..];
+    find_led(arena, &c[..4096], &c[4096..8192], mem, h, name)
 }
 
-pub fn find(arena: &[u8], t: Table, h: Handle, name: &[u8]) -> Given
+pub fn find(arena: &[u8], t: Table, h: Handle, name: &[u8]) -> HeldReply
     ensures { λ r. ⌜ Gives t (callFind (now (arena .entry)) t h (now (name .entry))) r ⌝ }
 {
-    let mut mem = [0u8; 4899];
+    let mut mem = [0u8; MEMORY];
     put_table(&mut mem, t);
     let r = find_on(arena, &mut mem, h, name);
     settle_held(t, &mem, r)

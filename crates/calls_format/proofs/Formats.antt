@@ -24,11 +24,11 @@ use Rattle.sefs.specs.Create.{After, freshMeta, formatSteps, callFormat}
 use Rattle.mem.specs.Mem.{tableIn, metaIn, Whole}
 use Rattle.mem.specs.State.{fsOf, Still, Stepped}
 use Rattle.folders.proofs.States.{stepped-next}
-use Rattle.calls.specs.declared.After as answered
+use Rattle.calls.specs.declared.Reply as answered
 use Rattle.calls.specs.Answers.{doneWith, refusedWith}
 use Rattle.calls.proofs.Answers.{after-done, after-refused}
-use Rattle.calls_steps.specs.Ends.{Ended, went, stuck, Returned}
-use Rattle.calls_steps.proofs.Ends.{bind-same, returned-ended, returned-refused}
+use Rattle.steps.specs.Ends.{Ended, went, stopped, Returned}
+use Rattle.steps.proofs.Ends.{bind-same, returned-ended, returned-refused}
 use Rattle.calls_format.specs.Format.{makeMeta, nameTwice, syncBoth, fillRoot, formatWork, cleared, formatted, emptied}
 
 -- ---- the metadata file
@@ -102,7 +102,7 @@ fs-cleared a w u m c = rw (c .is)
 
 module _ (a b w u m n name : List ℕ) (time : Timespec) {P : Type 0} {r : ℕ} (q : fsOf a u m ≡ cleared a m) (g : Went (formatWork (fsOf a u m) time name) (fsOf a w n) P r) where
   pub wrote-not : (r ≡ 0 → ⊥) → b ≡ a → Ended (emptied (formatWork (cleared a m) time name)) a b emptyTable r
-  wrote-not z e = rw (← q) (stuck (above-zero r z) (rw (went-not g z)) e)
+  wrote-not z e = rw (← q) (stopped (above-zero r z) (rw (went-not g z)) e)
 
   pub wrote-all : r ≡ 0 → b ≡ view a w → Ended (emptied (formatWork (cleared a m) time name)) a b emptyTable 0
   unfolding fsOf
@@ -148,7 +148,7 @@ module _ (a name : List ℕ) (time : Timespec) where
 
 -- ---- what is returned: t is the empty table
 
-module _ {t : Table} (k : t ≡ emptyTable) {o : Out After} {a b : List ℕ} {n : ℕ} {r : answered.After} where
+module _ {t : Table} (k : t ≡ emptyTable) {o : Out After} {a b : List ℕ} {n : ℕ} {r : answered.Reply} where
   pub call-bad : o ≡ refused n → b ≡ a → r ≡ refusedWith t n → Returned emptyTable o a b r
   call-bad e h q = returned-refused emptyTable e h (q ∙ ap (λ (x : Table). refusedWith x n) k)
 

@@ -12,7 +12,7 @@ use Rattle.sefs.specs.Meta.{metaFile, syncMeta}
 use Rattle.sefs.specs.Nodes.{idAt, newNode, syncRow}
 use Rattle.sefs.specs.Folders.{direntInit, nlinksInc}
 use Rattle.sefs.specs.Create.{After}
-use Rattle.mem.specs.Mem.{tableIn, metaIn}
+use Rattle.mem.specs.State.{fsAt}
 
 -- the metadata file, as long as one group
 unfoldable pub makeMeta : List ℕ → Out (List ℕ)
@@ -48,7 +48,7 @@ formatWork s time name = do
 
 -- an arena of zeros, as long as a, and what memory has
 unfoldable pub cleared : List ℕ → List ℕ → Fs
-cleared a m = record { arena = replicate (length a) 0; table = tableIn m; meta = metaIn m }
+cleared a m = fsAt (replicate (length a) 0) m
 
 -- format returns an empty table with the arena that its definition gives
 abbrev pub formatted : Out (List ℕ) → Out After

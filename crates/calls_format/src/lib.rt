@@ -7,21 +7,21 @@ ghost use lib.ListN.{length, replicate};
 ghost use Rattle.base.specs.Out.{Went};
 ghost use Rattle.table.specs.Table.{emptyTable};
 ghost use Rattle.arena.specs.Blocks.{legal};
-ghost use Rattle.overlay.specs.View.{view, left, Fine};
+ghost use Rattle.overlay.specs.View.{view, left, Fine, Empty};
 ghost use Rattle.overlay.specs.Steps.{Changed, Did};
-ghost use Rattle.overlay.proofs.Views.{Ready as Empty};
 ghost use Rattle.sefs.specs.Create.{callFormat};
 ghost use Rattle.mem.specs.Mem.{Whole};
 ghost use Rattle.mem.specs.State.{fsOf, Ready, Stepped};
-ghost use Rattle.calls_steps.specs.Ends.{Ended, Returned};
+ghost use Rattle.steps.specs.Ends.{Ended, Returned};
 ghost use Rattle.calls_format.specs.Format.{makeMeta, nameTwice, syncBoth, fillRoot, formatWork, cleared, formatted, emptied};
-use calls::After;
+use calls::Reply;
 use calls::done;
 use calls::refused;
 use files::store::cut;
 use files::store::make;
 use folders::dirent_init;
 use folders::nlinks_inc;
+use mem::MEMORY;
 use mem::fresh_meta;
 use mem::id_at;
 use mem::put_table;
@@ -146,13 +146,13 @@ fn format_fresh(arena: &mut [u8], time: Timespec, file: [u8; 16]) -> u8
     requires { ⌜ legal (now arena) ≡ true ⌝ }
     ensures { λ r. ⌜ Ended (formatted (callFormat (now (arena .entry)) time file)) (now (arena .entry)) (now (arena .exit)) emptyTable r ⌝ }
 {
-    let mut mem = [0u8; 4899];
+    let mut mem = [0u8; MEMORY];
     put_table(&mut mem, table::empty());
     fresh_meta(&mut mem);
     format_over(arena, &mut mem, time, file)
 }
 
-pub fn format(arena: &mut [u8], time: Timespec, file: [u8; 16]) -> After
+pub fn format(arena: &mut [u8], time: Timespec, file: [u8; 16]) -> Reply
     ensures { λ r. ⌜ Returned emptyTable (formatted (callFormat (now (arena .entry)) time file)) (now (arena .entry)) (now (arena .exit)) r ⌝ }
 {
     let t = table::empty();

@@ -1,49 +1,34 @@
 -- The call link, in its parts.
-use mathlib.Core.Path.{_≡_, refl, sym, _∙_, ap, subst}
-use mathlib.Core.Bool.{Bool, true, false, not, _&&_}
+use mathlib.Core.Path.{_≡_, refl, _∙_, subst}
+use mathlib.Core.Bool.{not}
 use mathlib.Core.List.{List}
-use Prim.Native.Nat.{ℕ, _+_, _*_, _-_, _≤_, _<_}
+use Prim.Native.Nat.{ℕ, _-_, _≤_, _<_}
 use native.Mathlib.Omega.{arith}
-use lib.ListN.{length, getD, replicate}
-use lib.Dec.{eqb, ltb, leb}
-use borrow.Author.Tests.{lt-ltb, le-ltb, lt-leb, le-leb, leb-true, eq-eqb, ne-eqb}
+use lib.ListN.{length}
+use lib.Dec.{ltb}
+use borrow.Author.Tests.{lt-ltb, le-ltb, eq-eqb, ne-eqb}
 use Rattle.base.specs.Out.{Out, done, refused, bind, ensure, answer, Went, well, ill}
-use Rattle.base.specs.Search.{foundBelow}
-use Rattle.base.proofs.Outs.{went-is, went-has, went-not, went-stop, went-next, above-zero, bind-assoc}
-use Rattle.base.proofs.Searches.{found-at, found-nothing}
-use Rattle.base.proofs.Parts.{getD-zero-list}
-use Rattle.structs.specs.Verdict.{isFolder}
+use Rattle.base.proofs.Outs.{went-is, went-has, went-not, went-stop, went-next}
+use Rattle.structs.specs.Types.{isFolder}
 use Rattle.structs.specs.declared.DiskINode.{DiskINode}
-use Rattle.structs.specs.declared.DiskEntry.{DiskEntry}
-use Rattle.structs.specs.Layout.{entryOf, entryBytes}
-use Rattle.structs.specs.Fits.{EntryFits}
-use Rattle.structs.proofs.Layouts.{entryOf-entryBytes}
-use Rattle.structs.proofs.Joins.{bytes-append}
-use Rattle.le.specs.Le.{Bytes}
 use Rattle.folders.proofs.States.{stepped-next}
 use Rattle.mem.specs.Mem.{tableIn, Whole}
-use Rattle.overlay.specs.View.{view}
-use Rattle.table.specs.Table.{rowAt}
-use Rattle.utf8.specs.Names.{nameVerdict, earlyReason, nameBytes}
-use Rattle.utf8.proofs.Names.{length-nameBytes}
 use Rattle.table.specs.declared.Table.{Table}
 use Rattle.table.specs.declared.Handle.{Handle}
 use Rattle.sefs.specs.State.{Fs}
 use Rattle.sefs.specs.Nodes.{recAt, idAt, syncRow}
-use Rattle.sefs.specs.Slots.{lookTo, lookup}
+use Rattle.sefs.specs.Slots.{lookup}
 use Rattle.sefs.specs.Folders.{entry, direntAppend, nlinksInc}
 use Rattle.sefs.specs.Ask.{admit, byHandle, goodName, notLong, known, liveFolder, orExists, start}
 use Rattle.sefs.specs.Create.{After, after, linkSteps, callLink}
-use Rattle.mem.specs.State.{fsOf, Ready, Still, Stepped}
-use Rattle.chains.proofs.Lookups.{lookup-is}
-use Rattle.calls.proofs.Asks.{Asks, asks-ensure, asks-then, asks-live, asked-not, asked-done, asked-went, answer-stop, answer-next}
-use Rattle.nodes.specs.Steps.{fsAt}
-use Rattle.calls.specs.Asked.{reached, reachedTwo}
-use Rattle.calls_steps.specs.Ends.{Begun, Rest, on, off, ending}
+use Rattle.mem.specs.State.{fsOf, Stepped, fsAt}
+use Rattle.calls.proofs.Asks.{asks-live, asked-done, asked-went}
+use Rattle.calls.specs.Asked.{byTwo}
+use Rattle.steps.specs.Ends.{Begun, Rest, on, off, ending}
 use Rattle.calls_link.specs.Link.{linkAsk, linkChild, linkMoves, linkWork, Asked}
-use Rattle.calls_steps.specs.Steps.{noSlot, syncTwo}
-use Rattle.calls_steps.proofs.Ends.{ending-bind, ending-both, bind-same, begun-start, rest-off, rest-as, rest-then}
-use Rattle.calls_steps.proofs.Steps.{asks-good, asks-known, long}
+use Rattle.steps.specs.Steps.{noSlot, syncTwo}
+use Rattle.steps.proofs.Ends.{ending-bind, ending-both, bind-same, begun-start, rest-off, rest-as, rest-then}
+use Rattle.steps.proofs.Steps.{asks-good, asks-known, long}
 
 -- ---- the call is its questions and its steps
 
@@ -148,18 +133,20 @@ module _ (s : Fs) (i c : ℕ) (name : List ℕ) (rec : DiskINode) (k : rec ≡ r
     work-child child q o (well e u) = on (rw (← k, went-is g z, went-is h o, ← q, e)) (went-has g z)
     work-child child q o (ill l e) = off l (rw (← k, went-is g z, went-is h o, ← q, e))
 
--- the call, once its handles are known
-module _ (a first next m n : List ℕ) (h child : Handle) (name : List ℕ) {i c r : ℕ} (g : Went (reachedTwo a (tableIn m) h child) (i, c) (Begun a first next m n × ((i < 34) × (c < 34))) r) where
-  link-two : callLink a (tableIn m) h name child ≡ bind (reachedTwo a (tableIn m) h child) (λ p. ending (linkWork (start a (tableIn m)) (p .0) name (p .1)))
-  unfolding reachedTwo reached
-  link-two = link-is a (tableIn m) h name child ∙ go (admit a (tableIn m)) (byHandle (tableIn m) h) (byHandle (tableIn m) child)
+pub link-refused : (a : List ℕ) (t : Table) (h : Handle) (name : List ℕ) (child : Handle) {n : ℕ} → admit a t ≡ refused n → callLink a t h name child ≡ refused n
+link-refused a t h name child q = link-is a t h name child ∙ rw q
+
+-- the call, once arena, table and handles are known
+module _ (a first next m n : List ℕ) (h child : Handle) (name : List ℕ) (q : admit a (tableIn m) ≡ done tt) {i c r : ℕ} (g : Went (byTwo (tableIn m) h child) (i, c) (Begun a first next m n × ((i < 34) × (c < 34))) r) where
+  link-two : callLink a (tableIn m) h name child ≡ bind (byTwo (tableIn m) h child) (λ p. ending (linkWork (start a (tableIn m)) (p .0) name (p .1)))
+  unfolding byTwo
+  link-two = link-is a (tableIn m) h name child ∙ rw q (go (byHandle (tableIn m) h) (byHandle (tableIn m) child))
     where
-      go : (o : Out Unit) (b d : Out ℕ) → bind o (λ _. bind b (λ i. bind d (λ c. ending (linkWork (start a (tableIn m)) i name c))))
-          ≡ bind {A = ℕ × ℕ} (bind {B = ℕ × ℕ} (bind o (λ _. b)) (λ i. bind {B = ℕ × ℕ} d (λ j. done (i, j)))) (λ p. ending (linkWork (start a (tableIn m)) (p .0) name (p .1)))
-      go (done u) (done i) (done c) = refl
-      go (done u) (done i) (refused k) = refl
-      go (done u) (refused k) d = refl
-      go (refused k) b d = refl
+      go : (b d : Out ℕ) → bind b (λ i. bind d (λ c. ending (linkWork (start a (tableIn m)) i name c)))
+          ≡ bind {A = ℕ × ℕ} (bind {B = ℕ × ℕ} b (λ i. bind {B = ℕ × ℕ} d (λ j. done (i, j)))) (λ p. ending (linkWork (start a (tableIn m)) (p .0) name (p .1)))
+      go (done i) (done c) = refl
+      go (done i) (refused k) = refl
+      go (refused k) d = refl
 
   pub link-not : {e : Out After} {Q : Type 0} → (r ≡ 0 → ⊥) → Rest (callLink a (tableIn m) h name child) e Q r
   link-not z = rest-off z (link-two ∙ rw (went-not g z))

@@ -5,7 +5,7 @@ use mathlib.Core.List.{List}
 use Prim.Native.Nat.{ℕ, _<_, _≤_}
 use lib.ListN.{length}
 use lib.Dec.{ltb}
-use Rattle.structs.specs.Verdict.{isFolder}
+use Rattle.structs.specs.Types.{isFolder}
 use Rattle.structs.specs.declared.DiskINode.{DiskINode}
 use Rattle.base.specs.Out.{Out, done, refused, ensure, _>>=_}
 use Rattle.base.specs.Reasons.{isDir, tooManyLinks}
@@ -15,7 +15,7 @@ use Rattle.sefs.specs.Nodes.{recAt, idAt}
 use Rattle.sefs.specs.Folders.{entry, direntAppend, nlinksInc}
 use Rattle.sefs.specs.Ask.{goodName, notLong, known, liveFolder}
 use Rattle.mem.specs.Mem.{Whole}
-use Rattle.calls_steps.specs.Steps.{noSlot, syncTwo}
+use Rattle.steps.specs.Steps.{noSlot, syncTwo}
 
 -- 5, 7, 8, 10: of the folder's record, and of the name
 unfoldable pub linkAsk : DiskINode → List ℕ → Out Unit

@@ -1,32 +1,31 @@
 // The call link. It asks and reads by the chains of `sound`, decides its steps on a view of the arena, and commits once nothing can refuse it any more.
-ghost use mathlib.Core.Path.{_≡_};
 ghost use Prim.Native.Nat.{_<_, _≤_};
 ghost use lib.ListN.{length};
 ghost use Rattle.base.specs.Out.{Went};
-ghost use Rattle.overlay.specs.View.{left};
-ghost use Rattle.overlay.proofs.Views.{Ready as Empty};
+ghost use Rattle.overlay.specs.View.{left, Empty};
 ghost use Rattle.sefs.specs.Create.{callLink};
 ghost use Rattle.chains.specs.Led.{Led};
-ghost use Rattle.nodes.specs.Steps.{fsAt};
 ghost use Rattle.mem.specs.Mem.{tableIn, Whole};
-ghost use Rattle.mem.specs.State.{fsOf, Ready, Stepped};
-ghost use Rattle.calls.specs.Asked.{Blank};
-ghost use Rattle.calls_steps.specs.Ends.{Rest, ending, Ended, Returned};
+ghost use Rattle.mem.specs.State.{fsOf, Ready, Stepped, fsAt};
+ghost use Rattle.calls.specs.Asked.{Admitted};
+ghost use Rattle.steps.specs.Ends.{Rest, ending, Ended, Returned};
 ghost use Rattle.calls_link.specs.Link.{linkAsk, linkChild, linkMoves, linkWork, Asked};
-use calls::After;
+use calls::ByTwo;
+use calls::Reply;
 use calls::good_name;
 use calls::known;
-use calls::led::ByTwo;
+use calls::led::admit;
 use calls::live_folder;
 use calls::not_long;
 use calls::settle;
-use calls_steps::append_named;
-use calls_steps::no_slot;
-use calls_steps::reach_two_read;
-use calls_steps::sync_two;
 use folders::nlinks_inc;
+use mem::MEMORY;
 use mem::put_table;
 use mem::rec_at;
+use steps::append_named;
+use steps::no_slot;
+use steps::reach_two_read;
+use steps::sync_two;
 use structs::DiskINode;
 use table::Handle;
 use table::Table;
@@ -89,31 +88,24 @@ fn link_asks(
     link_child(rec_at(mem, c))
 }
 
-fn link_led(
+// What follows the tests of arena and table, by the chains that they left.
+pub fn link_led(
     arena: &[u8],
-    chains: &mut [u16],
+    first: &[u16],
+    next: &[u16],
     mem: &mut [u8],
     h: Handle,
     name: &[u8],
     child: Handle,
 ) -> ByTwo
-    requires { ⌜ Blank (now chains) × Whole (now mem) ⌝ }
+    requires { ⌜ Admitted (now arena) (now first) (now next) (now mem) ⌝ }
     ensures { λ r. ⌜ Rest (callLink (now (arena .entry)) (tableIn (now (mem .entry))) h (now (name .entry)) child) (ending (linkMoves (fsAt (now (arena .entry)) (now (mem .exit))) (r .row) (now (name .entry)) (r .other))) (Asked (now (arena .entry)) (now (mem .exit)) (now (name .entry)) (r .row) (r .other)) (r .reason) ⌝ }
 {
-    let b = reach_two_read(arena, chains, mem, h, child);
+    let b = reach_two_read(arena, first, next, mem, h, child);
     if b.reason != 0 {
         return b;
     }
-    let c = &chains[..];
-    let r = link_asks(
-        arena,
-        &c[..4096],
-        &c[4096..8192],
-        &mem[..],
-        b.row,
-        name,
-        b.other,
-    );
+    let r = link_asks(arena, first, next, &mem[..], b.row, name, b.other);
     ByTwo {
         reason: r,
         row: b.row,
@@ -127,7 +119,16 @@ fn link_asked(arena: &[u8], mem: &mut [u8], h: Handle, name: &[u8], child: Handl
     ensures { λ r. ⌜ Rest (callLink (now (arena .entry)) (tableIn (now (mem .entry))) h (now (name .entry)) child) (ending (linkMoves (fsAt (now (arena .entry)) (now (mem .exit))) (r .row) (now (name .entry)) (r .other))) (Asked (now (arena .entry)) (now (mem .exit)) (now (name .entry)) (r .row) (r .other)) (r .reason) ⌝ }
 {
     let mut chains = [0u16; 8192];
-    link_led(arena, &mut chains, mem, h, name, child)
+    let r = admit(arena, &mut chains, &mem[..]);
+    if r != 0 {
+        return ByTwo {
+            reason: r,
+            row: 0,
+            other: 0,
+        };
+    }
+    let c = &chains[..];
+    link_led(arena, &c[..4096], &c[4096..8192], mem, h, name, child)
 }
 
 // ---- the steps
@@ -162,7 +163,7 @@ fn link_in(arena: &mut [u8], work: &mut [u8], mem: &mut [u8], i: usize, name: &[
 }
 
 // The workspace is made.
-fn link_rows(arena: &mut [u8], mem: &mut [u8], i: usize, name: &[u8], c: usize) -> u8
+pub fn link_rows(arena: &mut [u8], mem: &mut [u8], i: usize, name: &[u8], c: usize) -> u8
     requires { ⌜ Asked (now arena) (now mem) (now name) i c ⌝ }
     ensures { λ r. ⌜ Ended (ending (linkMoves (fsAt (now (arena .entry)) (now (mem .entry))) i (now (name .entry)) c)) (now (arena .entry)) (now (arena .exit)) (tableIn (now (mem .exit))) r ⌝ }
 {
@@ -183,10 +184,10 @@ fn link_on(arena: &mut [u8], mem: &mut [u8], h: Handle, name: &[u8], child: Hand
     link_rows(arena, mem, b.row, name, b.other)
 }
 
-pub fn link(arena: &mut [u8], t: Table, h: Handle, name: &[u8], child: Handle) -> After
+pub fn link(arena: &mut [u8], t: Table, h: Handle, name: &[u8], child: Handle) -> Reply
     ensures { λ r. ⌜ Returned t (callLink (now (arena .entry)) t h (now (name .entry)) child) (now (arena .entry)) (now (arena .exit)) r ⌝ }
 {
-    let mut mem = [0u8; 4899];
+    let mut mem = [0u8; MEMORY];
     put_table(&mut mem, t);
     let r = link_on(arena, &mut mem, h, name, child);
     settle(t, &mem, r)

@@ -15,9 +15,9 @@ use Rattle.sefs.specs.Slots.{slotAt, findSlot}
 use Rattle.sefs.specs.Ask.{admit, byHandle, goodName, notLong, notSpecial, known, liveFolder, start}
 use Rattle.sefs.specs.Create.{After, after}
 use Rattle.sefs.specs.Move.{moveOnto, replace, callMove}
-use Rattle.calls_steps.proofs.Ends.{bind-same}
+use Rattle.steps.proofs.Ends.{bind-same}
 use Rattle.calls_move.specs.Parts.{both, openTwo, knownTwo, replaceNode, replaceNamed, moveFound, goodTwo, plainTwo, shortTwo, lateAsks, moveAsks, moveWork}
-use Rattle.calls_move_steps.proofs.Moves.{onto-is}
+use Rattle.move_steps.proofs.Moves.{onto-is}
 
 -- ---- the new name exists
 

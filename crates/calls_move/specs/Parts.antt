@@ -17,10 +17,10 @@ use Rattle.sefs.specs.Slots.{lookup, findSlot}
 use Rattle.sefs.specs.Ask.{goodName, notLong, notSpecial, known, liveFolder}
 use Rattle.sefs.specs.Create.{After, after}
 use Rattle.sefs.specs.Move.{moveTo}
-use Rattle.calls_steps.specs.Ends.{ending}
+use Rattle.steps.specs.Ends.{ending}
 use Rattle.mem.specs.Mem.{tableIn, Whole}
-use Rattle.calls_move_steps.specs.declared.Gone.the-variants.{Free}
-use Rattle.calls_move_steps.specs.Steps.{Typed, moveSlot, moveOver}
+use Rattle.move_steps.specs.declared.Gone.the-variants.{Free}
+use Rattle.move_steps.specs.Steps.{Typed, moveSlot, moveOver}
 
 -- ---- the new name exists
 
@@ -119,7 +119,7 @@ pub record Planned (m : List ℕ) (way i j d c : ℕ) : Type 0 where
   pub typed : (way ≡ 1 → ⊥) → Typed (rowAt (tableIn m) c .rec) × Typed (rowAt (tableIn m) d .rec)
 
 -- and once nothing refused: the arena a, the new name, the moved slot
-pub record Ready (a m name slot : List ℕ) (way i j d c : ℕ) : Type 0 where
+pub record Agreed (a m name slot : List ℕ) (way i j d c : ℕ) : Type 0 where
   pub legal : legal a ≡ true
   pub plan : Planned m way i j d c
   pub short : length name ≤ 255

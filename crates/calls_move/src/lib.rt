@@ -4,44 +4,46 @@ ghost use mathlib.Core.Path.{_≡_};
 ghost use mathlib.Core.List.{List};
 ghost use Prim.Native.Nat.{ℕ, _<_, _≤_};
 ghost use lib.ListN.{length};
+ghost use lib.Dec.{eqb};
+ghost use Rattle.base.specs.Search.{pick};
 ghost use Rattle.structs.specs.Layout.{entryOf};
 ghost use Rattle.structs.specs.declared.DiskEntry.{DiskEntry};
 ghost use Rattle.base.specs.Out.{Went};
-ghost use Rattle.overlay.specs.View.{left};
-ghost use Rattle.overlay.proofs.Views.{Ready as Empty};
+ghost use Rattle.overlay.specs.View.{left, Empty};
 ghost use Rattle.sefs.specs.Ask.{start};
 ghost use Rattle.sefs.specs.Move.{callMove};
-ghost use Rattle.mem.specs.Mem.{tableIn, Whole};
-ghost use Rattle.mem.specs.State.{fsOf, Stepped, Ready as Begins};
+ghost use Rattle.mem.specs.Mem.{tableIn, Whole, memorySize};
+ghost use Rattle.mem.specs.State.{fsOf, Stepped, Ready, fsAt};
 ghost use Rattle.chains.specs.Led.{Led};
-ghost use Rattle.nodes.specs.Steps.{fsAt};
-ghost use Rattle.calls.specs.Asked.{Blank};
-ghost use Rattle.calls_steps.specs.Ends.{Rest, ending, Ended, Returned};
-ghost use Rattle.calls_move_steps.specs.declared.Gone.the-variants.{Free};
-ghost use Rattle.calls_move_steps.specs.Steps.{Typed, moveNamed};
-ghost use Rattle.calls_move.specs.Parts.{both, openTwo, knownTwo, replaceNode, replaceNamed, moveFound, goodTwo, plainTwo, shortTwo, lateAsks, moveAsks, moveWork, planSteps, planned, Planned, Ready};
-ghost use Rattle.calls_move.specs.Courses.{courseOf, courseAs, Moved};
+ghost use Rattle.calls.specs.Asked.{Admitted};
+ghost use Rattle.steps.specs.Ends.{Rest, ending, Ended, Returned};
+ghost use Rattle.move_steps.specs.declared.Gone.the-variants.{Free};
+ghost use Rattle.move_steps.specs.Steps.{Typed, moveNamed};
+ghost use Rattle.calls_move.specs.Parts.{both, openTwo, knownTwo, replaceNode, replaceNamed, moveFound, goodTwo, plainTwo, shortTwo, lateAsks, moveAsks, moveWork, planSteps, planned, Planned, Agreed};
+ghost use Rattle.calls_move.specs.Courses.{courseOf, courseAs, EndedMove};
 use base::index;
-use calls::After;
+use calls::Reply;
 use calls::done;
 use calls::good_name;
 use calls::known;
+use calls::led::admit;
 use calls::live_folder;
 use calls::not_long;
 use calls::not_special;
 use calls::refused;
-use calls_move_steps::Gone;
-use calls_move_steps::move_onto;
-use calls_move_steps::move_slot;
-use calls_move_steps::rename;
-use calls_steps::reach_two_read;
 use chains::slots::find_slot;
 use chains::slots::lookup;
 use le::u32_at;
+use mem::MEMORY;
 use mem::put_table;
 use mem::rec_at;
 use mem::table_at;
+use move_steps::Gone;
+use move_steps::move_onto;
+use move_steps::move_slot;
+use move_steps::rename;
 use nodes_read::get_node;
+use steps::reach_two_read;
 use structs::DiskINode;
 use table::Handle;
 use table::Table;
@@ -105,14 +107,24 @@ fn known_two(moved: DiskINode, gone: DiskINode) -> u8
 
 // A move that is decided but for its steps, where the reason is 0. Its way is 0: both names are one node's, and nothing changes; 1: the new name is
 // free, and the slot at `place` is moved; 2: the moved node goes in the place of the one that is gone, which slot `place` of the target names.
-struct Plan {
-    reason: u8,
-    way: u8,
-    row: usize,
-    other: usize,
-    place: usize,
-    gone: usize,
-    moved: usize,
+pub struct Plan {
+    pub reason: u8,
+    pub way: u8,
+    pub row: usize,
+    pub other: usize,
+    pub place: usize,
+    pub gone: usize,
+    pub moved: usize,
+}
+
+// The way where the new name is node `new` and the old name node `was`.
+fn way_onto(was: u32, new: u32) -> u8
+    ensures { λ r. ⌜ r ≡ pick (eqb was new) 0 2 ⌝ }
+{
+    if was == new {
+        return 0;
+    }
+    2
 }
 
 // Slot k of the target names node `new`, and the old name is node `was`.
@@ -155,20 +167,9 @@ fn plan_node(
             moved: 0,
         };
     }
-    if was == new {
-        return Plan {
-            reason: 0,
-            way: 0,
-            row: i,
-            other: j,
-            place: k,
-            gone: p.gone,
-            moved: p.moved,
-        };
-    }
     Plan {
         reason: 0,
-        way: 2,
+        way: way_onto(was, new),
         row: i,
         other: j,
         place: k,
@@ -373,9 +374,11 @@ fn plan_work(
     plan_found(arena, first, next, mem, slot, i, j, old, name)
 }
 
-fn plan_led(
+// What follows the tests of arena and table, by the chains that they left.
+pub fn plan_led(
     arena: &[u8],
-    chains: &mut [u16],
+    first: &[u16],
+    next: &[u16],
     mem: &mut [u8],
     slot: &mut [u8],
     h: Handle,
@@ -383,10 +386,10 @@ fn plan_led(
     target: Handle,
     name: &[u8],
 ) -> Plan
-    requires { ⌜ Blank (now chains) × (Whole (now mem) × (length (now slot) ≡ 264)) ⌝ }
-    ensures { λ r. ⌜ Rest (callMove (now (arena .entry)) (tableIn (now (mem .entry))) h (now (old .entry)) target (now (name .entry))) (planned (start (now (arena .entry)) (tableIn (now (mem .entry)))) (fsAt (now (arena .entry)) (now (mem .exit))) (r .way) (r .row) (r .other) (now (old .entry)) (now (name .entry)) (entryOf (now (slot .exit))) (r .place) (r .gone) (r .moved)) (Ready (now (arena .entry)) (now (mem .exit)) (now (name .entry)) (now (slot .exit)) (r .way) (r .row) (r .other) (r .gone) (r .moved)) (r .reason) ⌝ }
+    requires { ⌜ Admitted (now arena) (now first) (now next) (now mem) × (length (now slot) ≡ 264) ⌝ }
+    ensures { λ r. ⌜ Rest (callMove (now (arena .entry)) (tableIn (now (mem .entry))) h (now (old .entry)) target (now (name .entry))) (planned (start (now (arena .entry)) (tableIn (now (mem .entry)))) (fsAt (now (arena .entry)) (now (mem .exit))) (r .way) (r .row) (r .other) (now (old .entry)) (now (name .entry)) (entryOf (now (slot .exit))) (r .place) (r .gone) (r .moved)) (Agreed (now (arena .entry)) (now (mem .exit)) (now (name .entry)) (now (slot .exit)) (r .way) (r .row) (r .other) (r .gone) (r .moved)) (r .reason) ⌝ }
 {
-    let b = reach_two_read(arena, chains, mem, h, target);
+    let b = reach_two_read(arena, first, next, mem, h, target);
     if b.reason != 0 {
         return Plan {
             reason: b.reason,
@@ -398,18 +401,9 @@ fn plan_led(
             moved: 0,
         };
     }
-    let c = &chains[..];
-    plan_work(
-        arena,
-        &c[..4096],
-        &c[4096..8192],
-        mem,
-        slot,
-        b.row,
-        b.other,
-        old,
-        name,
-    )
+    let i = b.row;
+    let j = b.other;
+    plan_work(arena, first, next, mem, slot, i, j, old, name)
 }
 
 // The frame of the chains is left before a workspace is made.
@@ -423,10 +417,33 @@ fn decide(
     name: &[u8],
 ) -> Plan
     requires { ⌜ Whole (now mem) × (length (now slot) ≡ 264) ⌝ }
-    ensures { λ r. ⌜ Rest (callMove (now (arena .entry)) (tableIn (now (mem .entry))) h (now (old .entry)) target (now (name .entry))) (planned (start (now (arena .entry)) (tableIn (now (mem .entry)))) (fsAt (now (arena .entry)) (now (mem .exit))) (r .way) (r .row) (r .other) (now (old .entry)) (now (name .entry)) (entryOf (now (slot .exit))) (r .place) (r .gone) (r .moved)) (Ready (now (arena .entry)) (now (mem .exit)) (now (name .entry)) (now (slot .exit)) (r .way) (r .row) (r .other) (r .gone) (r .moved)) (r .reason) ⌝ }
+    ensures { λ r. ⌜ Rest (callMove (now (arena .entry)) (tableIn (now (mem .entry))) h (now (old .entry)) target (now (name .entry))) (planned (start (now (arena .entry)) (tableIn (now (mem .entry)))) (fsAt (now (arena .entry)) (now (mem .exit))) (r .way) (r .row) (r .other) (now (old .entry)) (now (name .entry)) (entryOf (now (slot .exit))) (r .place) (r .gone) (r .moved)) (Agreed (now (arena .entry)) (now (mem .exit)) (now (name .entry)) (now (slot .exit)) (r .way) (r .row) (r .other) (r .gone) (r .moved)) (r .reason) ⌝ }
 {
     let mut chains = [0u16; 8192];
-    plan_led(arena, &mut chains, mem, slot, h, old, target, name)
+    let r = admit(arena, &mut chains, &mem[..]);
+    if r != 0 {
+        return Plan {
+            reason: r,
+            way: 0,
+            row: 0,
+            other: 0,
+            place: 0,
+            gone: 0,
+            moved: 0,
+        };
+    }
+    let c = &chains[..];
+    plan_led(
+        arena,
+        &c[..4096],
+        &c[4096..8192],
+        mem,
+        slot,
+        h,
+        old,
+        target,
+        name,
+    )
 }
 
 // ---- the steps
@@ -440,8 +457,8 @@ fn move_planned(
     old: &[u8],
     name: &[u8],
 ) -> u8
-    requires { ⌜ Begins (now arena) (now work) (now mem) × (58 ≤ left (now work)) ⌝ }
-    requires { ⌜ Ready (now arena) (now mem) (now name) (now slot) (p .way) (p .row) (p .other) (p .gone) (p .moved) ⌝ }
+    requires { ⌜ Ready (now arena) (now work) (now mem) × (58 ≤ left (now work)) ⌝ }
+    requires { ⌜ Agreed (now arena) (now mem) (now name) (now slot) (p .way) (p .row) (p .other) (p .gone) (p .moved) ⌝ }
     ensures { λ r. ⌜ Stepped (planSteps (fsOf (now (arena .entry)) (now (work .entry)) (now (mem .entry))) (p .way) (p .row) (p .other) (now (old .entry)) (now (name .entry)) (entryOf (now (slot .entry))) (p .place) (p .gone) (p .moved)) (now (arena .entry)) (now (work .entry)) (now (work .exit)) (now (mem .exit)) 58 r ⌝ }
 {
     if p.way == 1 {
@@ -471,7 +488,7 @@ fn move_in(
     old: &[u8],
     name: &[u8],
 ) -> u8
-    requires { ⌜ Empty (now arena) (now work) 68 × Ready (now arena) (now mem) (now name) (now slot) (p .way) (p .row) (p .other) (p .gone) (p .moved) ⌝ }
+    requires { ⌜ Empty (now arena) (now work) 68 × Agreed (now arena) (now mem) (now name) (now slot) (p .way) (p .row) (p .other) (p .gone) (p .moved) ⌝ }
     ensures { λ r. ⌜ Ended (ending (planSteps (fsAt (now (arena .entry)) (now (mem .entry))) (p .way) (p .row) (p .other) (now (old .entry)) (now (name .entry)) (entryOf (now (slot .entry))) (p .place) (p .gone) (p .moved))) (now (arena .entry)) (now (arena .exit)) (tableIn (now (mem .exit))) r ⌝ }
 {
     let r = move_planned(&arena[..], work, mem, slot, p, old, name);
@@ -483,8 +500,15 @@ fn move_in(
 }
 
 // The workspace is made.
-fn move_rows(arena: &mut [u8], mem: &mut [u8], slot: &[u8], p: Plan, old: &[u8], name: &[u8]) -> u8
-    requires { ⌜ Ready (now arena) (now mem) (now name) (now slot) (p .way) (p .row) (p .other) (p .gone) (p .moved) ⌝ }
+pub fn move_rows(
+    arena: &mut [u8],
+    mem: &mut [u8],
+    slot: &[u8],
+    p: Plan,
+    old: &[u8],
+    name: &[u8],
+) -> u8
+    requires { ⌜ Agreed (now arena) (now mem) (now name) (now slot) (p .way) (p .row) (p .other) (p .gone) (p .moved) ⌝ }
     ensures { λ r. ⌜ Ended (ending (planSteps (fsAt (now (arena .entry)) (now (mem .entry))) (p .way) (p .row) (p .other) (now (old .entry)) (now (name .entry)) (entryOf (now (slot .entry))) (p .place) (p .gone) (p .moved))) (now (arena .entry)) (now (arena .exit)) (tableIn (now (mem .exit))) r ⌝ }
 {
     let mut work = [0u8; 34816];
@@ -503,7 +527,7 @@ fn move_with(
     name: &[u8],
 ) -> Course
     requires { ⌜ Whole (now mem) × (length (now slot) ≡ 264) ⌝ }
-    ensures { λ c. ⌜ Moved (callMove (now (arena .entry)) (tableIn (now (mem .entry))) h (now (old .entry)) target (now (name .entry))) (tableIn (now (mem .entry))) (now (arena .entry)) (now (arena .exit)) (tableIn (now (mem .exit))) c ⌝ }
+    ensures { λ c. ⌜ EndedMove (callMove (now (arena .entry)) (tableIn (now (mem .entry))) h (now (old .entry)) target (now (name .entry))) (tableIn (now (mem .entry))) (now (arena .entry)) (now (arena .exit)) (tableIn (now (mem .exit))) c ⌝ }
 {
     let p = decide(&arena[..], mem, slot, h, old, target, name);
     if p.reason != 0 {
@@ -525,15 +549,15 @@ fn move_on(
     name: &[u8],
 ) -> Course
     requires { ⌜ Whole (now mem) ⌝ }
-    ensures { λ c. ⌜ Moved (callMove (now (arena .entry)) (tableIn (now (mem .entry))) h (now (old .entry)) target (now (name .entry))) (tableIn (now (mem .entry))) (now (arena .entry)) (now (arena .exit)) (tableIn (now (mem .exit))) c ⌝ }
+    ensures { λ c. ⌜ EndedMove (callMove (now (arena .entry)) (tableIn (now (mem .entry))) h (now (old .entry)) target (now (name .entry))) (tableIn (now (mem .entry))) (now (arena .entry)) (now (arena .exit)) (tableIn (now (mem .exit))) c ⌝ }
 {
     let mut slot = [0u8; 264];
     move_with(arena, mem, &mut slot, h, old, target, name)
 }
 
 // What the call answers: the table as memory has it where the node was moved, else the one that the call was given.
-fn settle_course(t: Table, mem: &[u8], c: Course) -> After
-    requires { ⌜ length (now mem) ≡ 4899 ⌝ }
+fn settle_course(t: Table, mem: &[u8], c: Course) -> Reply
+    requires { ⌜ length (now mem) ≡ memorySize ⌝ }
     ensures { λ r. ⌜ r ≡ courseAs t (tableIn (now (mem .entry))) c ⌝ }
 {
     match c {
@@ -550,10 +574,10 @@ pub fn move_(
     old: &[u8],
     target: Handle,
     name: &[u8],
-) -> After
+) -> Reply
     ensures { λ r. ⌜ Returned t (callMove (now (arena .entry)) t h (now (old .entry)) target (now (name .entry))) (now (arena .entry)) (now (arena .exit)) r ⌝ }
 {
-    let mut mem = [0u8; 4899];
+    let mut mem = [0u8; MEMORY];
     put_table(&mut mem, t);
     let c = move_on(arena, &mut mem, h, old, target, name);
     settle_course(t, &mem, c)

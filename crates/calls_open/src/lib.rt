@@ -1,18 +1,20 @@
 // The call open. It changes no byte of the arena, and reads it by the chains of `sound`.
 ghost use mathlib.Core.Path.{_≡_};
 ghost use lib.ListN.{length};
-ghost use Rattle.base.specs.Out.{Went, kept};
+ghost use Rattle.base.specs.Out.{Went};
 ghost use Rattle.table.specs.Table.{emptyTable};
 ghost use Rattle.sefs.specs.Open.{callOpen};
 ghost use Rattle.chains.specs.Led.{Led};
-ghost use Rattle.calls.specs.Answers.{answerOf};
+ghost use Rattle.calls.specs.Answers.{Replies};
 ghost use Rattle.calls.specs.Asked.{Blank};
 ghost use Rattle.calls_open.specs.Opens.{isSefs, openRead};
+ghost use Rattle.mem.specs.Mem.{memorySize};
 use base::index;
-use calls::After;
+use calls::Reply;
 use calls::done;
 use calls::led::admit_arena;
 use calls::refused;
+use mem::MEMORY;
 use nodes_read::meta::load_maps;
 use nodes_read::meta::load_super;
 use structs::SEFS_MAGIC;
@@ -28,7 +30,7 @@ fn is_sefs(b: SuperBlock) -> bool
 // The superblock is read before 18, the maps after.
 fn open_read(arena: &[u8], first: &[u16], next: &[u16], mem: &mut [u8]) -> u8
     requires { ⌜ Led (now arena) (now first) (now next) ⌝ }
-    requires { ⌜ length (now mem) ≡ 4899 ⌝ }
+    requires { ⌜ length (now mem) ≡ memorySize ⌝ }
     ensures { λ r. ⌜ Went (openRead (now (arena .entry))) emptyTable Unit r ⌝ }
 {
     let r = load_super(arena, first, next, mem);
@@ -44,7 +46,7 @@ fn open_read(arena: &[u8], first: &[u16], next: &[u16], mem: &mut [u8]) -> u8
 
 // With the places where the chains, and superblock and maps, go.
 fn open_led(arena: &[u8], chains: &mut [u16], mem: &mut [u8]) -> u8
-    requires { ⌜ Blank (now chains) × (length (now mem) ≡ 4899) ⌝ }
+    requires { ⌜ Blank (now chains) × (length (now mem) ≡ memorySize) ⌝ }
     ensures { λ r. ⌜ Went (callOpen (now (arena .entry))) emptyTable Unit r ⌝ }
 {
     let r = admit_arena(arena, chains);
@@ -59,12 +61,12 @@ fn open_on(arena: &[u8]) -> u8
     ensures { λ r. ⌜ Went (callOpen (now (arena .entry))) emptyTable Unit r ⌝ }
 {
     let mut chains = [0u16; 8192];
-    let mut mem = [0u8; 4899];
+    let mut mem = [0u8; MEMORY];
     open_led(arena, &mut chains, &mut mem)
 }
 
-pub fn open(arena: &[u8]) -> After
-    ensures { λ r. ⌜ (r .answer ≡ answerOf (callOpen (now (arena .entry)))) × (r .table ≡ kept emptyTable (callOpen (now (arena .entry)))) ⌝ }
+pub fn open(arena: &[u8]) -> Reply
+    ensures { λ r. ⌜ Replies emptyTable (callOpen (now (arena .entry))) r ⌝ }
 {
     let t = table::empty();
     let r = open_on(arena);

@@ -4,8 +4,8 @@ use mathlib.Core.List.{List}
 use Prim.Native.Nat.{ℕ}
 use Rattle.table.specs.declared.Table.{Table}
 use Rattle.sefs.specs.Close.{callSync}
-use Rattle.calls.specs.declared.After.{After}
-use Rattle.calls_steps.specs.Ends.{Returned}
+use Rattle.calls.specs.declared.Reply.{Reply}
+use Rattle.steps.specs.Ends.{Returned}
 
-pub sync-one : (a : List ℕ) (t : Table) (b c : List ℕ) (r s : After) → Returned t (callSync a t) a b r → Returned t (callSync a t) a c s → (b ≡ c) × (r ≡ s)
+pub sync-one : (a : List ℕ) (t : Table) (b c : List ℕ) (r s : Reply) → Returned t (callSync a t) a b r → Returned t (callSync a t) a c s → (b ≡ c) × (r ≡ s)
 sync-one a t b c r s p q = (p .arena ∙ sym (q .arena), p .answer ∙ sym (q .answer))

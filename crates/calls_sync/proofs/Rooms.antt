@@ -22,8 +22,7 @@ use Rattle.structs.specs.Layout.{recordBytes}
 use Rattle.table.specs.Table.{rowAt, withDirty}
 use Rattle.arena.specs.Blocks.{blocks}
 use Rattle.arena.specs.Places.{dataOf}
-use Rattle.overlay.specs.View.{view}
-use Rattle.overlay.proofs.Views.{Ready as Empty}
+use Rattle.overlay.specs.View.{view, Empty}
 use Rattle.files.specs.Read.{there, present}
 use Rattle.files.specs.Store.{longest, lo, hi, touched, putFile}
 use Rattle.files_laws.specs.Laws.{touches, lacking, Put}
@@ -31,9 +30,10 @@ use Rattle.files_laws.proofs.Put.{put-done, put-missing, put-far, put-full}
 use Rattle.sefs.specs.Meta.{metaFile}
 use Rattle.sefs.specs.Nodes.{storeRow, syncRow}
 use Rattle.sefs.specs.State.{withArena, withTable}
-use Rattle.mem.specs.Mem.{tableIn, Tabled, Whole}
+use Rattle.mem.specs.Mem.{tableIn, Tabled, Whole, memorySize}
 use Rattle.nodes.proofs.Bytes.{row-bytes}
-use Rattle.calls_sync.specs.Sync.{stateOf, Judged, can, cannot, isLacking, needed, Counted, Left}
+use Rattle.calls_sync.specs.Sync.{Judged, can, cannot, isLacking, needed, Counted, Left}
+use Rattle.mem.specs.State.{fsAt}
 
 -- ---- one block
 
@@ -140,10 +140,10 @@ module _ (a w : List ℕ) (E : Empty a w 10) (b : Bool) (t : b ≡ there (view a
 
 -- ---- row i's turn
 
-pub try-clean : (a m : List ℕ) (i from free : ℕ) → Whole m → rowAt (tableIn m) i .dirty ≡ false → (d : List ℕ) (low : ℕ) → Counted a d low from free → low < rowAt (tableIn m) i .id → Judged (syncRow (stateOf d m) i) (Left a m (rowAt (tableIn m) i .id) from free) 0
-unfolding syncRow stateOf
+pub try-clean : (a m : List ℕ) (i from free : ℕ) → Whole m → rowAt (tableIn m) i .dirty ≡ false → (d : List ℕ) (low : ℕ) → Counted a d low from free → low < rowAt (tableIn m) i .id → Judged (syncRow (fsAt d m) i) (Left a m (rowAt (tableIn m) i .id) from free) 0
+unfolding syncRow
 try-clean a m i from free w e d low C l =
-    can {x = stateOf d m} (rw e)
+    can {x = fsAt d m} (rw e)
     (record {
       arena = d;
       is = refl;
@@ -151,7 +151,7 @@ try-clean a m i from free w e d low C l =
       counted = record { head = C .head; room = C .room; rest = C .rest; last = C .last; near = omega (arith, C .near) };
     })
 
-module _ (a m n : List ℕ) (i from free k x id r : ℕ) (b : Bytes m) (size : length m ≡ 4899) (h : i < 34) (q : id ≡ rowAt (tableIn m) i .id)
+module _ (a m n : List ℕ) (i from free k x id r : ℕ) (b : Bytes m) (size : length m ≡ memorySize) (h : i < 34) (q : id ≡ rowAt (tableIn m) i .id)
     (y : rowAt (tableIn m) i .dirty ≡ true) (T : Tabled m n (withDirty (tableIn m) i false))
     (g : (d src : List ℕ) (low : ℕ) → Counted a d low from free → low < id → length src ≡ 112 → Judged (putFile d metaFile (128 * id) src) (λ z. Counted a z id k x) r) where
   src : List ℕ
@@ -161,18 +161,17 @@ module _ (a m n : List ℕ) (i from free k x id r : ℕ) (b : Bytes m) (size : l
   unfolding src
   src-size = ap length (row-bytes m i b size h) ∙ length-part m (117 * i + 5) (117 * i + 5 + 112) (omega arith) (omega arith) ∙ omega arith
 
-  row-is : (d : List ℕ) → syncRow (stateOf d m) i ≡ bind (putFile d metaFile (128 * rowAt (tableIn m) i .id) src) (λ e. done (withTable (withArena (stateOf d m) e) (withDirty (tableIn m) i false)))
-  unfolding syncRow storeRow stateOf src
+  row-is : (d : List ℕ) → syncRow (fsAt d m) i ≡ bind (putFile d metaFile (128 * rowAt (tableIn m) i .id) src) (λ e. done (withTable (withArena (fsAt d m) e) (withDirty (tableIn m) i false)))
+  unfolding syncRow storeRow src
   row-is d = rw y
 
-  tabled-is : (d e : List ℕ) → withTable (withArena (stateOf d m) e) (withDirty (tableIn m) i false) ≡ stateOf e n
-  unfolding stateOf
+  tabled-is : (d e : List ℕ) → withTable (withArena (fsAt d m) e) (withDirty (tableIn m) i false) ≡ fsAt e n
   tabled-is d e = sym (λ z. record { arena = e; table = T .table z; meta = T .meta z })
 
-  pub try-dirty : (d : List ℕ) (low : ℕ) → Counted a d low from free → low < rowAt (tableIn m) i .id → Judged (syncRow (stateOf d m) i) (Left a n (rowAt (tableIn m) i .id) k x) r
+  pub try-dirty : (d : List ℕ) (low : ℕ) → Counted a d low from free → low < rowAt (tableIn m) i .id → Judged (syncRow (fsAt d m) i) (Left a n (rowAt (tableIn m) i .id) k x) r
   try-dirty d low C l = rw (row-is d) (go (subst (λ (z : ℕ). Judged (putFile d metaFile (128 * z) src) (λ e. Counted a e z k x) r) q (g d src low C (omega arith) src-size)))
     where
       go : {v : ℕ} → Judged (putFile d metaFile (128 * rowAt (tableIn m) i .id) src) (λ e. Counted a e (rowAt (tableIn m) i .id) k x) v
-          → Judged (bind (putFile d metaFile (128 * rowAt (tableIn m) i .id) src) (λ e. done (withTable (withArena (stateOf d m) e) (withDirty (tableIn m) i false)))) (Left a n (rowAt (tableIn m) i .id) k x) v
-      go (can {x = e} p c) = can {x = stateOf e n} (rw p (ap done (tabled-is d e))) (record { arena = e; is = refl; whole = T .whole; counted = c })
+          → Judged (bind (putFile d metaFile (128 * rowAt (tableIn m) i .id) src) (λ e. done (withTable (withArena (fsAt d m) e) (withDirty (tableIn m) i false)))) (Left a n (rowAt (tableIn m) i .id) k x) v
+      go (can {x = e} p c) = can {x = fsAt e n} (rw p (ap done (tabled-is d e))) (record { arena = e; is = refl; whole = T .whole; counted = c })
       go (cannot z p) = cannot z (rw p)

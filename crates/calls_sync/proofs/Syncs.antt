@@ -1,6 +1,6 @@
 -- The call sync, in its parts.
 use mathlib.Core.Path.{_≡_, refl, sym, _∙_, ap}
-use mathlib.Core.Bool.{Bool, true, false, _&&_, _||_}
+use mathlib.Core.Bool.{true, false, _&&_, _||_}
 use mathlib.Core.List.{List}
 use Prim.Native.Nat.{ℕ, zero, suc, _+_, _-_, _/_, _%_, _<_, _≤_}
 use native.Mathlib.Omega.{arith}
@@ -10,27 +10,25 @@ use Rattle.base.specs.Out.{Out, done, refused, bind, Went, well, ill}
 use Rattle.base.specs.Search.{foundBelow}
 use Rattle.base.proofs.Bools.{and-parts}
 use Rattle.base.proofs.Finds.{search-at}
-use Rattle.base.proofs.Outs.{above-zero, bind-is-done, went-is, went-has, went-not}
+use Rattle.base.proofs.Outs.{above-zero, bind-is-done, went-is, went-has}
 use Rattle.base.proofs.Searches.{found-at, found-nothing}
 use Rattle.table.specs.declared.Table.{Table}
 use Rattle.table.specs.Table.{rowAt, isNext, nextRow}
 use Rattle.table.proofs.Next.{Best, best-take, best-keep}
 use Rattle.arena.specs.Blocks.{legal}
 use Rattle.arena.specs.Places.{freeCount}
-use Rattle.overlay.specs.View.{view, Fine}
-use Rattle.overlay.proofs.Views.{Ready as Empty, length-view}
+use Rattle.overlay.specs.View.{view, Fine, Empty}
+use Rattle.overlay.proofs.Views.{length-view}
 use Rattle.sefs.specs.State.{Fs}
 use Rattle.sefs.specs.Meta.{loadMeta}
 use Rattle.sefs.specs.Nodes.{idAt, syncRow}
-use Rattle.sefs.specs.Ask.{start, admit}
-use Rattle.sefs.specs.Create.{After}
+use Rattle.sefs.specs.Ask.{admit}
 use Rattle.sefs.specs.Close.{syncFrom, callSync}
 use Rattle.mem.specs.Mem.{tableIn, metaIn, Whole}
-use Rattle.mem.specs.State.{fsOf, Stepped}
-use Rattle.chains.specs.Led.{Led}
-use Rattle.calls_steps.specs.Ends.{Rest, on, ending, Ended, went}
-use Rattle.calls_steps.proofs.Ends.{rest-off, ended-refused}
-use Rattle.calls_sync.specs.Sync.{stateOf, Judged, can, cannot, Does, Counted, Left}
+use Rattle.mem.specs.State.{fsOf, Stepped, fsAt}
+use Rattle.steps.specs.Ends.{Rest, on, ending, Ended, went}
+use Rattle.steps.proofs.Ends.{ended-refused}
+use Rattle.calls_sync.specs.Sync.{Judged, can, cannot, Does, Counted, Left}
 
 -- ---- answers
 
@@ -86,39 +84,37 @@ from-end s low (suc n) l = absurd (omega arith)
 
 -- what the state s needs is what d, with the memory l, needs for the rows with ids above `low`, `more` at the most
 pub record Turn (s : Fs) (d l : List ℕ) (low more : ℕ) : Type 0 where
-  pub same : syncFrom s 0 34 ≡ syncFrom (stateOf d l) low more
+  pub same : syncFrom s 0 34 ≡ syncFrom (fsAt d l) low more
   pub whole : Whole l
 
 module _ {s : Fs} {d l : List ℕ} {low more : ℕ} (T : Turn s d l low more) where
-  pub turn-end : more ≤ 0 → syncFrom s 0 34 ≡ done (stateOf d l)
-  turn-end z = T .same ∙ from-end (stateOf d l) low more z
+  pub turn-end : more ≤ 0 → syncFrom s 0 34 ≡ done (fsAt d l)
+  turn-end z = T .same ∙ from-end (fsAt d l) low more z
 
   module _ (i : ℕ) (e : foundBelow i 34 ≡ nextRow (tableIn l) low) where
-    found : foundBelow i 34 ≡ nextRow (stateOf d l .table) low
-    unfolding stateOf
+    found : foundBelow i 34 ≡ nextRow (fsAt d l .table) low
     found = e
 
-    pub turn-none : 34 ≤ i → syncFrom s 0 34 ≡ done (stateOf d l)
-    turn-none h = T .same ∙ from-none (stateOf d l) low i found more h
+    pub turn-none : 34 ≤ i → syncFrom s 0 34 ≡ done (fsAt d l)
+    turn-none h = T .same ∙ from-none (fsAt d l) low i found more h
 
     module _ (h : i < 34) (k : 0 < more) where
       -- row i comes next
-      turn-row : syncFrom s 0 34 ≡ bind (syncRow (stateOf d l) i) (λ x. syncFrom x (idAt (stateOf d l) i) (more - 1))
+      turn-row : syncFrom s 0 34 ≡ bind (syncRow (fsAt d l) i) (λ x. syncFrom x (idAt (fsAt d l) i) (more - 1))
       turn-row =
           let q : more ≡ suc (more - 1) = omega arith in
-          T .same ∙ ap (syncFrom (stateOf d l) low) q ∙ from-row (stateOf d l) low i found (more - 1) h
+          T .same ∙ ap (syncFrom (fsAt d l) low) q ∙ from-row (fsAt d l) low i found (more - 1) h
 
-      pub turn-stop : (r : ℕ) → syncRow (stateOf d l) i ≡ refused r → syncFrom s 0 34 ≡ refused r
+      pub turn-stop : (r : ℕ) → syncRow (fsAt d l) i ≡ refused r → syncFrom s 0 34 ≡ refused r
       turn-stop r g = turn-row ∙ rw g
 
-      pub turn-next : (c n : List ℕ) (id : ℕ) → syncRow (stateOf d l) i ≡ done (stateOf c n) → Whole n → id ≡ rowAt (tableIn l) i .id → Turn s c n id (more - 1)
-      unfolding stateOf
+      pub turn-next : (c n : List ℕ) (id : ℕ) → syncRow (fsAt d l) i ≡ done (fsAt c n) → Whole n → id ≡ rowAt (tableIn l) i .id → Turn s c n id (more - 1)
       turn-next c n id g w q = record { same = turn-row ∙ rw (g, q); whole = w }
 
       -- where all can be done, row i can be stored
-      pub turn-does : Does (syncFrom s 0 34) → Does (syncRow (stateOf d l) i)
+      pub turn-does : Does (syncFrom s 0 34) → Does (syncRow (fsAt d l) i)
       turn-does p =
-          let b = bind-is-done (syncRow (stateOf d l) i) (λ x. syncFrom x (idAt (stateOf d l) i) (more - 1)) (p .0) (sym turn-row ∙ p .1) in
+          let b = bind-is-done (syncRow (fsAt d l) i) (λ x. syncFrom x (idAt (fsAt d l) i) (more - 1)) (p .0) (sym turn-row ∙ p .1) in
           (b .0, b .1)
 
 -- ---- whether they can be stored
@@ -129,7 +125,7 @@ pub record Trying (a : List ℕ) (s : Fs) (l : List ℕ) (low more from free : �
   pub turn : Turn s arena l low more
   pub counted : Counted a arena low from free
 
-pub try-start : (a m : List ℕ) (free : ℕ) → Whole m → free ≡ freeCount a → Trying a (stateOf a m) m 0 34 0 free
+pub try-start : (a m : List ℕ) (free : ℕ) → Whole m → free ≡ freeCount a → Trying a (fsAt a m) m 0 34 0 free
 try-start a m free w e = record {
   arena = a;
   turn = record { same = refl; whole = w };
@@ -145,8 +141,8 @@ module _ {a : List ℕ} {s : Fs} {l : List ℕ} {low more from free : ℕ} (T : 
     try-none h = can (turn-none (T .turn) i e h) tt
 
     module _ (n : List ℕ) (k m r : ℕ) (h : i < 34) (p : 0 < more)
-        (g : (d : List ℕ) (low : ℕ) → Counted a d low from free → low < rowAt (tableIn l) i .id → Judged (syncRow (stateOf d l) i) (Left a n (rowAt (tableIn l) i .id) k m) r) where
-      decided : Judged (syncRow (stateOf (T .arena) l) i) (Left a n (rowAt (tableIn l) i .id) k m) r
+        (g : (d : List ℕ) (low : ℕ) → Counted a d low from free → low < rowAt (tableIn l) i .id → Judged (syncRow (fsAt d l) i) (Left a n (rowAt (tableIn l) i .id) k m) r) where
+      decided : Judged (syncRow (fsAt (T .arena) l) i) (Left a n (rowAt (tableIn l) i .id) k m) r
       decided = g (T .arena) low (T .counted) (next-above (tableIn l) low i e h)
 
       pub try-stop : (r ≡ 0 → ⊥) → Judged (syncFrom s 0 34) (λ _. Unit) r
@@ -164,8 +160,8 @@ module _ {a : List ℕ} {s : Fs} {l : List ℕ} {low more from free : ℕ} (T : 
 
 -- ---- a row is stored
 
-fs-view : (a u n : List ℕ) → fsOf a u n ≡ stateOf (view a u) n
-unfolding fsOf stateOf
+fs-view : (a u n : List ℕ) → fsOf a u n ≡ fsAt (view a u) n
+unfolding fsOf
 fs-view a u n = refl
 
 -- the length decides
@@ -173,9 +169,9 @@ legal-view : (a u : List ℕ) → Fine a u → legal (view a u) ≡ legal a
 unfolding legal
 legal-view a u F = ap (λ (n : ℕ). eqb (n % 512) 0 && (leb 16 (n / 512) && leb (n / 512) 4096)) (length-view a u F)
 
-module _ (m : List ℕ) (i : ℕ) {a w u n : List ℕ} {r : ℕ} (E : Empty a w 13) (g : Stepped (syncRow (fsOf a w m) i) a w u n 3 r) (p : Does (syncRow (stateOf a m) i)) where
-  fs-is : fsOf a w m ≡ stateOf a m
-  unfolding fsOf stateOf
+module _ (m : List ℕ) (i : ℕ) {a w u n : List ℕ} {r : ℕ} (E : Empty a w 13) (g : Stepped (syncRow (fsOf a w m) i) a w u n 3 r) (p : Does (syncRow (fsAt a m) i)) where
+  fs-is : fsOf a w m ≡ fsAt a m
+  unfolding fsOf
   fs-is = λ x. record { arena = E .is x; table = tableIn m; meta = metaIn m }
 
   -- it was
@@ -185,10 +181,10 @@ module _ (m : List ℕ) (i : ℕ) {a w u n : List ℕ} {r : ℕ} (E : Empty a w 
   pub stored-fine : Fine a u
   stored-fine = went-has g zero-is .fine
 
-  pub stored-is : (b : List ℕ) → b ≡ view a u → legal a ≡ true → (syncRow (stateOf a m) i ≡ done (stateOf b n)) × ((legal b ≡ true) × Whole n)
+  pub stored-is : (b : List ℕ) → b ≡ view a u → legal a ≡ true → (syncRow (fsAt a m) i ≡ done (fsAt b n)) × ((legal b ≡ true) × Whole n)
   stored-is b e l = rw e (ap (λ (s : Fs). syncRow s i) (sym fs-is) ∙ went-is g zero-is ∙ left-is, (legal-view a u stored-fine ∙ l, went-has g zero-is .whole))
     where
-      left-is : done (fsOf a u n) ≡ done (stateOf (view a u) n)
+      left-is : done (fsOf a u n) ≡ done (fsAt (view a u) n)
       left-is = ap done (fs-view a u n)
 
 -- ---- the end
@@ -204,20 +200,17 @@ module _ (s : Fs) {r : ℕ} (g : Judged (syncFrom s 0 34) (λ _. Unit) r) where
   pub sync-can : r ≡ 0 → Does (syncFrom s 0 34)
   sync-can n = let f = decided-has g n in (f .0, f .1)
 
-pub ended-stored : (s : Fs) (a b n : List ℕ) → syncFrom s 0 34 ≡ done (stateOf b n) → Ended (ending (syncFrom s 0 34)) a b (tableIn n) 0
-unfolding stateOf
+pub ended-stored : (s : Fs) (a b n : List ℕ) → syncFrom s 0 34 ≡ done (fsAt b n) → Ended (ending (syncFrom s 0 34)) a b (tableIn n) 0
 ended-stored s a b n g = went (ap ending g)
 
 -- ---- the first questions, and the rest
 
-module _ (a first next m : List ℕ) {r : ℕ} (g : Went (admit a (tableIn m)) tt (Led a first next) r) where
-  sync-is : callSync a (tableIn m) ≡ bind (admit a (tableIn m)) (λ _. ending (syncFrom (start a (tableIn m)) 0 34))
-  unfolding callSync
-  sync-is = refl
+pub sync-refused : (a : List ℕ) (t : Table) {n : ℕ} → admit a t ≡ refused n → callSync a t ≡ refused n
+unfolding callSync
+sync-refused a t q = rw q
 
-  pub sync-not : {e : Out After} {Q : Type 0} → (r ≡ 0 → ⊥) → Rest (callSync a (tableIn m)) e Q r
-  sync-not z = rest-off z (sync-is ∙ rw (went-not g z))
-
-  pub sync-goes : (n : List ℕ) → r ≡ 0 → (metaIn n ≡ loadMeta a) × ((tableIn n ≡ tableIn m) × Whole n) → Rest (callSync a (tableIn m)) (ending (syncFrom (stateOf a n) 0 34)) ((legal a ≡ true) × Whole n) 0
-  unfolding stateOf
-  sync-goes n z l = on (sync-is ∙ rw (went-is g z, ← l .0, ← l .1 .0)) (went-has g z .whole, l .1 .1)
+-- once arena and table are known
+pub sync-goes : (a m n : List ℕ) → legal a ≡ true → admit a (tableIn m) ≡ done tt → (metaIn n ≡ loadMeta a) × ((tableIn n ≡ tableIn m) × Whole n)
+    → Rest (callSync a (tableIn m)) (ending (syncFrom (fsAt a n) 0 34)) ((legal a ≡ true) × Whole n) 0
+unfolding callSync
+sync-goes a m n w q l = on (rw (q, ← l .0, ← l .1 .0)) (w, l .1 .1)

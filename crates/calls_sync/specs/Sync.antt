@@ -12,10 +12,7 @@ use Rattle.files.specs.Store.{touched}
 use Rattle.sefs.specs.State.{Fs}
 use Rattle.sefs.specs.Meta.{metaFile}
 use Rattle.mem.specs.Mem.{tableIn, metaIn, Whole}
-
--- the state that an arena and a call's memory are
-unfoldable pub stateOf : List ℕ → List ℕ → Fs
-stateOf a m = record { arena = a; table = tableIn m; meta = metaIn m }
+use Rattle.mem.specs.State.{fsAt}
 
 -- whether o can be done is answered with r: 0, and then P holds of what it leaves; or its reason
 pub data Judged {A : Type 0} (o : Out A) (P : A → Type 0) : ℕ → Type 0 where
@@ -48,6 +45,6 @@ pub record Counted (a d : List ℕ) (low from free : ℕ) : Type 0 where
 -- s is such an arena, with the memory n
 pub record Left (a n : List ℕ) (low from free : ℕ) (s : Fs) : Type 0 where
   pub arena : List ℕ
-  pub is : s ≡ stateOf arena n
+  pub is : s ≡ fsAt arena n
   pub whole : Whole n
   pub counted : Counted a arena low from free

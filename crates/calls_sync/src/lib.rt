@@ -10,23 +10,25 @@ ghost use Rattle.base.specs.Count.{bit};
 ghost use Rattle.base.specs.Out.{done as doneAs};
 ghost use Rattle.base.specs.Search.{foundBelow};
 ghost use Rattle.arena.specs.Blocks.{legal};
-ghost use Rattle.overlay.proofs.Views.{Ready as Empty};
+ghost use Rattle.overlay.specs.View.{Empty};
 ghost use Rattle.files.specs.Store.{putFile};
 ghost use Rattle.table.specs.Table.{rowAt, nextRow};
 ghost use Rattle.sefs.specs.Meta.{metaFile};
 ghost use Rattle.sefs.specs.Nodes.{syncRow};
 ghost use Rattle.sefs.specs.Close.{syncFrom, callSync};
 ghost use Rattle.mem.specs.Mem.{tableIn, Whole};
-ghost use Rattle.calls.specs.Asked.{Blank};
-ghost use Rattle.calls_steps.specs.Ends.{Rest, ending, Ended, Returned};
-ghost use Rattle.calls_sync.specs.Sync.{stateOf, Judged, Does, isLacking, needed, Counted, Left};
+ghost use Rattle.calls.specs.Asked.{Admitted};
+ghost use Rattle.steps.specs.Ends.{Rest, ending, Ended, Returned};
+ghost use Rattle.calls_sync.specs.Sync.{Judged, Does, isLacking, needed, Counted, Left};
+ghost use Rattle.mem.specs.State.{fsAt};
 use base::copy;
 use base::index;
-use calls::After;
+use calls::Reply;
 use calls::led::admit;
 use calls::settle;
 use files::find_data;
 use files::read::there;
+use mem::MEMORY;
 use mem::dirty_at;
 use mem::id_at;
 use mem::put_dirty;
@@ -138,7 +140,7 @@ fn try_row<'a>(
     free: usize,
 ) -> Room
     requires { ⌜ Empty (now arena) (now work) 10 × (Whole (now mem) × (i < 34)) ⌝ }
-    ensures { λ r. ⌜ ((d : List ℕ) (low : ℕ) → Counted (now (arena .entry)) d low from free → low < rowAt (tableIn (now (mem .entry))) i .id → Judged (syncRow (stateOf d (now (mem .entry))) i) (Left (now (arena .entry)) (now (mem .exit)) (rowAt (tableIn (now (mem .entry))) i .id) (r .from) (r .free)) (r .reason)) ⌝ }
+    ensures { λ r. ⌜ ((d : List ℕ) (low : ℕ) → Counted (now (arena .entry)) d low from free → low < rowAt (tableIn (now (mem .entry))) i .id → Judged (syncRow (fsAt d (now (mem .entry))) i) (Left (now (arena .entry)) (now (mem .exit)) (rowAt (tableIn (now (mem .entry))) i .id) (r .from) (r .free)) (r .reason)) ⌝ }
 {
     if !dirty_at(&mem[..], i) {
         return Room {
@@ -155,7 +157,7 @@ fn try_row<'a>(
 // Every row's turn, by rising id. `more`: how many rows there still can be with an id above `low`.
 fn try_rows<'a>(arena: &'a [u8], work: &'a [u8], mem: &mut [u8]) -> u8
     requires { ⌜ Empty (now arena) (now work) 10 × Whole (now mem) ⌝ }
-    ensures { λ r. ⌜ Judged (syncFrom (stateOf (now (arena .entry)) (now (mem .entry))) 0 34) (λ _. Unit) r ⌝ }
+    ensures { λ r. ⌜ Judged (syncFrom (fsAt (now (arena .entry)) (now (mem .entry))) 0 34) (λ _. Unit) r ⌝ }
 {
     let mut from: usize = 0;
     let mut free = arena::free_count(arena);
@@ -181,9 +183,9 @@ fn try_rows<'a>(arena: &'a [u8], work: &'a [u8], mem: &mut [u8]) -> u8
 // 0 where every dirty row can be stored, else the reason that refuses the call. The counting marks rows, so it has a memory of its own.
 fn decide(arena: &[u8], mem: &[u8]) -> u8
     requires { ⌜ (legal (now arena) ≡ true) × Whole (now mem) ⌝ }
-    ensures { λ r. ⌜ Judged (syncFrom (stateOf (now (arena .entry)) (now (mem .entry))) 0 34) (λ _. Unit) r ⌝ }
+    ensures { λ r. ⌜ Judged (syncFrom (fsAt (now (arena .entry)) (now (mem .entry))) 0 34) (λ _. Unit) r ⌝ }
 {
-    let mut own = [0u8; 4899];
+    let mut own = [0u8; MEMORY];
     let mut work = [0u8; 5120];
     copy(&mut own, mem);
     overlay::begin(&mut work);
@@ -195,8 +197,8 @@ fn decide(arena: &[u8], mem: &[u8]) -> u8
 // Row i is stored, which nothing refuses.
 fn store_one(arena: &mut [u8], mem: &mut [u8], i: usize)
     requires { ⌜ (legal (now arena) ≡ true) × (Whole (now mem) × (i < 34)) ⌝ }
-    requires { ⌜ Does (syncRow (stateOf (now arena) (now mem)) i) ⌝ }
-    ensures { λ _. ⌜ (syncRow (stateOf (now (arena .entry)) (now (mem .entry))) i ≡ doneAs (stateOf (now (arena .exit)) (now (mem .exit)))) × ((legal (now (arena .exit)) ≡ true) × Whole (now (mem .exit))) ⌝ }
+    requires { ⌜ Does (syncRow (fsAt (now arena) (now mem)) i) ⌝ }
+    ensures { λ _. ⌜ (syncRow (fsAt (now (arena .entry)) (now (mem .entry))) i ≡ doneAs (fsAt (now (arena .exit)) (now (mem .exit)))) × ((legal (now (arena .exit)) ≡ true) × Whole (now (mem .exit))) ⌝ }
 {
     let mut work = [0u8; 6656];
     overlay::begin(&mut work);
@@ -207,8 +209,8 @@ fn store_one(arena: &mut [u8], mem: &mut [u8], i: usize)
 // Every row is, by rising id.
 fn store_rows(arena: &mut [u8], mem: &mut [u8])
     requires { ⌜ (legal (now arena) ≡ true) × Whole (now mem) ⌝ }
-    requires { ⌜ Does (syncFrom (stateOf (now arena) (now mem)) 0 34) ⌝ }
-    ensures { λ _. ⌜ syncFrom (stateOf (now (arena .entry)) (now (mem .entry))) 0 34 ≡ doneAs (stateOf (now (arena .exit)) (now (mem .exit))) ⌝ }
+    requires { ⌜ Does (syncFrom (fsAt (now arena) (now mem)) 0 34) ⌝ }
+    ensures { λ _. ⌜ syncFrom (fsAt (now (arena .entry)) (now (mem .entry))) 0 34 ≡ doneAs (fsAt (now (arena .exit)) (now (mem .exit))) ⌝ }
 {
     let mut low: u32 = 0;
     let mut more: usize = 34;
@@ -224,9 +226,9 @@ fn store_rows(arena: &mut [u8], mem: &mut [u8])
 }
 
 // Once the arena and the table are admitted.
-fn sync_in(arena: &mut [u8], mem: &mut [u8]) -> u8
+pub fn sync_in(arena: &mut [u8], mem: &mut [u8]) -> u8
     requires { ⌜ (legal (now arena) ≡ true) × Whole (now mem) ⌝ }
-    ensures { λ r. ⌜ Ended (ending (syncFrom (stateOf (now (arena .entry)) (now (mem .entry))) 0 34)) (now (arena .entry)) (now (arena .exit)) (tableIn (now (mem .exit))) r ⌝ }
+    ensures { λ r. ⌜ Ended (ending (syncFrom (fsAt (now (arena .entry)) (now (mem .entry))) 0 34)) (now (arena .entry)) (now (arena .exit)) (tableIn (now (mem .exit))) r ⌝ }
 {
     let r = decide(&arena[..], &mem[..]);
     if r != 0 {
@@ -238,26 +240,27 @@ fn sync_in(arena: &mut [u8], mem: &mut [u8]) -> u8
 
 // ---- 1, 2, 3, and superblock and maps
 
-fn sync_led(arena: &[u8], chains: &mut [u16], mem: &mut [u8]) -> u8
-    requires { ⌜ Blank (now chains) × Whole (now mem) ⌝ }
-    ensures { λ r. ⌜ Rest (callSync (now (arena .entry)) (tableIn (now (mem .entry)))) (ending (syncFrom (stateOf (now (arena .entry)) (now (mem .exit))) 0 34)) ((legal (now (arena .entry)) ≡ true) × Whole (now (mem .exit))) r ⌝ }
+// What follows the tests of arena and table.
+pub fn sync_led(arena: &[u8], first: &[u16], next: &[u16], mem: &mut [u8])
+    requires { ⌜ Admitted (now arena) (now first) (now next) (now mem) ⌝ }
+    ensures { λ _. ⌜ Rest (callSync (now (arena .entry)) (tableIn (now (mem .entry)))) (ending (syncFrom (fsAt (now (arena .entry)) (now (mem .exit))) 0 34)) ((legal (now (arena .entry)) ≡ true) × Whole (now (mem .exit))) 0 ⌝ }
 {
-    let r = admit(arena, chains, &mem[..]);
-    if r != 0 {
-        return r;
-    }
-    let c = &chains[..];
-    load_meta(arena, &c[..4096], &c[4096..8192], mem);
-    0
+    load_meta(arena, first, next, mem);
 }
 
 // The frame of the chains is left before a workspace is made.
 fn sync_asked(arena: &[u8], mem: &mut [u8]) -> u8
     requires { ⌜ Whole (now mem) ⌝ }
-    ensures { λ r. ⌜ Rest (callSync (now (arena .entry)) (tableIn (now (mem .entry)))) (ending (syncFrom (stateOf (now (arena .entry)) (now (mem .exit))) 0 34)) ((legal (now (arena .entry)) ≡ true) × Whole (now (mem .exit))) r ⌝ }
+    ensures { λ r. ⌜ Rest (callSync (now (arena .entry)) (tableIn (now (mem .entry)))) (ending (syncFrom (fsAt (now (arena .entry)) (now (mem .exit))) 0 34)) ((legal (now (arena .entry)) ≡ true) × Whole (now (mem .exit))) r ⌝ }
 {
     let mut chains = [0u16; 8192];
-    sync_led(arena, &mut chains, mem)
+    let r = admit(arena, &mut chains, &mem[..]);
+    if r != 0 {
+        return r;
+    }
+    let c = &chains[..];
+    sync_led(arena, &c[..4096], &c[4096..8192], mem);
+    0
 }
 
 // The call on the table in memory.
@@ -272,10 +275,10 @@ fn sync_on(arena: &mut [u8], mem: &mut [u8]) -> u8
     sync_in(arena, mem)
 }
 
-pub fn sync(arena: &mut [u8], t: Table) -> After
+pub fn sync(arena: &mut [u8], t: Table) -> Reply
     ensures { λ r. ⌜ Returned t (callSync (now (arena .entry)) t) (now (arena .entry)) (now (arena .exit)) r ⌝ }
 {
-    let mut mem = [0u8; 4899];
+    let mut mem = [0u8; MEMORY];
     put_table(&mut mem, t);
     let r = sync_on(arena, &mut mem);
     settle(t, &mem, r)

@@ -20,12 +20,11 @@ use Rattle.sefs.specs.Folders.{direntNodeRemove}
 use Rattle.sefs.specs.Ask.{goodName, notLong, notSpecial, liveFolder}
 use Rattle.sefs.specs.Unlink.{notFull}
 use Rattle.mem.specs.Mem.{tableIn}
-use Rattle.mem.specs.State.{fsOf, Stepped}
-use Rattle.nodes.specs.Steps.{fsAt}
+use Rattle.mem.specs.State.{fsOf, Stepped, fsAt}
 use Rattle.calls.proofs.Asks.{Asks, asks-ensure, asks-then, asks-live, asked-done, asked-not, answer-stop, answer-next}
-use Rattle.calls_steps.specs.Ends.{Rest, on}
-use Rattle.calls_steps.proofs.Ends.{rest-off, rest-as}
-use Rattle.calls_steps.proofs.Steps.{asks-good, asks-special}
+use Rattle.steps.specs.Ends.{Rest, on}
+use Rattle.steps.proofs.Ends.{rest-off, rest-as}
+use Rattle.steps.proofs.Steps.{asks-good, asks-special}
 use Rattle.calls_unlink.specs.Steps.{nameAsks, unlinkAsks, removeNode, removeId, removeName, unlinkIn}
 
 -- ---- questions

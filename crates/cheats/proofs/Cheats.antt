@@ -13,13 +13,13 @@ use Rattle.sefs.specs.Create as sefs
 use Rattle.sefs.specs.Create.{callCreate}
 use Rattle.sefs.specs.Open.{callFind}
 use Rattle.calls.specs.Answers.{gotOf}
-use Rattle.calls.specs.declared.After.{After}
+use Rattle.calls.specs.declared.Reply.{Reply}
 use Rattle.calls.specs.declared.Answer.{Answer}
 use Rattle.calls.specs.declared.Answer.the-variants as answers
-use Rattle.calls.specs.declared.Given.{Given}
+use Rattle.calls.specs.declared.HeldReply.{HeldReply}
 use Rattle.calls.specs.declared.Got.{Got}
 use Rattle.calls.specs.declared.Got.the-variants as gots
-use Rattle.calls_steps.specs.Ends.{afterAs}
+use Rattle.steps.specs.Ends.{afterAs}
 use Rattle.calls_create.specs.Held.{ReturnedHeld, heldAs, arenaHeld}
 use Rattle.fsck.specs.declared.Verdict.{Verdict}
 use Rattle.fsck.specs.declared.Verdict.the-variants as verdicts
@@ -31,18 +31,18 @@ use Rattle.cheats.proofs.Counts.{empty-fails, fresh-verdict, a-verdict}
 
 -- ---- what create's contract says where the definition is done, and where it is refused
 
-module _ {t : Table} {o : Out sefs.Given} {a b : List ℕ} {r : Given} (c : ReturnedHeld t o a b r) where
+module _ {t : Table} {o : Out sefs.Given} {a b : List ℕ} {r : HeldReply} (c : ReturnedHeld t o a b r) where
   held-answer : (g : sefs.Given) → o ≡ done g → r .answer ≡ gots.Held (g .handle)
-  held-answer g e = ap (λ (x : Given). x .answer) (c .answer ∙ ap (heldAs t) e)
+  held-answer g e = ap (λ (x : HeldReply). x .answer) (c .answer ∙ ap (heldAs t) e)
 
   held-table : (g : sefs.Given) → o ≡ done g → r .table ≡ g .table
-  held-table g e = ap (λ (x : Given). x .table) (c .answer ∙ ap (heldAs t) e)
+  held-table g e = ap (λ (x : HeldReply). x .table) (c .answer ∙ ap (heldAs t) e)
 
   held-arena : (g : sefs.Given) → o ≡ done g → b ≡ g .arena
   held-arena g e = c .arena ∙ ap (arenaHeld a) e
 
   held-refused : (n : ℕ) → o ≡ refused n → r .answer ≡ gots.Refused n
-  held-refused n e = ap (λ (x : Given). x .answer) (c .answer ∙ ap (heldAs t) e)
+  held-refused n e = ap (λ (x : HeldReply). x .answer) (c .answer ∙ ap (heldAs t) e)
 
 not-both : (x : Got) (h : Handle) (n : ℕ) → x ≡ gots.Held h → x ≡ gots.Refused n → ⊥
 not-both x h n p q = let z : _≡_ {A = ℕ} 0 1 = cc in omega arith
@@ -70,14 +70,14 @@ not-done x n p q = let z : _≡_ {A = ℕ} 0 1 = cc in omega arith
 
 pub unlink-refuses : UnlinkRefuses
 unfolding UnlinkRefuses UnlinkBroken UnlinkHolds unlinkA
-unlink-refuses port h = (unlinkA, λ c. not-done (port unlinkA .after .answer) (h unlinkA .0) (ap (λ (x : After). x .answer) (c .answer) ∙ gone-answer) (h unlinkA .1))
+unlink-refuses port h = (unlinkA, λ c. not-done (port unlinkA .after .answer) (h unlinkA .0) (ap (λ (x : Reply). x .answer) (c .answer) ∙ gone-answer) (h unlinkA .1))
 
 pub unlink-constant : UnlinkConstant
 unfolding UnlinkConstant UnlinkBroken UnlinkHolds unlinkA unlinkEmpty
 unlink-constant port answers.Done h =
-    (unlinkEmpty, λ c. not-done (port unlinkEmpty .after .answer) 9 (h unlinkEmpty) (ap (λ (x : After). x .answer) (c .answer ∙ ap (afterAs (cWorld .table)) unlink-empty)))
+    (unlinkEmpty, λ c. not-done (port unlinkEmpty .after .answer) 9 (h unlinkEmpty) (ap (λ (x : Reply). x .answer) (c .answer ∙ ap (afterAs (cWorld .table)) unlink-empty)))
 unlink-constant port (answers.Refused n) h =
-    (unlinkA, λ c. not-done (port unlinkA .after .answer) n (ap (λ (x : After). x .answer) (c .answer) ∙ gone-answer) (h unlinkA))
+    (unlinkA, λ c. not-done (port unlinkA .after .answer) n (ap (λ (x : Reply). x .answer) (c .answer) ∙ gone-answer) (h unlinkA))
 
 pub unlink-stores : UnlinkStoresNothing
 unfolding UnlinkStoresNothing UnlinkBroken UnlinkHolds unlinkA

@@ -19,7 +19,7 @@ use Rattle.table.specs.declared.Table.{Table}
 use Rattle.arena.specs.Blocks.{legal}
 use Rattle.arena.specs.Places.{freeCount}
 use Rattle.sefs.specs.Meta.{metaFile, mapAt}
-use Rattle.rules.specs.Image.{superIn, mapsTo, mapsIn, isNode, nodeCount}
+use Rattle.rules.specs.Image.{storedSuper, mapsTo, storedMaps, isNode, nodeCount}
 use Rattle.rules.specs.Tests.{test1, checked}
 use Rattle.fsck.specs.Verdicts.{passOf, verdictOf}
 use Rattle.fsck.specs.declared.Verdict.the-variants as verdicts
@@ -48,12 +48,12 @@ nodesBy b m = countTo (λ id. ltb id (1024 * b .groups) && (not (eqb id 0) && (n
 
 module _ (a : List ℕ) (unused first : ℕ) (super : superOf (runNear a metaFile 0 16) ≡ superWith unused)
     (map : runNear a metaFile (mapAt 0) 128 ≡ mapFrom first) where
-  super-is : superIn a ≡ superWith unused
-  unfolding superIn
+  super-is : storedSuper a ≡ superWith unused
+  unfolding storedSuper
   super-is = ap superOf (run-near a metaFile 0 16 (omega arith)) ∙ super
 
-  maps-is : mapsIn a ≡ mapFrom first
-  unfolding mapsIn mapsTo
+  maps-is : storedMaps a ≡ mapFrom first
+  unfolding storedMaps mapsTo
   maps-is = rw super-is (run-near a metaFile (mapAt 0) 128 (omega arith) ∙ map)
 
   nodes-is : nodeCount a ≡ nodesBy (superWith unused) (mapFrom first)

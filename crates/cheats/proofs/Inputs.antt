@@ -11,7 +11,7 @@ use Rattle.sefs.specs.Unlink.{callUnlink}
 use Rattle.calls.specs.Answers.{gotOf}
 use Rattle.calls.specs.declared.Answer.the-variants as answers
 use Rattle.calls.specs.declared.Got.the-variants as gots
-use Rattle.calls_steps.specs.Ends.{afterAs, arenaAfter}
+use Rattle.steps.specs.Ends.{afterAs, arenaAfter}
 use Rattle.course_states.specs.Worlds.{epoch, uuid, made}
 use Rattle.course_states.proofs.Calls.{createNear, findCallNear, find-call-near, unlinkNear, unlink-near}
 use Rattle.course_states.proofs.States.{handle, rootTable, freshArena, freshWorld, aMeta, aArena, aWorld, bSlots, bMeta, bArena, bWorld, cSlots, cMeta, cArena, cWorld}

@@ -10,13 +10,13 @@ use Rattle.table.specs.declared.Table.{Table}
 use Rattle.sefs.specs.Create.{callCreate}
 use Rattle.sefs.specs.Open.{callFind}
 use Rattle.sefs.specs.Unlink.{callUnlink}
-use Rattle.calls.specs.declared.After.{After}
+use Rattle.calls.specs.declared.Reply.{Reply}
 use Rattle.calls.specs.declared.Answer.{Answer}
 use Rattle.calls.specs.declared.Answer.the-variants as answers
-use Rattle.calls.specs.declared.Given.{Given}
+use Rattle.calls.specs.declared.HeldReply.{HeldReply}
 use Rattle.calls.specs.declared.Got.{Got}
 use Rattle.calls.specs.declared.Got.the-variants as gots
-use Rattle.calls_steps.specs.Ends.{Returned}
+use Rattle.steps.specs.Ends.{Returned}
 use Rattle.calls_create.specs.Held.{ReturnedHeld}
 use Rattle.calls_find.specs.Finds.{Gives}
 use Rattle.fsck.specs.Verdicts.{verdictOf}
@@ -39,7 +39,7 @@ pub record CreateInput : Type 0 where
 -- the arena afterwards, and the answer with its table
 pub record CreateResult : Type 0 where
   pub arena : List ℕ
-  pub given : Given
+  pub given : HeldReply
 
 -- its contract
 unfoldable pub CreateHolds : CreateInput → CreateResult → Type 0
@@ -76,7 +76,7 @@ pub record UnlinkInput : Type 0 where
 -- the arena afterwards, and the answer with its table
 pub record UnlinkResult : Type 0 where
   pub arena : List ℕ
-  pub after : After
+  pub after : Reply
 
 -- its contract
 unfoldable pub UnlinkHolds : UnlinkInput → UnlinkResult → Type 0
@@ -101,22 +101,22 @@ UnlinkStoresNothing = (port : UnlinkInput → UnlinkResult) → ((x : UnlinkInpu
 -- ---- find, which leaves the arena
 
 -- its contract: the answer and the table
-unfoldable pub FindHolds : List ℕ → Table → Handle → List ℕ → Given → Type 0
+unfoldable pub FindHolds : List ℕ → Table → Handle → List ℕ → HeldReply → Type 0
 FindHolds a t h name r = Gives t (callFind a t h name) r
 
 -- the port breaks the contract at some input
-unfoldable pub FindBroken : (List ℕ → Table → Handle → List ℕ → Given) → Type 0
+unfoldable pub FindBroken : (List ℕ → Table → Handle → List ℕ → HeldReply) → Type 0
 FindBroken port = (a : List ℕ) × (t : Table) × (h : Handle) × (name : List ℕ) × (FindHolds a t h name (port a t h name) → ⊥)
 
 -- a find that always refuses
 unfoldable pub FindRefuses : Type 0
-FindRefuses = (port : List ℕ → Table → Handle → List ℕ → Given)
+FindRefuses = (port : List ℕ → Table → Handle → List ℕ → HeldReply)
     → ((a : List ℕ) (t : Table) (h : Handle) (name : List ℕ) → (n : ℕ) × (port a t h name .answer ≡ gots.Refused n))
     → FindBroken port
 
 -- a find with one constant answer
 unfoldable pub FindConstant : Type 0
-FindConstant = (port : List ℕ → Table → Handle → List ℕ → Given) (r : Got)
+FindConstant = (port : List ℕ → Table → Handle → List ℕ → HeldReply) (r : Got)
     → ((a : List ℕ) (t : Table) (h : Handle) (name : List ℕ) → port a t h name .answer ≡ r)
     → FindBroken port
 
@@ -153,7 +153,7 @@ OnlyFirst = (port : CreateInput → List ℕ → List ℕ → TwoResults)
 -- a create, and then a find of the same name
 pub record CreateFind : Type 0 where
   pub created : CreateResult
-  pub found : Given
+  pub found : HeldReply
 
 -- both contracts: the find starts from what the create left
 unfoldable pub CreateFindHolds : CreateInput → CreateFind → Type 0

@@ -12,7 +12,7 @@ use Rattle.base.specs.Search.{pick}
 use Rattle.base.specs.declared.Found.{Found}
 use Rattle.base.specs.declared.Found.the-variants.{At, Nothing}
 use Rattle.structs.specs.Layout.{recordOf}
-use Rattle.structs.specs.Verdict.{isFolder, isType}
+use Rattle.structs.specs.Types.{isFolder, isType}
 use Rattle.structs.specs.declared.Timespec.{Timespec}
 use Rattle.utf8.specs.Names.{isDots}
 use Rattle.table.specs.Table.{rowAt, rowOf, freeRow, canHold, addHold}

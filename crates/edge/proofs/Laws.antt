@@ -18,16 +18,16 @@ use Rattle.table_bytes.specs.Layout.{tableBytes}
 use Rattle.sefs.specs.declared.Metadata.{Metadata}
 use Rattle.sefs.specs.Create.{After, Given}
 use Rattle.calls.specs.declared.Answer.{Answer}
-use Rattle.calls.specs.declared.After as answered
+use Rattle.calls.specs.declared.Reply as answered
 use Rattle.calls.specs.declared.Got.{Got}
 use Rattle.calls.specs.declared.Got.the-variants as gots
-use Rattle.calls.specs.declared.Given as given
+use Rattle.calls.specs.declared.HeldReply as given
 use Rattle.calls.specs.declared.Told.{Told}
 use Rattle.calls.specs.declared.Told.the-variants as tolds
 use Rattle.calls.specs.declared.Listed.{Listed}
 use Rattle.calls.specs.declared.Listed.the-variants as listeds
 use Rattle.calls.specs.Answers.{answerOf, answerNumber, gotOf, gotNumber, heldTable, toldOf, toldNumber, listedNumber, laid}
-use Rattle.calls_steps.specs.Ends.{Returned}
+use Rattle.steps.specs.Ends.{Returned}
 use Rattle.calls_create.specs.Held.{ReturnedHeld}
 use Rattle.calls_create.specs.declared.New.{New}
 use Rattle.calls_list.specs.declared.Moved.{Moved}
@@ -105,19 +105,19 @@ counts-not e = record { number = rw e; words = rw e }
 
 -- ---- what the call's contract says, and what the end wrote. p is the outcome with its sizes, o without
 
-pub leaves : {o p : Out After} {v : Table} {a b t u : List ℕ} {n : ℕ} {r : answered.After} → p ≡ o → Returned v o a b r → (n ≡ answerNumber (r .answer)) × (u ≡ tableBy t (r .answer) (r .table)) → Leaves p a b t u n
+pub leaves : {o p : Out After} {v : Table} {a b t u : List ℕ} {n : ℕ} {r : answered.Reply} → p ≡ o → Returned v o a b r → (n ≡ answerNumber (r .answer)) × (u ≡ tableBy t (r .answer) (r .table)) → Leaves p a b t u n
 leaves {o = done x} e R E = rw e (record { number = E .0 ∙ rw (R .answer); arena = R .arena; table = E .1 ∙ rw (R .answer) })
 leaves {o = refused m} e R E = rw e (record { number = E .0 ∙ rw (R .answer); arena = R .arena; table = E .1 ∙ rw (R .answer) })
 
-pub makes : {o p : Out Given} {x : Table} {a b t u w v : List ℕ} {n : ℕ} {r : given.Given} → p ≡ o → ReturnedHeld x o a b r → (n ≡ gotNumber (r .answer)) × ((u ≡ heldTableBy t (r .answer) (r .table)) × (v ≡ heldWordsBy w (r .answer))) → Makes p a b t u w v n
+pub makes : {o p : Out Given} {x : Table} {a b t u w v : List ℕ} {n : ℕ} {r : given.HeldReply} → p ≡ o → ReturnedHeld x o a b r → (n ≡ gotNumber (r .answer)) × ((u ≡ heldTableBy t (r .answer) (r .table)) × (v ≡ heldWordsBy w (r .answer))) → Makes p a b t u w v n
 makes {o = done y} e R E = rw e (record { number = E .0 ∙ rw (R .answer); arena = R .arena; table = E .1 .0 ∙ rw (R .answer); words = E .1 .1 ∙ rw (R .answer) })
 makes {o = refused m} e R E = rw e (record { number = E .0 ∙ rw (R .answer); arena = R .arena; table = E .1 .0 ∙ rw (R .answer); words = E .1 .1 ∙ rw (R .answer) })
 
-pub holds : (x : Table) {o p : Out Added} {t u w v : List ℕ} {n : ℕ} {r : given.Given} → p ≡ o → (r .answer ≡ gotOf o) × (r .table ≡ heldTable x o) → (n ≡ gotNumber (r .answer)) × ((u ≡ heldTableBy t (r .answer) (r .table)) × (v ≡ heldWordsBy w (r .answer))) → Holds p t u w v n
+pub holds : (x : Table) {o p : Out Added} {t u w v : List ℕ} {n : ℕ} {r : given.HeldReply} → p ≡ o → (r .answer ≡ gotOf o) × (r .table ≡ heldTable x o) → (n ≡ gotNumber (r .answer)) × ((u ≡ heldTableBy t (r .answer) (r .table)) × (v ≡ heldWordsBy w (r .answer))) → Holds p t u w v n
 holds x {o = done y} e G E = rw e (record { number = E .0 ∙ rw (G .0); table = E .1 .0 ∙ rw (G .0, G .1); words = E .1 .1 ∙ rw (G .0) })
 holds x {o = refused m} e G E = rw e (record { number = E .0 ∙ rw (G .0); table = E .1 .0 ∙ rw (G .0); words = E .1 .1 ∙ rw (G .0) })
 
-pub sets : (x : Table) {o p : Out Table} {t u : List ℕ} {n : ℕ} {r : answered.After} → p ≡ o → (r .answer ≡ answerOf o) × (r .table ≡ kept x o) → (n ≡ answerNumber (r .answer)) × (u ≡ tableBy t (r .answer) (r .table)) → Sets p t u n
+pub sets : (x : Table) {o p : Out Table} {t u : List ℕ} {n : ℕ} {r : answered.Reply} → p ≡ o → (r .answer ≡ answerOf o) × (r .table ≡ kept x o) → (n ≡ answerNumber (r .answer)) × (u ≡ tableBy t (r .answer) (r .table)) → Sets p t u n
 sets x {o = done y} e G E = rw e (record { number = E .0 ∙ rw (G .0); table = E .1 ∙ rw (G .0, G .1) })
 sets x {o = refused m} e G E = rw e (record { number = E .0 ∙ rw (G .0); table = E .1 ∙ rw (G .0) })
 

@@ -21,7 +21,7 @@ use Rattle.calls.specs.declared.Told.the-variants as tolds
 use Rattle.calls.specs.declared.Listed.{Listed}
 use Rattle.calls.specs.declared.Listed.the-variants as listeds
 use Rattle.calls.specs.Answers.{answerOf, answerNumber, gotOf, gotNumber, toldOf, toldNumber, listedOf, listedNumber, laid}
-use Rattle.calls_steps.specs.Ends.{arenaAfter}
+use Rattle.steps.specs.Ends.{arenaAfter}
 use Rattle.calls_create.specs.Held.{arenaHeld}
 use Rattle.edge.specs.Words.{handleWords, metadataWords}
 

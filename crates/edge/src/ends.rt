@@ -10,11 +10,11 @@ use crate::results::put_counts;
 use crate::results::put_handle;
 use crate::results::put_metadata;
 use crate::results::put_next;
-use calls::After;
 use calls::Answer;
-use calls::Given;
 use calls::Got;
+use calls::HeldReply;
 use calls::Listed;
+use calls::Reply;
 use calls::Told;
 use calls_list::Moved;
 use fsck::Verdict;
@@ -23,7 +23,7 @@ use table_bytes::write_table;
 
 // A refusal writes nothing. (As a branch of the callers this would cost them one more table of stack.) That a table has 4,370 bytes is
 // known of a parameter alone, by its type.
-fn put_table(table: &mut [u8], t: Table, done: bool)
+pub fn put_table(table: &mut [u8], t: Table, done: bool)
     requires { ⌜ length (now table) ≡ 4370 ⌝ }
     ensures { λ _. ⌜ now (table .exit) ≡ pick done (tableBytes t) (now (table .entry)) ⌝ }
 {
@@ -51,7 +51,7 @@ pub fn number(a: Answer) -> u32
     }
 }
 
-pub fn end_after(table: &mut [u8], a: After) -> u32
+pub fn end_after(table: &mut [u8], a: Reply) -> u32
     requires { ⌜ length (now table) ≡ 4370 ⌝ }
     ensures { λ r. ⌜ (r ≡ answerNumber (a .answer)) × (now (table .exit) ≡ tableBy (now (table .entry)) (a .answer) (a .table)) ⌝ }
 {
@@ -62,7 +62,7 @@ pub fn end_after(table: &mut [u8], a: After) -> u32
 }
 
 // The same, for format and open: they are given no table, and so take less stack.
-pub fn end_fresh(table: &mut [u8], a: After) -> u32
+pub fn end_fresh(table: &mut [u8], a: Reply) -> u32
     requires { ⌜ length (now table) ≡ 4370 ⌝ }
     ensures { λ r. ⌜ (r ≡ answerNumber (a .answer)) × (now (table .exit) ≡ tableBy (now (table .entry)) (a .answer) (a .table)) ⌝ }
 {
@@ -73,7 +73,7 @@ pub fn end_fresh(table: &mut [u8], a: After) -> u32
     end_after(table, a)
 }
 
-pub fn end_given(table: &mut [u8], out: &mut [u64], g: Given) -> u32
+pub fn end_given(table: &mut [u8], out: &mut [u64], g: HeldReply) -> u32
     requires { ⌜ (length (now table) ≡ 4370) × (length (now out) ≡ 2) ⌝ }
     ensures { λ r. ⌜ r ≡ gotNumber (g .answer) ⌝ }
     ensures { λ _. ⌜ now (table .exit) ≡ heldTableBy (now (table .entry)) (g .answer) (g .table) ⌝ }

@@ -13,7 +13,7 @@ use Rattle.arena.specs.Blocks.{blk, putBlk, blocks}
 use Rattle.arena.specs.Fields.{File, numberOf, seal, fresh}
 use Rattle.arena.specs.Places.{freeOf, dataOf}
 use Rattle.overlay.specs.View.{blkOf, view, left, stored, Fine}
-use Rattle.overlay.specs.Steps.{Changed, Did, went, stuck}
+use Rattle.overlay.specs.Steps.{Changed, Did, went, stopped}
 use Rattle.overlay.proofs.Views.{blk-view, length-blkOf, changed-stored}
 use Rattle.overlay.proofs.Chains.{changed-none, changed-more}
 use Rattle.files.specs.Read.{present}
@@ -35,7 +35,7 @@ module _ (a w : List ℕ) (F : Fine a w) where
 
   pub did-full : (k : ℕ) (b u : List ℕ) → k ≡ freeOf (view a w) → blocks a ≤ k → Did (claim (view a w) b) a w u 1 17
   unfolding claim
-  did-full k b u e lk = stuck {r = 17} (omega arith) (rw (above-view a w F (freeOf (view a w)) k e lk))
+  did-full k b u e lk = stopped {r = 17} (omega arith) (rw (above-view a w F (freeOf (view a w)) k e lk))
 
   -- a block of a file, new or there
   pub did-write-new : (f : File) (q off : ℕ) (src u : List ℕ) (k r : ℕ) → k ≡ dataOf (view a w) f q → blocks a ≤ k → Did (claim (view a w) (paste (fresh 2 f q) (24 + off) src)) a w u 1 r → Did (writeBlk (view a w) f q off src) a w u 1 r

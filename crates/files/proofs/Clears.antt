@@ -16,7 +16,7 @@ use Rattle.arena.specs.Places.{headOf}
 use Rattle.arena.proofs.Blocks.{length-putBlk, blk-putBlk-other}
 use Rattle.arena.proofs.Fresh.{length-zeros}
 use Rattle.overlay.specs.View.{blkOf, view, freed, Fine}
-use Rattle.overlay.specs.Steps.{Changed, Did, went, stuck}
+use Rattle.overlay.specs.Steps.{Changed, Did, went, stopped}
 use Rattle.overlay.proofs.Views.{blocks-view, blk-view, changed-freed}
 use Rattle.overlay.proofs.Chains.{changed-none, changed-then}
 use Rattle.files.specs.Read.{there}
@@ -79,11 +79,11 @@ module _ (a w : List ℕ) (F : Fine a w) (p : List ℕ → Bool) where
 module _ (a w : List ℕ) (f : File) where
   pub cut-missing : (u : List ℕ) (len : ℕ) → there (view a w) f ≡ false → Did (cutFile (view a w) f len) a w u 2 19
   unfolding cutFile
-  cut-missing u len e = stuck {r = 19} (omega arith) (rw e)
+  cut-missing u len e = stopped {r = 19} (omega arith) (rw e)
 
   pub cut-long : (u : List ℕ) (len : ℕ) → there (view a w) f ≡ true → 4294967295 < len → Did (cutFile (view a w) f len) a w u 2 17
   unfolding cutFile
-  cut-long u len e l = stuck {r = 17} (omega arith) (rw (e, lt-leb len 4294967295 l))
+  cut-long u len e l = stopped {r = 17} (omega arith) (rw (e, lt-leb len 4294967295 l))
 
   -- the length set, the blocks past it freed, the tail zeroed
   pub cut-done : (u t s : List ℕ) (k len : ℕ) → there (view a w) f ≡ true → len ≤ 4294967295 → k ≡ headOf (view a w) f
@@ -97,7 +97,7 @@ module _ (a w : List ℕ) (f : File) where
 
   pub drop-missing : (u : List ℕ) → there (view a w) f ≡ false → Did (dropFile (view a w) f) a w u 0 19
   unfolding dropFile
-  drop-missing u e = stuck {r = 19} (omega arith) (rw e)
+  drop-missing u e = stopped {r = 19} (omega arith) (rw e)
 
   pub drop-done : (u : List ℕ) → there (view a w) f ≡ true → Changed a w u (clearAll (isOf f) (view a w)) 0 → Did (dropFile (view a w) f) a w u 0 0
   unfolding dropFile

@@ -18,7 +18,7 @@ use Rattle.arena.specs.Blocks.{blk, putBlk}
 use Rattle.arena.specs.Fields.{File, numberOf, seal}
 use Rattle.arena.specs.Places.{headOf}
 use Rattle.overlay.specs.View.{view}
-use Rattle.overlay.specs.Steps.{Changed, Did, went, stuck}
+use Rattle.overlay.specs.Steps.{Changed, Did, went, stopped}
 use Rattle.overlay.proofs.Chains.{Well, changed-more, did-next}
 use Rattle.files.specs.Read.{there, lengthOf}
 use Rattle.files.specs.Store.{setLength, raise, putBlock, putTo, touched, putFile}
@@ -111,11 +111,11 @@ did-put-two {a = a} {w = w} f pos src l m c d =
 module _ (a w u : List ℕ) (f : File) (pos : ℕ) (src : List ℕ) where
   pub did-missing : there (view a w) f ≡ false → Did (putFile (view a w) f pos src) a w u (1 + touched pos (length src)) 19
   unfolding putFile
-  did-missing e = stuck {r = 19} (omega arith) (rw e)
+  did-missing e = stopped {r = 19} (omega arith) (rw e)
 
   pub did-long : there (view a w) f ≡ true → 4294967295 < pos + length src → Did (putFile (view a w) f pos src) a w u (1 + touched pos (length src)) 17
   unfolding putFile
-  did-long e l = stuck {r = 17} (omega arith) (rw (e, lt-leb (pos + length src) 4294967295 l))
+  did-long e l = stopped {r = 17} (omega arith) (rw (e, lt-leb (pos + length src) 4294967295 l))
 
   pub did-put : {r : ℕ} → there (view a w) f ≡ true → pos + length src ≤ 4294967295 → Did (putTo (view a w) f pos src (touched pos (length src))) a w u (1 + touched pos (length src)) r → Did (putFile (view a w) f pos src) a w u (1 + touched pos (length src)) r
   unfolding putFile

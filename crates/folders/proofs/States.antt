@@ -7,7 +7,7 @@ use native.Mathlib.Omega.{arith}
 use Rattle.base.specs.Out.{Out, done, bind, Went, well, ill}
 use Rattle.base.proofs.Outs.{went-next, went-weaken}
 use Rattle.overlay.specs.View.{view, Fine}
-use Rattle.overlay.specs.Steps.{Did, went, stuck}
+use Rattle.overlay.specs.Steps.{Did, went, stopped}
 use Rattle.structs.specs.declared.DiskINode.{DiskINode}
 use Rattle.table.specs.Table.{rowAt, takeRow}
 use Rattle.sefs.specs.State.{Fs, withArena}
@@ -39,7 +39,7 @@ mem-stepped k f g = went-weaken (λ h. record { fine = f; whole = h; room = omeg
 pub did-stepped : {o : Out (List ℕ)} {a w u : List ℕ} {k r : ℕ} (m : List ℕ) → Whole m → Did o a w u k r → Stepped (bind o (λ x. done (withArena (fsOf a w m) x))) a w u m k r
 unfolding fsOf
 did-stepped {a = a} {w = w} m h (went e c) = well (rw e (ap (λ (x : List ℕ). done (withArena (fsOf a w m) x)) (sym (c .is)))) (record { fine = c .fine; whole = h; room = c .room })
-did-stepped m h (stuck l e) = ill l (rw e)
+did-stepped m h (stopped l e) = ill l (rw e)
 
 -- ---- a record changed
 

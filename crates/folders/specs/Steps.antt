@@ -4,7 +4,7 @@ use mathlib.Core.List.{List}
 use Prim.Native.Nat.{ℕ, _*_, _-_}
 use Rattle.base.specs.Out.{Out, done, _>>=_}
 use Rattle.base.specs.Search.{pick}
-use Rattle.structs.specs.Verdict.{isFolder}
+use Rattle.structs.specs.Types.{isFolder}
 use Rattle.structs.specs.declared.DiskINode.{DiskINode}
 use Rattle.files.specs.Store.{cutFile}
 use Rattle.sefs.specs.State.{Fs, withArena}

@@ -17,7 +17,7 @@ use Rattle.arena.specs.Places.{freeCount}
 use Rattle.structs.specs.declared.SuperBlock.{SuperBlock}
 use Rattle.mem.specs.Mem as memory
 use Rattle.rules.specs.Image.{nodeCount}
-use Rattle.fsck_read.specs.Given.{Of}
+use Rattle.fsck_read.specs.Loaded.{Of}
 use Rattle.fsck.specs.declared.Verdict.{Verdict}
 use Rattle.fsck.specs.declared.Verdict.the-variants.{Pass, Fail}
 use Rattle.fsck.specs.Verdicts.{passOf, verdictOf, linksVerdict, filesVerdict, metaVerdict}

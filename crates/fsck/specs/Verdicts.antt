@@ -5,14 +5,14 @@ use lib.Dec.{eqb}
 use Rattle.base.specs.Search.{pick}
 use Rattle.table.specs.declared.Table.{Table}
 use Rattle.arena.specs.Places.{freeCount}
-use Rattle.rules.specs.Image.{superIn, nodeCount}
+use Rattle.rules.specs.Image.{storedSuper, nodeCount}
 use Rattle.rules.specs.Tests.{test3, test4, test5, test6, test7, test8, checked}
 use Rattle.fsck.specs.declared.Verdict.{Verdict}
 use Rattle.fsck.specs.declared.Verdict.the-variants.{Pass, Fail}
 
 -- nodes: ids that are nodes; unused: as stored; free: free arena blocks
 unfoldable pub passOf : List ℕ → Verdict
-passOf a = Pass (nodeCount a) (superIn a .unused) (freeCount a)
+passOf a = Pass (nodeCount a) (storedSuper a .unused) (freeCount a)
 
 unfoldable pub verdictOf : List ℕ → Table → Verdict
 verdictOf a t = pick (eqb (checked a t) 0) (passOf a) (Fail (checked a t))

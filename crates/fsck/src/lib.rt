@@ -5,10 +5,10 @@ ghost use mathlib.Core.Bool.{true};
 ghost use Prim.Native.Nat.{ℕ, _≤_, _<_};
 ghost use lib.ListN.{length, getD};
 ghost use Rattle.arena.specs.Blocks.{blocks, legal};
-ghost use Rattle.mem.specs.Mem.{tableIn, Whole};
+ghost use Rattle.mem.specs.Mem.{tableIn, Whole, memorySize};
 ghost use Rattle.rules.specs.Tests.{test3, test4, test5, test6};
 ghost use Rattle.chains.specs.Led.{Led};
-ghost use Rattle.fsck_read.specs.Given.{Loaded, Of};
+ghost use Rattle.fsck_read.specs.Loaded.{Loaded, Of};
 ghost use Rattle.fsck.specs.Verdicts.{passOf, verdictOf, linksVerdict, filesVerdict, metaVerdict};
 use fsck_climb::rule8;
 use fsck_links::rule7;
@@ -18,6 +18,7 @@ use fsck_read::rule3;
 use fsck_read::rule4;
 use fsck_slots::rule6;
 use holds::well_formed;
+use mem::MEMORY;
 use mem::put_table;
 use mem::super_at;
 use table::Table;
@@ -75,7 +76,7 @@ fn judge_files(arena: &[u8], first: &[u16], next: &[u16], mem: &[u8]) -> Verdict
 
 fn judge_meta(arena: &[u8], first: &[u16], next: &[u16], mem: &mut [u8]) -> Verdict
     requires { ⌜ Led (now arena) (now first) (now next) ⌝ }
-    requires { ⌜ length (now mem) ≡ 4899 ⌝ }
+    requires { ⌜ length (now mem) ≡ memorySize ⌝ }
     ensures { λ r. ⌜ r ≡ metaVerdict (now (arena .entry)) (tableIn (now (mem .entry))) ⌝ }
 {
     if !rule3(arena, first, next, mem) {
@@ -117,7 +118,7 @@ fn check_on(arena: &[u8], mem: &mut [u8]) -> Verdict
 pub fn check(arena: &[u8], t: Table) -> Verdict
     ensures { λ r. ⌜ r ≡ verdictOf (now (arena .entry)) t ⌝ }
 {
-    let mut mem = [0u8; 4899];
+    let mut mem = [0u8; MEMORY];
     put_table(&mut mem, t);
     check_on(arena, &mut mem)
 }

@@ -8,7 +8,7 @@ use lib.ListN.{length, getD}
 use Rattle.base.specs.Count.{allTo}
 use Rattle.base.specs.Parts.{tab}
 use Rattle.base.specs.Search.{pick, lowest}
-use Rattle.structs.specs.Verdict.{isFolder}
+use Rattle.structs.specs.Types.{isFolder}
 use Rattle.structs.specs.declared.DiskINode.{DiskINode}
 use Rattle.table.specs.declared.Table.{Table}
 use Rattle.rules.specs.Image.{recOf, isFolderAt, slotIn, laterSlots}

@@ -8,7 +8,7 @@ ghost use Rattle.mem.specs.Mem.{tableIn};
 ghost use Rattle.rules.specs.Image.{idsIn};
 ghost use Rattle.rules.specs.Tests.{test8};
 ghost use Rattle.chains.specs.Led.{Led};
-ghost use Rattle.fsck_read.specs.Given.{Loaded, Of};
+ghost use Rattle.fsck_read.specs.Loaded.{Loaded, Of};
 ghost use Rattle.fsck_climb.specs.Way.{Ids, Passed, upBy, up, ups, childFine, childrenFine, reachesIn, folderFine, treeFine};
 use base::index;
 use base::index16;

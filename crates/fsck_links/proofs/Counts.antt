@@ -16,7 +16,7 @@ use Rattle.base.proofs.Lists.{length-tab}
 use Rattle.base.proofs.Parts.{getD-zero-list}
 use Rattle.le.specs.Le.{leAt}
 use Rattle.structs.specs.Layout.{entryOf}
-use Rattle.structs.specs.Verdict.{isFolder}
+use Rattle.structs.specs.Types.{isFolder}
 use Rattle.structs.specs.declared.DiskINode.{DiskINode}
 use Rattle.table.specs.declared.Table.{Table}
 use Rattle.files.specs.Read.{byteAt}
@@ -25,7 +25,7 @@ use Rattle.rules.specs.Image.{run, idsIn, isNode, recOf, isFolderAt, slotIn, la
 use Rattle.rules.specs.Tests.{test6}
 use Rattle.rules.proofs.Files.{node-below}
 use Rattle.rules.proofs.Folders.{decides-6}
-use Rattle.fsck_read.specs.Given.{Loaded, Of}
+use Rattle.fsck_read.specs.Loaded.{Loaded, Of}
 use Rattle.fsck_read.proofs.Nodes.{groups-some, ids-is}
 use Rattle.fsck_links.specs.Counts.{upTo, Holds, Below, namesTo, namesAt, namedTo}
 

@@ -10,7 +10,7 @@ ghost use Rattle.rules.specs.Image.{isOpen, namesIn};
 ghost use Rattle.rules.specs.Image as image;
 ghost use Rattle.rules.specs.Tests.{test6, test7, linked, removed};
 ghost use Rattle.chains.specs.Led.{Led};
-ghost use Rattle.fsck_read.specs.Given.{Loaded, Of};
+ghost use Rattle.fsck_read.specs.Loaded.{Loaded, Of};
 ghost use Rattle.fsck_links.specs.Counts.{upTo, Holds, Below, namesAt, linksAt};
 use base::index;
 use chains::slots::read_slot;

@@ -21,7 +21,7 @@ use Rattle.base.proofs.Numbers.{lt-or-le}
 use Rattle.base.proofs.Parts.{getD-zero-list}
 use Rattle.base.proofs.Sames.{and-true, allTo-suc, same-true, same-own, test-fails}
 use Rattle.base.proofs.Searches.{last-is, lowest-first, lowest-here, lowest-hit}
-use Rattle.structs.specs.Verdict.{isFolder, isType}
+use Rattle.structs.specs.Types.{isFolder, isType}
 use Rattle.structs.specs.declared.DiskINode.{DiskINode}
 use Rattle.table.specs.declared.Table.{Table}
 use Rattle.arena.specs.Blocks.{blk, blocks}
@@ -37,9 +37,6 @@ use Rattle.sefs.specs.Nodes.{nodeFile}
 use Rattle.rules.specs.Image.{idsIn, isNode, recOf}
 use Rattle.rules.specs.Tests.{hasName, nodeAllowed, headAllowed, test5}
 use Rattle.fsck_names.specs.Names.{claimable, owns, unclaimed, Claimed, headClaimed}
-
-pub kind-fine : (r : DiskINode) → (ltb 0 (r .kind) && ltb (r .kind) 5) ≡ isType (r .kind)
-kind-fine r = ap (λ (b : Bool). ltb 0 (r .kind) && b) (leb·suc-suc (r .kind) 4)
 
 -- ---- the head that the chains lead to
 

@@ -3,7 +3,7 @@ ghost use mathlib.Core.Path.{_≡_};
 ghost use mathlib.Core.Bool.{true};
 ghost use Prim.Native.Nat.{_+_, _<_, _≤_};
 ghost use lib.ListN.{length, set};
-ghost use Rattle.structs.specs.Verdict.{isType};
+ghost use Rattle.structs.specs.Types.{isType};
 ghost use Rattle.base.specs.Count.{allTo};
 ghost use Rattle.arena.specs.Blocks.{blocks};
 ghost use Rattle.arena.specs.Places.{headOf};
@@ -12,19 +12,14 @@ ghost use Rattle.mem.specs.Mem.{tableIn};
 ghost use Rattle.rules.specs.Image.{idsIn};
 ghost use Rattle.rules.specs.Tests.{nodeAllowed, test5};
 ghost use Rattle.chains.specs.Led.{Led};
-ghost use Rattle.fsck_read.specs.Given.{Loaded, Of};
+ghost use Rattle.fsck_read.specs.Loaded.{Loaded, Of};
 ghost use Rattle.fsck_names.specs.Names.{claimable, Claimed, headClaimed};
 use fsck_read::ids;
 use fsck_read::is_node;
 use fsck_read::rec_of;
 use sound::chain::find;
 use structs::DiskINode;
-
-fn kind_ok(rec: DiskINode) -> bool
-    ensures { λ r. ⌜ r ≡ isType (rec .kind) ⌝ }
-{
-    (0 < rec.kind) & (rec.kind < 5)
-}
+use structs::is_type;
 
 // The head of the node's file is marked; false where it is not there, or marked already.
 fn claim(arena: &[u8], first: &[u16], next: &[u16], rec: DiskINode, claimed: &mut [u8]) -> bool
@@ -63,7 +58,7 @@ fn node_ok(
         return true;
     }
     let rec = rec_of(arena, first, next, mem, id);
-    if !kind_ok(rec) {
+    if !is_type(rec.kind) {
         return false;
     }
     claim(arena, first, next, rec, claimed)

@@ -26,12 +26,12 @@ use Rattle.maps.specs.Maps.{bitAt, setBits}
 use Rattle.files.specs.Read.{there, lengthOf, byteAt}
 use Rattle.files_laws.proofs.Views.{length-none}
 use Rattle.sefs.specs.Meta.{metaFile, mapAt}
-use Rattle.mem.specs.Mem.{tableIn}
+use Rattle.mem.specs.Mem.{tableIn, memorySize}
 use Rattle.mem.specs.Mem as memory
 use Rattle.mem.proofs.Mems.{table-kept, super-put, bit-in}
-use Rattle.rules.specs.Image.{run, superIn, mapsTo, mapsIn, idsIn}
+use Rattle.rules.specs.Image.{run, storedSuper, mapsTo, storedMaps, idsIn}
 use Rattle.rules.specs.Tests.{test3}
-use Rattle.fsck_read.specs.Given.{Loaded, Of, superFine, Mapped, Put}
+use Rattle.fsck_read.specs.Loaded.{Loaded, Of, superFine, Mapped, Put}
 
 -- ---- the superblock by itself
 
@@ -66,12 +66,12 @@ module _ (b : SuperBlock) (len : ℕ) where
 
 -- ---- the superblock in memory
 
-pub put-is : (m d p : List ℕ) (b : SuperBlock) → length m ≡ 4899 → SuperFits b → 0 < b .groups → b .groups ≤ 4
+pub put-is : (m d p : List ℕ) (b : SuperBlock) → length m ≡ memorySize → SuperFits b → 0 < b .groups → b .groups ≤ 4
     → d ≡ set m 4370 1 → p ≡ paste d 4371 (superBytes b) → Put m p b
 put-is m d p b size F some few e f =
     let u : List ℕ = 1 ∷ [] in
     let d-is : d ≡ paste m 4370 u = e ∙ set-paste m 4370 1 (omega arith) in
-    let size-d : length d ≡ 4899 = subst (λ (x : List ℕ). length x ≡ 4899) (sym e) (length-set m 4370 1 ∙ size) in
+    let size-d : length d ≡ memorySize = subst (λ (x : List ℕ). length x ≡ memorySize) (sym e) (length-set m 4370 1 ∙ size) in
     let mark : getD d 4370 0 ≡ 1 = subst (λ (x : List ℕ). getD x 4370 0 ≡ 1) (sym e) (getD-set-same m 4370 1 0 (omega arith)) in
     let fit : 4371 + length (superBytes b) ≤ length d = omega (arith, length-superBytes b) in
     let s : memory.superIn (paste d 4371 (superBytes b)) ≡ b = super-put d d b size-d refl mark F some few in
@@ -87,13 +87,13 @@ put-is m d p b size F some few e f =
       super = s;
       front = part-paste-other d 4371 (superBytes b) fit 0 4370 (λ l. omega arith)
           ∙ ap (λ (x : List ℕ). part x 0 4370) d-is ∙ part-paste-other m 4370 u (omega arith) 0 4370 (λ l. omega arith);
-      maps = part-paste-other d 4371 (superBytes b) fit 4387 4899 (λ l. absurd (omega (arith, length-superBytes b)))
-          ∙ ap (λ (x : List ℕ). part x 4387 4899) d-is ∙ part-paste-other m 4370 u (omega arith) 4387 4899 (λ l. absurd (omega arith));
+      maps = part-paste-other d 4371 (superBytes b) fit 4387 memorySize (λ l. absurd (omega (arith, length-superBytes b)))
+          ∙ ap (λ (x : List ℕ). part x 4387 memorySize) d-is ∙ part-paste-other m 4370 u (omega arith) 4387 memorySize (λ l. absurd (omega arith));
     })
 
 -- ---- the maps in memory
 
-pub mapped-none : (a m : List ℕ) → length m ≡ 4899 → Mapped a m m 0
+pub mapped-none : (a m : List ℕ) → length m ≡ memorySize → Mapped a m m 0
 unfolding mapsTo
 mapped-none a m e = record { size = e; front = refl; maps = refl }
 
@@ -124,11 +124,11 @@ eqb-sym : (x y : ℕ) → eqb x y ≡ eqb y x
 eqb-sym x y = same-bool (eqb x y) (eqb y x) (λ e. eq-eqb y x (sym (eqb-true x y e))) (λ e. eq-eqb x y (sym (eqb-true y x e)))
 
 -- the superblock's part, and the count
-test3-is : (a : List ℕ) → test3 a ≡ (superFine (superIn a) (lengthOf a metaFile) && eqb (superIn a .unused) (setBits (mapsIn a) (idsIn a)))
+test3-is : (a : List ℕ) → test3 a ≡ (superFine (storedSuper a) (lengthOf a metaFile) && eqb (storedSuper a .unused) (setBits (storedMaps a) (idsIn a)))
 unfolding test3 superFine
 test3-is a =
-    go (eqb (superIn a .magic) sefsMagic) (leb 1 (superIn a .groups)) (leb (superIn a .groups) 4) (eqb (lengthOf a metaFile) (131072 * superIn a .groups))
-    (eqb (superIn a .blocks) (1024 * superIn a .groups)) (eqb (superIn a .unused) (setBits (mapsIn a) (idsIn a)))
+    go (eqb (storedSuper a .magic) sefsMagic) (leb 1 (storedSuper a .groups)) (leb (storedSuper a .groups) 4) (eqb (lengthOf a metaFile) (131072 * storedSuper a .groups))
+    (eqb (storedSuper a .blocks) (1024 * storedSuper a .groups)) (eqb (storedSuper a .unused) (setBits (storedMaps a) (idsIn a)))
   where
     go : (p q r s t u : Bool) → (p && (q && (r && (s && (t && u))))) ≡ ((p && (q && (r && (s && t)))) && u)
     go true true true true t u = refl
@@ -148,28 +148,28 @@ module _ (a : List ℕ) (n : ℕ) (is : n ≡ pick (there a metaFile) (suc (leng
   -- no room for a superblock
   pub three-short : n < 17 → false ≡ test3 a
   three-short l = ⊎-elim
-      (λ e. let s = super-says (superIn a) (lengthOf a metaFile) e in absurd (omega (arith, size-of, s .0, s .1 .1)))
-      (λ e. sym (test3-is a ∙ ap (λ (x : Bool). x && eqb (superIn a .unused) (setBits (mapsIn a) (idsIn a))) e))
-      (bool-cases (superFine (superIn a) (lengthOf a metaFile)))
+      (λ e. let s = super-says (storedSuper a) (lengthOf a metaFile) e in absurd (omega (arith, size-of, s .0, s .1 .1)))
+      (λ e. sym (test3-is a ∙ ap (λ (x : Bool). x && eqb (storedSuper a .unused) (setBits (storedMaps a) (idsIn a))) e))
+      (bool-cases (superFine (storedSuper a) (lengthOf a metaFile)))
 
-  module _ (b : SuperBlock) (b-is : b ≡ superIn a) where
-    fine-is : superFine b (n - 1) ≡ superFine (superIn a) (lengthOf a metaFile)
+  module _ (b : SuperBlock) (b-is : b ≡ storedSuper a) where
+    fine-is : superFine b (n - 1) ≡ superFine (storedSuper a) (lengthOf a metaFile)
     fine-is = ap₂ superFine b-is size-of
 
     pub three-super : superFine b (n - 1) ≡ false → false ≡ test3 a
-    three-super e = sym (test3-is a ∙ ap (λ (x : Bool). x && eqb (superIn a .unused) (setBits (mapsIn a) (idsIn a))) (sym fine-is ∙ e))
+    three-super e = sym (test3-is a ∙ ap (λ (x : Bool). x && eqb (storedSuper a .unused) (setBits (storedMaps a) (idsIn a))) (sym fine-is ∙ e))
 
     module _ (g : ℕ) (g-is : g ≡ b .groups) (m d p : List ℕ) (M : Mapped a m d g) (P : Put d p b) (few : g ≤ 4) where
       maps-are : part p 4387 (4387 + 128 * g) ≡ mapsTo a g
       maps-are =
-          let z : (x : List ℕ) → part (part x 4387 4899) 0 (128 * g) ≡ part x 4387 (4387 + 128 * g) = λ x. part-part x 4387 4899 0 (128 * g) (omega arith) in
+          let z : (x : List ℕ) → part (part x 4387 memorySize) 0 (128 * g) ≡ part x 4387 (4387 + 128 * g) = λ x. part-part x 4387 memorySize 0 (128 * g) (omega arith) in
           sym (z p) ∙ ap (λ (x : List ℕ). part x 0 (128 * g)) (P .maps) ∙ z d ∙ M .maps
 
-      groups-are : g ≡ superIn a .groups
+      groups-are : g ≡ storedSuper a .groups
       groups-are = g-is ∙ ap (λ (x : SuperBlock). x .groups) b-is
 
       super-maps : Of a p
-      unfolding memory.mapsIn mapsIn
+      unfolding memory.mapsIn storedMaps
       super-maps = record {
         super = P .super ∙ b-is;
         maps = ap (λ (x : ℕ). part p 4387 (4387 + 128 * x)) (ap (λ (x : SuperBlock). x .groups) (P .super) ∙ sym g-is) ∙ maps-are ∙ ap (mapsTo a) groups-are;
@@ -184,13 +184,13 @@ module _ (a : List ℕ) (n : ℕ) (is : n ≡ pick (there a metaFile) (suc (leng
       pub three-given : (Loaded p × Of a p) × (tableIn p ≡ tableIn m)
       three-given = ((P .loaded, super-maps), table)
 
-      pub three-count : (k r : ℕ) → superFine b (n - 1) ≡ true → r ≡ g → k ≡ setBits (part p 4387 4899) (1024 * r) → eqb k (b .unused) ≡ test3 a
-      unfolding setBits mapsIn
+      pub three-count : (k r : ℕ) → superFine b (n - 1) ≡ true → r ≡ g → k ≡ setBits (part p 4387 memorySize) (1024 * r) → eqb k (b .unused) ≡ test3 a
+      unfolding setBits storedMaps
       three-count k r e rg c =
-          let f : k ≡ setBits (mapsIn a) (idsIn a) =
-          c ∙ ap (λ (x : ℕ). setBits (part p 4387 4899) (1024 * x)) rg
-          ∙ countTo-cong (bitAt (part p 4387 4899)) (bitAt (part p 4387 (4387 + 128 * g))) (1024 * g) (λ i l. bit-in p g i few l)
+          let f : k ≡ setBits (storedMaps a) (idsIn a) =
+          c ∙ ap (λ (x : ℕ). setBits (part p 4387 memorySize) (1024 * x)) rg
+          ∙ countTo-cong (bitAt (part p 4387 memorySize)) (bitAt (part p 4387 (4387 + 128 * g))) (1024 * g) (λ i l. bit-in p g i few l)
           ∙ ap₂ (λ (x : List ℕ) (y : ℕ). setBits x (1024 * y)) (maps-are ∙ ap (mapsTo a) groups-are) groups-are
           in
-          ap₂ eqb f (ap (λ (x : SuperBlock). x .unused) b-is) ∙ eqb-sym (setBits (mapsIn a) (idsIn a)) (superIn a .unused)
-          ∙ sym (test3-is a ∙ ap (λ (x : Bool). x && eqb (superIn a .unused) (setBits (mapsIn a) (idsIn a))) (sym fine-is ∙ e))
+          ap₂ eqb f (ap (λ (x : SuperBlock). x .unused) b-is) ∙ eqb-sym (setBits (storedMaps a) (idsIn a)) (storedSuper a .unused)
+          ∙ sym (test3-is a ∙ ap (λ (x : Bool). x && eqb (storedSuper a .unused) (setBits (storedMaps a) (idsIn a))) (sym fine-is ∙ e))

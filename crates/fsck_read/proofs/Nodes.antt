@@ -24,8 +24,8 @@ use Rattle.files.specs.Read.{byteAt}
 use Rattle.sefs.specs.Meta.{metaFile}
 use Rattle.sefs.specs.Nodes.{noRow}
 use Rattle.mem.specs.Mem as memory
-use Rattle.rules.specs.Image.{run, superIn, mapsIn, idsIn, isNode, storedBytes, recBy, recOf, isOpen, nodeCount}
-use Rattle.fsck_read.specs.Given.{Loaded, Of}
+use Rattle.rules.specs.Image.{run, storedSuper, storedMaps, idsIn, isNode, storedBytes, recBy, recOf, isOpen, nodeCount}
+use Rattle.fsck_read.specs.Loaded.{Loaded, Of}
 
 pub groups-some : (m : List ℕ) → Loaded m → (0 < memory.superIn m .groups) × (memory.superIn m .groups ≤ 4)
 groups-some m L = (L .whole .some (L .read), L .whole .few (L .read))
@@ -78,8 +78,8 @@ read-all : (a l o : List ℕ) (pos n : ℕ) → length o ≡ n → l ≡ run a m
 read-all a l o pos n e q =
     ap (λ (x : List ℕ). part x 0 n) (q ∙ ap (run a metaFile pos) e) ∙ part-whole (run a metaFile pos n) n (length-tab (byteAt a metaFile) pos n)
 
-pub super-read : (a l o : List ℕ) → length o ≡ 16 → l ≡ run a metaFile 0 (length o) → superOf (part l 0 16) ≡ superIn a
-unfolding superIn
+pub super-read : (a l o : List ℕ) → length o ≡ 16 → l ≡ run a metaFile 0 (length o) → superOf (part l 0 16) ≡ storedSuper a
+unfolding storedSuper
 super-read a l o e q = ap superOf (read-all a l o 0 16 e q)
 
 pub stored-read : (a l o : List ℕ) (id : ℕ) → length o ≡ 112 → l ≡ run a metaFile (128 * id) (length o) → recordOf (part l 0 112) ≡ recordOf (storedBytes a id)

@@ -27,9 +27,9 @@ use Rattle.sefs.specs.Meta.{metaFile}
 use Rattle.mem.specs.Mem.{tableIn}
 use Rattle.mem.specs.Mem as memory
 use Rattle.mem.proofs.Mems.{row-read}
-use Rattle.rules.specs.Image.{run, superIn, mapsIn, isNode, storedBytes}
+use Rattle.rules.specs.Image.{run, storedSuper, storedMaps, isNode, storedBytes}
 use Rattle.rules.specs.Tests.{rowAllowed, test4}
-use Rattle.fsck_read.specs.Given.{Of, mapsClear}
+use Rattle.fsck_read.specs.Loaded.{Of, mapsClear}
 
 -- ---- the maps' own bits
 
@@ -95,10 +95,10 @@ rows-all a t i l g e = sym e ∙ ap (allTo (rowAllowed a t)) (let z : i ≡ 34 =
 -- ---- rule 4
 
 module _ (a m : List ℕ) (O : Of a m) where
-  bit-is : (id : ℕ) (b : Bool) → b ≡ bitAt (memory.mapsIn m) id → bitAt (mapsIn a) id ≡ b
+  bit-is : (id : ℕ) (b : Bool) → b ≡ bitAt (memory.mapsIn m) id → bitAt (storedMaps a) id ≡ b
   bit-is id b e = sym (e ∙ ap (λ (x : List ℕ). bitAt x id) (O .maps))
 
-  clear-is : mapsClear m ≡ allTo (λ g. not (bitAt (mapsIn a) (1024 * g + 1))) (superIn a .groups)
+  clear-is : mapsClear m ≡ allTo (λ g. not (bitAt (storedMaps a) (1024 * g + 1))) (storedSuper a .groups)
   unfolding mapsClear
   clear-is = ap₂ (λ (x : List ℕ) (b : SuperBlock). allTo (λ g. not (bitAt x (1024 * g + 1))) (b .groups)) (O .maps) (O .super)
 

@@ -9,16 +9,17 @@ ghost use Rattle.base.specs.Decides.{same};
 ghost use Rattle.structs.specs.Layout.{recordOf, recordBytes};
 ghost use Rattle.table.specs.Table.{rowAt};
 ghost use Rattle.sefs.specs.Meta.{metaFile};
-ghost use Rattle.mem.specs.Mem.{tableIn};
+ghost use Rattle.mem.specs.Mem.{tableIn, memorySize};
 ghost use Rattle.mem.specs.Mem as memory;
-ghost use Rattle.rules.specs.Image.{run, superIn, idsIn, isNode, storedBytes, recOf, isOpen, nodeCount};
+ghost use Rattle.rules.specs.Image.{run, storedSuper, idsIn, isNode, storedBytes, recOf, isOpen, nodeCount};
 ghost use Rattle.rules.specs.Tests.{test3, test4, rowAllowed};
 ghost use Rattle.chains.specs.Led.{Led};
-ghost use Rattle.fsck_read.specs.Given.{Loaded, Of, superFine, Put, Mapped, mapsClear};
+ghost use Rattle.fsck_read.specs.Loaded.{Loaded, Of, superFine, Put, Mapped, mapsClear};
 use base::Found;
 use base::index;
 use chains::length_of;
 use chains::read_run;
+use mem::MEMORY;
 use mem::bit_at;
 use mem::dirty_at;
 use mem::find_row;
@@ -63,7 +64,7 @@ fn super_ok(b: SuperBlock, len: usize) -> bool
 
 // The superblock, and the mark that it is there.
 fn put_super(mem: &mut [u8], b: SuperBlock)
-    requires { ⌜ (length (now mem) ≡ 4899) × ((0 < b .groups) × (b .groups ≤ 4)) ⌝ }
+    requires { ⌜ (length (now mem) ≡ memorySize) × ((0 < b .groups) × (b .groups ≤ 4)) ⌝ }
     ensures { λ _. ⌜ Put (now (mem .entry)) (now (mem .exit)) b ⌝ }
 {
     put_flag(mem, true);
@@ -72,7 +73,7 @@ fn put_super(mem: &mut [u8], b: SuperBlock)
 
 fn load_maps(arena: &[u8], first: &[u16], next: &[u16], mem: &mut [u8], groups: usize)
     requires { ⌜ Led (now arena) (now first) (now next) ⌝ }
-    requires { ⌜ (length (now mem) ≡ 4899) × (groups ≤ 4) ⌝ }
+    requires { ⌜ (length (now mem) ≡ memorySize) × (groups ≤ 4) ⌝ }
     ensures { λ _. ⌜ Mapped (now (arena .entry)) (now (mem .entry)) (now (mem .exit)) groups ⌝ }
 {
     let mut g: usize = 0;
@@ -91,7 +92,7 @@ fn load_maps(arena: &[u8], first: &[u16], next: &[u16], mem: &mut [u8], groups: 
 
 fn read_super(arena: &[u8], first: &[u16], next: &[u16]) -> SuperBlock
     requires { ⌜ Led (now arena) (now first) (now next) ⌝ }
-    ensures { λ r. ⌜ r ≡ superIn (now (arena .entry)) ⌝ }
+    ensures { λ r. ⌜ r ≡ storedSuper (now (arena .entry)) ⌝ }
 {
     let mut l = [0u8; 16];
     read_meta(arena, first, next, 0, &mut l);
@@ -101,7 +102,7 @@ fn read_super(arena: &[u8], first: &[u16], next: &[u16]) -> SuperBlock
 // Superblock and maps go to `mem`.
 pub fn rule3(arena: &[u8], first: &[u16], next: &[u16], mem: &mut [u8]) -> bool
     requires { ⌜ Led (now arena) (now first) (now next) ⌝ }
-    requires { ⌜ length (now mem) ≡ 4899 ⌝ }
+    requires { ⌜ length (now mem) ≡ memorySize ⌝ }
     ensures { λ r. ⌜ r ≡ test3 (now (arena .entry)) ⌝ }
     ensures { λ r. ⌜ (r ≡ true → (Loaded (now (mem .exit)) × Of (now (arena .entry)) (now (mem .exit))) × (tableIn (now (mem .exit)) ≡ tableIn (now (mem .entry)))) ⌝ }
 {
@@ -116,7 +117,7 @@ pub fn rule3(arena: &[u8], first: &[u16], next: &[u16], mem: &mut [u8]) -> bool
     }
     load_maps(arena, first, next, mem, index(b.groups));
     put_super(mem, b);
-    maps::count_set(&mem[4387..4899], index(b.groups)) == b.unused
+    maps::count_set(&mem[4387..MEMORY], index(b.groups)) == b.unused
 }
 
 // ---- rule 4

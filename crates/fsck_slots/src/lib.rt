@@ -13,7 +13,7 @@ ghost use Rattle.mem.specs.Mem.{tableIn};
 ghost use Rattle.rules.specs.Image.{slotIn};
 ghost use Rattle.rules.specs.Tests.{dotAllowed, dotsAllowed, folderAllowed, test6};
 ghost use Rattle.chains.specs.Led.{Led};
-ghost use Rattle.fsck_read.specs.Given.{Loaded, Of};
+ghost use Rattle.fsck_read.specs.Loaded.{Loaded, Of};
 ghost use Rattle.fsck_slots.specs.Hash.{hashName, Hashed};
 ghost use Rattle.fsck_slots.specs.Slots.{plainName, namesNode, bears, slotAllowed, startAllowed, idAllowed};
 use base::index;

@@ -29,7 +29,7 @@ use Rattle.table_bytes.specs.Fits.{HoldFits}
 use Rattle.table_bytes.specs.Layout.{rowFrom, rowAtPlace, holdFrom, holdBytes, holdAtPlace, tableOf}
 use Rattle.table_bytes.proofs.Layouts.{length-holdBytes, holdFrom-holdBytes}
 use Rattle.table_bytes.proofs.Runs.{length-list, list-is}
-use Rattle.mem.specs.Mem.{tableIn, Whole, Tabled}
+use Rattle.mem.specs.Mem.{tableIn, Whole, Tabled, memorySize}
 use Rattle.mem.proofs.Mems.{row-read, hold-read, table-is, tabled}
 use Rattle.holds.specs.Holds.{withNext, liveOk}
 
@@ -88,7 +88,7 @@ module _ (m : List ℕ) (i : ℕ) (h : Hold) (W : Whole m) (inside : i < 32) (F 
 
   pub hold-put : Tabled m laid (withHold (tableIn m) i h)
   hold-put =
-      tabled m laid (W .size) (length-paste m o (holdBytes h) fit ∙ W .size) (apart 4370 4899 (λ l. absurd (omega arith))) (withHold (tableIn m) i h) W
+      tabled m laid (W .size) (length-paste m o (holdBytes h) fit ∙ W .size) (apart 4370 memorySize (λ l. absurd (omega arith))) (withHold (tableIn m) i h) W
       (table-is laid (withHold (tableIn m) i h) (rows-34 m)
       (rows-stay m laid (λ s e l. apart s e (λ g. omega arith)))
       (list-is (holdAtPlace laid) zeroHold (set (tableIn m .holds) i h) 32 (length-set (tableIn m .holds) i h ∙ holds-32 m) hold-there)
@@ -110,7 +110,7 @@ module _ (m : List ℕ) (v : ℕ) (W : Whole m) (F : v < 2 ^ 64) where
   pub next-put : Tabled m stamped (withNext (tableIn m) v)
   next-put =
       let room : 4362 + 8 ≤ length m = omega (arith, W .size) in
-      tabled m stamped (W .size) (length-lePut m 4362 8 v room ∙ W .size) (before 4370 4899 (λ l. absurd (omega arith))) (withNext (tableIn m) v) W
+      tabled m stamped (W .size) (length-lePut m 4362 8 v room ∙ W .size) (before 4370 memorySize (λ l. absurd (omega arith))) (withNext (tableIn m) v) W
       (table-is stamped (withNext (tableIn m) v) (rows-34 m)
       (rows-stay m stamped (λ s e l. before s e (λ g. omega arith)))
       (list-is (holdAtPlace stamped) zeroHold (tableIn m .holds) 32 (holds-32 m) hold-stays)

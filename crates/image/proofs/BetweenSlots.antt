@@ -24,9 +24,9 @@ use Rattle.sefs.specs.Nodes.{nodeFile, recAt, idAt, setRec}
 use Rattle.sefs.specs.Slots.{Slot, slotBytes}
 use Rattle.sefs.specs.Folders.{direntRemove}
 use Rattle.sefs.specs.Move.{Replaced, renamed}
-use Rattle.rules.specs.Image.{run, superIn, isNode, recOf}
+use Rattle.rules.specs.Image.{run, storedSuper, isNode, recOf}
 use Rattle.rules.proofs.Files.{node-below}
-use Rattle.image.specs.Midway.{metaIn, Midway}
+use Rattle.image.specs.Midway.{storedMeta, Midway}
 use Rattle.image.proofs.Nodes.{there-meta, used-is, node-some}
 use Rattle.image.proofs.Stores.{node-apart}
 use Rattle.image.proofs.Drops.{super-kept, maps-kept}
@@ -41,7 +41,7 @@ use Rattle.image.proofs.Carries.{Carried, put-bytes, put-sound, put-fro
 use Rattle.image.proofs.Holding.{Seat, Alive, Holding}
 
 -- a node's id is one that a record may have
-pub node-seat : (s : Fs) {own : ℕ → Type 0} → Midway own (s .arena) (s .table) → (x : ℕ) → isNode (s .arena) x ≡ true → Seat (superIn (s .arena) .groups) x
+pub node-seat : (s : Fs) {own : ℕ → Type 0} → Midway own (s .arena) (s .table) → (x : ℕ) → isNode (s .arena) x ≡ true → Seat (storedSuper (s .arena) .groups) x
 node-seat s M x n = record { some = node-some (s .arena) (s .table) (M .fair) x n; off = node-apart (s .arena) x n; below = node-below (s .arena) x n }
 
 -- the counts of slots before
@@ -55,10 +55,10 @@ module _ (s : Fs) (i j : ℕ) (old : Slot) (name : List ℕ) (r : Replaced) (M :
   -- what does not stick: the image in memory and on the arena, whatever the counts
   pub holding-carried : (k l : ℕ) (b : List ℕ) → Carried (s .arena) (recAt s i .file) (recAt s i .blocks - 1) (old .place) (recAt s j .file) (recAt s j .blocks) k l (renamed (old .entry) name) b
       → (B L : ℕ → ℕ) (u : Table) → Counts (owns r) (s .arena) (s .table) B L u → L (old .entry .id) ≢ 0
-      → Holding (owns r) (superIn (s .arena) .groups) (old .entry .id) (recOf (s .arena) (s .table) (old .entry .id) .kind) (record { arena = b; table = u; meta = s .meta })
+      → Holding (owns r) (storedSuper (s .arena) .groups) (old .entry .id) (recOf (s .arena) (s .table) (old .entry .id) .kind) (record { arena = b; table = u; meta = s .meta })
   holding-carried k l b C B L u S n =
       let c : ℕ = old .entry .id in
-      let m : metaIn b ≡ metaIn (s .arena) = λ x. record { super = super-kept (s .arena) b (C .meta) x; maps = maps-kept (s .arena) b (C .meta) x } in
+      let m : storedMeta b ≡ storedMeta (s .arena) = λ x. record { super = super-kept (s .arena) b (C .meta) x; maps = maps-kept (s .arena) b (C .meta) x } in
       let q = recs-kept (s .arena) b u (C .meta) (old .entry .id) in
       record {
         ground = record {
@@ -73,7 +73,7 @@ module _ (s : Fs) (i j : ℕ) (old : Slot) (name : List ℕ) (r : Replaced) (M :
         meta = M .meta ∙ ap done (sym m);
         formed = S .formed;
         fits = S .fits;
-        seats = λ x w. subst (Seat (superIn (s .arena) .groups)) (sym (S .ids x))
+        seats = λ x w. subst (Seat (storedSuper (s .arena) .groups)) (sym (S .ids x))
             (node-seat s (M .mid) (rowAt (s .table) x .id) (M .mid .fair .rule4 .node x (w .below) (λ z. w .node (S .ids x ∙ z))));
         alive = subst (Alive b (recOf (s .arena) (s .table) (old .entry .id) .kind)) (sym q)
             (record {

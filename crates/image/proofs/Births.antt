@@ -16,7 +16,7 @@ use Rattle.base.proofs.Sames.{decided-yes, same-true}
 use Rattle.base.proofs.Searches.{upd-same, upd-other}
 use Rattle.base.proofs.Tests.{decides-same}
 use Rattle.base.specs.declared.Found.the-variants.{At}
-use Rattle.structs.specs.Verdict.{isFolder}
+use Rattle.structs.specs.Types.{isFolder}
 use Rattle.structs.specs.declared.DiskEntry.{DiskEntry}
 use Rattle.structs.specs.declared.DiskINode.{DiskINode}
 use Rattle.structs.specs.declared.SuperBlock.{SuperBlock}
@@ -32,8 +32,8 @@ use Rattle.utf8.specs.Names.{nameOf}
 use Rattle.sefs.specs.State.{Meta}
 use Rattle.sefs.specs.Nodes.{nodeFile}
 use Rattle.sefs.specs.Folders.{entry}
-use Rattle.rules.specs.Image.{superIn, idsIn, isNode, recOf, isOpen, slotIn}
-use Rattle.image.specs.Midway.{Used, Fair, treeOf, metaIn, Midway}
+use Rattle.rules.specs.Image.{storedSuper, idsIn, isNode, recOf, isOpen, slotIn}
+use Rattle.image.specs.Midway.{Used, Fair, treeOf, storedMeta, Midway}
 use Rattle.image.proofs.Images.{Like, root-node, head-there, there-head}
 use Rattle.tree.specs.Tree.{Tree, Tidy}
 use Rattle.tree.proofs.Trees.{folder-is}
@@ -72,7 +72,7 @@ withNode v n c kind blocks long slots = record {
 
 module _ (a b : List ℕ) (t u : Table) (M : Midway none a t) (i : ℕ) (ui : Used t i)
     (dir : isFolder (rowAt t i .rec .kind) ≡ true) (lives : rowAt t i .rec .nlinks ≢ 0)
-    (c : ℕ) (free : freeRow t ≡ At c) (id : ℕ) (m : Meta) (K : Taken (metaIn a) m id)
+    (c : ℕ) (free : freeRow t ≡ At c) (id : ℕ) (m : Meta) (K : Taken (storedMeta a) m id)
     (r s : DiskINode) (R : Rowed a t c i id r s u)
     (name : List ℕ) (N : NewName a (recOf a t (rowAt t i .id)) name)
     (least : 1 ≤ r .kind) (most : r .kind ≤ 4) (two : isFolder (r .kind) ≡ true → r .blocks ≡ 2)
@@ -98,18 +98,18 @@ module _ (a b : List ℕ) (t u : Table) (M : Midway none a t) (i : ℕ) (ui : Us
   unfolding isNode
   node-b k = λ x. ltb k (1024 * B .super x .groups) && (not (eqb k 0) && (not (eqb (k % 1024) 1) && not (bitAt (B .maps x) k)))
 
-  node-a : (k : ℕ) → nodeIn (metaIn a) k ≡ isNode a k
+  node-a : (k : ℕ) → nodeIn (storedMeta a) k ≡ isNode a k
   unfolding isNode
   node-a k = refl
 
   new-node : isNode b id ≡ true
-  new-node = node-b id ∙ taken-is (metaIn a) m id K
+  new-node = node-b id ∙ taken-is (storedMeta a) m id K
 
   no-node : isNode a id ≡ false
-  no-node = sym (node-a id) ∙ taken-new (metaIn a) m id K
+  no-node = sym (node-a id) ∙ taken-new (storedMeta a) m id K
 
   same-node : (k : ℕ) → k ≢ id → isNode b k ≡ isNode a k
-  same-node k n = node-b k ∙ taken-same (metaIn a) m id K k n ∙ node-a k
+  same-node k n = node-b k ∙ taken-same (storedMeta a) m id K k n ∙ node-a k
 
   other : (k : ℕ) → isNode a k ≡ true → k ≢ id
   other k n q = true-false (ap (isNode a) (sym q) ∙ n) no-node
@@ -172,7 +172,7 @@ module _ (a b : List ℕ) (t u : Table) (M : Midway none a t) (i : ℕ) (ui : Us
   w-slot : (k : ℕ) → w .slot id k ≡ slotIn b r k
   w-slot k = ap (λ (f : ℕ → DiskEntry). f k) (upd-same (v .slot) id (slotIn b r))
 
-  groups : superIn b .groups ≡ m .super .groups
+  groups : storedSuper b .groups ≡ m .super .groups
   groups = ap (λ (x : SuperBlock). x .groups) (B .super)
 
   born : Born v w id

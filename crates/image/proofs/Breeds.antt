@@ -16,7 +16,7 @@ use Rattle.base.specs.declared.Found.the-variants.{At}
 use Rattle.le.specs.Le.{Bytes}
 use Rattle.structs.specs.Fits.{EntryFits}
 use Rattle.structs.specs.Layout.{entryBytes}
-use Rattle.structs.specs.Verdict.{isFolder}
+use Rattle.structs.specs.Types.{isFolder}
 use Rattle.structs.specs.declared.DiskEntry.{DiskEntry}
 use Rattle.structs.specs.declared.DiskINode.{DiskINode}
 use Rattle.arena.specs.Fields.{file}

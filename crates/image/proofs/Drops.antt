@@ -43,9 +43,9 @@ use Rattle.files_laws.proofs.Bounds.{named-meta, legal-same}
 use Rattle.sefs.specs.State.{Fs, Meta, withArena, withMeta}
 use Rattle.sefs.specs.Meta.{metaFile, mapAt, freeBlock}
 use Rattle.sefs.specs.Nodes.{nodeFile, recAt, idAt, noRow, freeNode, dropNode, release}
-use Rattle.rules.specs.Image.{run, superIn, mapsTo, mapsIn, idsIn, isNode, storedBytes, recBy, recOf, isOpen}
+use Rattle.rules.specs.Image.{run, storedSuper, mapsTo, storedMaps, idsIn, isNode, storedBytes, recBy, recOf, isOpen}
 use Rattle.rules.proofs.Files.{node-below}
-use Rattle.image.specs.Midway.{Used, metaIn, Midway}
+use Rattle.image.specs.Midway.{Used, storedMeta, Midway}
 use Rattle.image.proofs.Slots.{run-bytes}
 use Rattle.image.proofs.Images.{like-same, alike-same, image-fair}
 use Rattle.image.proofs.Records.{fits-row}
@@ -62,8 +62,8 @@ module _ (a b : List ℕ) (K : Kept a b metaFile) where
   run-kept : (pos n : ℕ) → run b metaFile pos n ≡ run a metaFile pos n
   run-kept pos n = tab-cong (byteAt b metaFile) (byteAt a metaFile) pos pos n (λ i l. K .byte (pos + i))
 
-  pub super-kept : superIn b ≡ superIn a
-  unfolding superIn
+  pub super-kept : storedSuper b ≡ storedSuper a
+  unfolding storedSuper
   super-kept = ap superOf (run-kept 0 16)
 
   mapsTo-kept : (n : ℕ) → mapsTo b n ≡ mapsTo a n
@@ -71,9 +71,9 @@ module _ (a b : List ℕ) (K : Kept a b metaFile) where
   mapsTo-kept zero = refl
   mapsTo-kept (suc n) = λ x. mapsTo-kept n x ++ run-kept (mapAt n) 128 x
 
-  pub maps-kept : mapsIn b ≡ mapsIn a
-  unfolding mapsIn
-  maps-kept = ap (λ (x : SuperBlock). mapsTo b (x .groups)) super-kept ∙ mapsTo-kept (superIn a .groups)
+  pub maps-kept : storedMaps b ≡ storedMaps a
+  unfolding storedMaps
+  maps-kept = ap (λ (x : SuperBlock). mapsTo b (x .groups)) super-kept ∙ mapsTo-kept (storedSuper a .groups)
 
   pub stored-kept : (id : ℕ) → storedBytes b id ≡ storedBytes a id
   unfolding storedBytes
@@ -109,21 +109,21 @@ unfolding recOf
 mid-rec a t O i u = ap (recBy a t (rowAt t i .id)) (row-is t O i (u .below) (u .node))
 
 -- superblock and maps can be stored when an id is freed
-module _ (a : List ℕ) (y : Bytes a) (some : 1 ≤ superIn a .groups) (end : lengthOf a metaFile ≡ 131072 * superIn a .groups)
-    (spare : superIn a .unused + 1 < 4294967296) (id : ℕ) (below : id < idsIn a) where
-  pub freed-inside : id / 8 < length (mapsIn a)
-  unfolding mapsIn
-  freed-inside = omega (arith, length-mapsTo a (superIn a .groups))
+module _ (a : List ℕ) (y : Bytes a) (some : 1 ≤ storedSuper a .groups) (end : lengthOf a metaFile ≡ 131072 * storedSuper a .groups)
+    (spare : storedSuper a .unused + 1 < 4294967296) (id : ℕ) (below : id < idsIn a) where
+  pub freed-inside : id / 8 < length (storedMaps a)
+  unfolding storedMaps
+  freed-inside = omega (arith, length-mapsTo a (storedSuper a .groups))
 
-  pub freed-fits : MetaFits a (record { super = oneMore (superIn a); maps = withBit (mapsIn a) id true })
-  unfolding superIn mapsIn
+  pub freed-fits : MetaFits a (record { super = oneMore (storedSuper a); maps = withBit (storedMaps a) id true })
+  unfolding storedSuper storedMaps
   freed-fits =
       let F = superOf-fits (run a metaFile 0 16) (run-bytes a metaFile 0 16 y) in
       record {
         fits = record { magic = F .magic; blocks = F .blocks; unused = spare; groups = F .groups };
         some = some;
-        bytes = withBit-bytes (mapsIn a) id true freed-inside (bytes-mapsTo a y (superIn a .groups));
-        long = length-withBit (mapsIn a) id true freed-inside ∙ length-mapsTo a (superIn a .groups);
+        bytes = withBit-bytes (storedMaps a) id true freed-inside (bytes-mapsTo a y (storedSuper a .groups));
+        long = length-withBit (storedMaps a) id true freed-inside ∙ length-mapsTo a (storedSuper a .groups);
         end = end;
       }
 
@@ -224,14 +224,14 @@ module _ {own : ℕ → Type 0} (a : List ℕ) (t : Table) (i : ℕ) (M : Midway
   -- ---- at links 0 the node is freed
 
   abbrev left : Meta
-  left = record { super = oneMore (superIn a); maps = withBit (mapsIn a) id true }
+  left = record { super = oneMore (storedSuper a); maps = withBit (storedMaps a) id true }
 
   module _ (nil : rowAt t i .rec .nlinks ≡ 0) where
     none-links : recOf a t id .nlinks ≡ 0
     none-links = ap (λ (r : DiskINode). r .nlinks) rec-is ∙ nil
 
-    few-unused : superIn a .unused + 1 < 4294967296
-    few-unused = omega (arith, M .fair .rule3 .unused, setBits-le (mapsIn a) (idsIn a), M .fair .rule3 .few)
+    few-unused : storedSuper a .unused + 1 < 4294967296
+    few-unused = omega (arith, M .fair .rule3 .unused, setBits-le (storedMaps a) (idsIn a), M .fair .rule3 .few)
 
     left-fits : MetaFits a left
     left-fits = freed-fits a (M .bytes) (M .fair .rule3 .some) (M .fair .rule3 .length) few-unused id (node-below a id n)
@@ -270,14 +270,14 @@ module _ {own : ℕ → Type 0} (a : List ℕ) (t : Table) (i : ℕ) (M : Midway
 -- ---- the steps
 
 -- the id is freed in memory
-free-block-is : {own : ℕ → Type 0} (s : Fs) (i : ℕ) (M : Midway (also own i) (s .arena) (s .table)) → Used (s .table) i → s .meta ≡ done (metaIn (s .arena))
-    → freeBlock s (idAt s i) ≡ done (withMeta s (record { super = oneMore (superIn (s .arena)); maps = withBit (mapsIn (s .arena)) (rowAt (s .table) i .id) true }))
+free-block-is : {own : ℕ → Type 0} (s : Fs) (i : ℕ) (M : Midway (also own i) (s .arena) (s .table)) → Used (s .table) i → s .meta ≡ done (storedMeta (s .arena))
+    → freeBlock s (idAt s i) ≡ done (withMeta s (record { super = oneMore (storedSuper (s .arena)); maps = withBit (storedMaps (s .arena)) (rowAt (s .table) i .id) true }))
 unfolding freeBlock
 free-block-is s i M u e =
     rw (
       e,
       used-is (s .arena) (s .table) (M .fair) (rowAt (s .table) i .id) (M .fair .rule4 .node i (u .below) (u .node)),
-      lt-ltb (superIn (s .arena) .unused + 1) 4294967296 (omega (arith, M .fair .rule3 .unused, setBits-le (mapsIn (s .arena)) (idsIn (s .arena)), M .fair .rule3 .few)),
+      lt-ltb (storedSuper (s .arena) .unused + 1) 4294967296 (omega (arith, M .fair .rule3 .unused, setBits-le (storedMaps (s .arena)) (idsIn (s .arena)), M .fair .rule3 .few)),
     )
 
 pub drop-file : (b : List ℕ) (f : File) → there b f ≡ true → Ok (Drop b f) (λ r. r ≡ 17) (dropFile b f)
@@ -287,7 +287,7 @@ drop-file b f e = ok-weaken (λ c D. D) (λ r q. why q) (drops.drop-law b f)
     why (laws.missing q) = absurd (true-false e q)
 
 free-law : {own : ℕ → Type 0} (s : Fs) (i : ℕ) → Midway (also own i) (s .arena) (s .table) → Used (s .table) i → rowAt (s .table) i .dirty ≡ false → Unheld (s .table) i
-    → rowAt (s .table) i .rec .nlinks ≡ 0 → s .meta ≡ done (metaIn (s .arena))
+    → rowAt (s .table) i .rec .nlinks ≡ 0 → s .meta ≡ done (storedMeta (s .arena))
     → Ok (λ (d : Fs). Midway own (d .arena) (freeRowAt (d .table) i) × (d .table ≡ s .table)) (λ r. r ≡ 17) (freeNode s i)
 unfolding freeNode
 free-law {own = own} s i M u clean unheld nil e =
@@ -296,10 +296,10 @@ free-law {own = own} s i M u clean unheld nil e =
     ends d (h .0) (h .2))
   where
     m : Meta
-    m = record { super = oneMore (superIn (s .arena)); maps = withBit (mapsIn (s .arena)) (rowAt (s .table) i .id) true }
+    m = record { super = oneMore (storedSuper (s .arena)); maps = withBit (storedMaps (s .arena)) (rowAt (s .table) i .id) true }
 
     x : Fs
-    x = withMeta s (record { super = oneMore (superIn (s .arena)); maps = withBit (mapsIn (s .arena)) (rowAt (s .table) i .id) true })
+    x = withMeta s (record { super = oneMore (storedSuper (s .arena)); maps = withBit (storedMaps (s .arena)) (rowAt (s .table) i .id) true })
 
     n : isNode (s .arena) (rowAt (s .table) i .id) ≡ true
     n = M .fair .rule4 .node i (u .below) (u .node)
@@ -307,7 +307,7 @@ free-law {own = own} s i M u clean unheld nil e =
     is-there : there (s .arena) (nodeFile (rowAt (s .table) i .rec)) ≡ true
     is-there = ap (λ (r : DiskINode). there (s .arena) (nodeFile r)) (sym (mid-rec (s .arena) (s .table) (M .formed) i u)) ∙ M .fair .rule5 .own (rowAt (s .table) i .id) n
 
-    ends : (d : Fs) → d .table ≡ s .table → MetaPut (s .arena) (record { super = oneMore (superIn (s .arena)); maps = withBit (mapsIn (s .arena)) (rowAt (s .table) i .id) true }) (d .arena)
+    ends : (d : Fs) → d .table ≡ s .table → MetaPut (s .arena) (record { super = oneMore (storedSuper (s .arena)); maps = withBit (storedMaps (s .arena)) (rowAt (s .table) i .id) true }) (d .arena)
         → Ok (λ (d : Fs). Midway own (d .arena) (freeRowAt (d .table) i) × (d .table ≡ s .table)) (λ r. r ≡ 17) (bind (dropFile (d .arena) (nodeFile (recAt d i))) (λ c. done (withArena d c)))
     ends d q P =
         let r : rowAt (d .table) i .rec ≡ rowAt (s .table) i .rec = ap (λ (y : Table). rowAt y i .rec) q in
@@ -324,7 +324,7 @@ pub record Dropped (own : ℕ → Type 0) (s : Fs) (i : ℕ) (d : Fs) : Type 0 w
   pub ids : (j : ℕ) → (j ≡ i → ⊥) → rowAt (d .table) j .id ≡ rowAt (s .table) j .id
 
 -- 000's Drop of a node that nobody holds
-pub drop-law : {own : ℕ → Type 0} (s : Fs) (i : ℕ) → Midway (also own i) (s .arena) (s .table) → Used (s .table) i → Unheld (s .table) i → s .meta ≡ done (metaIn (s .arena))
+pub drop-law : {own : ℕ → Type 0} (s : Fs) (i : ℕ) → Midway (also own i) (s .arena) (s .table) → Used (s .table) i → Unheld (s .table) i → s .meta ≡ done (storedMeta (s .arena))
     → Ok (Dropped own s i) (λ r. r ≡ 17) (dropNode s i)
 unfolding dropNode
 drop-law {own = own} s i M u unheld e =
@@ -338,7 +338,7 @@ drop-law {own = own} s i M u unheld e =
     still : (d : Fs) → Synced (also own i) s i d → Unheld (d .table) i
     still d S = subst (λ (h : List Hold). (n : ℕ) → n < 32 → (getD h n zeroHold .stamp ≡ 0 → ⊥) → getD h n zeroHold .row ≡ i → ⊥) (sym (S .holds)) unheld
 
-    meta : (d : Fs) → Synced (also own i) s i d → d .meta ≡ done (metaIn (d .arena))
+    meta : (d : Fs) → Synced (also own i) s i d → d .meta ≡ done (storedMeta (d .arena))
     meta d S = S .meta ∙ e ∙ λ x. done (record { super = sym (S .super) x; maps = sym (S .maps) x })
 
     links : (d : Fs) → Synced (also own i) s i d → (b : Bool) → eqb (recAt d i .nlinks) 0 ≡ b
@@ -347,7 +347,7 @@ drop-law {own = own} s i M u unheld e =
     links d S false q = went (row-dropped (d .arena) (d .table) i (S .mid) (used d S) (S .clean) (still d S) (eqb-false (recAt d i .nlinks) 0 q), refl)
 
 -- a call's own opening ends
-pub release-law : {own : ℕ → Type 0} (s : Fs) (i : ℕ) → Midway (also own i) (s .arena) (s .table) → Used (s .table) i → s .meta ≡ done (metaIn (s .arena))
+pub release-law : {own : ℕ → Type 0} (s : Fs) (i : ℕ) → Midway (also own i) (s .arena) (s .table) → Used (s .table) i → s .meta ≡ done (storedMeta (s .arena))
     → Ok (Dropped own s i) (λ r. r ≡ 17) (release s i)
 unfolding release
 release-law {own = own} s i M u e = go (rowUsed (s .table) i) refl

@@ -16,7 +16,7 @@ use Rattle.base.proofs.Lists.{tab-cong}
 use Rattle.base.specs.Count.{bit, sumTo, countTo}
 use Rattle.base.specs.Search.{pick}
 use Rattle.structs.specs.Layout.{entryOf, recordBytes}
-use Rattle.structs.specs.Verdict.{isFolder}
+use Rattle.structs.specs.Types.{isFolder}
 use Rattle.structs.specs.declared.DiskINode.{DiskINode}
 use Rattle.structs.specs.declared.DiskEntry.{DiskEntry}
 use Rattle.structs.specs.declared.SuperBlock.{SuperBlock}
@@ -30,7 +30,7 @@ use Rattle.sefs.specs.Meta.{metaFile, superWith}
 use Rattle.sefs.specs.Nodes.{nodeFile}
 use Rattle.table.specs.declared.Table.{Table}
 use Rattle.table.specs.Table.{rowAt}
-use Rattle.rules.specs.Image.{superIn, mapsIn, idsIn, isNode, storedBytes, recOf, isOpen, isFolderAt, slotIn, laterSlot, laterSlots, namesIn, named, subfolders, parentOf, climb}
+use Rattle.rules.specs.Image.{storedSuper, storedMaps, idsIn, isNode, storedBytes, recOf, isOpen, isFolderAt, slotIn, laterSlot, laterSlots, namesIn, named, subfolders, parentOf, climb}
 use Rattle.rules.specs.Rules.{Rule1, Rule3, Rule5, Later, Folder, Rule6, Linked, Removed, Rule7, Rule8}
 use Rattle.rules.proofs.Files.{node-below}
 use Rattle.rules.proofs.Folders.{folder-node, folder-below}
@@ -46,20 +46,20 @@ abbrev pub oneMore : SuperBlock → SuperBlock
 oneMore b = superWith b (b .blocks) (b .unused + 1) (b .groups)
 
 -- a node's bit is clear
-pub node-clear : (a : List ℕ) (id : ℕ) → isNode a id ≡ true → bitAt (mapsIn a) id ≡ false
+pub node-clear : (a : List ℕ) (id : ℕ) → isNode a id ≡ true → bitAt (storedMaps a) id ≡ false
 unfolding isNode
 node-clear a id n =
-    let x = and-parts (ltb id (idsIn a)) (not (eqb id 0) && (not (eqb (id % 1024) 1) && not (bitAt (mapsIn a) id))) n in
-    let y = and-parts (not (eqb id 0)) (not (eqb (id % 1024) 1) && not (bitAt (mapsIn a) id)) (x .1) in
-    let z = and-parts (not (eqb (id % 1024) 1)) (not (bitAt (mapsIn a) id)) (y .1) in
-    not-true (bitAt (mapsIn a) id) (z .1)
+    let x = and-parts (ltb id (idsIn a)) (not (eqb id 0) && (not (eqb (id % 1024) 1) && not (bitAt (storedMaps a) id))) n in
+    let y = and-parts (not (eqb id 0)) (not (eqb (id % 1024) 1) && not (bitAt (storedMaps a) id)) (x .1) in
+    let z = and-parts (not (eqb (id % 1024) 1)) (not (bitAt (storedMaps a) id)) (y .1) in
+    not-true (bitAt (storedMaps a) id) (z .1)
 
 -- a map's own id is no node
 pub map-no-node : (a : List ℕ) (g : ℕ) → isNode a (1024 * g + 1) ≡ false
 unfolding isNode
 map-no-node a g =
     let e : (1024 * g + 1) % 1024 ≡ 1 = omega arith in
-    ap (λ (c : Bool). ltb (1024 * g + 1) (idsIn a) && (not (eqb (1024 * g + 1) 0) && (not c && not (bitAt (mapsIn a) (1024 * g + 1))))) (eq-eqb ((1024 * g + 1) % 1024) 1 e)
+    ap (λ (c : Bool). ltb (1024 * g + 1) (idsIn a) && (not (eqb (1024 * g + 1) 0) && (not c && not (bitAt (storedMaps a) (1024 * g + 1))))) (eq-eqb ((1024 * g + 1) % 1024) 1 e)
     ∙ ap (λ (c : Bool). ltb (1024 * g + 1) (idsIn a) && c) (and-false (not (eqb (1024 * g + 1) 0)))
     ∙ and-false (ltb (1024 * g + 1) (idsIn a))
 
@@ -76,24 +76,24 @@ slot-counts a t d k id f l m e =
     omega (arith, r, g, c)
 
 module _ (a b : List ℕ) (t w : Table) (A : Fair a t) (id : ℕ) (n : isNode a id ≡ true) (none : recOf a t id .nlinks ≡ 0)
-    (super : superIn b ≡ oneMore (superIn a))
-    (maps : mapsIn b ≡ withBit (mapsIn a) id true)
+    (super : storedSuper b ≡ oneMore (storedSuper a))
+    (maps : storedMaps b ≡ withBit (storedMaps a) id true)
     (end : lengthOf b metaFile ≡ lengthOf a metaFile)
     (gone : there b (nodeFile (recOf a t id)) ≡ false)
     (files : (f : List ℕ) → f ≢ recOf a t id .file → Kept a b (file 1 f))
     (recs : (k : ℕ) → isNode a k ≡ true → k ≢ id → recOf b w k ≡ recOf a t k) where
-  groups : superIn b .groups ≡ superIn a .groups
+  groups : storedSuper b .groups ≡ storedSuper a .groups
   groups = ap (λ (x : SuperBlock). x .groups) super
 
-  inside : id / 8 < length (mapsIn a)
-  unfolding mapsIn
-  inside = omega (arith, length-mapsTo a (superIn a .groups), node-below a id n)
+  inside : id / 8 < length (storedMaps a)
+  unfolding storedMaps
+  inside = omega (arith, length-mapsTo a (storedSuper a .groups), node-below a id n)
 
-  bit-other : (k : ℕ) → k ≢ id → bitAt (mapsIn b) k ≡ bitAt (mapsIn a) k
-  bit-other k d = ap (λ (m : List ℕ). bitAt m k) maps ∙ bitAt-withBit-other (mapsIn a) id true inside k d
+  bit-other : (k : ℕ) → k ≢ id → bitAt (storedMaps b) k ≡ bitAt (storedMaps a) k
+  bit-other k d = ap (λ (m : List ℕ). bitAt m k) maps ∙ bitAt-withBit-other (storedMaps a) id true inside k d
 
-  bit-own : bitAt (mapsIn b) id ≡ true
-  bit-own = ap (λ (m : List ℕ). bitAt m id) maps ∙ bitAt-withBit-same (mapsIn a) id true inside
+  bit-own : bitAt (storedMaps b) id ≡ true
+  bit-own = ap (λ (m : List ℕ). bitAt m id) maps ∙ bitAt-withBit-same (storedMaps a) id true inside
 
   node-same : (k : ℕ) → k ≢ id → isNode b k ≡ isNode a k
   unfolding isNode
@@ -219,8 +219,8 @@ module _ (a b : List ℕ) (t w : Table) (A : Fair a t) (id : ℕ) (n : isNode a 
     unused = ap (λ (x : SuperBlock). x .unused) super ∙ more ∙ λ i. setBits (sym maps i) (1024 * sym groups i);
   }
     where
-      more : superIn a .unused + 1 ≡ setBits (withBit (mapsIn a) id true) (idsIn a)
-      more = omega (arith, A .rule3 .unused, setBits-withBit (mapsIn a) id true inside (idsIn a) (node-below a id n), ap bit (node-clear a id n))
+      more : storedSuper a .unused + 1 ≡ setBits (withBit (storedMaps a) id true) (idsIn a)
+      more = omega (arith, A .rule3 .unused, setBits-withBit (storedMaps a) id true inside (idsIn a) (node-below a id n), ap bit (node-clear a id n))
 
   -- node 2 is another: it has links
   root-lives : Living a t 2

@@ -16,7 +16,7 @@ use Rattle.base.proofs.Counts.{sumTo-cong, sumTo-zero}
 use Rattle.structs.specs.Fits.{TimeFits, RecordFits}
 use Rattle.structs.specs.Layout.{superOf, recordOf}
 use Rattle.structs.proofs.Layouts.{superOf-superBytes, recordOf-recordBytes}
-use Rattle.structs.specs.Verdict.{isFolder}
+use Rattle.structs.specs.Types.{isFolder}
 use Rattle.structs.specs.declared.DiskEntry.{DiskEntry}
 use Rattle.structs.specs.declared.DiskINode.{DiskINode}
 use Rattle.structs.specs.declared.SuperBlock.{SuperBlock}
@@ -34,7 +34,7 @@ use Rattle.files_laws.specs.Laws.{Named}
 use Rattle.files_laws.proofs.Bounds.{named-meta}
 use Rattle.files_laws.proofs.Parts.{file-cases}
 use Rattle.sefs.specs.Nodes.{nodeFile}
-use Rattle.rules.specs.Image.{superIn, mapsTo, mapsIn, idsIn, isNode, storedBytes, recBy, recOf, isFolderAt, slotIn, namesIn, named, subfolders, parentOf, climb}
+use Rattle.rules.specs.Image.{storedSuper, mapsTo, storedMaps, idsIn, isNode, storedBytes, recBy, recOf, isFolderAt, slotIn, namesIn, named, subfolders, parentOf, climb}
 use Rattle.rules.specs.Rules.{Rule3, Rule4, Rule5, Folder, Linked, Removed, Rule7, Rule8}
 use Rattle.rules.proofs.Files.{node-below}
 use Rattle.rules.proofs.Folders.{folder-node}
@@ -74,18 +74,18 @@ module _ (n : ℕ) (time : Timespec) (name b : List ℕ) (fine : legal b ≡ tru
     macBytes = named-meta .bytes;
   }
 
-  super-is : superIn b ≡ rootSuper
-  unfolding superIn
+  super-is : storedSuper b ≡ rootSuper
+  unfolding storedSuper
   super-is = ap superOf (M .super) ∙ superOf-superBytes rootSuper (record { magic = omega arith; blocks = omega arith; unused = omega arith; groups = omega arith })
 
-  groups-is : superIn b .groups ≡ 1
+  groups-is : storedSuper b .groups ≡ 1
   groups-is = ap (λ (x : SuperBlock). x .groups) super-is
 
-  maps-is : mapsIn b ≡ rootMap
-  unfolding mapsIn mapsTo
+  maps-is : storedMaps b ≡ rootMap
+  unfolding storedMaps mapsTo
   maps-is = ap (λ (x : SuperBlock). mapsTo b (x .groups)) super-is ∙ M .maps
 
-  bit-is : (i : ℕ) → bitAt (mapsIn b) i ≡ bitAt rootMap i
+  bit-is : (i : ℕ) → bitAt (storedMaps b) i ≡ bitAt rootMap i
   bit-is i = ap (λ (m : List ℕ). bitAt m i) maps-is
 
   no-row : rowOf t 2 ≡ Nothing

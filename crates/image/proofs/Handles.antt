@@ -10,7 +10,7 @@ use Rattle.base.proofs.Tests.{decides-leb}
 use Rattle.base.proofs.Sames.{decided-yes}
 use Rattle.base.specs.declared.Found.{Found}
 use Rattle.base.specs.declared.Found.the-variants.{At, Nothing}
-use Rattle.structs.specs.Verdict.{isFolder, isType}
+use Rattle.structs.specs.Types.{isFolder, isType}
 use Rattle.structs.specs.declared.DiskINode.{DiskINode}
 use Rattle.table.specs.declared.Table.{Table}
 use Rattle.table.specs.declared.Handle.{Handle}

@@ -9,7 +9,7 @@ use Rattle.base.specs.Out.{Ok}
 use Rattle.base.proofs.Outs.{ok-weaken}
 use Rattle.base.proofs.Bools.{true-T}
 use Rattle.le.specs.Le.{Bytes}
-use Rattle.structs.specs.Verdict.{isFolder}
+use Rattle.structs.specs.Types.{isFolder}
 use Rattle.structs.specs.declared.DiskINode.{DiskINode}
 use Rattle.utf8.specs.Names.{nameOf, isNamed, isSpecial}
 use Rattle.utf8.proofs.Names.{named-decides, not-special, asked-own}

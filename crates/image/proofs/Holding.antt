@@ -36,8 +36,8 @@ use Rattle.files_laws.specs.Laws.{Put}
 use Rattle.sefs.specs.State.{Fs, Meta, withArena, withTable}
 use Rattle.sefs.specs.Meta.{metaFile, isUsed}
 use Rattle.sefs.specs.Nodes.{nodeFile, recAt, idAt, setRec, storeRow, syncRow}
-use Rattle.rules.specs.Image.{superIn, storedBytes, recBy, recOf}
-use Rattle.image.specs.Midway.{Used, metaIn}
+use Rattle.rules.specs.Image.{storedSuper, storedBytes, recBy, recOf}
+use Rattle.image.specs.Midway.{Used, storedMeta}
 use Rattle.image.proofs.Records.{fits-row}
 use Rattle.image.proofs.Metas.{kept-same, Within, within-put, within-then}
 use Rattle.image.proofs.Stores.{put-super, put-maps, put-records}
@@ -56,9 +56,9 @@ pub record Ground (g c : ℕ) (a : List ℕ) : Type 0 where
   pub sound : sound a ≡ true
   pub exists : there a metaFile ≡ true
   pub long : lengthOf a metaFile ≡ 131072 * g
-  pub groups : superIn a .groups ≡ g
+  pub groups : storedSuper a .groups ≡ g
   pub few : g ≤ 4
-  pub known : isUsed (metaIn a) c ≡ true
+  pub known : isUsed (storedMeta a) c ≡ true
 
 -- a record of that type with links and a file
 pub record Alive (a : List ℕ) (kd : ℕ) (r : DiskINode) : Type 0 where
@@ -68,7 +68,7 @@ pub record Alive (a : List ℕ) (kd : ℕ) (r : DiskINode) : Type 0 where
 
 pub record Holding (own : ℕ → Type 0) (g c kd : ℕ) (s : Fs) : Type 0 where
   pub ground : Ground g c (s .arena)
-  pub meta : s .meta ≡ done (metaIn (s .arena))
+  pub meta : s .meta ≡ done (storedMeta (s .arena))
   pub formed : Formed own (s .table)
   pub fits : TableFits (s .table)
   pub seats : (i : ℕ) → Used (s .table) i → Seat g (rowAt (s .table) i .id)
@@ -112,7 +112,7 @@ module _ {own more : ℕ → Type 0} (g c kd : ℕ) (s : Fs) (H : Holding own g 
           (λ d. subst (Alive b kd) (ap (recBy (s .arena) t c) e) (alive-in (s .arena) b kd (recOf (s .arena) t c) stays (H .alive)))
       go Nothing e = subst (Alive b kd) (ap (recBy (s .arena) t c) e ∙ sym (ap recordOf (stored e))) (alive-in (s .arena) b kd (recOf (s .arena) t c) stays (H .alive))
 
-  pub holding-row : Holding more g c kd (record { arena = b; table = withRow (s .table) i r; meta = done (metaIn b) })
+  pub holding-row : Holding more g c kd (record { arena = b; table = withRow (s .table) i r; meta = done (storedMeta b) })
   holding-row = record {
     ground = ground;
     meta = refl;
@@ -128,7 +128,7 @@ module _ {own : ℕ → Type 0} (g c kd : ℕ) (s : Fs) (H : Holding own g c kd 
   holding-own e = subst (Alive (s .arena) kd) (ap (recOf (s .arena) (s .table)) (sym e) ∙ mid-rec (s .arena) (s .table) (H .formed) i used) (H .alive)
 
   -- a state by its parts
-  with-meta : {more : ℕ → Type 0} (b : List ℕ) (t : Table) → metaIn b ≡ metaIn (s .arena) → Holding more g c kd (record { arena = b; table = t; meta = done (metaIn b) })
+  with-meta : {more : ℕ → Type 0} (b : List ℕ) (t : Table) → storedMeta b ≡ storedMeta (s .arena) → Holding more g c kd (record { arena = b; table = t; meta = done (storedMeta b) })
       → Holding more g c kd (record { arena = b; table = t; meta = s .meta })
   with-meta b t e X = record { ground = X .ground; meta = H .meta ∙ ap done (sym e); formed = X .formed; fits = X .fits; seats = X .seats; alive = X .alive }
 
@@ -153,7 +153,7 @@ pub record Rested (own : ℕ → Type 0) (g c kd : ℕ) (s : Fs) (d : Fs) : Type
   pub recs : (j : ℕ) → rowAt (d .table) j .rec ≡ rowAt (s .table) j .rec
   pub rec : recOf (d .arena) (d .table) c ≡ recOf (s .arena) (s .table) c
   pub holds : d .table .holds ≡ s .table .holds
-  pub same : metaIn (d .arena) ≡ metaIn (s .arena)
+  pub same : storedMeta (d .arena) ≡ storedMeta (s .arena)
   pub files : (f : List ℕ) → there (d .arena) (file 1 f) ≡ there (s .arena) (file 1 f)
 
 pub ground-within : (g c : ℕ) (a : List ℕ) → Ground g c a → Within a a
@@ -185,10 +185,10 @@ module _ {own : ℕ → Type 0} (g c kd : ℕ) (s : Fs) (H : Holding own g c kd 
     W : Within (s .arena) b
     W = within-then (s .arena) (s .arena) (ground-within g c (s .arena) (H .ground)) (128 * id) src src-bytes end b P
 
-    super : superIn b ≡ superIn (s .arena)
+    super : storedSuper b ≡ storedSuper (s .arena)
     super = put-super (s .arena) id (Z .some) (Z .off) src long b P
 
-    same : metaIn b ≡ metaIn (s .arena)
+    same : storedMeta b ≡ storedMeta (s .arena)
     same = λ x. record { super = super x; maps = put-maps (s .arena) id (Z .some) (Z .off) src long b P x }
 
     ground : Ground g c b

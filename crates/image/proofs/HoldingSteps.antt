@@ -41,8 +41,8 @@ use Rattle.files_laws.specs.Laws.{Kept, Drop}
 use Rattle.sefs.specs.State.{Fs, Meta, withArena, withTable, withMeta}
 use Rattle.sefs.specs.Meta.{metaFile, isUsed, freeBlock}
 use Rattle.sefs.specs.Nodes.{nodeFile, recAt, idAt, Opened, opened, loadNode, getNode, freeNode, dropNode, release}
-use Rattle.rules.specs.Image.{superIn, mapsIn, storedBytes, recBy, recOf}
-use Rattle.image.specs.Midway.{Used, metaIn}
+use Rattle.rules.specs.Image.{storedSuper, storedMaps, storedBytes, recBy, recOf}
+use Rattle.image.specs.Midway.{Used, storedMeta}
 use Rattle.image.proofs.Slots.{run-bytes}
 use Rattle.image.proofs.Records.{fits-row}
 use Rattle.image.proofs.Metas.{node-other, MetaPut, sync-meta-law}
@@ -57,8 +57,8 @@ use Rattle.image.proofs.Holding.{Seat, Ground, Alive, Holding, alive-in
 pub record Another (g c : ℕ) (s : Fs) (d : ℕ) : Type 0 where
   pub used : Used (s .table) d
   pub apart : idAt s d ≢ c
-  pub known : isUsed (metaIn (s .arena)) (idAt s d) ≡ true
-  pub spare : superIn (s .arena) .unused + 1 < 4294967296
+  pub known : isUsed (storedMeta (s .arena)) (idAt s d) ≡ true
+  pub spare : storedSuper (s .arena) .unused + 1 < 4294967296
   pub file : there (s .arena) (nodeFile (recAt s d)) ≡ true
   pub other : recOf (s .arena) (s .table) c .file ≢ recAt s d .file
 
@@ -70,24 +70,24 @@ module _ {own : ℕ → Type 0} (g c kd : ℕ) (some : 1 ≤ g) (Z : Seat g c) (
   id = idAt s d
 
   abbrev left : Meta
-  left = record { super = oneMore (superIn (s .arena)); maps = withBit (mapsIn (s .arena)) (idAt s d) true }
+  left = record { super = oneMore (storedSuper (s .arena)); maps = withBit (storedMaps (s .arena)) (idAt s d) true }
 
   G : Ground g c a
   G = H .ground
 
-  below : id < 1024 * superIn a .groups
+  below : id < 1024 * storedSuper a .groups
   below = omega (arith, H .seats d (D .used) .below, G .groups)
 
-  end : lengthOf a metaFile ≡ 131072 * superIn a .groups
+  end : lengthOf a metaFile ≡ 131072 * storedSuper a .groups
   end = omega (arith, G .long, G .groups)
 
-  one : 1 ≤ superIn a .groups
+  one : 1 ≤ storedSuper a .groups
   one = omega (arith, G .groups)
 
   still-known : isUsed left c ≡ true
   unfolding isUsed
   still-known =
-      (λ x. not (eqb c 0) && (ltb c (1024 * superIn a .groups) && not (bitAt-withBit-other (mapsIn a) id true (freed-inside a (G .bytes) one end (D .spare) id below) c (λ z. D .apart (sym z)) x)))
+      (λ x. not (eqb c 0) && (ltb c (1024 * storedSuper a .groups) && not (bitAt-withBit-other (storedMaps a) id true (freed-inside a (G .bytes) one end (D .spare) id below) c (λ z. D .apart (sym z)) x)))
       ∙ G .known
 
   -- b has superblock and maps, e has the file no more
@@ -95,7 +95,7 @@ module _ {own : ℕ → Type 0} (g c kd : ℕ) (some : 1 ≤ g) (Z : Seat g c) (
     K : Kept b e metaFile
     K = R .others metaFile (λ q. node-other (recAt s d .file) (sym q))
 
-    metas : metaIn e ≡ left
+    metas : storedMeta e ≡ left
     metas = λ x. record { super = (super-kept b e K ∙ P .super) x; maps = (maps-kept b e K ∙ P .maps) x }
 
     stored : storedBytes e c ≡ storedBytes a c
@@ -132,9 +132,9 @@ module _ {own : ℕ → Type 0} (g c kd : ℕ) (some : 1 ≤ g) (Z : Seat g c) (
       alive = subst (Alive e kd) (sym same-rec) (alive-in a e kd (recOf a (s .table) c) file-still (H .alive));
     }
 
-  free-is : freeBlock s (idAt s d) ≡ done (withMeta s (record { super = oneMore (superIn (s .arena)); maps = withBit (mapsIn (s .arena)) (idAt s d) true }))
+  free-is : freeBlock s (idAt s d) ≡ done (withMeta s (record { super = oneMore (storedSuper (s .arena)); maps = withBit (storedMaps (s .arena)) (idAt s d) true }))
   unfolding freeBlock
-  free-is = rw (H .meta, D .known, lt-ltb (superIn (s .arena) .unused + 1) 4294967296 (D .spare))
+  free-is = rw (H .meta, D .known, lt-ltb (storedSuper (s .arena) .unused + 1) 4294967296 (D .spare))
 
   free-holds : Ok (λ (z : Fs). Holding own g c kd z × (z .table ≡ s .table)) (λ r. r ≡ 17) (freeNode s d)
   unfolding freeNode
@@ -143,8 +143,8 @@ module _ {own : ℕ → Type 0} (g c kd : ℕ) (some : 1 ≤ g) (Z : Seat g c) (
       (ok-bind (sync-meta-law a left (ground-within g c a G) (freed-fits a (G .bytes) one end (D .spare) id below) (withMeta s left) refl refl) λ z h.
       ends z (h .0) (h .1) (h .2))
     where
-      ends : (z : Fs) → z .table ≡ s .table → z .meta ≡ done (record { super = oneMore (superIn (s .arena)); maps = withBit (mapsIn (s .arena)) (idAt s d) true })
-          → MetaPut (s .arena) (record { super = oneMore (superIn (s .arena)); maps = withBit (mapsIn (s .arena)) (idAt s d) true }) (z .arena)
+      ends : (z : Fs) → z .table ≡ s .table → z .meta ≡ done (record { super = oneMore (storedSuper (s .arena)); maps = withBit (storedMaps (s .arena)) (idAt s d) true })
+          → MetaPut (s .arena) (record { super = oneMore (storedSuper (s .arena)); maps = withBit (storedMaps (s .arena)) (idAt s d) true }) (z .arena)
           → Ok (λ (z : Fs). Holding own g c kd z × (z .table ≡ s .table)) (λ r. r ≡ 17) (bind (dropFile (z .arena) (nodeFile (recAt z d))) (λ e. done (withArena z e)))
       ends z q m P =
           let r : rowAt (z .table) d .rec ≡ recAt s d = ap (λ (y : Table). rowAt y d .rec) q in

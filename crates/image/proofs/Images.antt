@@ -15,7 +15,7 @@ use Rattle.base.proofs.Lists.{tab-cong}
 use Rattle.base.specs.Count.{sumTo, countTo}
 use Rattle.base.specs.Search.{pick, lowest}
 use Rattle.structs.specs.Layout.{entryOf, recordBytes}
-use Rattle.structs.specs.Verdict.{isFolder}
+use Rattle.structs.specs.Types.{isFolder}
 use Rattle.structs.specs.declared.DiskINode.{DiskINode}
 use Rattle.structs.specs.declared.DiskEntry.{DiskEntry}
 use Rattle.structs.specs.declared.SuperBlock.{SuperBlock}
@@ -30,7 +30,7 @@ use Rattle.sefs.specs.Meta.{metaFile}
 use Rattle.table.specs.declared.Table.{Table}
 use Rattle.table.specs.Table.{rowAt}
 use Rattle.table.specs.Formed.{wellFormed}
-use Rattle.rules.specs.Image.{run, superIn, mapsIn, idsIn, isNode, storedBytes, recOf, isOpen, isFolderAt, slotIn, namesIn, named, subfolders, parentOf, climb}
+use Rattle.rules.specs.Image.{run, storedSuper, storedMaps, idsIn, isNode, storedBytes, recOf, isOpen, isFolderAt, slotIn, namesIn, named, subfolders, parentOf, climb}
 use Rattle.rules.specs.Rules.{Rule1, Rule3, Rule5, Later, Folder, Rule6, Linked, Removed, Rule7, Rule8, Allowed}
 use Rattle.rules.proofs.Folders.{folder-node}
 use Rattle.tree.proofs.Trees.{pick-like}
@@ -49,8 +49,8 @@ like-same e = record { kind = ap (λ (x : DiskINode). x .kind) e; nlinks = ap (�
 
 -- arena b has the superblock, the maps and the node files of arena a
 pub record Alike (a b : List ℕ) : Type 0 where
-  pub super : superIn b ≡ superIn a
-  pub maps : mapsIn b ≡ mapsIn a
+  pub super : storedSuper b ≡ storedSuper a
+  pub maps : storedMaps b ≡ storedMaps a
   pub length : lengthOf b metaFile ≡ lengthOf a metaFile
   pub files : (f : List ℕ) → Kept a b (file 1 f)
 
@@ -304,7 +304,7 @@ module _ (a b : List ℕ) (t u : Table) (A : Fair a t) (same : Alike a b)
     rule8 = eight-like a b t u same like (root-node a t A) (A .rule7) (A .rule8) (A .rule5);
   }
     where
-      bit : (i : ℕ) → bitAt (mapsIn b) i ≡ bitAt (mapsIn a) i
+      bit : (i : ℕ) → bitAt (storedMaps b) i ≡ bitAt (storedMaps a) i
       bit i = ap (λ (m : List ℕ). bitAt m i) (same .maps)
 
 -- another table

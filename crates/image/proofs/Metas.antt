@@ -27,7 +27,7 @@ use Rattle.files_laws.specs.Laws.{Put, PutRefused, Kept}
 use Rattle.files_laws.proofs.Put.{put-law}
 use Rattle.sefs.specs.State.{Fs, Meta}
 use Rattle.sefs.specs.Meta.{metaFile, mapAt, storeMaps, syncMeta}
-use Rattle.rules.specs.Image.{run, superIn, mapsTo, mapsIn, storedBytes}
+use Rattle.rules.specs.Image.{run, storedSuper, mapsTo, storedMaps, storedBytes}
 use Rattle.image.proofs.Slots.{run-bytes}
 use Rattle.files_laws.specs.Laws as laws
 
@@ -135,8 +135,8 @@ maps-law a maps k W B long len (suc n) l =
 
 pub record MetaPut (a : List ℕ) (m : Meta) (b : List ℕ) : Type 0 where
   pub within : Within a b
-  pub super : superIn b ≡ m .super
-  pub maps : mapsIn b ≡ m .maps
+  pub super : storedSuper b ≡ m .super
+  pub maps : storedMaps b ≡ m .maps
   pub stored : (id : ℕ) → id ≢ 0 → id % 1024 ≢ 1 → storedBytes b id ≡ storedBytes a id
 
 -- what can be stored
@@ -161,8 +161,8 @@ module _ (a : List ℕ) (m : Meta) (W : Within a a) (F : MetaFits a m) where
     Wb : Within a b
     Wb = within-then a a W 0 src (superBytes-bytes (m .super)) src-end b P
 
-    c-super : superIn c ≡ m .super
-    unfolding superIn
+    c-super : storedSuper c ≡ m .super
+    unfolding storedSuper
     c-super =
         ap superOf
         (tab-cong (byteAt c metaFile) (byteAt b metaFile) 0 0 16 (λ i l. M .outside (0 + i) (λ g z. absurd (omega arith)))
@@ -179,8 +179,8 @@ module _ (a : List ℕ) (m : Meta) (W : Within a a) (F : MetaFits a m) where
         ∙ sym (part-join (m .maps) 0 (128 * n) 128)
         ∙ ap (λ (j : ℕ). part (m .maps) 0 (0 + j)) (let e : 128 * n + 128 ≡ 128 * suc n = omega arith in e)
 
-    c-maps : mapsIn c ≡ m .maps
-    unfolding mapsIn
+    c-maps : storedMaps c ≡ m .maps
+    unfolding storedMaps
     c-maps =
         ap (λ (x : SuperBlock). mapsTo c (x .groups)) c-super ∙ c-mapsTo k (omega arith)
         ∙ part-whole (m .maps) (0 + 128 * k) (F .long ∙ omega arith)

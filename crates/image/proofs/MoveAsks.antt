@@ -16,8 +16,8 @@ use Rattle.base.proofs.Sames.{decided-yes}
 use Rattle.base.proofs.Tests.{decides-leb}
 use Rattle.base.specs.Search.{pick}
 use Rattle.le.specs.Le.{Bytes}
-use Rattle.structs.specs.Verdict.{isFolder, isType, verdictOf}
-use Rattle.structs.specs.declared.Verdict.the-variants.{Allowed, NotDir, IsDir, IfEmpty}
+use Rattle.structs.specs.Types.{isFolder, isType, moveVerdictOf}
+use Rattle.structs.specs.declared.MoveVerdict.the-variants.{Allowed, NotDir, IsDir, IfEmpty}
 use Rattle.structs.specs.declared.DiskINode.{DiskINode}
 use Rattle.table.specs.declared.Table.{Table}
 use Rattle.table.specs.declared.Row.{Row}
@@ -63,8 +63,8 @@ module _ (a : List ℕ) (t : Table) (A : rules.Allowed a t) (y : Bytes a) (u : T
       let e : slotAt a (rowAt u d .rec) m ≡ done (slotIn a (recOf a t id) m) = ap (λ (r : DiskINode). slotAt a r m) same ∙ slot-is a t A y id f m (omega arith) in
       rw (reads f m (omega arith), e)
 
-  pub judge-law : (kc : ℕ) → Ok (Judged (start a u) kc d) Clear (judge (verdictOf kc (rowAt u d .rec .kind)) (start a u) d)
-  unfolding verdictOf isFolderAt
+  pub judge-law : (kc : ℕ) → Ok (Judged (start a u) kc d) Clear (judge (moveVerdictOf kc (rowAt u d .rec .kind)) (start a u) d)
+  unfolding moveVerdictOf isFolderAt
   judge-law kc = go (isFolder kc) (isFolder (rowAt u d .rec .kind)) refl refl
     where
       go : (p q : Bool) → isFolder kc ≡ p → isFolder (rowAt u d .rec .kind) ≡ q → Ok (Judged (start a u) kc d) Clear (judge (pick p (pick q IfEmpty NotDir) (pick q IsDir Allowed)) (start a u) d)

@@ -8,14 +8,14 @@ use Prim.Native.Nat.{ℕ, _≤_, _<_}
 use lib.ListN.{length}
 use Rattle.base.specs.Out.{done}
 use Rattle.le.specs.Le.{Bytes}
-use Rattle.structs.specs.Verdict.{isFolder}
+use Rattle.structs.specs.Types.{isFolder}
 use Rattle.utf8.specs.Names.{nameOf, GoodName, isSpecial}
 use Rattle.sefs.specs.State.{Fs}
 use Rattle.sefs.specs.Nodes.{recAt, idAt}
 use Rattle.sefs.specs.Slots.{Slot}
 use Rattle.sefs.specs.Move.{Replaced, none, node}
 use Rattle.rules.specs.Image.{recOf, slotIn}
-use Rattle.image.specs.Midway.{Used, metaIn, Midway}
+use Rattle.image.specs.Midway.{Used, storedMeta, Midway}
 use Rattle.image.proofs.NewNames.{NewName}
 use Rattle.table_laws.specs.Rules as rows
 
@@ -50,7 +50,7 @@ Onto s j old name (node d k) = Replaces s j old name d k
 -- before the slot `old` of folder i moves to folder j, to be named `name` there
 pub record Moving (s : Fs) (i j : ℕ) (old : Slot) (name : List ℕ) (r : Replaced) : Type 0 where
   pub mid : Midway (owns r) (s .arena) (s .table)
-  pub meta : s .meta ≡ done (metaIn (s .arena))
+  pub meta : s .meta ≡ done (storedMeta (s .arena))
   pub from : LiveFolder s i
   pub to : LiveFolder s j
   pub later : 2 ≤ old .place

@@ -13,7 +13,7 @@ use Rattle.base.proofs.Sames.{decided-yes}
 use Rattle.base.proofs.Tests.{decides-leb}
 use Rattle.structs.specs.Fits.{EntryFits}
 use Rattle.structs.specs.Layout.{entryOf}
-use Rattle.structs.specs.Verdict.{isFolder}
+use Rattle.structs.specs.Types.{isFolder}
 use Rattle.structs.specs.declared.DiskINode.{DiskINode}
 use Rattle.structs.specs.declared.DiskEntry.{DiskEntry}
 use Rattle.utf8.specs.Names.{nameOf, zeroAt, nameBytes, EndedAt}

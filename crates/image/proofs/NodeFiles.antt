@@ -5,7 +5,7 @@ use mathlib.Core.List.{List, [], _∷_}
 use mathlib.Core.Logic.{_≢_}
 use Prim.Native.Nat.{ℕ, _+_, _*_, _<_}
 use Rattle.structs.specs.Constants.{typeDir}
-use Rattle.structs.specs.Verdict.{isFolder}
+use Rattle.structs.specs.Types.{isFolder}
 use Rattle.structs.specs.declared.DiskEntry.{DiskEntry}
 use Rattle.structs.specs.declared.DiskINode.{DiskINode}
 use Rattle.arena.specs.Fields.{file}
@@ -15,7 +15,7 @@ use Rattle.sefs.specs.State.{Meta}
 use Rattle.sefs.specs.Meta.{metaFile}
 use Rattle.sefs.specs.Nodes.{nodeFile}
 use Rattle.sefs.specs.Folders.{entry}
-use Rattle.rules.specs.Image.{superIn, mapsIn, isNode, storedBytes, slotIn}
+use Rattle.rules.specs.Image.{storedSuper, storedMaps, isNode, storedBytes, slotIn}
 use Rattle.rules.specs.Rules.{Rule1}
 use Rattle.image.proofs.Appends.{slot-kept}
 
@@ -53,8 +53,8 @@ housed-kept a s e b c H K = record {
 -- superblock and maps as in memory, records as they were stored, the two files, and the others as they were
 pub record Bred (a : List ℕ) (m : Meta) (f : List ℕ) (kind id up : ℕ) (s : DiskINode) (e : DiskEntry) (b : List ℕ) : Type 0 where
   pub fine : Rule1 b
-  pub super : superIn b ≡ m .super
-  pub maps : mapsIn b ≡ m .maps
+  pub super : storedSuper b ≡ m .super
+  pub maps : storedMaps b ≡ m .maps
   pub long : lengthOf b metaFile ≡ 131072 * m .super .groups
   pub stored : (k : ℕ) → isNode a k ≡ true → storedBytes b k ≡ storedBytes a k
   pub young : Young f kind id up b

@@ -24,9 +24,9 @@ use Rattle.sefs.specs.State.{withTable}
 use Rattle.sefs.specs.Meta.{metaFile, mapAt, isUsed, loadMaps, loadMeta}
 use Rattle.sefs.specs.Nodes.{nodeFile, opened, loadNode, getNode}
 use Rattle.sefs.specs.Ask.{start}
-use Rattle.rules.specs.Image.{run, superIn, mapsTo, mapsIn, idsIn, isNode, storedBytes, recBy, recOf}
+use Rattle.rules.specs.Image.{run, storedSuper, mapsTo, storedMaps, idsIn, isNode, storedBytes, recBy, recOf}
 use Rattle.rules.proofs.Files.{node-below}
-use Rattle.image.specs.Midway.{Fair, metaIn}
+use Rattle.image.specs.Midway.{Fair, storedMeta}
 
 module _ (a : List ℕ) (t : Table) (A : Fair a t) where
   pub there-meta : there a metaFile ≡ true
@@ -34,42 +34,42 @@ module _ (a : List ℕ) (t : Table) (A : Fair a t) where
       ⊎-elim (λ e. e) (λ e. absurd (omega (arith, A .rule3 .some, A .rule3 .length, length-none a metaFile e))) (bool-cases (there a metaFile))
 
   -- what lies inside the metadata file is read
-  pub meta-read : (pos n : ℕ) → pos + n ≤ 131072 * superIn a .groups → readFile a metaFile pos n ≡ done (run a metaFile pos n)
+  pub meta-read : (pos n : ℕ) → pos + n ≤ 131072 * storedSuper a .groups → readFile a metaFile pos n ≡ done (run a metaFile pos n)
   meta-read pos n l = read-done a metaFile pos n there-meta (omega (arith, A .rule3 .length))
 
-  maps-is : (n : ℕ) → n ≤ superIn a .groups → loadMaps a n ≡ done (mapsTo a n)
+  maps-is : (n : ℕ) → n ≤ storedSuper a .groups → loadMaps a n ≡ done (mapsTo a n)
   unfolding loadMaps mapsTo
   maps-is zero l = refl
   maps-is (suc n) l =
       ap (λ (o : Out (List ℕ)). bind o (λ m. bind (readFile a metaFile (mapAt n) 128) (λ x. done (m ++ x)))) (maps-is n (omega arith))
       ∙ ap (λ (o : Out (List ℕ)). bind o (λ x. done (mapsTo a n ++ x))) (meta-read (mapAt n) 128 (omega arith))
 
-  pub meta-is : loadMeta a ≡ done (metaIn a)
-  unfolding loadMeta superIn mapsIn
+  pub meta-is : loadMeta a ≡ done (storedMeta a)
+  unfolding loadMeta storedSuper storedMaps
   meta-is =
       rw (
         meta-read 0 16 (omega (arith, A .rule3 .some)),
-        lt-ltb 0 (superIn a .groups) (A .rule3 .some),
-        lt-ltb (superIn a .groups) 5 (omega (arith, A .rule3 .few)),
-        maps-is (superIn a .groups) (omega arith),
+        lt-ltb 0 (storedSuper a .groups) (A .rule3 .some),
+        lt-ltb (storedSuper a .groups) 5 (omega (arith, A .rule3 .few)),
+        maps-is (storedSuper a .groups) (omega arith),
       )
 
   -- ---- a node is opened
 
   module _ (id : ℕ) (n : isNode a id ≡ true) where
-    pub used-is : isUsed (metaIn a) id ≡ true
+    pub used-is : isUsed (storedMeta a) id ≡ true
     unfolding isNode isUsed
     used-is =
-        let x = and-parts (ltb id (idsIn a)) (not (eqb id 0) && (not (eqb (id % 1024) 1) && not (bitAt (mapsIn a) id))) n in
-        let y = and-parts (not (eqb id 0)) (not (eqb (id % 1024) 1) && not (bitAt (mapsIn a) id)) (x .1) in
-        let z = and-parts (not (eqb (id % 1024) 1)) (not (bitAt (mapsIn a) id)) (y .1) in
+        let x = and-parts (ltb id (idsIn a)) (not (eqb id 0) && (not (eqb (id % 1024) 1) && not (bitAt (storedMaps a) id))) n in
+        let y = and-parts (not (eqb id 0)) (not (eqb (id % 1024) 1) && not (bitAt (storedMaps a) id)) (x .1) in
+        let z = and-parts (not (eqb (id % 1024) 1)) (not (bitAt (storedMaps a) id)) (y .1) in
         and-both (y .0) (and-both (x .0) (z .1))
 
     pub node-some : id ≢ 0
     unfolding isNode
     node-some =
-        let x = and-parts (ltb id (idsIn a)) (not (eqb id 0) && (not (eqb (id % 1024) 1) && not (bitAt (mapsIn a) id))) n in
-        let y = and-parts (not (eqb id 0)) (not (eqb (id % 1024) 1) && not (bitAt (mapsIn a) id)) (x .1) in
+        let x = and-parts (ltb id (idsIn a)) (not (eqb id 0) && (not (eqb (id % 1024) 1) && not (bitAt (storedMaps a) id))) n in
+        let y = and-parts (not (eqb id 0)) (not (eqb (id % 1024) 1) && not (bitAt (storedMaps a) id)) (x .1) in
         eqb-false id 0 (not-true (eqb id 0) (y .0))
 
     -- it has a row

@@ -11,7 +11,7 @@ use Rattle.base.proofs.Outs.{ok-bind}
 use Rattle.base.proofs.Bools.{true-false}
 use Rattle.base.proofs.Finds.{eq-cases}
 use Rattle.base.specs.Search.{pick}
-use Rattle.structs.specs.Verdict.{isFolder}
+use Rattle.structs.specs.Types.{isFolder}
 use Rattle.structs.specs.declared.DiskINode.{DiskINode}
 use Rattle.structs.specs.declared.DiskEntry.{DiskEntry}
 use Rattle.utf8.specs.Names.{nameOf}

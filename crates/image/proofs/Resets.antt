@@ -31,7 +31,7 @@ use Rattle.files.specs.Read.{there}
 use Rattle.files_laws.specs.Laws.{Kept}
 use Rattle.sefs.specs.Meta.{metaFile}
 use Rattle.sefs.specs.Nodes.{noRow}
-use Rattle.rules.specs.Image.{superIn, mapsIn, idsIn, isNode, storedBytes, recBy, recOf, isOpen}
+use Rattle.rules.specs.Image.{storedSuper, storedMaps, idsIn, isNode, storedBytes, recBy, recOf, isOpen}
 use Rattle.rules.specs.Rules.{Rule1}
 use Rattle.rules.proofs.Files.{node-below}
 use Rattle.image.specs.Midway.{Used, Fair, treeOf}
@@ -124,10 +124,10 @@ module _ (a b : List ℕ) (t u : Table) (A : Fair a t) (fine : Rule1 b) (K : Kep
     (kinds : (k : ℕ) → isNode a k ≡ true → recOf b u k .kind ≡ recOf a t k .kind)
     (names : (k : ℕ) → isNode a k ≡ true → recOf b u k .file ≡ recOf a t k .file)
     (I : Tidy (treeOf b u)) where
-  super : superIn b ≡ superIn a
+  super : storedSuper b ≡ storedSuper a
   super = super-kept a b K
 
-  bits : (k : ℕ) → bitAt (mapsIn b) k ≡ bitAt (mapsIn a) k
+  bits : (k : ℕ) → bitAt (storedMaps b) k ≡ bitAt (storedMaps a) k
   bits k = ap (λ (m : List ℕ). bitAt m k) (maps-kept a b K)
 
   was : (k : ℕ) → isNode b k ≡ true → isNode a k ≡ true

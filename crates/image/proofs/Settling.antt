@@ -9,7 +9,7 @@ use Rattle.base.specs.Out.{Out, Ok, went, said}
 use Rattle.base.proofs.Outs.{ok-weaken, ok-done}
 use Rattle.base.proofs.Bools.{true-false}
 use Rattle.base.proofs.Numbers.{lt-or-le}
-use Rattle.structs.specs.Verdict.{isFolder}
+use Rattle.structs.specs.Types.{isFolder}
 use Rattle.structs.specs.declared.DiskINode.{DiskINode}
 use Rattle.maps.proofs.Bits.{setBits-le}
 use Rattle.arena.specs.Fields.{file}
@@ -19,8 +19,8 @@ use Rattle.sefs.specs.Meta.{isUsed}
 use Rattle.sefs.specs.Nodes.{recAt, idAt, release}
 use Rattle.sefs.specs.Slots.{Slot}
 use Rattle.sefs.specs.Move.{none, node, renamed}
-use Rattle.rules.specs.Image.{superIn, mapsIn, idsIn, isNode, recOf}
-use Rattle.image.specs.Midway.{Used, metaIn, treeOf, Midway}
+use Rattle.rules.specs.Image.{storedSuper, storedMaps, idsIn, isNode, recOf}
+use Rattle.image.specs.Midway.{Used, storedMeta, treeOf, Midway}
 use Rattle.image.proofs.Nodes.{used-is}
 use Rattle.tree.specs.Tree.{Tidy}
 use Rattle.tree.proofs.Naming.{May}
@@ -56,7 +56,7 @@ abbrev pub movedKind : Fs → Slot → ℕ
 movedKind s old = recOf (s .arena) (s .table) (old .entry .id) .kind
 
 pub record Settled (s : Fs) (i j : ℕ) (old : Slot) (z : Fs) : Type 0 where
-  pub hold : Holding rules.none (superIn (s .arena) .groups) (old .entry .id) (movedKind s old) z
+  pub hold : Holding rules.none (storedSuper (s .arena) .groups) (old .entry .id) (movedKind s old) z
   pub mid : isFolder (movedKind s old) ≡ false → Midway rules.none (z .arena) (z .table)
   pub from : Used (z .table) i
   pub to : Used (z .table) j
@@ -103,7 +103,7 @@ module _ (s : Fs) (i j : ℕ) (old : Slot) (name : List ℕ) (M : Moving s i j o
       let B1 : ℕ → ℕ = at (idAt s j) (recAt s j .blocks + 1) (slotsOf s) in
       let row-i = counts-row (s .arena) (s .table) B (linksOf s) (x .table) (X .rows) i (M .from .used) in
       record {
-        hold = subst (Holding rules.none (superIn (s .arena) .groups) c (movedKind s old)) (state-is x (X .meta))
+        hold = subst (Holding rules.none (storedSuper (s .arena) .groups) c (movedKind s old)) (state-is x (X .meta))
             (holding-carried s i j old name none M (recAt s j .blocks) (recAt s j .blocks + 1) (x .arena) (X .files) B (linksOf s) (x .table) (X .rows)
             (λ z. omega (arith, moves-links s i j old name none M)));
         mid = λ no-dir. transferred s i j old name none M apart no-dir (recAt s j .blocks) (recAt s j .blocks + 1) (λ y l n. ⊎-elim (λ w. w) (λ w. absurd (n (omega arith))) (lt-or-le y (recAt s j .blocks)))
@@ -121,7 +121,7 @@ module _ (s : Fs) (i j : ℕ) (old : Slot) (name : List ℕ) (M : Moving s i j o
 
 module _ (s : Fs) (i j : ℕ) (old : Slot) (name : List ℕ) (d k : ℕ) (M : Moving s i j old name (node d k)) where
   abbrev g : ℕ
-  g = superIn (s .arena) .groups
+  g = storedSuper (s .arena) .groups
 
   -- it is neither folder: they have more than two slots
   blocks-apart : (x m : ℕ) → 2 ≤ m → m < recAt s x .blocks → isFolder (recAt s x .kind) ≡ true → recAt s d ≡ recAt s x → ⊥
@@ -151,7 +151,7 @@ module _ (s : Fs) (i j : ℕ) (old : Slot) (name : List ℕ) (d k : ℕ) (M : Mo
     used-d : Used (y .table) d
     used-d = counts-used (s .arena) (s .table) B L (y .table) S d (M .onto .used)
 
-    metas : metaIn (y .arena) ≡ metaIn (s .arena)
+    metas : storedMeta (y .arena) ≡ storedMeta (s .arena)
     metas = λ x. record { super = super-kept (s .arena) (y .arena) (C .meta) x; maps = maps-kept (s .arena) (y .arena) (C .meta) x }
 
     file-d : recAt y d .file ≡ recOf (s .arena) (s .table) (idAt s d) .file
@@ -165,7 +165,7 @@ module _ (s : Fs) (i j : ℕ) (old : Slot) (name : List ℕ) (d k : ℕ) (M : Mo
       used = used-d;
       apart = λ q. M .onto .apart (sym (S .ids d) ∙ q);
       known = (λ x. isUsed (metas x) (S .ids d x)) ∙ used-is (s .arena) (s .table) (M .mid .fair) (idAt s d) node-d;
-      spare = subst (λ (m : Meta). m .super .unused + 1 < 4294967296) (sym metas) (omega (arith, M .mid .fair .rule3 .unused, setBits-le (mapsIn (s .arena)) (idsIn (s .arena)), M .mid .fair .rule3 .few));
+      spare = subst (λ (m : Meta). m .super .unused + 1 < 4294967296) (sym metas) (omega (arith, M .mid .fair .rule3 .unused, setBits-le (storedMaps (s .arena)) (idsIn (s .arena)), M .mid .fair .rule3 .few));
       file = ap (λ (x : List ℕ). there (y .arena) (file 1 x)) file-d ∙ C .exists (recOf (s .arena) (s .table) (idAt s d) .file) ∙ M .mid .fair .rule5 .own (idAt s d) node-d;
       other = λ q. M .onto .apart (sym (M .mid .fair .rule5 .distinct (old .entry .id) (idAt s d) (moves-node s i j old name (node d k) M) node-d (sym file-c ∙ q ∙ file-d)));
     }

@@ -40,7 +40,7 @@ use Rattle.files_laws.proofs.Bounds.{legal-same}
 use Rattle.sefs.specs.State.{Fs}
 use Rattle.sefs.specs.Meta.{metaFile, mapAt}
 use Rattle.sefs.specs.Nodes.{noRow, storeRow, syncRow}
-use Rattle.rules.specs.Image.{run, superIn, mapsTo, mapsIn, idsIn, isNode, storedBytes, recBy, recOf, isOpen}
+use Rattle.rules.specs.Image.{run, storedSuper, mapsTo, storedMaps, idsIn, isNode, storedBytes, recBy, recOf, isOpen}
 use Rattle.rules.specs.Rules.{Rule1}
 use Rattle.rules.proofs.Files.{node-below}
 use Rattle.image.specs.Midway.{Used, Fair, Midway}
@@ -53,9 +53,9 @@ use Rattle.files_laws.specs.Laws as laws
 pub node-apart : (a : List ℕ) (id : ℕ) → isNode a id ≡ true → id % 1024 ≢ 1
 unfolding isNode
 node-apart a id n =
-    let x = and-parts (ltb id (idsIn a)) (not (eqb id 0) && (not (eqb (id % 1024) 1) && not (bitAt (mapsIn a) id))) n in
-    let y = and-parts (not (eqb id 0)) (not (eqb (id % 1024) 1) && not (bitAt (mapsIn a) id)) (x .1) in
-    let z = and-parts (not (eqb (id % 1024) 1)) (not (bitAt (mapsIn a) id)) (y .1) in
+    let x = and-parts (ltb id (idsIn a)) (not (eqb id 0) && (not (eqb (id % 1024) 1) && not (bitAt (storedMaps a) id))) n in
+    let y = and-parts (not (eqb id 0)) (not (eqb (id % 1024) 1) && not (bitAt (storedMaps a) id)) (x .1) in
+    let z = and-parts (not (eqb (id % 1024) 1)) (not (bitAt (storedMaps a) id)) (y .1) in
     eqb-false (id % 1024) 1 (not-true (eqb (id % 1024) 1) (z .0))
 
 -- ---- 112 bytes are put at a record's place in the metadata file: superblock, maps and every other record are as they were
@@ -66,8 +66,8 @@ module _ (a : List ℕ) (id : ℕ) (some : id ≢ 0) (off : id % 1024 ≢ 1) (sr
   elsewhere pos m h =
       tab-cong (byteAt b metaFile) (byteAt a metaFile) pos pos m (λ i l. P .outside (pos + i) (λ g. omega (arith, long, h i l g)))
 
-  pub put-super : superIn b ≡ superIn a
-  unfolding superIn
+  pub put-super : storedSuper b ≡ storedSuper a
+  unfolding storedSuper
   put-super = ap superOf (elsewhere 0 16 (λ i l g. absurd (omega (arith, above-zero id some))))
 
   same-maps : (k : ℕ) → mapsTo b k ≡ mapsTo a k
@@ -77,9 +77,9 @@ module _ (a : List ℕ) (id : ℕ) (some : id ≢ 0) (off : id % 1024 ≢ 1) (sr
       λ x. same-maps k x ++ elsewhere (mapAt k) 128 (λ i l g.
       ⊎-elim (λ m. absurd (off (let e : id ≡ 1024 * k + 1 = omega arith in omega arith))) (λ m. m) (lt-or-le (mapAt k + i) (128 * id + 112))) x
 
-  pub put-maps : mapsIn b ≡ mapsIn a
-  unfolding mapsIn
-  put-maps = ap (λ (x : SuperBlock). mapsTo b (x .groups)) put-super ∙ same-maps (superIn a .groups)
+  pub put-maps : storedMaps b ≡ storedMaps a
+  unfolding storedMaps
+  put-maps = ap (λ (x : SuperBlock). mapsTo b (x .groups)) put-super ∙ same-maps (storedSuper a .groups)
 
   pub put-records : (j : ℕ) → j ≢ id → storedBytes b j ≡ storedBytes a j
   unfolding storedBytes
@@ -201,8 +201,8 @@ module _ {own : ℕ → Type 0} (a : List ℕ) (t : Table) (A : Fair a t) (O : F
 pub record Synced (own : ℕ → Type 0) (s : Fs) (i : ℕ) (d : Fs) : Type 0 where
   pub mid : Midway own (d .arena) (d .table)
   pub meta : d .meta ≡ s .meta
-  pub super : superIn (d .arena) ≡ superIn (s .arena)
-  pub maps : mapsIn (d .arena) ≡ mapsIn (s .arena)
+  pub super : storedSuper (d .arena) ≡ storedSuper (s .arena)
+  pub maps : storedMaps (d .arena) ≡ storedMaps (s .arena)
   pub clean : rowAt (d .table) i .dirty ≡ false
   pub ids : (j : ℕ) → rowAt (d .table) j .id ≡ rowAt (s .table) j .id
   pub recs : (j : ℕ) → rowAt (d .table) j .rec ≡ rowAt (s .table) j .rec

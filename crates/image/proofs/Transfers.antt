@@ -8,7 +8,7 @@ use native.Mathlib.Omega.{arith}
 use Rattle.base.specs.Count.{bit}
 use Rattle.base.proofs.Bools.{true-false}
 use Rattle.base.proofs.Finds.{eq-cases}
-use Rattle.structs.specs.Verdict.{isFolder}
+use Rattle.structs.specs.Types.{isFolder}
 use Rattle.structs.specs.declared.DiskINode.{DiskINode}
 use Rattle.structs.specs.declared.DiskEntry.{DiskEntry}
 use Rattle.arena.specs.Fields.{file}

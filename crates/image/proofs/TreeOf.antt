@@ -5,7 +5,7 @@ use mathlib.Core.List.{List}
 use mathlib.Core.Logic.{inl, inr, ⊎-elim}
 use Prim.Native.Nat.{ℕ, zero, suc, _+_, _<_}
 use native.Mathlib.Omega.{arith}
-use Rattle.structs.specs.Verdict.{isFolder}
+use Rattle.structs.specs.Types.{isFolder}
 use Rattle.table.specs.declared.Table.{Table}
 use Rattle.rules.specs.Image.{idsIn, isNode, recOf, isFolderAt, namesIn, named, subfolders, parentOf, climb}
 use Rattle.rules.specs.Rules.{Rule6, Linked, Removed, Rule7, Rule8}

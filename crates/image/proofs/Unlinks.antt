@@ -14,7 +14,7 @@ use Rattle.base.proofs.Finds.{eq-cases}
 use Rattle.base.specs.Search.{pick}
 use Rattle.le.specs.Le.{Bytes}
 use Rattle.structs.specs.Fits.{RecordFits}
-use Rattle.structs.specs.Verdict.{isFolder}
+use Rattle.structs.specs.Types.{isFolder}
 use Rattle.structs.specs.declared.DiskINode.{DiskINode}
 use Rattle.arena.specs.Fields.{file}
 use Rattle.table.specs.declared.Table.{Table}
@@ -33,7 +33,7 @@ use Rattle.sefs.specs.Nodes.{nodeFile, recAt, setRec, release}
 use Rattle.sefs.specs.Slots.{slotBytes}
 use Rattle.sefs.specs.Folders.{nlinksDec, unlinkFolder, direntNodeRemove}
 use Rattle.rules.specs.Image.{run, isNode, recOf, isOpen, slotIn}
-use Rattle.image.specs.Midway.{Used, metaIn, Fair, treeOf, Midway}
+use Rattle.image.specs.Midway.{Used, storedMeta, Fair, treeOf, Midway}
 use Rattle.image.proofs.Metas.{node-other, kept-then}
 use Rattle.tree.specs.Tree.{Tidy}
 use Rattle.tree.proofs.Trees.{folder-is}
@@ -275,7 +275,7 @@ module _ (s : Fs) (i c pl : ℕ) (O : Formed (also none c) (s .table)) (T : Tabl
     (inside : pl < rowAt (s .table) i .rec .blocks)
     (is-there : there (s .arena) (nodeFile (recAt s i)) ≡ true)
     (last : slotBytes (s .arena) (recAt s i) (recAt s i .blocks - 1) ≡ done (run (s .arena) (nodeFile (recAt s i)) (264 * (recAt s i .blocks - 1)) 264))
-    (meta : s .meta ≡ done (metaIn (s .arena)))
+    (meta : s .meta ≡ done (storedMeta (s .arena)))
     (mid : (b : List ℕ) → Gone (s .arena) (rowAt (s .table) i .rec .file) (rowAt (s .table) i .rec .blocks - 1) pl b → (u : Table)
     → Less (also none c) (s .arena) (s .table) i c (rowAt (s .table) i .rec .blocks - 1) (bit (isFolder (rowAt (s .table) c .rec .kind))) (1 + bit (isFolder (rowAt (s .table) c .rec .kind))) u
     → Midway (also none c) b u) where
@@ -319,7 +319,7 @@ module _ (s : Fs) (i c pl : ℕ) (O : Formed (also none c) (s .table)) (T : Tabl
     meta-kept : Kept a b metaFile
     meta-kept = B .others metaFile (λ q. node-other (rowAt (s .table) i .rec .file) (sym q))
 
-    metas : s .meta ≡ done (metaIn b)
+    metas : s .meta ≡ done (storedMeta b)
     metas = meta ∙ λ x. done (record { super = sym (super-kept a b meta-kept) x; maps = sym (maps-kept a b meta-kept) x })
 
     -- the node is let go
@@ -331,7 +331,7 @@ module _ (s : Fs) (i c pl : ℕ) (O : Formed (also none c) (s .table)) (T : Tabl
         (λ d D. (D .mid, record { below = ui .below; node = λ z. ui .node (sym (S .ids i) ∙ sym (D .ids i (λ q. rows (sym q))) ∙ z) }))
         (λ r q. q)
         (release-law x c (subst (λ (y : List ℕ). Midway (also none c) y (x .table)) (sym e) (mid b B (x .table) S))
-        (used-in t (x .table) (S .ids) c uc) (m ∙ metas ∙ ap (λ (y : List ℕ). done (metaIn y)) (sym e)))
+        (used-in t (x .table) (S .ids) c uc) (m ∙ metas ∙ ap (λ (y : List ℕ). done (storedMeta y)) (sym e)))
 
     falls : Ok Ends (λ r. r ≡ 17) (bind (nlinksDec x1 c) (λ s. bind (pick (isFolder (recAt s c .kind)) (unlinkFolder s i c) (done s)) (λ s. release s c)))
     unfolding unlinkFolder

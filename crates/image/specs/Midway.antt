@@ -9,15 +9,15 @@ use Rattle.table_bytes.specs.Fits.{TableFits}
 use Rattle.files.specs.Read.{lengthOf}
 use Rattle.sefs.specs.State.{Meta}
 use Rattle.sefs.specs.Nodes.{nodeFile}
-use Rattle.rules.specs.Image.{superIn, mapsIn, idsIn, isNode, recOf, isOpen, slotIn}
+use Rattle.rules.specs.Image.{storedSuper, storedMaps, idsIn, isNode, recOf, isOpen, slotIn}
 use Rattle.rules.specs.Rules.{Rule1, Rule3, Rule4, Rule5, Rule6, Rule7, Rule8}
 use Rattle.table_laws.specs.Rules.{Formed}
 use Rattle.tree.specs.Tree.{Tree}
 
 -- ---- superblock and maps
 
-abbrev pub metaIn : List ℕ → Meta
-metaIn a = record { super = superIn a; maps = mapsIn a }
+abbrev pub storedMeta : List ℕ → Meta
+storedMeta a = record { super = storedSuper a; maps = storedMaps a }
 
 -- ---- admission, handles, rows
 

@@ -5,7 +5,7 @@ use crate::say;
 use crate::say::text;
 use crate::world::create;
 use crate::world::handle;
-use calls::Given;
+use calls::HeldReply;
 use calls::Told;
 use calls_entry::get_entry;
 use calls_metadata::metadata;
@@ -67,7 +67,7 @@ pub fn create_line(
     name: &[u8],
     kind: u32,
     n: u8,
-) -> Given {
+) -> HeldReply {
     let g = create(arena, t, root, name, kind, n);
     let a = g.answer;
     let u = g.table;

@@ -1,6 +1,6 @@
 // The calls as the scenes use them: no time but 1970's first second, and file names of 16 equal bytes.
-use calls::Given;
 use calls::Got;
+use calls::HeldReply;
 use calls_create::New;
 use structs::Timespec;
 use table::Handle;
@@ -44,7 +44,14 @@ pub fn begin(arena: &[u8; 8192]) -> World {
 }
 
 // A new node in the root; its file's name is 16 times n.
-pub fn create(arena: &mut [u8], t: Table, root: Handle, name: &[u8], kind: u32, n: u8) -> Given {
+pub fn create(
+    arena: &mut [u8],
+    t: Table,
+    root: Handle,
+    name: &[u8],
+    kind: u32,
+    n: u8,
+) -> HeldReply {
     let time = epoch();
     let file = uuid(n);
     let new = New {

@@ -34,7 +34,7 @@ use Rattle.table_bytes.specs.Runs.{listTo}
 use Rattle.table_bytes.proofs.Layouts.{length-rowBytes, rowFrom-rowBytes, length-fits, tableOf-tableBytes}
 use Rattle.table_bytes.proofs.Runs.{length-list, getD-list, list-is}
 use Rattle.sefs.specs.Meta.{superWith}
-use Rattle.mem.specs.Mem.{tableIn, superIn, mapsIn, metaIn, Whole, Tabled, Mapped}
+use Rattle.mem.specs.Mem.{tableIn, superIn, mapsIn, metaIn, Whole, Tabled, Mapped, memorySize}
 
 -- ---- lists
 
@@ -134,8 +134,8 @@ module _ (m : List ℕ) (i : ℕ) (r : Row) (long : 4370 ≤ length m) (inside :
       (holds-same m n b)
       (next-same m n b)
 
-  pub row-put-rest : part (paste m (117 * i) (rowBytes r)) 4370 4899 ≡ part m 4370 4899
-  row-put-rest = part-paste-other m (117 * i) (rowBytes r) fit 4370 4899 (λ l. absurd (omega (arith, wide)))
+  pub row-put-rest : part (paste m (117 * i) (rowBytes r)) 4370 memorySize ≡ part m 4370 memorySize
+  row-put-rest = part-paste-other m (117 * i) (rowBytes r) fit 4370 memorySize (λ l. absurd (omega (arith, wide)))
 
 -- a table that is written is in memory
 module _ (m : List ℕ) (t : Table) (long : 4370 ≤ length m) (F : TableFits t) where
@@ -148,12 +148,12 @@ module _ (m : List ℕ) (t : Table) (long : 4370 ≤ length m) (F : TableFits t)
 
 -- ---- flag, superblock and maps: all in the bytes from 4370 on
 
-module _ (m n : List ℕ) (a : length m ≡ 4899) (b : length n ≡ 4899) (q : part n 4370 4899 ≡ part m 4370 4899) where
+module _ (m n : List ℕ) (a : length m ≡ memorySize) (b : length n ≡ memorySize) (q : part n 4370 memorySize ≡ part m 4370 memorySize) where
   pub flag-kept : getD n 4370 0 ≡ getD m 4370 0
-  flag-kept = sym (getD-part n 4370 4899 0 (omega arith)) ∙ ap (λ (l : List ℕ). getD l 0 0) q ∙ getD-part m 4370 4899 0 (omega arith)
+  flag-kept = sym (getD-part n 4370 memorySize 0 (omega arith)) ∙ ap (λ (l : List ℕ). getD l 0 0) q ∙ getD-part m 4370 memorySize 0 (omega arith)
 
   rest : (s u : ℕ) → u ≤ 529 → part n (4370 + s) (4370 + u) ≡ part m (4370 + s) (4370 + u)
-  rest s u h = sym (part-part n 4370 4899 s u (omega arith)) ∙ ap (λ (l : List ℕ). part l s u) q ∙ part-part m 4370 4899 s u (omega arith)
+  rest s u h = sym (part-part n 4370 memorySize s u (omega arith)) ∙ ap (λ (l : List ℕ). part l s u) q ∙ part-part m 4370 memorySize s u (omega arith)
 
   pub super-kept : superIn n ≡ superIn m
   unfolding superIn
@@ -162,7 +162,7 @@ module _ (m n : List ℕ) (a : length m ≡ 4899) (b : length n ≡ 4899) (q : p
   pub maps-kept : mapsIn n ≡ mapsIn m
   unfolding mapsIn
   maps-kept =
-      let d : drop 4387 n ≡ drop 4387 m = sym (part-end n 4387 4899 b (omega arith)) ∙ rest 17 529 (omega arith) ∙ part-end m 4387 4899 a (omega arith) in
+      let d : drop 4387 n ≡ drop 4387 m = sym (part-end n 4387 memorySize b (omega arith)) ∙ rest 17 529 (omega arith) ∙ part-end m 4387 memorySize a (omega arith) in
       λ x. take (4387 + 128 * super-kept x .groups - 4387) (d x)
 
   pub meta-kept : metaIn n ≡ metaIn m
@@ -181,19 +181,19 @@ module _ (m n : List ℕ) (a : length m ≡ 4899) (b : length n ≡ 4899) (q : p
   tabled t W e = record { table = e; meta = meta-kept; whole = whole-kept W }
 
 -- where superblock and maps were not read, there is nothing of them to be whole
-whole-unread : (m : List ℕ) → length m ≡ 4899 → getD m 4370 0 ≡ 0 → Whole m
+whole-unread : (m : List ℕ) → length m ≡ memorySize → getD m 4370 0 ≡ 0 → Whole m
 whole-unread m size e = record { size = size; some = λ h. absurd (omega (arith, e, h)); few = λ h. absurd (omega (arith, e, h)) }
 
 -- a call's start: the flag is cleared, and the table is written
 pub table-start :
-    (m f n : List ℕ) (t : Table) → length m ≡ 4899 → TableFits t → f ≡ set m 4370 0 → n ≡ paste f 0 (tableBytes t) → (tableIn n ≡ t) × Whole n
+    (m f n : List ℕ) (t : Table) → length m ≡ memorySize → TableFits t → f ≡ set m 4370 0 → n ≡ paste f 0 (tableBytes t) → (tableIn n ≡ t) × Whole n
 table-start m f n t size F ef en =
-    let h : length f ≡ 4899 = ap length ef ∙ length-set m 4370 0 ∙ size in
+    let h : length f ≡ memorySize = ap length ef ∙ length-set m 4370 0 ∙ size in
     let l : length (tableBytes t) ≡ 4370 = length-fits t F in
     let fit : 0 + length (tableBytes t) ≤ length f = omega (arith, h, l) in
     let long : 4370 ≤ length f = omega (arith, h) in
     let z : getD f 4370 0 ≡ 0 = ap (λ (k : List ℕ). getD k 4370 0) ef ∙ getD-set-same m 4370 0 0 (omega arith) in
-    let k : length n ≡ 4899 = ap length en ∙ length-paste f 0 (tableBytes t) fit ∙ h in
+    let k : length n ≡ memorySize = ap length en ∙ length-paste f 0 (tableBytes t) fit ∙ h in
     let e : getD n 4370 0 ≡ 0 = ap (λ (k : List ℕ). getD k 4370 0) en ∙ getD-paste-out f 0 (tableBytes t) fit 4370 (λ q. omega (arith, l)) ∙ z in
     (ap tableIn en ∙ table-put f t long F, whole-unread n k e)
 
@@ -203,7 +203,7 @@ unfolding metaIn
 meta-is m e = ap (λ (b : Bool). pick b (done (record { super = superIn m; maps = mapsIn m })) (refused stuck)) (eq-eqb (getD m 4370 0) 1 e)
 
 -- a superblock that is written, after the maps: the state was m, and is d but for the superblock
-module _ (m d : List ℕ) (sb : SuperBlock) (size : length d ≡ 4899) (front : part d 0 4370 ≡ part m 0 4370) (flag : getD d 4370 0 ≡ 1) (F : SuperFits sb) (some : 0 < sb .groups) (few : sb .groups ≤ 4) where
+module _ (m d : List ℕ) (sb : SuperBlock) (size : length d ≡ memorySize) (front : part d 0 4370 ≡ part m 0 4370) (flag : getD d 4370 0 ≡ 1) (F : SuperFits sb) (some : 0 < sb .groups) (few : sb .groups ≤ 4) where
   fit16 : 4371 + length (superBytes sb) ≤ length d
   fit16 = omega (arith, length-superBytes sb)
 
@@ -235,10 +235,10 @@ module _ (m d : List ℕ) (sb : SuperBlock) (size : length d ≡ 4899) (front : 
 -- ---- bits
 
 -- a bit of the groups' maps is one of all four groups' bytes
-pub bit-in : (m : List ℕ) (groups id : ℕ) → groups ≤ 4 → id < 1024 * groups → bitAt (part m 4387 4899) id ≡ bitAt (part m 4387 (4387 + 128 * groups)) id
+pub bit-in : (m : List ℕ) (groups id : ℕ) → groups ≤ 4 → id < 1024 * groups → bitAt (part m 4387 memorySize) id ≡ bitAt (part m 4387 (4387 + 128 * groups)) id
 unfolding bitAt
 bit-in m groups id h l =
-    ap (λ (x : ℕ). bitOf x (id % 8)) (getD-part m 4387 4899 (id / 8) (omega arith) ∙ sym (getD-part m 4387 (4387 + 128 * groups) (id / 8) (omega arith)))
+    ap (λ (x : ℕ). bitOf x (id % 8)) (getD-part m 4387 memorySize (id / 8) (omega arith) ∙ sym (getD-part m 4387 (4387 + 128 * groups) (id / 8) (omega arith)))
 
 -- a bit put in the front is put in the whole
 pub withBit-front : (l : List ℕ) (k id : ℕ) (b : Bool) → id / 8 < k → part (withBit l id b) 0 k ≡ withBit (part l 0 k) id b
@@ -254,11 +254,11 @@ unfolding superIn
 super-fits m h = superOf-fits (part m 4371 4387) (part-all (λ x. x < 256) m (omega arith) h 4371 4387)
 
 -- bytes laid over the maps
-module _ (m : List ℕ) (o : ℕ) (b : List ℕ) (size : length m ≡ 4899) (after : 4387 ≤ o) (fit : o + length b ≤ 4899) where
+module _ (m : List ℕ) (o : ℕ) (b : List ℕ) (size : length m ≡ memorySize) (after : 4387 ≤ o) (fit : o + length b ≤ memorySize) where
   fits : o + length b ≤ length m
   fits = omega arith
 
-  laid-size : length (paste m o b) ≡ 4899
+  laid-size : length (paste m o b) ≡ memorySize
   laid-size = length-paste m o b fits ∙ size
 
   laid-front : part (paste m o b) 0 4370 ≡ part m 0 4370
@@ -269,25 +269,25 @@ module _ (m : List ℕ) (o : ℕ) (b : List ℕ) (size : length m ≡ 4899) (aft
 
 -- a bit, and the count of unused ids
 pub bit-stored :
-    (m n l : List ℕ) (id unused : ℕ) (b : Bool) (r : SuperBlock) → Whole m → Bytes m → getD m 4370 0 ≡ 1 → id < 1024 * superIn m .groups → unused < 2 ^ 32 → r ≡ superIn m → l ≡ withBit (part m 4387 4899) id b
-    → n ≡ paste (back m 4387 4899 l) 4371 (superBytes (superWith r (r .blocks) unused (r .groups)))
+    (m n l : List ℕ) (id unused : ℕ) (b : Bool) (r : SuperBlock) → Whole m → Bytes m → getD m 4370 0 ≡ 1 → id < 1024 * superIn m .groups → unused < 2 ^ 32 → r ≡ superIn m → l ≡ withBit (part m 4387 memorySize) id b
+    → n ≡ paste (back m 4387 memorySize l) 4371 (superBytes (superWith r (r .blocks) unused (r .groups)))
     → Mapped m n (record { super = superWith (superIn m) (superIn m .blocks) unused (superIn m .groups); maps = withBit (mapsIn m) id b })
 unfolding mapsIn
 bit-stored m n l id unused b r W bytes f h u er el en =
     let g : ℕ = superIn m .groups in
     let few : g ≤ 4 = W .few f in
-    let size : length m ≡ 4899 = W .size in
-    let p : List ℕ = part m 4387 4899 in
-    let sp : length p ≡ 512 = length-part m 4387 4899 (omega arith) (omega arith) in
+    let size : length m ≡ memorySize = W .size in
+    let p : List ℕ = part m 4387 memorySize in
+    let sp : length p ≡ 512 = length-part m 4387 memorySize (omega arith) (omega arith) in
     let L : List ℕ = withBit p id b in
     let sl : length L ≡ 512 = length-withBit p id b (omega arith) ∙ sp in
     let F = super-fits m bytes in
     let sb : SuperBlock = superWith (superIn m) (superIn m .blocks) unused g in
     let d : List ℕ = paste m 4387 L in
-    let e : n ≡ paste d 4371 (superBytes sb) = en ∙ (λ x. paste (back m 4387 4899 (el x)) 4371 (superBytes (superWith (er x) (er x .blocks) unused (er x .groups)))) ∙ ap (λ (k : List ℕ). paste k 4371 (superBytes sb)) (back-paste m 4387 4899 L (omega arith)) in
+    let e : n ≡ paste d 4371 (superBytes sb) = en ∙ (λ x. paste (back m 4387 memorySize (el x)) 4371 (superBytes (superWith (er x) (er x .blocks) unused (er x .groups)))) ∙ ap (λ (k : List ℕ). paste k 4371 (superBytes sb)) (back-paste m 4387 memorySize L (omega arith)) in
     let a : part d 4387 (4387 + 128 * g) ≡ part L 0 (128 * g) =
-    sym (part-part d 4387 4899 0 (128 * g) (omega arith)) ∙ ap (λ (k : List ℕ). part k 0 (128 * g)) (part-written 512 m 4387 L sl (omega arith)) in
-    let c : part p 0 (128 * g) ≡ part m 4387 (4387 + 128 * g) = part-part m 4387 4899 0 (128 * g) (omega arith) in
+    sym (part-part d 4387 memorySize 0 (128 * g) (omega arith)) ∙ ap (λ (k : List ℕ). part k 0 (128 * g)) (part-written 512 m 4387 L sl (omega arith)) in
+    let c : part p 0 (128 * g) ≡ part m 4387 (4387 + 128 * g) = part-part m 4387 memorySize 0 (128 * g) (omega arith) in
     subst (λ (k : List ℕ). Mapped m k (record { super = sb; maps = withBit (part m 4387 (4387 + 128 * g)) id b })) (sym e)
     (mapped m d sb (laid-size m 4387 L size (omega arith) (omega arith)) (laid-front m 4387 L size (omega arith) (omega arith)) (laid-flag m 4387 L size (omega arith) (omega arith) ∙ f)
     (record { magic = F .magic; blocks = F .blocks; unused = u; groups = F .groups }) (W .some f) few _
@@ -301,7 +301,7 @@ pub group-stored :
 unfolding mapsIn
 group-stored m n l map o r W bytes f few hb hu sm er eo el en =
     let g : ℕ = superIn m .groups in
-    let size : length m ≡ 4899 = W .size in
+    let size : length m ≡ memorySize = W .size in
     let F = super-fits m bytes in
     let s : ℕ = 4387 + 128 * g in
     let sb : SuperBlock = superWith (superIn m) (superIn m .blocks + 1024) (superIn m .unused + 1023) (g + 1) in
@@ -317,10 +317,10 @@ group-stored m n l map o r W bytes f few hb hu sm er eo el en =
 
 -- superblock and map of one group, and the flag
 pub one-stored :
-    (m f n l map : List ℕ) (sb : SuperBlock) → length m ≡ 4899 → SuperFits sb → sb .groups ≡ 1 → length map ≡ 128 → f ≡ set m 4370 1 → l ≡ map → n ≡ paste (back f 4387 4515 l) 4371 (superBytes sb) → Mapped m n (record { super = sb; maps = map })
+    (m f n l map : List ℕ) (sb : SuperBlock) → length m ≡ memorySize → SuperFits sb → sb .groups ≡ 1 → length map ≡ 128 → f ≡ set m 4370 1 → l ≡ map → n ≡ paste (back f 4387 4515 l) 4371 (superBytes sb) → Mapped m n (record { super = sb; maps = map })
 one-stored m f n l map sb size F one sm ef el en =
     let h : List ℕ = set m 4370 1 in
-    let sh : length h ≡ 4899 = length-set m 4370 1 ∙ size in
+    let sh : length h ≡ memorySize = length-set m 4370 1 ∙ size in
     let fr : part h 0 4370 ≡ part m 0 4370 = ap (λ (k : List ℕ). part k 0 4370) (set-paste m 4370 1 (omega arith)) ∙ part-paste-other m 4370 (1 ∷ []) (omega arith) 0 4370 (λ k. omega arith) in
     let fl : getD h 4370 0 ≡ 1 = getD-set-same m 4370 1 0 (omega arith) in
     let d : List ℕ = paste h 4387 map in

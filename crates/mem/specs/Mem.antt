@@ -18,6 +18,9 @@ use Rattle.table.specs.declared.Table.{Table}
 use Rattle.table_bytes.specs.Layout.{tableOf}
 use Rattle.sefs.specs.State.{Meta}
 
+abbrev pub memorySize : ℕ
+memorySize = 4899
+
 -- (the table that 4,370 bytes are looks at no byte behind them)
 abbrev pub tableIn : List ℕ → Table
 tableIn m = tableOf m
@@ -35,7 +38,7 @@ metaIn m = pick (eqb (getD m 4370 0) 1) (done (record { super = superIn m; maps 
 
 -- it has its size, and where superblock and maps could be read there are 1 to 4 groups
 pub record Whole (m : List ℕ) : Type 0 where
-  pub size : length m ≡ 4899
+  pub size : length m ≡ memorySize
   pub some : getD m 4370 0 ≡ 1 → 0 < superIn m .groups
   pub few : getD m 4370 0 ≡ 1 → superIn m .groups ≤ 4
 

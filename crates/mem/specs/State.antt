@@ -6,8 +6,13 @@ use Rattle.overlay.specs.View.{view, left, Fine}
 use Rattle.sefs.specs.State.{Fs}
 use Rattle.mem.specs.Mem.{tableIn, metaIn, Whole}
 
+-- an arena as it is, and the memory
+abbrev pub fsAt : List ℕ → List ℕ → Fs
+fsAt a m = record { arena = a; table = tableIn m; meta = metaIn m }
+
+-- the arena as it would be, and the memory
 unfoldable pub fsOf : List ℕ → List ℕ → List ℕ → Fs
-fsOf a w m = record { arena = view a w; table = tableIn m; meta = metaIn m }
+fsOf a w m = fsAt (view a w) m
 
 -- the slices fit each other
 pub record Ready (a w m : List ℕ) : Type 0 where

@@ -20,7 +20,7 @@ ghost use Rattle.maps.specs.Maps.{bitAt, withBit};
 ghost use Rattle.table.specs.Table.{rowAt, namesRow, rowOf, rowUsed, takeRow, withRow, withDirty, freeRowAt};
 ghost use Rattle.sefs.specs.Create.{freshMeta};
 ghost use Rattle.sefs.specs.Meta.{superWith, grown};
-ghost use Rattle.mem.specs.Mem.{tableIn, superIn, mapsIn, metaIn, Whole, Tabled, Mapped};
+ghost use Rattle.mem.specs.Mem.{tableIn, superIn, mapsIn, metaIn, Whole, Tabled, Mapped, memorySize};
 use base::Found;
 use base::index;
 use structs::DiskINode;
@@ -32,6 +32,9 @@ use table::Row;
 use table::Table;
 use table_bytes::hold_in;
 use table_bytes::row_in;
+
+// How long it is.
+pub const MEMORY: usize = 4899;
 
 // ---- rows
 
@@ -190,7 +193,7 @@ pub fn first_bit(mem: &[u8]) -> Found
     ensures { λ r. ⌜ r ≡ foundBelow (lowest (bitAt (mapsIn (now (mem .entry)))) (1024 * superIn (now (mem .entry)) .groups)) (1024 * superIn (now (mem .entry)) .groups) ⌝ }
 {
     let groups = super_at(mem).groups;
-    maps::lowest_set(&mem[4387..4899], index(groups))
+    maps::lowest_set(&mem[4387..MEMORY], index(groups))
 }
 
 pub fn bit_at(mem: &[u8], id: usize) -> bool
@@ -198,7 +201,7 @@ pub fn bit_at(mem: &[u8], id: usize) -> bool
     requires { ⌜ getD (now mem) 4370 0 ≡ 1 ⌝ }
     ensures { λ r. ⌜ r ≡ bitAt (mapsIn (now (mem .entry))) id ⌝ }
 {
-    maps::bit_at(&mem[4387..4899], id)
+    maps::bit_at(&mem[4387..MEMORY], id)
 }
 
 // Bit `id` and the count of unused ids, together.
@@ -208,7 +211,7 @@ pub fn put_bit(mem: &mut [u8], id: usize, b: bool, unused: u32)
     ensures { λ _. ⌜ Mapped (now (mem .entry)) (now (mem .exit)) (record { super = superWith (superIn (now (mem .entry))) (superIn (now (mem .entry)) .blocks) unused (superIn (now (mem .entry)) .groups); maps = withBit (mapsIn (now (mem .entry))) id b }) ⌝ }
 {
     let mut sb = super_at(&mem[..]);
-    maps::put_bit(&mut mem[4387..4899], id, b);
+    maps::put_bit(&mut mem[4387..MEMORY], id, b);
     sb.unused = unused;
     put_super_block(mem, 4371, sb);
 }
@@ -244,7 +247,7 @@ fn put_map(map: &mut [u8], first: u8)
 // ---- the start and the end of a call
 
 pub fn table_at(mem: &[u8]) -> Table
-    requires { ⌜ length (now mem) ≡ 4899 ⌝ }
+    requires { ⌜ length (now mem) ≡ memorySize ⌝ }
     ensures { λ r. ⌜ r ≡ tableIn (now (mem .entry)) ⌝ }
 {
     table_bytes::read_table(mem)
@@ -258,7 +261,7 @@ fn mark_of(b: bool) -> u8
 
 // Whether superblock and maps could be read.
 pub fn put_flag(mem: &mut [u8], b: bool)
-    requires { ⌜ length (now mem) ≡ 4899 ⌝ }
+    requires { ⌜ length (now mem) ≡ memorySize ⌝ }
     ensures { λ _. ⌜ now (mem .exit) ≡ set (now (mem .entry)) 4370 (bit b) ⌝ }
 {
     mem[4370] = mark_of(b);
@@ -266,7 +269,7 @@ pub fn put_flag(mem: &mut [u8], b: bool)
 
 // A call's memory at its start: the table's bytes, and no superblock or map read yet.
 pub fn put_table(mem: &mut [u8], t: Table)
-    requires { ⌜ length (now mem) ≡ 4899 ⌝ }
+    requires { ⌜ length (now mem) ≡ memorySize ⌝ }
     ensures { λ _. ⌜ (tableIn (now (mem .exit)) ≡ t) × Whole (now (mem .exit)) ⌝ }
 {
     put_flag(mem, false);
@@ -275,7 +278,7 @@ pub fn put_table(mem: &mut [u8], t: Table)
 
 // What format starts from: one group, with the bits of the superblock's and the map's own block clear.
 pub fn fresh_meta(mem: &mut [u8])
-    requires { ⌜ length (now mem) ≡ 4899 ⌝ }
+    requires { ⌜ length (now mem) ≡ memorySize ⌝ }
     ensures { λ _. ⌜ (metaIn (now (mem .exit)) ≡ done freshMeta) × (tableIn (now (mem .exit)) ≡ tableIn (now (mem .entry))) × Whole (now (mem .exit)) ⌝ }
 {
     put_flag(mem, true);

@@ -25,17 +25,17 @@ use Rattle.table_bytes.specs.Layout.{rowFrom, holdFrom, rowAtPlace, holdAtPlace
 use Rattle.table_bytes.specs.Runs.{listTo}
 use Rattle.table_bytes.proofs.Runs.{length-list, getD-list, list-is}
 use Rattle.sefs.specs.State.{Meta}
-use Rattle.mem.specs.Mem.{tableIn, superIn, mapsIn, metaIn, Whole}
+use Rattle.mem.specs.Mem.{tableIn, superIn, mapsIn, metaIn, Whole, memorySize}
 use Rattle.nodes.specs.Steps.{metaOf}
 use Rattle.nodes.proofs.Common.{part-agree}
 
 -- ---- the table
 
 -- a row's record has its bytes in memory
-pub row-bytes : (m : List ℕ) (i : ℕ) → Bytes m → length m ≡ 4899 → i < 34 → recordBytes (rowAt (tableIn m) i .rec) ≡ part m (117 * i + 5) (117 * i + 5 + 112)
+pub row-bytes : (m : List ℕ) (i : ℕ) → Bytes m → length m ≡ memorySize → i < 34 → recordBytes (rowAt (tableIn m) i .rec) ≡ part m (117 * i + 5) (117 * i + 5 + 112)
 unfolding tableOf rowAtPlace rowFrom
 row-bytes m i b h l =
-    let k : 117 * i + 117 ≤ 4899 = omega arith in
+    let k : 117 * i + 117 ≤ memorySize = omega arith in
     let p : List ℕ = part m (117 * i) (117 * i + 117) in
     ap (λ (r : Row). recordBytes (r .rec)) (getD-list (λ j. rowFrom (part m (117 * j) (117 * j + 117))) offRow 34 i l)
     ∙ (recordBytes-recordOf (part p 5 117) (part-all (λ n. n < 256) p (omega arith) (part-all (λ n. n < 256) m (omega arith) b (117 * i) (117 * i + 117)) 5 117)
@@ -81,14 +81,14 @@ unfolding mapsIn
 map-part m g h =
     part-part m 4387 (4387 + 128 * superIn m .groups) (128 * g) (128 * g + 128) (omega arith) ∙ ap (part m (4387 + 128 * g)) (let q : 4387 + (128 * g + 128) ≡ 4387 + 128 * g + 128 = omega arith in q)
 
-pub super-part : (m : List ℕ) → Bytes m → length m ≡ 4899 → superBytes (superIn m) ≡ part m 4371 4387
+pub super-part : (m : List ℕ) → Bytes m → length m ≡ memorySize → superBytes (superIn m) ≡ part m 4371 4387
 unfolding superIn
 super-part m b h =
     superBytes-superOf (part m 4371 4387) (part-all (λ n. n < 256) m (omega arith) b 4371 4387) (length-part m 4371 4387 (omega arith) (omega arith))
 
 -- ---- the mark before them
 
-module _ (m : List ℕ) (v : ℕ) (h : length m ≡ 4899) where
+module _ (m : List ℕ) (v : ℕ) (h : length m ≡ memorySize) where
   -- what lies behind the mark, and before it
   part-mark : (s e : ℕ) → (s < 4371 → e ≤ 4370) → part (set m 4370 v) s e ≡ part m s e
   part-mark s e g =
@@ -110,5 +110,5 @@ module _ (m : List ℕ) (v : ℕ) (h : length m ≡ 4899) where
   pub mark-at : getD (set m 4370 v) 4370 0 ≡ v
   mark-at = getD-set-same m 4370 v 0 (omega arith)
 
-  pub mark-size : length (set m 4370 v) ≡ 4899
+  pub mark-size : length (set m 4370 v) ≡ memorySize
   mark-size = length-set m 4370 v ∙ h

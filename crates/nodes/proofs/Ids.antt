@@ -27,8 +27,8 @@ use Rattle.sefs.specs.State.{Fs, Meta, withArena, withMeta}
 use Rattle.sefs.specs.Meta.{metaFile, newMap, ids, firstBit, isUsed, superWith, grown, addGroup, takeBit, allocBlock, freeBlock}
 use Rattle.sefs.specs.Nodes.{opened, openIn, openAt, getNode}
 use Rattle.mem.specs.Mem.{tableIn, superIn, mapsIn, Whole, Tabled, Mapped}
-use Rattle.mem.specs.State.{fsOf, Still, Stepped}
-use Rattle.nodes.specs.Steps.{metaOf, fsAt}
+use Rattle.mem.specs.State.{fsOf, Still, Stepped, fsAt}
+use Rattle.nodes.specs.Steps.{metaOf}
 use Rattle.nodes.proofs.Bytes.{meta-is, meta-none, meta-has}
 use Rattle.nodes.proofs.Steps.{at-tabled, fs-mapped, did-mapped, did-stops}
 

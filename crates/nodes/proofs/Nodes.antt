@@ -28,9 +28,9 @@ use Rattle.sefs.specs.State.{Fs, withArena, withTable}
 use Rattle.sefs.specs.Records.{newRecord}
 use Rattle.sefs.specs.Meta.{Allocated, metaFile, syncMeta, allocBlock, freeBlock}
 use Rattle.sefs.specs.Nodes.{Opened, opened, nodeFile, recAt, openIn, noRow, loadNode, newNode, storeRow, syncRow, freeNode, dropNode, release}
-use Rattle.mem.specs.Mem.{tableIn, Whole, Tabled}
-use Rattle.mem.specs.State.{fsOf, Still, Stepped}
-use Rattle.nodes.specs.Steps.{fsAt, madeNode, removeNode}
+use Rattle.mem.specs.Mem.{tableIn, Whole, Tabled, memorySize}
+use Rattle.mem.specs.State.{fsOf, Still, Stepped, fsAt}
+use Rattle.nodes.specs.Steps.{madeNode, removeNode}
 use Rattle.nodes.proofs.Bytes.{row-bytes}
 use Rattle.nodes.proofs.Steps.{fs-tabled, did-step, did-tabled, did-stops, still-then, step-next, mem-next}
 
@@ -78,7 +78,7 @@ module _ (s : Fs) (kind mode : ℕ) (time : Timespec) (name : List ℕ) where
 
 -- ---- a record is stored
 
-module _ (a w u m : List ℕ) (i r : ℕ) (b : Bytes m) (size : length m ≡ 4899) (l : i < 34) (d : Did (putFile (view a w) metaFile (128 * rowAt (tableIn m) i .id) (part m (117 * i + 5) (117 * i + 5 + 112))) a w u (1 + touched (128 * rowAt (tableIn m) i .id) (length (part m (117 * i + 5) (117 * i + 5 + 112)))) r) where
+module _ (a w u m : List ℕ) (i r : ℕ) (b : Bytes m) (size : length m ≡ memorySize) (l : i < 34) (d : Did (putFile (view a w) metaFile (128 * rowAt (tableIn m) i .id) (part m (117 * i + 5) (117 * i + 5 + 112))) a w u (1 + touched (128 * rowAt (tableIn m) i .id) (length (part m (117 * i + 5) (117 * i + 5 + 112)))) r) where
   store-is : storeRow (fsOf a w m) i ≡ bind (putFile (view a w) metaFile (128 * rowAt (tableIn m) i .id) (part m (117 * i + 5) (117 * i + 5 + 112))) (λ d. done (withTable (withArena (fsOf a w m) d) (withDirty (tableIn m) i false)))
   unfolding storeRow fsOf
   store-is = rw (row-bytes m i b size l)

@@ -14,15 +14,14 @@ use Rattle.base.proofs.Outs.{bind-assoc, above-zero, went-is, went-has, went-ne
 use Rattle.le.specs.Le.{Bytes}
 use Rattle.table.specs.declared.Table.{Table}
 use Rattle.overlay.specs.View.{view, Fine}
-use Rattle.overlay.specs.Steps.{Did, went, stuck}
+use Rattle.overlay.specs.Steps.{Did, went, stopped}
 use Rattle.overlay.proofs.Chains.{Well, did-well, did-ill, did-more, did-next, did-stop}
 use Rattle.files.specs.Store.{putFile, touched}
 use Rattle.files.proofs.Puts.{touched-within}
 use Rattle.sefs.specs.State.{Fs, Meta, withArena, withTable, withMeta}
 use Rattle.sefs.specs.Meta.{metaFile, mapAt, storeMaps, syncMeta}
-use Rattle.mem.specs.Mem.{superIn, mapsIn, Whole, Tabled, Mapped}
-use Rattle.mem.specs.State.{fsOf, Still, Stepped}
-use Rattle.nodes.specs.Steps.{fsAt}
+use Rattle.mem.specs.Mem.{superIn, mapsIn, Whole, Tabled, Mapped, memorySize}
+use Rattle.mem.specs.State.{fsOf, Still, Stepped, fsAt}
 use Rattle.nodes.proofs.Common.{row-stops}
 use Rattle.nodes.proofs.Bytes.{meta-is, meta-none, super-part}
 
@@ -52,7 +51,7 @@ well-still h e = record { fine = e .fine; whole = h; room = e .room }
 pub did-step : {o : Out (List ℕ)} {a w u m : List ℕ} {k r : ℕ} → Whole m → Did o a w u k r → Stepped (bind o (λ d. done (withArena (fsOf a w m) d))) a w u m k r
 did-step {a = a} {w = w} {u = u} {m = m} h (went e c) =
     well (rw (e, ← (c .is)) (ap done (fs-stored a w u m))) (record { fine = c .fine; whole = h; room = c .room })
-did-step h (stuck l e) = ill l (rw e)
+did-step h (stopped l e) = ill l (rw e)
 
 -- with a change in memory behind it
 pub did-tabled : {o : Out (List ℕ)} {a w u m n : List ℕ} {k r : ℕ} {t : Table} → Did o a w u k r → r ≡ 0 → Tabled m n t → Stepped (bind o (λ d. done (withTable (withArena (fsOf a w m) d) t))) a w u n k 0
@@ -114,7 +113,7 @@ module _ (a w u t maps : List ℕ) (g r : ℕ) (so-far : Well (storeMaps (view a
   -- a map that cannot be stored
   pub stores-stop : (n k : ℕ) → g < n → (r ≡ 0 → ⊥) → Did (storeMaps (view a w) maps n) a w t k r
   stores-stop n k l z =
-      stuck (above-zero r z)
+      stopped (above-zero r z)
       (row-stops (storeMaps (view a w) maps) (λ i d. putFile d metaFile (mapAt i) (part maps (128 * i) (128 * i + 128))) (stores-suc (view a w) maps) r (g + 1) n (omega arith) (did-ill next-stores z))
 
 pub well-did : {o : Out (List ℕ)} {a w u : List ℕ} {k : ℕ} → Well o a w u k → Did o a w u k 0
@@ -126,7 +125,7 @@ well-did e = went (e .is) (record { is = refl; fine = e .fine; room = e .room })
 abbrev pub storesAll : List ℕ → List ℕ → List ℕ → Out (List ℕ)
 storesAll a w m = bind (putFile (view a w) metaFile 0 (part m 4371 4387)) (λ d. storeMaps d (mapsIn m) (superIn m .groups))
 
-pub sync-is : (a w m : List ℕ) → Bytes m → length m ≡ 4899 → getD m 4370 0 ≡ 1 → syncMeta (fsOf a w m) ≡ bind (storesAll a w m) (λ d. done (withArena (fsOf a w m) d))
+pub sync-is : (a w m : List ℕ) → Bytes m → length m ≡ memorySize → getD m 4370 0 ≡ 1 → syncMeta (fsOf a w m) ≡ bind (storesAll a w m) (λ d. done (withArena (fsOf a w m) d))
 unfolding syncMeta fsOf
 sync-is a w m b h f =
     let e : syncMeta (fsOf a w m) ≡ bind (putFile (view a w) metaFile 0 (part m 4371 4387)) (λ d. bind (storeMaps d (mapsIn m) (superIn m .groups)) (λ x. done (withArena (fsOf a w m) x))) = rw (meta-is m f, super-part m b h) in

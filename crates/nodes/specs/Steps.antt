@@ -13,15 +13,11 @@ use Rattle.sefs.specs.State.{Fs, Meta, withArena}
 use Rattle.sefs.specs.Meta.{syncMeta}
 use Rattle.sefs.specs.Records.{newRecord}
 use Rattle.sefs.specs.Nodes.{Opened, noRow, openIn, nodeFile, recAt}
-use Rattle.mem.specs.Mem.{tableIn, superIn, mapsIn, metaIn}
+use Rattle.mem.specs.Mem.{superIn, mapsIn}
 
 -- superblock and maps in memory, where they could be read
 abbrev pub metaOf : List ℕ → Meta
 metaOf m = record { super = superIn m; maps = mapsIn m }
-
--- the state that an arena and the memory are
-abbrev pub fsAt : List ℕ → List ℕ → Fs
-fsAt a m = record { arena = a; table = tableIn m; meta = metaIn m }
 
 -- what `newNode` does with the id that it allocated
 unfoldable pub madeNode : Fs → ℕ → ℕ → ℕ → Timespec → List ℕ → Out Opened

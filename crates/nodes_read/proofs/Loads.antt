@@ -19,7 +19,7 @@ use Rattle.arena.specs.Fields.{File}
 use Rattle.files.specs.Read.{readFile}
 use Rattle.sefs.specs.State.{Meta}
 use Rattle.sefs.specs.Meta.{metaFile, mapAt, loadMaps, loadMeta}
-use Rattle.mem.specs.Mem.{tableIn, superIn, mapsIn, metaIn, Whole}
+use Rattle.mem.specs.Mem.{tableIn, superIn, mapsIn, metaIn, Whole, memorySize}
 use Rattle.nodes.specs.Steps.{metaOf}
 use Rattle.nodes.proofs.Common.{part-agree, part-back, ok-refused, row-stops, read-ok}
 use Rattle.nodes.proofs.Bytes.{table-agree, meta-is, meta-none, mark-table, mark-super, mark-meta, mark-at, mark-size}
@@ -126,7 +126,7 @@ pub record Loaded (a m p : List ℕ) : Type 0 where
   pub table : tableIn p ≡ tableIn m
   pub whole : Whole p
 
-pub loaded : (a m n : List ℕ) (r : ℕ) → length n ≡ 4899 → part n 0 4371 ≡ part m 0 4371 → Went (loadMeta a) (metaOf n) ((0 < superIn n .groups) × (superIn n .groups ≤ 4)) r → Loaded a m (set n 4370 (bit (eqb r 0)))
+pub loaded : (a m n : List ℕ) (r : ℕ) → length n ≡ memorySize → part n 0 4371 ≡ part m 0 4371 → Went (loadMeta a) (metaOf n) ((0 < superIn n .groups) × (superIn n .groups ≤ 4)) r → Loaded a m (set n 4370 (bit (eqb r 0)))
 loaded a m n r h s (well e p) =
     record {
       meta = meta-is (set n 4370 1) (mark-at n 1 h) ∙ (ap done (mark-meta n 1 h) ∙ sym e);

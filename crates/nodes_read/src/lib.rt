@@ -14,7 +14,7 @@ ghost use Rattle.files.specs.Read.{there};
 ghost use Rattle.sefs.specs.Nodes.{opened as openedAs, nodeFile, openIn, loadNode, getNode};
 ghost use Rattle.chains.specs.Led.{Led};
 ghost use Rattle.mem.specs.Mem.{tableIn, Whole};
-ghost use Rattle.nodes.specs.Steps.{fsAt};
+ghost use Rattle.mem.specs.State.{fsAt};
 use base::Found;
 use base::index;
 use chains::exists;

@@ -7,7 +7,7 @@ ghost use Rattle.base.specs.Parts.{part};
 ghost use Rattle.files.specs.Read.{readFile};
 ghost use Rattle.sefs.specs.Meta.{metaFile, mapAt, loadMaps, loadMeta};
 ghost use Rattle.chains.specs.Led.{Led};
-ghost use Rattle.mem.specs.Mem.{tableIn, superIn, metaIn, Whole};
+ghost use Rattle.mem.specs.Mem.{tableIn, superIn, metaIn, Whole, memorySize};
 ghost use Rattle.nodes.specs.Steps.{metaOf};
 use base::index;
 use chains::read;
@@ -26,7 +26,7 @@ fn read_meta(arena: &[u8], first: &[u16], next: &[u16], pos: usize, out: &mut [u
 
 pub fn load_super(arena: &[u8], first: &[u16], next: &[u16], mem: &mut [u8]) -> u8
     requires { ⌜ Led (now arena) (now first) (now next) ⌝ }
-    requires { ⌜ length (now mem) ≡ 4899 ⌝ }
+    requires { ⌜ length (now mem) ≡ memorySize ⌝ }
     ensures { λ r. ⌜ Went (readFile (now (arena .entry)) metaFile 0 16) (part (now (mem .exit)) 4371 4387) Unit r ⌝ }
     ensures { λ _. ⌜ part (now (mem .exit)) 0 4371 ≡ part (now (mem .entry)) 0 4371 ⌝ }
 {
@@ -35,7 +35,7 @@ pub fn load_super(arena: &[u8], first: &[u16], next: &[u16], mem: &mut [u8]) -> 
 
 fn load_map(arena: &[u8], first: &[u16], next: &[u16], mem: &mut [u8], g: usize) -> u8
     requires { ⌜ Led (now arena) (now first) (now next) ⌝ }
-    requires { ⌜ (length (now mem) ≡ 4899) × (g < 4) ⌝ }
+    requires { ⌜ (length (now mem) ≡ memorySize) × (g < 4) ⌝ }
     ensures { λ r. ⌜ Went (readFile (now (arena .entry)) metaFile (mapAt g) 128) (part (now (mem .exit)) (4387 + 128 * g) (4387 + 128 * g + 128)) Unit r ⌝ }
     ensures { λ _. ⌜ part (now (mem .exit)) 0 (4387 + 128 * g) ≡ part (now (mem .entry)) 0 (4387 + 128 * g) ⌝ }
 {
@@ -46,7 +46,7 @@ fn load_map(arena: &[u8], first: &[u16], next: &[u16], mem: &mut [u8], g: usize)
 // The maps of the first n groups.
 pub fn load_maps(arena: &[u8], first: &[u16], next: &[u16], mem: &mut [u8], n: usize) -> u8
     requires { ⌜ Led (now arena) (now first) (now next) ⌝ }
-    requires { ⌜ (length (now mem) ≡ 4899) × (n ≤ 4) ⌝ }
+    requires { ⌜ (length (now mem) ≡ memorySize) × (n ≤ 4) ⌝ }
     ensures { λ r. ⌜ Went (loadMaps (now (arena .entry)) n) (part (now (mem .exit)) 4387 (4387 + 128 * n)) Unit r ⌝ }
     ensures { λ _. ⌜ part (now (mem .exit)) 0 4387 ≡ part (now (mem .entry)) 0 4387 ⌝ }
 {
@@ -63,7 +63,7 @@ pub fn load_maps(arena: &[u8], first: &[u16], next: &[u16], mem: &mut [u8], n: u
 
 fn read_all(arena: &[u8], first: &[u16], next: &[u16], mem: &mut [u8]) -> u8
     requires { ⌜ Led (now arena) (now first) (now next) ⌝ }
-    requires { ⌜ length (now mem) ≡ 4899 ⌝ }
+    requires { ⌜ length (now mem) ≡ memorySize ⌝ }
     ensures { λ r. ⌜ Went (loadMeta (now (arena .entry))) (metaOf (now (mem .exit))) ((0 < superIn (now (mem .exit)) .groups) × (superIn (now (mem .exit)) .groups ≤ 4)) r ⌝ }
     ensures { λ _. ⌜ part (now (mem .exit)) 0 4371 ≡ part (now (mem .entry)) 0 4371 ⌝ }
 {
@@ -84,7 +84,7 @@ fn read_all(arena: &[u8], first: &[u16], next: &[u16], mem: &mut [u8]) -> u8
 // Whether they could be read is kept beside them, and a step that needs them sticks where they could not.
 pub fn load_meta(arena: &[u8], first: &[u16], next: &[u16], mem: &mut [u8])
     requires { ⌜ Led (now arena) (now first) (now next) ⌝ }
-    requires { ⌜ length (now mem) ≡ 4899 ⌝ }
+    requires { ⌜ length (now mem) ≡ memorySize ⌝ }
     ensures { λ r. ⌜ (metaIn (now (mem .exit)) ≡ loadMeta (now (arena .entry))) × ((tableIn (now (mem .exit)) ≡ tableIn (now (mem .entry))) × Whole (now (mem .exit))) ⌝ }
 {
     let r = read_all(arena, first, next, mem);

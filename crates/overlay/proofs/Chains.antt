@@ -6,7 +6,7 @@ use native.Mathlib.Omega.{arith}
 use Rattle.base.specs.Out.{Out, done, refused, bind, answer, kept}
 use Rattle.base.proofs.Outs.{above-zero, refused-says, done-says}
 use Rattle.overlay.specs.View.{view, left, Fine}
-use Rattle.overlay.specs.Steps.{Changed, Did, went, stuck}
+use Rattle.overlay.specs.Steps.{Changed, Did, went, stopped}
 
 -- nothing was changed
 pub changed-none : (a w : List ℕ) → Fine a w → Changed a w w (view a w) 0
@@ -28,16 +28,16 @@ pub record Well (o : Out (List ℕ)) (a w u : List ℕ) (n : ℕ) : Type 0 where
 
 pub did-well : {o : Out (List ℕ)} {a w u : List ℕ} {n r : ℕ} → Did o a w u n r → r ≡ 0 → Well o a w u n
 did-well (went e c) z = record { is = e ∙ ap done (sym (c .is)); fine = c .fine; room = c .room }
-did-well (stuck l e) z = absurd (omega arith)
+did-well (stopped l e) z = absurd (omega arith)
 
 pub did-ill : {o : Out (List ℕ)} {a w u : List ℕ} {n r : ℕ} → Did o a w u n r → (r ≡ 0 → ⊥) → o ≡ refused r
 did-ill (went e c) z = absurd (z refl)
-did-ill (stuck l e) z = e
+did-ill (stopped l e) z = e
 
 -- a chain goes on after a step that was done, and stops at one that was not
 did-room : {o : Out (List ℕ)} {a w u t : List ℕ} {n r : ℕ} (m k : ℕ) → left w ≤ left u + m → m + n ≤ k → Did o a u t n r → Did o a w t k r
 did-room m k l h (went e c) = went e (record { is = c .is; fine = c .fine; room = omega (arith, c .room) })
-did-room m k l h (stuck g e) = stuck g e
+did-room m k l h (stopped g e) = stopped g e
 
 -- at most so many are at most more
 pub did-more : {o : Out (List ℕ)} {a w u : List ℕ} {n r : ℕ} (m : ℕ) → n ≤ m → Did o a w u n r → Did o a w u m r
@@ -47,7 +47,7 @@ pub did-next : {o : Out (List ℕ)} {a w u t : List ℕ} {m n r : ℕ} (f : List
 did-next {m = m} f k w l d = rw (w .is) (did-room m k (w .room) l d)
 
 pub did-stop : {o : Out (List ℕ)} {a w u : List ℕ} {m r : ℕ} (f : List ℕ → Out (List ℕ)) (t : List ℕ) (k : ℕ) → (r ≡ 0 → ⊥) → Did o a w u m r → Did (bind o f) a w t k r
-did-stop f t k z d = stuck (above-zero _ z) (rw (did-ill d z))
+did-stop f t k z d = stopped (above-zero _ z) (rw (did-ill d z))
 
 -- a whole call on an arena of which nothing is changed yet: what it answers and leaves where it was refused, and where it was done and committed
 pub call-refused : {a w u : List ℕ} {n r : ℕ} (o : List ℕ → Out (List ℕ)) → view a w ≡ a → (r ≡ 0 → ⊥) → Did (o (view a w)) a w u n r → (r ≡ answer (o a)) × (a ≡ kept a (o a))

@@ -18,7 +18,7 @@ use Rattle.arena.specs.Fields.{seal, zeros}
 use Rattle.arena.proofs.Blocks.{length-blk, getD-blk, length-putBlk, blk-putBlk-same, blk-putBlk-other, getD-putBlk, ext-blk}
 use Rattle.arena.proofs.Fresh.{zeros-is}
 use Rattle.arena.proofs.Seals.{length-seal, seal-seal, seal-zeros}
-use Rattle.overlay.specs.View.{markOf, usedOf, blkOf, viewTo, view, committed, left, hasOwn, storedNew, stored, freed, begun, Fine}
+use Rattle.overlay.specs.View.{markOf, usedOf, blkOf, viewTo, view, committed, left, hasOwn, storedNew, stored, freed, begun, Fine, Empty}
 use Rattle.overlay.specs.Steps.{Changed}
 
 -- a change of a byte below block j leaves block j
@@ -406,12 +406,7 @@ module _ (a w : List ℕ) (whole : length a ≡ 512 * blocks a) (small : blocks 
 
 -- ---- a workspace of zeros, made ready
 
-pub record Ready (a w : List ℕ) (m : ℕ) : Type 0 where
-  pub fine : Fine a w
-  pub is : view a w ≡ a
-  pub room : left w ≡ m - 10
-
-pub ready : (a w : List ℕ) (m : ℕ) → length a ≡ 512 * blocks a → blocks a ≤ 4096 → 10 ≤ m → m ≤ 255 → w ≡ begun (replicate (512 * m) 0) → Ready a w m
+pub ready : (a w : List ℕ) (m : ℕ) → length a ≡ 512 * blocks a → blocks a ≤ 4096 → 10 ≤ m → m ≤ 255 → w ≡ begun (replicate (512 * m) 0) → Empty a w m
 ready a w m whole small ten few e =
     let z : List ℕ = replicate (512 * m) 0 in
     let lz : length (replicate {A = ℕ} (512 * m) 0) ≡ 512 * m = length-replicate (512 * m) 0 in

@@ -14,4 +14,4 @@ pub record Changed (a w u v : List ℕ) (n : ℕ) : Type 0 where
 -- the step's answer r is what the definition's outcome o is: 0 where it was done, and then the view is what o left; or the reason
 pub data Did (o : Out (List ℕ)) (a w u : List ℕ) (n : ℕ) : ℕ → Type 0 where
   went : {v : List ℕ} → o ≡ done v → Changed a w u v n → Did o a w u n 0
-  stuck : {r : ℕ} → 0 < r → o ≡ refused r → Did o a w u n r
+  stopped : {r : ℕ} → 0 < r → o ≡ refused r → Did o a w u n r

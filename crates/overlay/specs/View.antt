@@ -79,3 +79,9 @@ pub record Fine (a w : List ℕ) : Type 0 where
   -- what marks can name has its check
   pub zero : blk w 9 ≡ zeros
   pub sealed : (m : ℕ) → 9 ≤ m → m < usedOf w → seal (blk w m) ≡ blk w m
+
+-- a workspace of m blocks that was just begun: the view is the arena
+pub record Empty (a w : List ℕ) (m : ℕ) : Type 0 where
+  pub fine : Fine a w
+  pub is : view a w ≡ a
+  pub room : left w ≡ m - 10

@@ -20,14 +20,14 @@ use Rattle.sefs.specs.Read.{callMetadata, callSet, callEntry, callListing}
 use Rattle.sefs.specs.Close.{callSync, callClose}
 use Rattle.le.specs.Le.{Bytes}
 use Rattle.structs.specs.Fits.{TimeFits}
-use Rattle.calls.specs.Answers.{answerOf, answerNumber, gotNumber, toldOf, toldNumber, listedOf, listedNumber}
-use Rattle.calls.specs.declared.After as answered
-use Rattle.calls.specs.declared.Given as handed
+use Rattle.calls.specs.Answers.{answerOf, answerNumber, gotNumber, toldOf, toldNumber, listedOf, listedNumber, Lays, Replies}
+use Rattle.calls.specs.declared.Reply as answered
+use Rattle.calls.specs.declared.HeldReply as handed
 use Rattle.calls.specs.declared.Answer.{Answer}
 use Rattle.calls.specs.declared.Answer.the-variants as answers
 use Rattle.calls.specs.declared.Told.{Told}
 use Rattle.calls.specs.declared.Listed.{Listed}
-use Rattle.calls_steps.specs.Ends.{Returned}
+use Rattle.steps.specs.Ends.{Returned}
 use Rattle.calls_create.specs.Held.{ReturnedHeld}
 use Rattle.calls_format.specs.Format.{formatted}
 use Rattle.calls_find.specs.Finds.{Gives}
@@ -62,33 +62,43 @@ left x = pair (x .arena) (x .table)
 
 -- calls that change the arena
 by-return : (c : Call) (p : Pair) (o : Out After) → Well c p → does c p ≡ bind o (λ x. done (left x))
-    → (b : List ℕ) (r : answered.After) → Returned (p .table) o (p .arena) b r → Stays b (r .table) (answerNumber (r .answer))
+    → (b : List ℕ) (r : answered.Reply) → Returned (p .table) o (p .arena) b r → Stays b (r .table) (answerNumber (r .answer))
 by-return c p (done x) w e b r R =
     subst (λ (b : List ℕ). Stays b (r .table) (answerNumber (r .answer))) (sym (R .arena))
-    (subst (λ (r : answered.After). Stays (x .arena) (r .table) (answerNumber (r .answer))) (sym (R .answer)) (stays-done c p left w x e))
+    (subst (λ (r : answered.Reply). Stays (x .arena) (r .table) (answerNumber (r .answer))) (sym (R .answer)) (stays-done c p left w x e))
 by-return c p (refused n) w e b r R =
     subst (λ (b : List ℕ). Stays b (r .table) (answerNumber (r .answer))) (sym (R .arena))
-    (subst (λ (r : answered.After). Stays (p .arena) (r .table) (answerNumber (r .answer))) (sym (R .answer)) (stays-refused c p left w n e))
+    (subst (λ (r : answered.Reply). Stays (p .arena) (r .table) (answerNumber (r .answer))) (sym (R .answer)) (stays-refused c p left w n e))
 
 -- calls that change the arena and make a hold
 by-held : (c : Call) (p : Pair) (o : Out Given) → Well c p → does c p ≡ bind o (λ x. done (pair (x .arena) (x .table)))
-    → (b : List ℕ) (r : handed.Given) → ReturnedHeld (p .table) o (p .arena) b r → Stays b (r .table) (gotNumber (r .answer))
+    → (b : List ℕ) (r : handed.HeldReply) → ReturnedHeld (p .table) o (p .arena) b r → Stays b (r .table) (gotNumber (r .answer))
 by-held c p (done x) w e b r R =
     subst (λ (b : List ℕ). Stays b (r .table) (gotNumber (r .answer))) (sym (R .arena))
-    (subst (λ (r : handed.Given). Stays (x .arena) (r .table) (gotNumber (r .answer))) (sym (R .answer)) (stays-done c p (λ (x : Given). pair (x .arena) (x .table)) w x e))
+    (subst (λ (r : handed.HeldReply). Stays (x .arena) (r .table) (gotNumber (r .answer))) (sym (R .answer)) (stays-done c p (λ (x : Given). pair (x .arena) (x .table)) w x e))
 by-held c p (refused n) w e b r R =
     subst (λ (b : List ℕ). Stays b (r .table) (gotNumber (r .answer))) (sym (R .arena))
-    (subst (λ (r : handed.Given). Stays (p .arena) (r .table) (gotNumber (r .answer))) (sym (R .answer)) (stays-refused c p (λ (x : Given). pair (x .arena) (x .table)) w n e))
+    (subst (λ (r : handed.HeldReply). Stays (p .arena) (r .table) (gotNumber (r .answer))) (sym (R .answer)) (stays-refused c p (λ (x : Given). pair (x .arena) (x .table)) w n e))
 
 -- calls that make a hold and keep the arena
 by-gift : (c : Call) (p : Pair) (o : Out Added) → Well c p → does c p ≡ bind o (λ x. done (pair (p .arena) (x .table)))
-    → (r : handed.Given) → Gives (p .table) o r → Stays (p .arena) (r .table) (gotNumber (r .answer))
+    → (r : handed.HeldReply) → Gives (p .table) o r → Stays (p .arena) (r .table) (gotNumber (r .answer))
 by-gift c p (done x) w e r R =
     subst (λ (u : Table). Stays (p .arena) u (gotNumber (r .answer))) (sym (R .1))
     (subst (λ (g : _). Stays (p .arena) (x .table) (gotNumber g)) (sym (R .0)) (stays-done c p (λ (x : Added). pair (p .arena) (x .table)) w x e))
 by-gift c p (refused n) w e r R =
     subst (λ (u : Table). Stays (p .arena) u (gotNumber (r .answer))) (sym (R .1))
     (subst (λ (g : _). Stays (p .arena) (p .table) (gotNumber g)) (sym (R .0)) (stays-refused c p (λ (x : Added). pair (p .arena) (x .table)) w n e))
+
+-- calls that change the table alone
+by-reply : (c : Call) (p : Pair) (o : Out Table) → Well c p → does c p ≡ bind o (λ t. done (pair (p .arena) t))
+    → (r : answered.Reply) → Replies (p .table) o r → Stays (p .arena) (r .table) (answerNumber (r .answer))
+by-reply c p (done t) w e r R =
+    subst (λ (u : Table). Stays (p .arena) u (answerNumber (r .answer))) (sym (R .1))
+    (subst (λ (g : Answer). Stays (p .arena) t (answerNumber g)) (sym (R .0)) (stays-done c p (λ (t : Table). pair (p .arena) t) w t e))
+by-reply c p (refused n) w e r R =
+    subst (λ (u : Table). Stays (p .arena) u (answerNumber (r .answer))) (sym (R .1))
+    (subst (λ (g : Answer). Stays (p .arena) (p .table) (answerNumber g)) (sym (R .0)) (stays-refused c p (λ (t : Table). pair (p .arena) t) w n e))
 
 -- calls that change nothing
 by-none : {A : Type 0} (c : Call) (p : Pair) (o : Out A) → Well c p → does c p ≡ bind o (λ _. done p) → Stays (p .arena) (p .table) (answer o)
@@ -115,34 +125,34 @@ module _ (p : Pair) (y : Passed p) where
   unfolding Keeps
   held c f e = keeps p c y (record { fits = f; leaves = e })
 
-  pub root-keeps : (r : handed.Given) → Gives (p .table) (callRoot (p .arena) (p .table)) r → Stays (p .arena) (r .table) (gotNumber (r .answer))
+  pub root-keeps : (r : handed.HeldReply) → Gives (p .table) (callRoot (p .arena) (p .table)) r → Stays (p .arena) (r .table) (gotNumber (r .answer))
   unfolding does
   root-keeps = by-gift root p (callRoot (p .arena) (p .table)) (held root tt refl) refl
 
   module _ (h : Handle) (H : HandleFits h) where
-    pub find-keeps : (name : List ℕ) → Bytes name → (r : handed.Given) → Gives (p .table) (callFind (p .arena) (p .table) h name) r → Stays (p .arena) (r .table) (gotNumber (r .answer))
+    pub find-keeps : (name : List ℕ) → Bytes name → (r : handed.HeldReply) → Gives (p .table) (callFind (p .arena) (p .table) h name) r → Stays (p .arena) (r .table) (gotNumber (r .answer))
     unfolding does
     find-keeps name n = by-gift (find h name) p (callFind (p .arena) (p .table) h name) (held (find h name) (H, n) refl) refl
 
-    pub create-keeps : (name : List ℕ) → Bytes name → (kind mode : ℕ) (time : Timespec) (file : List ℕ) → NewFits kind mode time file → (b : List ℕ) (r : handed.Given)
+    pub create-keeps : (name : List ℕ) → Bytes name → (kind mode : ℕ) (time : Timespec) (file : List ℕ) → NewFits kind mode time file → (b : List ℕ) (r : handed.HeldReply)
         → ReturnedHeld (p .table) (callCreate (p .arena) (p .table) h name kind mode time file) (p .arena) b r → Stays b (r .table) (gotNumber (r .answer))
     unfolding does
     create-keeps name n kind mode time file N =
         by-held (create h name kind mode time file) p (callCreate (p .arena) (p .table) h name kind mode time file) (held (create h name kind mode time file) (H, n, N) refl) refl
 
-    pub link-keeps : (name : List ℕ) → Bytes name → (child : Handle) → HandleFits child → (b : List ℕ) (r : answered.After)
+    pub link-keeps : (name : List ℕ) → Bytes name → (child : Handle) → HandleFits child → (b : List ℕ) (r : answered.Reply)
         → Returned (p .table) (callLink (p .arena) (p .table) h name child) (p .arena) b r → Stays b (r .table) (answerNumber (r .answer))
     unfolding does
     link-keeps name n child C = by-return (link h name child) p (callLink (p .arena) (p .table) h name child) (held (link h name child) (H, n, C) refl) refl
 
-    pub unlink-keeps : (name : List ℕ) → Bytes name → (b : List ℕ) (r : answered.After)
+    pub unlink-keeps : (name : List ℕ) → Bytes name → (b : List ℕ) (r : answered.Reply)
         → Returned (p .table) (callUnlink (p .arena) (p .table) h name) (p .arena) b r → Stays b (r .table) (answerNumber (r .answer))
     unfolding does
     unlink-keeps name n = by-return (unlink h name) p (callUnlink (p .arena) (p .table) h name) (held (unlink h name) (H, n) refl) refl
 
     -- "and move no folder to another folder"
     pub move-keeps : (old : List ℕ) → Bytes old → (target : Handle) → HandleFits target → (name : List ℕ) → Bytes name → carries p (move h old target name) ≡ false
-        → (b : List ℕ) (r : answered.After)
+        → (b : List ℕ) (r : answered.Reply)
         → Returned (p .table) (callMove (p .arena) (p .table) h old target name) (p .arena) b r → Stays b (r .table) (answerNumber (r .answer))
     unfolding does
     move-keeps old o target T name n e =
@@ -154,41 +164,31 @@ module _ (p : Pair) (y : Passed p) where
         let o : Out Metadata = callMetadata (p .arena) (p .table) h in
         subst (Stays (p .arena) (p .table)) (sym (ap toldNumber e ∙ told-number o)) (by-none (metadata h) p (callMetadata (p .arena) (p .table) h) (held (metadata h) H refl) refl)
 
-    pub set-metadata-keeps : (mode uid gid : ℕ) (atime mtime ctime : Timespec) → SetFits mode uid gid atime mtime ctime → (r : answered.After)
-        → (r .answer ≡ answerOf (callSet (p .arena) (p .table) h mode uid gid atime mtime ctime))
-        → (r .table ≡ kept (p .table) (callSet (p .arena) (p .table) h mode uid gid atime mtime ctime))
-        → Stays (p .arena) (r .table) (answerNumber (r .answer))
+    pub set-metadata-keeps : (mode uid gid : ℕ) (atime mtime ctime : Timespec) → SetFits mode uid gid atime mtime ctime → (r : answered.Reply)
+        → Replies (p .table) (callSet (p .arena) (p .table) h mode uid gid atime mtime ctime) r → Stays (p .arena) (r .table) (answerNumber (r .answer))
     unfolding does
-    set-metadata-keeps mode uid gid atime mtime ctime S r =
-        go (callSet (p .arena) (p .table) h mode uid gid atime mtime ctime) (held (setMetadata h mode uid gid atime mtime ctime) (H, S) refl) refl
-      where
-        go : (o : Out Table) → Well (setMetadata h mode uid gid atime mtime ctime) p → does (setMetadata h mode uid gid atime mtime ctime) p ≡ bind o (λ t. done (pair (p .arena) t))
-            → (r .answer ≡ answerOf o) → (r .table ≡ kept (p .table) o) → Stays (p .arena) (r .table) (answerNumber (r .answer))
-        go (done t) w e i j =
-            subst (λ (u : Table). Stays (p .arena) u (answerNumber (r .answer))) (sym j)
-            (subst (λ (g : Answer). Stays (p .arena) t (answerNumber g)) (sym i) (stays-done (setMetadata h mode uid gid atime mtime ctime) p (λ (t : Table). pair (p .arena) t) w t e))
-        go (refused n) w e i j =
-            subst (λ (u : Table). Stays (p .arena) u (answerNumber (r .answer))) (sym j)
-            (subst (λ (g : Answer). Stays (p .arena) (p .table) (answerNumber g)) (sym i) (stays-refused (setMetadata h mode uid gid atime mtime ctime) p (λ (t : Table). pair (p .arena) t) w n e))
+    set-metadata-keeps mode uid gid atime mtime ctime S =
+        by-reply (setMetadata h mode uid gid atime mtime ctime) p (callSet (p .arena) (p .table) h mode uid gid atime mtime ctime) (held (setMetadata h mode uid gid atime mtime ctime) (H, S) refl) refl
 
-    module _ (k room : ℕ) (K : k < 2 ^ 64) (R : room < 2 ^ 64) where
-      pub get-entry-keeps : (r : Answer) → r ≡ answerOf (callEntry (p .arena) (p .table) h k room) → Stays (p .arena) (p .table) (answerNumber r)
+    -- the output was `out` and is `now`
+    module _ (k : ℕ) (out now : List ℕ) (K : k < 2 ^ 64) (R : length out < 2 ^ 64) where
+      pub get-entry-keeps : (r : Answer) → Lays answerOf (callEntry (p .arena) (p .table) h k (length out)) out now r → Stays (p .arena) (p .table) (answerNumber r)
       unfolding does
       get-entry-keeps r e =
-          subst (Stays (p .arena) (p .table)) (sym (ap answerNumber e ∙ answer-number (callEntry (p .arena) (p .table) h k room)))
-          (by-none (getEntry h k room) p (callEntry (p .arena) (p .table) h k room) (held (getEntry h k room) (H, K, R) refl) refl)
+          subst (Stays (p .arena) (p .table)) (sym (ap answerNumber (e .0) ∙ answer-number (callEntry (p .arena) (p .table) h k (length out))))
+          (by-none (getEntry h k (length out)) p (callEntry (p .arena) (p .table) h k (length out)) (held (getEntry h k (length out)) (H, K, R) refl) refl)
 
-      pub listing-keeps : (r : Listed) → r ≡ listedOf (callListing (p .arena) (p .table) h k room) → Stays (p .arena) (p .table) (listedNumber r)
+      pub listing-keeps : (r : Listed) → Lays listedOf (callListing (p .arena) (p .table) h k (length out)) out now r → Stays (p .arena) (p .table) (listedNumber r)
       unfolding does
       listing-keeps r e =
-          subst (Stays (p .arena) (p .table)) (sym (ap listedNumber e ∙ listed-number (callListing (p .arena) (p .table) h k room)))
-          (by-none (listing h k room) p (callListing (p .arena) (p .table) h k room) (held (listing h k room) (H, K, R) refl) refl)
+          subst (Stays (p .arena) (p .table)) (sym (ap listedNumber (e .0) ∙ listed-number (callListing (p .arena) (p .table) h k (length out))))
+          (by-none (listing h k (length out)) p (callListing (p .arena) (p .table) h k (length out)) (held (listing h k (length out)) (H, K, R) refl) refl)
 
-    pub close-keeps : (b : List ℕ) (r : answered.After) → Returned (p .table) (callClose (p .arena) (p .table) h) (p .arena) b r → Stays b (r .table) (answerNumber (r .answer))
+    pub close-keeps : (b : List ℕ) (r : answered.Reply) → Returned (p .table) (callClose (p .arena) (p .table) h) (p .arena) b r → Stays b (r .table) (answerNumber (r .answer))
     unfolding does
     close-keeps = by-return (close h) p (callClose (p .arena) (p .table) h) (held (close h) H refl) refl
 
-  pub sync-keeps : (b : List ℕ) (r : answered.After) → Returned (p .table) (callSync (p .arena) (p .table)) (p .arena) b r → Stays b (r .table) (answerNumber (r .answer))
+  pub sync-keeps : (b : List ℕ) (r : answered.Reply) → Returned (p .table) (callSync (p .arena) (p .table)) (p .arena) b r → Stays b (r .table) (answerNumber (r .answer))
   unfolding does
   sync-keeps = by-return sync p (callSync (p .arena) (p .table)) (held sync tt refl) refl
 
@@ -198,12 +198,12 @@ isDone (answers.Refused n) = false
 
 -- a format that is done leaves a passed pair
 pub format-fresh : (a : List ℕ) (time : Timespec) (file : List ℕ) → Bytes a → TimeFits time → length file ≡ 16 → Bytes file
-    → (b : List ℕ) (r : answered.After) → Returned emptyTable (formatted (callFormat a time file)) a b r → r .answer ≡ answers.Done → Passed (pair b (r .table))
+    → (b : List ℕ) (r : answered.Reply) → Returned emptyTable (formatted (callFormat a time file)) a b r → r .answer ≡ answers.Done → Passed (pair b (r .table))
 unfolding Fresh isDone
 format-fresh a time file A T L F b r = go (callFormat a time file) refl
   where
     go : (o : Out (List ℕ)) → callFormat a time file ≡ o → Returned emptyTable (formatted o) a b r → r .answer ≡ answers.Done → Passed (pair b (r .table))
     go (done x) e R z =
         subst (λ (b : List ℕ). Passed (pair b (r .table))) (sym (R .arena))
-        (subst (λ (r : answered.After). Passed (pair x (r .table))) (sym (R .answer)) (fresh a time file A T L F x e))
-    go (refused n) e R z = absurd (true-false refl (ap isDone (sym z ∙ ap (λ (x : answered.After). x .answer) (R .answer))))
+        (subst (λ (r : answered.Reply). Passed (pair x (r .table))) (sym (R .answer)) (fresh a time file A T L F x e))
+    go (refused n) e R z = absurd (true-false refl (ap isDone (sym z ∙ ap (λ (x : answered.Reply). x .answer) (R .answer))))

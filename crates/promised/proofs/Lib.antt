@@ -1,3 +1,4 @@
 pub mod Calls
 pub mod Checks
 pub mod Ones
+pub mod Owners

@@ -3,8 +3,8 @@ ghost use mathlib.Core.Path.{_≡_};
 ghost use Prim.Native.Nat.{_+_, _≤_};
 ghost use lib.ListN.{length};
 ghost use Rattle.script.specs.Shape.{named1, named2};
-use calls::After;
-use calls::Given;
+use calls::HeldReply;
+use calls::Reply;
 use calls_create::New;
 use le::u16_at;
 use le::u32_at;
@@ -76,7 +76,7 @@ fn new_at(script: &[u8], at: usize) -> New
     }
 }
 
-fn create(script: &[u8], at: usize, desk: &[u8], arena: &mut [u8]) -> Given
+fn create(script: &[u8], at: usize, desk: &[u8], arena: &mut [u8]) -> HeldReply
     requires { ⌜ at + (named1 (now script) at 13 + 38) ≤ length (now script) ⌝ }
     requires { ⌜ length (now desk) ≡ 4387 ⌝ }
 {
@@ -103,7 +103,7 @@ pub fn call_create(
     put_given(desk, text, w, g)
 }
 
-fn link(script: &[u8], at: usize, desk: &[u8], arena: &mut [u8]) -> After
+fn link(script: &[u8], at: usize, desk: &[u8], arena: &mut [u8]) -> Reply
     requires { ⌜ at + (named1 (now script) at 13 + 12) ≤ length (now script) ⌝ }
     requires { ⌜ length (now desk) ≡ 4387 ⌝ }
 {

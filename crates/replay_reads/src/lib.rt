@@ -5,7 +5,7 @@ ghost use lib.ListN.{length};
 ghost use Rattle.le.specs.Le.{leAt};
 ghost use Rattle.script.specs.Shape.{There, named1};
 use base::index16;
-use calls::After;
+use calls::Reply;
 use calls_list::Moved;
 use calls_list::list_on;
 use fsck::Verdict;
@@ -107,7 +107,7 @@ fn call_metadata(
     put_told(text, w, t)
 }
 
-fn set(script: &[u8], at: usize, desk: &[u8], arena: &[u8]) -> After
+fn set(script: &[u8], at: usize, desk: &[u8], arena: &[u8]) -> Reply
     requires { ⌜ (at + 79 ≤ length (now script)) × (length (now desk) ≡ 4387) ⌝ }
 {
     calls_metadata::set_metadata(

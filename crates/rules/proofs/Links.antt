@@ -10,7 +10,7 @@ use Rattle.base.specs.Search.{pick}
 use Rattle.base.proofs.Bools.{and-both, and-parts, true-false}
 use Rattle.base.proofs.Sames.{test-fails}
 use Rattle.base.proofs.Tests.{decides-true, decides-iff, decides-eqb, decides-and, decides-if, decides-all}
-use Rattle.structs.specs.Verdict.{isFolder}
+use Rattle.structs.specs.Types.{isFolder}
 use Rattle.table.specs.declared.Table.{Table}
 use Rattle.rules.specs.Image.{idsIn, isNode, recOf, isOpen, isFolderAt, named, subfolders}
 use Rattle.rules.specs.Rules.{Linked, Removed, Rule7}

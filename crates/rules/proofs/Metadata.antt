@@ -18,7 +18,7 @@ use Rattle.arena.specs.Blocks.{legal}
 use Rattle.sound.specs.Sound.{sound}
 use Rattle.files.specs.Read.{lengthOf}
 use Rattle.sefs.specs.Meta.{metaFile}
-use Rattle.rules.specs.Image.{superIn, mapsIn, idsIn, isNode, storedBytes}
+use Rattle.rules.specs.Image.{storedSuper, storedMaps, idsIn, isNode, storedBytes}
 use Rattle.rules.specs.Rules.{Rule1, Rule2, Rule3, Rule4}
 use Rattle.rules.specs.Tests.{test1, test2, test3, test4, rowAllowed}
 use Rattle.rules.proofs.General.{decides-false}
@@ -45,11 +45,11 @@ decides-3 a =
       unused = p .1 .1 .1 .1 .1;
     })
     (λ r. (r .magic, (r .some, (r .few, (r .length, (r .blocks, r .unused))))))
-    (decides-and (decides-eqb (superIn a .magic) sefsMagic)
-    (decides-and (decides-leb 1 (superIn a .groups))
-    (decides-and (decides-leb (superIn a .groups) 4)
-    (decides-and (decides-eqb (lengthOf a metaFile) (131072 * superIn a .groups))
-    (decides-and (decides-eqb (superIn a .blocks) (1024 * superIn a .groups)) (decides-eqb (superIn a .unused) (setBits (mapsIn a) (idsIn a))))))))
+    (decides-and (decides-eqb (storedSuper a .magic) sefsMagic)
+    (decides-and (decides-leb 1 (storedSuper a .groups))
+    (decides-and (decides-leb (storedSuper a .groups) 4)
+    (decides-and (decides-eqb (lengthOf a metaFile) (131072 * storedSuper a .groups))
+    (decides-and (decides-eqb (storedSuper a .blocks) (1024 * storedSuper a .groups)) (decides-eqb (storedSuper a .unused) (setBits (storedMaps a) (idsIn a))))))))
 
 -- ---- 4
 
@@ -82,9 +82,9 @@ decides-4 a t =
       clean = λ i l used. p .1 .1 .1 i l used .1;
     })
     (λ r. (r .zero, (r .two, (r .maps, λ i l used. (r .node i l used, r .clean i l used)))))
-    (decides-and (decides-false (bitAt (mapsIn a) 0))
-    (decides-and (decides-false (bitAt (mapsIn a) 2))
+    (decides-and (decides-false (bitAt (storedMaps a) 0))
+    (decides-and (decides-false (bitAt (storedMaps a) 2))
     (decides-and
-    (decides-all (superIn a .groups) (λ g. not (bitAt (mapsIn a) (1024 * g + 1))) (λ g. bitAt (mapsIn a) (1024 * g + 1) ≡ false)
-    (λ g l. decides-false (bitAt (mapsIn a) (1024 * g + 1))))
+    (decides-all (storedSuper a .groups) (λ g. not (bitAt (storedMaps a) (1024 * g + 1))) (λ g. bitAt (storedMaps a) (1024 * g + 1) ≡ false)
+    (λ g l. decides-false (bitAt (storedMaps a) (1024 * g + 1))))
     (decides-all 34 (rowAllowed a t) (RowAllowed a t) (λ i l. decides-row a t i)))))

@@ -9,7 +9,7 @@ use Rattle.base.specs.Search.{pick}
 use Rattle.base.specs.declared.Found.{Found}
 use Rattle.base.specs.declared.Found.the-variants.{At, Nothing}
 use Rattle.structs.specs.Layout.{superOf, recordOf, entryOf}
-use Rattle.structs.specs.Verdict.{isFolder}
+use Rattle.structs.specs.Types.{isFolder}
 use Rattle.structs.specs.declared.SuperBlock.{SuperBlock}
 use Rattle.structs.specs.declared.DiskINode.{DiskINode}
 use Rattle.structs.specs.declared.DiskEntry.{DiskEntry}
@@ -27,26 +27,26 @@ run a f pos n = tab (byteAt a f) pos n
 
 -- ---- the metadata file
 
-unfoldable pub superIn : List ℕ → SuperBlock
-superIn a = superOf (run a metaFile 0 16)
+unfoldable pub storedSuper : List ℕ → SuperBlock
+storedSuper a = superOf (run a metaFile 0 16)
 
 -- the maps of the first n groups, joined
 unfoldable pub mapsTo : List ℕ → ℕ → List ℕ
 mapsTo a zero = []
 mapsTo a (suc n) = mapsTo a n ++ run a metaFile (mapAt n) 128
 
-unfoldable pub mapsIn : List ℕ → List ℕ
-mapsIn a = mapsTo a (superIn a .groups)
+unfoldable pub storedMaps : List ℕ → List ℕ
+storedMaps a = mapsTo a (storedSuper a .groups)
 
 -- "Group g owns blocks 1024g to 1024g+1023": how many there are
 abbrev pub idsIn : List ℕ → ℕ
-idsIn a = 1024 * superIn a .groups
+idsIn a = 1024 * storedSuper a .groups
 
 -- ---- nodes
 
 -- "Bits 0, 2 and 1024g+1 are clear. Every other clear bit, and 2, is a node."
 unfoldable pub isNode : List ℕ → ℕ → Bool
-isNode a id = ltb id (idsIn a) && (not (eqb id 0) && (not (eqb (id % 1024) 1) && not (bitAt (mapsIn a) id)))
+isNode a id = ltb id (idsIn a) && (not (eqb id 0) && (not (eqb (id % 1024) 1) && not (bitAt (storedMaps a) id)))
 
 -- "Record, 112 bytes at 128 x id"
 unfoldable pub storedBytes : List ℕ → ℕ → List ℕ

@@ -20,7 +20,7 @@ use Rattle.sound.specs.Sound.{sound}
 use Rattle.files.specs.Read.{there, lengthOf}
 use Rattle.sefs.specs.Meta.{metaFile}
 use Rattle.sefs.specs.Nodes.{nodeFile}
-use Rattle.rules.specs.Image.{superIn, mapsIn, idsIn, isNode, storedBytes, recOf, isOpen, isFolderAt, slotIn, named, subfolders, parentOf, climb}
+use Rattle.rules.specs.Image.{storedSuper, storedMaps, idsIn, isNode, storedBytes, recOf, isOpen, isFolderAt, slotIn, named, subfolders, parentOf, climb}
 
 -- 1. "Arena of legal length and sound."
 pub record Rule1 (a : List ℕ) : Type 0 where
@@ -34,18 +34,18 @@ pub record Rule2 (t : Table) : Type 0 where
 -- 3. "Magic; groups 1 to 4; metadata length 131072 x groups; blocks 1024 x groups; unused is the number of set bits." (A missing file
 -- has length 0.)
 pub record Rule3 (a : List ℕ) : Type 0 where
-  pub magic : superIn a .magic ≡ sefsMagic
-  pub some : 1 ≤ superIn a .groups
-  pub few : superIn a .groups ≤ 4
-  pub length : lengthOf a metaFile ≡ 131072 * superIn a .groups
-  pub blocks : superIn a .blocks ≡ 1024 * superIn a .groups
-  pub unused : superIn a .unused ≡ setBits (mapsIn a) (idsIn a)
+  pub magic : storedSuper a .magic ≡ sefsMagic
+  pub some : 1 ≤ storedSuper a .groups
+  pub few : storedSuper a .groups ≤ 4
+  pub length : lengthOf a metaFile ≡ 131072 * storedSuper a .groups
+  pub blocks : storedSuper a .blocks ≡ 1024 * storedSuper a .groups
+  pub unused : storedSuper a .unused ≡ setBits (storedMaps a) (idsIn a)
 
 -- 4. "Bits 0, 2 and 1024g+1 are clear .. Row ids are nodes; a clean row equals its stored record."
 pub record Rule4 (a : List ℕ) (t : Table) : Type 0 where
-  pub zero : bitAt (mapsIn a) 0 ≡ false
-  pub two : bitAt (mapsIn a) 2 ≡ false
-  pub maps : (g : ℕ) → g < superIn a .groups → bitAt (mapsIn a) (1024 * g + 1) ≡ false
+  pub zero : bitAt (storedMaps a) 0 ≡ false
+  pub two : bitAt (storedMaps a) 2 ≡ false
+  pub maps : (g : ℕ) → g < storedSuper a .groups → bitAt (storedMaps a) (1024 * g + 1) ≡ false
   pub node : (i : ℕ) → i < 34 → rowAt t i .id ≢ 0 → isNode a (rowAt t i .id) ≡ true
   pub clean : (i : ℕ) → i < 34 → rowAt t i .id ≢ 0 → rowAt t i .dirty ≡ false → recordBytes (rowAt t i .rec) ≡ storedBytes a (rowAt t i .id)
 

@@ -8,7 +8,7 @@ use Rattle.base.specs.Decides.{same, firstFail}
 use Rattle.base.specs.Search.{pick, lowest}
 use Rattle.structs.specs.Constants.{sefsMagic}
 use Rattle.structs.specs.Layout.{recordBytes}
-use Rattle.structs.specs.Verdict.{isFolder}
+use Rattle.structs.specs.Types.{isFolder}
 use Rattle.structs.specs.declared.DiskINode.{DiskINode}
 use Rattle.structs.specs.declared.DiskEntry.{DiskEntry}
 use Rattle.maps.specs.Maps.{bitAt, setBits}
@@ -24,7 +24,7 @@ use Rattle.files.specs.Read.{there, lengthOf}
 use Rattle.sefs.specs.Meta.{metaFile}
 use Rattle.sefs.specs.Nodes.{nodeFile}
 use Rattle.sefs.specs.Slots.{isEnded}
-use Rattle.rules.specs.Image.{superIn, mapsIn, idsIn, isNode, storedBytes, recOf, isOpen, isFolderAt, slotIn, laterSlot, laterSlots, namesIn, named, subfolders, parentOf, climb}
+use Rattle.rules.specs.Image.{storedSuper, storedMaps, idsIn, isNode, storedBytes, recOf, isOpen, isFolderAt, slotIn, laterSlot, laterSlots, namesIn, named, subfolders, parentOf, climb}
 
 unfoldable pub test1 : List ℕ → Bool
 test1 a = legal a && sound a
@@ -34,11 +34,11 @@ test2 t = wellFormed t
 
 unfoldable pub test3 : List ℕ → Bool
 test3 a =
-    eqb (superIn a .magic) sefsMagic
-    && (leb 1 (superIn a .groups)
-    && (leb (superIn a .groups) 4
-    && (eqb (lengthOf a metaFile) (131072 * superIn a .groups)
-    && (eqb (superIn a .blocks) (1024 * superIn a .groups) && eqb (superIn a .unused) (setBits (mapsIn a) (idsIn a))))))
+    eqb (storedSuper a .magic) sefsMagic
+    && (leb 1 (storedSuper a .groups)
+    && (leb (storedSuper a .groups) 4
+    && (eqb (lengthOf a metaFile) (131072 * storedSuper a .groups)
+    && (eqb (storedSuper a .blocks) (1024 * storedSuper a .groups) && eqb (storedSuper a .unused) (setBits (storedMaps a) (idsIn a))))))
 
 -- ---- 4
 
@@ -50,9 +50,9 @@ rowAllowed a t i =
 
 unfoldable pub test4 : List ℕ → Table → Bool
 test4 a t =
-    not (bitAt (mapsIn a) 0)
-    && (not (bitAt (mapsIn a) 2)
-    && (allTo (λ g. not (bitAt (mapsIn a) (1024 * g + 1))) (superIn a .groups) && allTo (rowAllowed a t) 34))
+    not (bitAt (storedMaps a) 0)
+    && (not (bitAt (storedMaps a) 2)
+    && (allTo (λ g. not (bitAt (storedMaps a) (1024 * g + 1))) (storedSuper a .groups) && allTo (rowAllowed a t) 34))
 
 -- ---- 5
 

@@ -6,11 +6,11 @@ use crate::text::put_number;
 use crate::text::put_signed;
 use crate::text::put_value;
 use crate::text::put_word;
-use calls::After;
 use calls::Answer;
-use calls::Given;
 use calls::Got;
+use calls::HeldReply;
 use calls::Listed;
+use calls::Reply;
 use calls::Told;
 use sefs::Metadata;
 use structs::Timespec;
@@ -204,7 +204,7 @@ pub fn put_fail(text: &mut [u8], w: usize, rule: u8) -> usize
 
 // ---- answers with a table: the desk takes it
 
-pub fn put_after(desk: &mut [u8], text: &mut [u8], w: usize, a: After) -> usize
+pub fn put_after(desk: &mut [u8], text: &mut [u8], w: usize, a: Reply) -> usize
     requires { ⌜ (length (now desk) ≡ 4387) × (w + 24 ≤ length (now text)) ⌝ }
     ensures { λ r. ⌜ r ≤ w + 24 ⌝ }
 {
@@ -215,7 +215,7 @@ pub fn put_after(desk: &mut [u8], text: &mut [u8], w: usize, a: After) -> usize
 }
 
 // Format and open set the empty table on success only.
-pub fn put_fresh(desk: &mut [u8], text: &mut [u8], w: usize, a: After) -> usize
+pub fn put_fresh(desk: &mut [u8], text: &mut [u8], w: usize, a: Reply) -> usize
     requires { ⌜ (length (now desk) ≡ 4387) × (w + 24 ≤ length (now text)) ⌝ }
     ensures { λ r. ⌜ r ≤ w + 24 ⌝ }
 {
@@ -226,7 +226,7 @@ pub fn put_fresh(desk: &mut [u8], text: &mut [u8], w: usize, a: After) -> usize
     }
 }
 
-pub fn put_given(desk: &mut [u8], text: &mut [u8], w: usize, g: Given) -> usize
+pub fn put_given(desk: &mut [u8], text: &mut [u8], w: usize, g: HeldReply) -> usize
     requires { ⌜ (length (now desk) ≡ 4387) × (w + 45 ≤ length (now text)) ⌝ }
     ensures { λ r. ⌜ r ≤ w + 45 ⌝ }
 {

@@ -4,7 +4,7 @@ use mathlib.Core.List.{List}
 use Prim.Native.Nat.{ℕ}
 use lib.ListN.{length}
 use lib.Dec.{eqb, ltb, leb}
-use Rattle.structs.specs.Verdict.{isFolder, isType}
+use Rattle.structs.specs.Types.{isFolder, isType}
 use Rattle.base.specs.Out.{Out, done, refused, ensure, _>>=_}
 use Rattle.base.specs.Reasons.{badArena, damaged, badTable, badHandle, badName, notDir, dirRemoved, nameTooLong, stuck, entryExist, isDir}
 use Rattle.base.specs.declared.Found.{Found}

@@ -4,7 +4,7 @@ use mathlib.Core.List.{List, [], _∷_}
 use Prim.Native.Nat.{ℕ}
 use lib.ListN.{length, replicate}
 use lib.Dec.{eqb, ltb}
-use Rattle.structs.specs.Verdict.{isFolder, isType}
+use Rattle.structs.specs.Types.{isFolder, isType}
 use Rattle.structs.specs.Constants.{sefsMagic, typeDir}
 use Rattle.base.specs.Out.{Out, done, refused, ensure, _>>=_}
 use Rattle.base.specs.Reasons.{badArena, invalidParam, isDir, entryExist, fileTaken, tooManyLinks, tableFull}

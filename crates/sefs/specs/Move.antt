@@ -9,11 +9,11 @@ use Rattle.base.specs.Search.{pick}
 use Rattle.base.specs.declared.Found.{Found}
 use Rattle.base.specs.declared.Found.the-variants.{At, Nothing}
 use Rattle.structs.specs.Layout.{entryBytes}
-use Rattle.structs.specs.Verdict.{isFolder, verdictOf}
+use Rattle.structs.specs.Types.{isFolder, moveVerdictOf}
 use Rattle.structs.specs.declared.DiskINode.{DiskINode}
 use Rattle.structs.specs.declared.DiskEntry.{DiskEntry}
-use Rattle.structs.specs.declared.Verdict.{Verdict}
-use Rattle.structs.specs.declared.Verdict.the-variants.{Allowed, NotDir, IsDir, IfEmpty}
+use Rattle.structs.specs.declared.MoveVerdict.{MoveVerdict}
+use Rattle.structs.specs.declared.MoveVerdict.the-variants.{Allowed, NotDir, IsDir, IfEmpty}
 use Rattle.table.specs.declared.Table.{Table}
 use Rattle.table.specs.declared.Handle.{Handle}
 use Rattle.table.specs.Table.{rowAt}
@@ -33,7 +33,7 @@ readSlots s i (suc n) = do
   done s
 
 -- "folder onto folder 13 if the replaced one has over 2 slots"; those there are, are read
-abbrev pub judge : Verdict → Fs → ℕ → Out Fs
+abbrev pub judge : MoveVerdict → Fs → ℕ → Out Fs
 judge Allowed s d = done s
 judge NotDir s d = refused notDir
 judge IsDir s d = refused isDir
@@ -94,7 +94,7 @@ moveSteps s i j old name r = do
 -- node c goes in the place of node d, which slot k of the target names; the opening of c ends here
 unfoldable pub moveOnto : Fs → ℕ → ℕ → List ℕ → List ℕ → ℕ → ℕ → ℕ → Out After
 moveOnto s i j old name c d k = do
-  s ← judge (verdictOf (recAt s c .kind) (recAt s d .kind)) s d
+  s ← judge (moveVerdictOf (recAt s c .kind) (recAt s d .kind)) s d
   s ← release s c
   moveSteps s i j old name (node d k)
 

@@ -3,7 +3,7 @@ use mathlib.Core.Bool.{Bool, true, false, not, _&&_}
 use mathlib.Core.List.{List, [], _++_}
 use Prim.Native.Nat.{ℕ, zero, suc, _+_, _-_, _*_, _/_, _%_, _^_, min}
 use lib.Dec.{eqb, ltb, leb}
-use Rattle.structs.specs.Verdict.{isFolder}
+use Rattle.structs.specs.Types.{isFolder}
 use Rattle.base.specs.Out.{Out, done, refused, ensure, guard, _>>=_}
 use Rattle.base.specs.Reasons.{entryNotFound, outFull, stuck}
 use Rattle.base.specs.Search.{pick}

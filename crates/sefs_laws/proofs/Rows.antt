@@ -11,12 +11,12 @@ use Rattle.base.specs.Search.{pick}
 use Rattle.base.specs.declared.Found.{Found}
 use Rattle.base.specs.declared.Found.the-variants.{At, Nothing}
 use Rattle.structs.specs.Layout.{recordOf}
-use Rattle.structs.specs.Verdict.{isFolder, isType, verdictOf}
+use Rattle.structs.specs.Types.{isFolder, isType, moveVerdictOf}
 use Rattle.structs.specs.declared.DiskINode.{DiskINode}
 use Rattle.structs.specs.declared.DiskEntry.{DiskEntry}
 use Rattle.structs.specs.declared.Timespec.{Timespec}
-use Rattle.structs.specs.declared.Verdict.{Verdict}
-use Rattle.structs.specs.declared.Verdict.the-variants.{Allowed, NotDir, IsDir, IfEmpty}
+use Rattle.structs.specs.declared.MoveVerdict.{MoveVerdict}
+use Rattle.structs.specs.declared.MoveVerdict.the-variants.{Allowed, NotDir, IsDir, IfEmpty}
 use Rattle.arena.specs.Fields.{file}
 use Rattle.files.specs.Read.{there}
 use Rattle.table.specs.declared.Table.{Table}
@@ -109,7 +109,7 @@ module _ (P : Table → Type 0) where
   leaves-read s i zero h = went h
   leaves-read s i (suc n) h = ok-bind (leaves-read s i n h) λ u k. ok-bind (says-slot Any tt _ _ _) λ e _. went k
 
-  leaves-judge : (v : Verdict) (s : Fs) (d : ℕ) → P (s .table) → Leaves P (judge v s d)
+  leaves-judge : (v : MoveVerdict) (s : Fs) (d : ℕ) → P (s .table) → Leaves P (judge v s d)
   leaves-judge Allowed s d h = went h
   leaves-judge NotDir s d h = said tt
   leaves-judge IsDir s d h = said tt
@@ -286,7 +286,7 @@ module _ (P : Table → Type 0) (change : Changes P) where
       leaves-onto : (s : Fs) (i j : ℕ) (old name : List ℕ) (c d k : ℕ) → P (s .table) → LeavesAfter P (moveOnto s i j old name c d k)
       unfolding moveOnto
       leaves-onto s i j old name c d k h =
-          ok-bind (leaves-judge P (verdictOf (recAt s c .kind) (recAt s d .kind)) s d h) λ s h.
+          ok-bind (leaves-judge P (moveVerdictOf (recAt s c .kind) (recAt s d .kind)) s d h) λ s h.
           ok-bind (leaves-release s c h) λ s h. leaves-move-steps s i j old name (node d k) h
 
       leaves-replace : (s : Fs) (i j : ℕ) (old name : List ℕ) (k : ℕ) → P (s .table) → LeavesAfter P (replace s i j old name k)

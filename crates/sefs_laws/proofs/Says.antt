@@ -5,7 +5,7 @@ use Prim.Native.Nat.{ℕ, zero, suc, _+_, _-_}
 use lib.Dec.{eqb, ltb, leb}
 use lib.ListN.{length}
 use Rattle.structs.specs.Layout.{superOf, recordOf, entryOf}
-use Rattle.structs.specs.Verdict.{isFolder, isType}
+use Rattle.structs.specs.Types.{isFolder, isType}
 use Rattle.utf8.specs.Names.{storedName, isNamed}
 use Rattle.base.specs.Out.{Out, done, bind, guard, ensure, Ok, went, said}
 use Rattle.base.proofs.Outs.{ok-bind, ok-weaken}

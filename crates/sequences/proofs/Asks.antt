@@ -14,7 +14,7 @@ use Rattle.base.proofs.Outs.{ok-bind, ok-weaken}
 use Rattle.base.specs.declared.Found.{Found}
 use Rattle.base.specs.declared.Found.the-variants.{Nothing}
 use Rattle.le.specs.Le.{Bytes}
-use Rattle.structs.specs.Verdict.{isFolder}
+use Rattle.structs.specs.Types.{isFolder}
 use Rattle.structs.specs.declared.DiskINode.{DiskINode}
 use Rattle.utf8.specs.Names.{GoodName}
 use Rattle.table.specs.declared.Table.{Table}

@@ -14,7 +14,7 @@ use Rattle.base.proofs.Bools.{and-both, and-parts, true-false}
 use Rattle.base.proofs.Sames.{decided-yes}
 use Rattle.base.proofs.Tests.{decides-leb}
 use Rattle.base.specs.Search.{pick}
-use Rattle.structs.specs.Verdict.{isFolder}
+use Rattle.structs.specs.Types.{isFolder}
 use Rattle.maps.specs.Maps.{bitAt}
 use Rattle.table.specs.declared.Row.{Row}
 use Rattle.table.specs.Table.{rowAt}
@@ -26,9 +26,9 @@ use Rattle.sefs.specs.Slots.{Slot}
 use Rattle.sefs.specs.Folders.{nlinksInc}
 use Rattle.sefs.specs.Create.{After, after}
 use Rattle.sefs.specs.Move.{Replaced, none, node, removeReplaced, renamed, moveDots, moveLinks, moveBetween}
-use Rattle.rules.specs.Image.{superIn, mapsIn, idsIn, isNode, recOf}
+use Rattle.rules.specs.Image.{storedSuper, storedMaps, idsIn, isNode, recOf}
 use Rattle.sequences.specs.Pairs.{pair, Passed}
-use Rattle.image.specs.Midway.{Used, metaIn, Midway}
+use Rattle.image.specs.Midway.{Used, storedMeta, Midway}
 use Rattle.image.proofs.Nodes.{meta-is}
 use Rattle.sequences.proofs.Passing.{midway-passed}
 use Rattle.image.proofs.Stores.{sync-mid}
@@ -48,15 +48,15 @@ use Rattle.image.proofs.Replacing.{replace-law}
 use Rattle.table_laws.specs.Rules as rules
 
 -- an id that the maps know, and that is none of a map's, is a node
-used-node : (a : List ℕ) (x : ℕ) → isUsed (metaIn a) x ≡ true → x % 1024 ≢ 1 → isNode a x ≡ true
+used-node : (a : List ℕ) (x : ℕ) → isUsed (storedMeta a) x ≡ true → x % 1024 ≢ 1 → isNode a x ≡ true
 unfolding isUsed isNode
 used-node a x u o =
-    let y = and-parts (not (eqb x 0)) (ltb x (idsIn a) && not (bitAt (mapsIn a) x)) u in
-    let z = and-parts (ltb x (idsIn a)) (not (bitAt (mapsIn a) x)) (y .1) in
+    let y = and-parts (not (eqb x 0)) (ltb x (idsIn a) && not (bitAt (storedMaps a) x)) u in
+    let z = and-parts (ltb x (idsIn a)) (not (bitAt (storedMaps a) x)) (y .1) in
     and-both (z .0) (and-both (y .0) (and-both (ap not (ne-eqb (x % 1024) 1 o)) (z .1)))
 
 -- the node that moves is open, in a row of the call's own
-record Ready (g c kd i j row : ℕ) (x : Fs) : Type 0 where
+record Carried (g c kd i j row : ℕ) (x : Fs) : Type 0 where
   hold : Holding (rules.also rules.none row) g c kd x
   mid : isFolder kd ≡ false → Midway (rules.also rules.none row) (x .arena) (x .table)
   from : Used (x .table) i
@@ -67,7 +67,7 @@ record Ready (g c kd i j row : ℕ) (x : Fs) : Type 0 where
 module _ (g c kd i j : ℕ) where
   -- ---- links
 
-  module _ (most : kd ≤ 4) (row : ℕ) (x : Fs) (Y : Ready g c kd i j row x) (links : 2 ≤ recAt x i .nlinks) where
+  module _ (most : kd ≤ 4) (row : ℕ) (x : Fs) (Y : Carried g c kd i j row x) (links : 2 ≤ recAt x i .nlinks) where
     abbrev x1 : Fs
     x1 = setRec x i (withLinks (recAt x i) (recAt x i .nlinks - 1))
 
@@ -89,7 +89,7 @@ module _ (g c kd i j : ℕ) where
     used-2 : (m : ℕ) → Used (x .table) m → Used (x2 .table) m
     used-2 m w = reset-used (x1 .table) (H1 .formed) j (used-1 j (Y .to)) (withLinks (recAt x1 j) (recAt x1 j .nlinks + 1)) m (used-1 m w)
 
-    dots : isFolder kd ≡ true → Ok (Ready g c kd i j row) Clear (moveDots x i j)
+    dots : isFolder kd ≡ true → Ok (Carried g c kd i j row) Clear (moveDots x i j)
     unfolding moveDots nlinksInc
     dots dir =
         rw (dec-is x i (omega arith))
@@ -106,17 +106,17 @@ module _ (g c kd i j : ℕ) where
               ∙ reset-id (x .table) (Y .hold .formed) i (Y .from) (withLinks (recAt x i) (recAt x i .nlinks - 1)) row ∙ Y .same;
         }))
 
-    links-law : Ok (Ready g c kd i j row) Clear (moveLinks x i j row)
+    links-law : Ok (Carried g c kd i j row) Clear (moveLinks x i j row)
     unfolding moveLinks
     links-law = rw (kind, decided-yes (decides-leb kd 4) most) (go (isFolder kd) refl)
       where
-        go : (b : Bool) → isFolder kd ≡ b → Ok (Ready g c kd i j row) Clear (pick b (moveDots x i j) (done x))
+        go : (b : Bool) → isFolder kd ≡ b → Ok (Carried g c kd i j row) Clear (pick b (moveDots x i j) (done x))
         go true e = dots e
         go false e = went Y
 
   -- ---- the records are stored, and the node is let go
 
-  sync-law : (row : ℕ) (x : Fs) → Ready g c kd i j row x → (m : ℕ) → Used (x .table) m → Ok (Ready g c kd i j row) Clear (syncRow x m)
+  sync-law : (row : ℕ) (x : Fs) → Carried g c kd i j row x → (m : ℕ) → Used (x .table) m → Ok (Carried g c kd i j row) Clear (syncRow x m)
   sync-law row x Y m w =
       ok-weaken
       (λ d h.
@@ -126,7 +126,7 @@ module _ (g c kd i j : ℕ) where
       clear-17
       (ok-when (isFolder kd) (holding-sync g c kd x (Y .hold) m w) (λ f. sync-mid x (Y .mid f) m w))
 
-  end-law : (row : ℕ) (x : Fs) → Ready g c kd i j row x → Ok (λ (d : Fs). isFolder kd ≡ false → Passed (pair (d .arena) (d .table))) Clear (release x row)
+  end-law : (row : ℕ) (x : Fs) → Carried g c kd i j row x → Ok (λ (d : Fs). isFolder kd ≡ false → Passed (pair (d .arena) (d .table))) Clear (release x row)
   end-law row x Y =
       ok-weaken (λ d h f. midway-passed (d .arena) (d .table) (h .1 f .mid)) clear-17
       (ok-when (isFolder kd) (last-holds g c kd x (Y .hold) row (Y .used) (Y .same)) (λ f. release-law x row (Y .mid f) (Y .used) (Y .hold .meta)))
@@ -135,7 +135,7 @@ module _ (g c kd i j : ℕ) where
 
 module _ (s : Fs) (i j : ℕ) (old : Slot) (name : List ℕ) (r : Replaced) (M : Moving s i j old name r) where
   abbrev g : ℕ
-  g = superIn (s .arena) .groups
+  g = storedSuper (s .arena) .groups
 
   abbrev c : ℕ
   c = old .entry .id
@@ -160,7 +160,7 @@ module _ (s : Fs) (i j : ℕ) (old : Slot) (name : List ℕ) (r : Replaced) (M :
       still : (n : ℕ) → Used (z .table) n → Used (R .table) n
       still n w = record { below = w .below; node = λ q. w .node (ap (λ (y : Row). y .id) (sym (R .rows n w)) ∙ q) }
 
-      ready : Ready g c kd i j (o .row) (o .state)
+      ready : Carried g c kd i j (o .row) (o .state)
       ready = record {
         hold = subst (Holding (rules.also rules.none (o .row)) g c kd) (sym (R .is)) (R .hold);
         mid = λ f. subst (λ (q : Opened). Midway (rules.also rules.none (q .row)) (q .state .arena) (q .state .table)) (sym (T f .is)) (T f .mid);

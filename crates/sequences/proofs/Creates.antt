@@ -18,7 +18,7 @@ use Rattle.base.proofs.Numbers.{lt-or-le}
 use Rattle.base.proofs.Tests.{decides-leb}
 use Rattle.le.specs.Le.{Bytes}
 use Rattle.structs.specs.Fits.{SuperFits, RecordFits, EntryFits}
-use Rattle.structs.specs.Verdict.{isFolder, isType}
+use Rattle.structs.specs.Types.{isFolder, isType}
 use Rattle.structs.specs.declared.DiskEntry.{DiskEntry}
 use Rattle.structs.specs.declared.DiskINode.{DiskINode}
 use Rattle.structs.specs.declared.Timespec.{Timespec}
@@ -40,7 +40,7 @@ use Rattle.sefs.specs.Nodes.{nodeFile, Opened, syncRow, newNode}
 use Rattle.sefs.specs.Folders.{entry}
 use Rattle.sefs.specs.Ask.{start}
 use Rattle.sefs.specs.Create.{Given, given, createSteps, callCreate}
-use Rattle.rules.specs.Image.{superIn, mapsIn, isNode, storedBytes, recOf, isFolderAt}
+use Rattle.rules.specs.Image.{storedSuper, storedMaps, isNode, storedBytes, recOf, isFolderAt}
 use Rattle.rules.specs.Rules.{Allowed}
 use Rattle.rules.proofs.Files.{node-below}
 use Rattle.sequences.specs.Pairs.{Pair, pair, Passed}
@@ -48,7 +48,7 @@ use Rattle.sequences.specs.Calls.{NewFits, create, does}
 use Rattle.sequences.specs.Promises.{Well}
 use Rattle.sequences.proofs.Passing.{allowed, well, midway-passed, passed-midway}
 use Rattle.sefs_laws.proofs.Says.{says-is, ensure-asks}
-use Rattle.image.specs.Midway.{Used, Fair, metaIn, Midway}
+use Rattle.image.specs.Midway.{Used, Fair, storedMeta, Midway}
 use Rattle.image.proofs.Handles.{admitted, handle-law}
 use Rattle.sefs_laws.proofs.Rows.{leaves-sync}
 use Rattle.image.proofs.Holds.{hold-mid}
@@ -66,16 +66,16 @@ use Rattle.image.proofs.Births.{bred-fair}
 use Rattle.image.proofs.Breeds.{Stage, Bare, Settled, named-law, birth-law, slot-law}
 
 -- superblock and maps of a fair image
-fair-sane : (a : List ℕ) (t : Table) → Fair a t → Bytes a → Sane (metaIn a)
-unfolding mapsIn
+fair-sane : (a : List ℕ) (t : Table) → Fair a t → Bytes a → Sane (storedMeta a)
+unfolding storedMaps
 fair-sane a t A b = record {
   magic = A .rule3 .magic;
   some = A .rule3 .some;
   few = A .rule3 .few;
   blocks = A .rule3 .blocks;
   unused = A .rule3 .unused;
-  long = length-mapsTo a (superIn a .groups);
-  bytes = bytes-mapsTo a b (superIn a .groups);
+  long = length-mapsTo a (storedSuper a .groups);
+  bytes = bytes-mapsTo a b (storedSuper a .groups);
   none = A .rule4 .zero;
   owns = A .rule4 .maps;
 }
@@ -153,14 +153,14 @@ module _ (a : List ℕ) (t : Table) (M : Midway none a t) (i : ℕ) (ui : Used t
   apart : ri .file ≢ uuid
   apart q = true-false (ap (λ (f : List ℕ). there a (file 1 f)) (sym q) ∙ was) absent
 
-  make : Ok (Makes (start a t) (metaIn a) new) (λ r. r ≡ 17) (newNode (start a t) kind mode time uuid)
+  make : Ok (Makes (start a t) (storedMeta a) new) (λ r. r ≡ 17) (newNode (start a t) kind mode time uuid)
   unfolding isNode
   make =
       let s = first-spare t (M .formed) in
-      new-node-law (start a t) (metaIn a) (meta-is a t A) (fair-sane a t A (M .bytes)) (there-meta a t A) (A .rule3 .length) (M .bytes) (A .rule1 .sound) (A .rule4 .node)
+      new-node-law (start a t) (storedMeta a) (meta-is a t A) (fair-sane a t A (M .bytes)) (there-meta a t A) (A .rule3 .length) (M .bytes) (A .rule1 .sound) (A .rule4 .node)
       (s .0) (s .1) uuid (named-node uuid (F .file) (F .bytes)) absent kind mode time
 
-  module _ (o : Opened) (Q : Makes (start a t) (metaIn a) (newRecord kind mode time uuid) o) where
+  module _ (o : Opened) (Q : Makes (start a t) (storedMeta a) (newRecord kind mode time uuid) o) where
     abbrev c : ℕ
     c = o .row
 

@@ -14,7 +14,7 @@ use Rattle.base.proofs.Outs.{ok-bind, ok-weaken}
 use Rattle.base.proofs.Bools.{true-T}
 use Rattle.base.specs.Search.{pick}
 use Rattle.le.specs.Le.{Bytes}
-use Rattle.structs.specs.Verdict.{isFolder}
+use Rattle.structs.specs.Types.{isFolder}
 use Rattle.structs.specs.declared.DiskINode.{DiskINode}
 use Rattle.structs.specs.declared.DiskEntry.{DiskEntry}
 use Rattle.utf8.specs.Names.{nameOf, GoodName, isNamed, isSpecial}

@@ -17,7 +17,7 @@ use Rattle.base.specs.Search.{lowest, foundBelow}
 use Rattle.base.specs.declared.Found.{Found}
 use Rattle.base.specs.declared.Found.the-variants.{At, Nothing}
 use Rattle.le.specs.Le.{Bytes}
-use Rattle.structs.specs.Verdict.{isFolder}
+use Rattle.structs.specs.Types.{isFolder}
 use Rattle.structs.specs.declared.DiskINode.{DiskINode}
 use Rattle.utf8.specs.Names.{GoodName, isNamed, isSpecial, nameVerdict, earlyReason}
 use Rattle.table.specs.declared.Table.{Table}

@@ -16,7 +16,7 @@ use Rattle.base.proofs.Searches.{upd-same, upd-other}
 use Rattle.le.specs.Le.{Bytes}
 use Rattle.structs.specs.Fits.{EntryFits}
 use Rattle.structs.specs.Layout.{entryBytes}
-use Rattle.structs.specs.Verdict.{isFolder}
+use Rattle.structs.specs.Types.{isFolder}
 use Rattle.structs.specs.declared.DiskINode.{DiskINode}
 use Rattle.structs.specs.declared.DiskEntry.{DiskEntry}
 use Rattle.utf8.specs.Names.{nameOf, nameBytes}
@@ -37,7 +37,7 @@ use Rattle.sefs.specs.Create.{After, after}
 use Rattle.sefs.specs.Move.{Replaced, none, node, renamed, removeReplaced, moveWithin}
 use Rattle.rules.specs.Image.{run, isNode, recOf, isOpen, slotIn, named}
 use Rattle.sequences.specs.Pairs.{pair, Passed}
-use Rattle.image.specs.Midway.{Used, metaIn, Fair, treeOf, Midway}
+use Rattle.image.specs.Midway.{Used, storedMeta, Fair, treeOf, Midway}
 use Rattle.tree.specs.Tree.{Tree, Tidy, folderAt}
 use Rattle.tree.proofs.Trees.{folder-is, names-differ}
 use Rattle.tree.proofs.Unnaming.{Unnames, MayGo, unnames-tidy}
@@ -196,7 +196,7 @@ module _ (s : Fs) (i : ℕ) (old : Slot) (name : List ℕ) (r : Replaced) (H : M
       fits = H .mid .fits;
     }
 
-    metas : s .meta ≡ done (metaIn b)
+    metas : s .meta ≡ done (storedMeta b)
     metas = H .meta ∙ λ x. done (record { super = sym (super-kept a b K) x; maps = sym (maps-kept a b K) x })
 
     last : slotBytes b ri (ri .blocks - 1) ≡ done (run b (nodeFile ri) (264 * (ri .blocks - 1)) 264)

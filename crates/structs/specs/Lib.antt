@@ -1,4 +1,4 @@
 pub mod Constants
 pub mod Layout
 pub mod Fits
-pub mod Verdict
+pub mod Types

@@ -13,7 +13,7 @@ use Rattle.base.proofs.Bools.{bool-cases, true-false}
 use Rattle.base.proofs.Counts.{sumTo-cong, sumTo-join, sumTo-zero, countTo-cong, countTo-none}
 use Rattle.base.proofs.Finds.{eq-cases}
 use Rattle.structs.specs.Constants.{typeDir}
-use Rattle.structs.specs.Verdict.{isFolder}
+use Rattle.structs.specs.Types.{isFolder}
 use Rattle.structs.specs.declared.DiskEntry.{DiskEntry}
 use Rattle.utf8.specs.Names.{nameOf}
 use Rattle.tree.proofs.Trees.{pick-like, folder-is, parent-lives}

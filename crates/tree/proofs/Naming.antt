@@ -14,7 +14,7 @@ use Rattle.base.proofs.Bools.{bool-cases, true-false}
 use Rattle.base.proofs.Counts.{sumTo-change, countTo-more, countTo-cong}
 use Rattle.base.proofs.Finds.{eq-cases}
 use Rattle.base.proofs.Numbers.{lt-or-le}
-use Rattle.structs.specs.Verdict.{isFolder}
+use Rattle.structs.specs.Types.{isFolder}
 use Rattle.structs.specs.declared.DiskEntry.{DiskEntry}
 use Rattle.utf8.specs.Names.{nameOf, zeroAt, EndedAt}
 use Rattle.tree.proofs.Trees.{pick-like, folder-is, lives-linked, none-removed, parent-lives, up-first}

@@ -12,7 +12,7 @@ use Rattle.base.specs.Search.{pick}
 use Rattle.base.proofs.Bools.{true-false, and-false}
 use Rattle.base.proofs.Counts.{sumTo-change, countTo-cong, countTo-change}
 use Rattle.base.proofs.Finds.{eq-cases}
-use Rattle.structs.specs.Verdict.{isFolder}
+use Rattle.structs.specs.Types.{isFolder}
 use Rattle.structs.specs.declared.DiskEntry.{DiskEntry}
 use Rattle.utf8.specs.Names.{nameOf, zeroAt, EndedAt}
 use Rattle.tree.specs.Tree.{Tree, folderAt, namesOf, allNames, subsOf, parent, up, LaterIn, FolderIn, LinkedIn, RemovedIn, Lives, NamedBy, Tidy}

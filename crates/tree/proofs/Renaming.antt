@@ -10,7 +10,7 @@ use lib.Dec.{eqb}
 use Rattle.base.specs.Count.{sumTo, countTo}
 use Rattle.base.specs.Search.{pick}
 use Rattle.base.proofs.Finds.{eq-cases}
-use Rattle.structs.specs.Verdict.{isFolder}
+use Rattle.structs.specs.Types.{isFolder}
 use Rattle.structs.specs.declared.DiskEntry.{DiskEntry}
 use Rattle.utf8.specs.Names.{nameOf, zeroAt, EndedAt}
 use Rattle.tree.proofs.Unnaming.{Unnames}

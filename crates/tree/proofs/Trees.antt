@@ -8,7 +8,7 @@ use borrow.Author.Tests.{eq-eqb, ne-eqb}
 use Rattle.base.proofs.Finds.{eq-cases}
 use Rattle.base.specs.Search.{pick}
 use native.Mathlib.Omega.{arith}
-use Rattle.structs.specs.Verdict.{isFolder}
+use Rattle.structs.specs.Types.{isFolder}
 use Rattle.base.proofs.Bools.{and-parts}
 use Rattle.base.proofs.Numbers.{lt-or-le}
 use Rattle.utf8.specs.Names.{nameOf}

@@ -13,7 +13,7 @@ use Rattle.base.proofs.Bools.{bool-cases, true-false}
 use Rattle.base.proofs.Counts.{sumTo-change, countTo-more, countTo-cong, countTo-change}
 use Rattle.base.proofs.Finds.{eq-cases}
 use Rattle.base.proofs.Numbers.{lt-or-le}
-use Rattle.structs.specs.Verdict.{isFolder}
+use Rattle.structs.specs.Types.{isFolder}
 use Rattle.structs.specs.declared.DiskEntry.{DiskEntry}
 use Rattle.tree.proofs.Trees.{pick-like, folder-is, lives-linked, parent-lives, names-differ}
 use Rattle.tree.specs.Tree.{Tree, folderAt, namesOf, allNames, subsOf, parent, up, LaterIn, FolderIn, LinkedIn, RemovedIn, Lives, NamedBy, Tidy}

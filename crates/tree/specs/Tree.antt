@@ -8,7 +8,7 @@ use lib.Dec.{eqb}
 use Rattle.base.specs.Count.{sumTo, countTo}
 use Rattle.base.specs.Search.{pick}
 use Rattle.structs.specs.Constants.{typeDir}
-use Rattle.structs.specs.Verdict.{isFolder}
+use Rattle.structs.specs.Types.{isFolder}
 use Rattle.structs.specs.declared.DiskEntry.{DiskEntry}
 use Rattle.utf8.specs.Names.{nameOf, zeroAt, EndedAt}
 

@@ -1,6 +1,6 @@
 -- `calls_close::close`: memory has the table, and what the call left there is settled.
 use Rattle.sefs.specs.Close.{callClose}
-use Rattle.calls_steps.proofs.Ends.{returned-table}
+use Rattle.steps.proofs.Ends.{returned-table}
 use borrow.Author.Needs.{needs}
 use Rattle.calls_close.proofs.close.Statement.{statement}
 use Rattle.calls_close.proofs.close.Tie as tie

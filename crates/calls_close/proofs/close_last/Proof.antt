@@ -1,6 +1,6 @@
 -- `calls_close::close_last`: the workspace is ready.
 use native.Mathlib.Omega.{arith}
-use Rattle.calls_steps.proofs.Ends.{started}
+use Rattle.steps.proofs.Ends.{started}
 use borrow.Author.Needs.{needs}
 use Rattle.calls_close.proofs.close_last.Statement.{statement}
 use Rattle.calls_close.proofs.close_last.Tie as tie

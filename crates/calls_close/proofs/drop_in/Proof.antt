@@ -2,7 +2,7 @@
 use mathlib.Core.Path.{refl}
 use Rattle.base.proofs.Outs.{went-has}
 use Rattle.sefs.specs.Nodes.{dropNode}
-use Rattle.calls_steps.proofs.Ends.{fs-begun, ended-not, ended-done}
+use Rattle.steps.proofs.Ends.{fs-begun, ended-not, ended-done}
 use borrow.Author.Needs.{needs}
 use Rattle.calls_close.proofs.drop_in.Statement.{statement}
 use Rattle.calls_close.proofs.drop_in.Tie as tie

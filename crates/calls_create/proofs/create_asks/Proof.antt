@@ -1,11 +1,11 @@
 -- `calls_create::create_asks`: question after question.
 use Rattle.table.specs.Table.{canHold}
 use Rattle.mem.specs.Mem.{tableIn}
-use Rattle.nodes.specs.Steps.{fsAt}
 use Rattle.calls_create.proofs.Creates.{work-ask, work-free}
 use borrow.Author.Needs.{needs}
 use Rattle.calls_create.proofs.create_asks.Statement.{statement}
 use Rattle.calls_create.proofs.create_asks.Tie as tie
+use Rattle.mem.specs.State.{fsAt}
 
 rec-at-requires : tie.Need-rec-at-requires
 rec-at-requires c κs = search needs

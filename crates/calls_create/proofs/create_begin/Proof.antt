@@ -1,6 +1,6 @@
 -- `calls_create::create_begin`: the workspace is ready.
 use native.Mathlib.Omega.{arith}
-use Rattle.calls_steps.proofs.Ends.{started}
+use Rattle.steps.proofs.Ends.{started}
 use borrow.Author.Needs.{needs}
 use Rattle.calls_create.proofs.create_begin.Statement.{statement}
 use Rattle.calls_create.proofs.create_begin.Tie as tie

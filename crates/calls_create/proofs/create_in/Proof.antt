@@ -2,7 +2,7 @@
 use mathlib.Core.Path.{refl}
 use Rattle.base.proofs.Outs.{went-has}
 use Rattle.calls_create.specs.Create.{createMoves}
-use Rattle.calls_steps.proofs.Ends.{fs-begun}
+use Rattle.steps.proofs.Ends.{fs-begun}
 use Rattle.calls_create.proofs.Held.{opens-not, opens-done}
 use borrow.Author.Needs.{needs}
 use Rattle.calls_create.proofs.create_in.Statement.{statement}

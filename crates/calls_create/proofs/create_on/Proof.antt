@@ -1,6 +1,6 @@
 -- `calls_create::create_on`: what is asked first, and the steps.
 use mathlib.Core.Path.{refl}
-use Rattle.calls_steps.proofs.Ends.{rest-is, rest-has, rest-not}
+use Rattle.steps.proofs.Ends.{rest-is, rest-has, rest-not}
 use Rattle.calls_create.proofs.Held.{held-is, held-refused}
 use borrow.Author.Needs.{needs}
 use Rattle.calls_create.proofs.create_on.Statement.{statement}

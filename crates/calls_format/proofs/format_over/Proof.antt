@@ -1,6 +1,6 @@
 -- `calls_format::format_over`: the workspace is ready.
 use native.Mathlib.Omega.{arith}
-use Rattle.calls_steps.proofs.Ends.{started}
+use Rattle.steps.proofs.Ends.{started}
 use borrow.Author.Needs.{needs}
 use Rattle.calls_format.proofs.format_over.Statement.{statement}
 use Rattle.calls_format.proofs.format_over.Tie as tie

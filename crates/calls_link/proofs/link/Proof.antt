@@ -1,6 +1,6 @@
 -- `calls_link::link`: memory has the table, and what the call left there is settled.
 use Rattle.sefs.specs.Create.{callLink}
-use Rattle.calls_steps.proofs.Ends.{returned-table}
+use Rattle.steps.proofs.Ends.{returned-table}
 use borrow.Author.Needs.{needs}
 use Rattle.calls_link.proofs.link.Statement.{statement}
 use Rattle.calls_link.proofs.link.Tie as tie

@@ -1,9 +1,9 @@
 -- `calls_link::link_asks`: question after question.
-use Rattle.nodes.specs.Steps.{fsAt}
 use Rattle.calls_link.proofs.Links.{work-ask, work-slot, work-child}
 use borrow.Author.Needs.{needs}
 use Rattle.calls_link.proofs.link_asks.Statement.{statement}
 use Rattle.calls_link.proofs.link_asks.Tie as tie
+use Rattle.mem.specs.State.{fsAt}
 
 rec-at-requires : tie.Need-rec-at-requires
 rec-at-requires c κs = search needs

@@ -2,7 +2,7 @@
 use native.Mathlib.Omega.{arith}
 use mathlib.Core.List.{[]}
 use Rattle.base.proofs.Outs.{went-has}
-use Rattle.calls_steps.proofs.Steps.{rec-of}
+use Rattle.steps.proofs.Steps.{rec-of}
 use Rattle.calls_link.proofs.Links.{moves-stop, moves-inc, moves-done}
 use borrow.Author.Needs.{needs}
 use Rattle.calls_link.proofs.link_moves.Statement.{statement}

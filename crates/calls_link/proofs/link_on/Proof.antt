@@ -1,6 +1,6 @@
 -- `calls_link::link_on`: what is asked first, and the steps.
 use mathlib.Core.Path.{refl}
-use Rattle.calls_steps.proofs.Ends.{rest-is, rest-has, rest-not, ended-is, ended-refused}
+use Rattle.steps.proofs.Ends.{rest-is, rest-has, rest-not, ended-is, ended-refused}
 use borrow.Author.Needs.{needs}
 use Rattle.calls_link.proofs.link_on.Statement.{statement}
 use Rattle.calls_link.proofs.link_on.Tie as tie

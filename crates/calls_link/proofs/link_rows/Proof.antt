@@ -1,6 +1,6 @@
 -- `calls_link::link_rows`: the workspace is ready.
 use native.Mathlib.Omega.{arith}
-use Rattle.calls_steps.proofs.Ends.{started}
+use Rattle.steps.proofs.Ends.{started}
 use borrow.Author.Needs.{needs}
 use Rattle.calls_link.proofs.link_rows.Statement.{statement}
 use Rattle.calls_link.proofs.link_rows.Tie as tie

@@ -1,6 +1,6 @@
 -- `calls_move::good_names`: question after question.
 use Rattle.sefs.specs.Ask.{goodName}
-use Rattle.calls_steps.proofs.Steps.{asks-good}
+use Rattle.steps.proofs.Steps.{asks-good}
 use Rattle.calls.proofs.Asks.{asked-went}
 use Rattle.calls_move.specs.Parts.{goodTwo}
 use Rattle.calls_move.proofs.Asks.{pair-stop, pair-next}

@@ -4,7 +4,7 @@ use native.Mathlib.Omega.{arith}
 use Rattle.base.proofs.Outs.{went-has}
 use Rattle.structs.specs.Layout.{entryOf}
 use Rattle.calls_move.specs.Parts.{planSteps}
-use Rattle.calls_steps.proofs.Ends.{fs-begun, ended-not, ended-done}
+use Rattle.steps.proofs.Ends.{fs-begun, ended-not, ended-done}
 use borrow.Author.Needs.{needs}
 use Rattle.calls_move.proofs.move_in.Statement.{statement}
 use Rattle.calls_move.proofs.move_in.Tie as tie

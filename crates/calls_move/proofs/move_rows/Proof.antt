@@ -1,6 +1,6 @@
 -- `calls_move::move_rows`: the workspace is ready.
 use native.Mathlib.Omega.{arith}
-use Rattle.calls_steps.proofs.Ends.{started}
+use Rattle.steps.proofs.Ends.{started}
 use borrow.Author.Needs.{needs}
 use Rattle.calls_move.proofs.move_rows.Statement.{statement}
 use Rattle.calls_move.proofs.move_rows.Tie as tie

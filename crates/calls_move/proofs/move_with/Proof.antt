@@ -1,6 +1,6 @@
 -- `calls_move::move_with`: what is decided first, and the steps.
 use mathlib.Core.Path.{refl, _∙_}
-use Rattle.calls_steps.proofs.Ends.{rest-is, rest-has, rest-not}
+use Rattle.steps.proofs.Ends.{rest-is, rest-has, rest-not}
 use Rattle.calls_move.specs.Courses.{rests}
 use Rattle.calls_move.proofs.Courses.{moved-refused, moved-ended}
 use Rattle.calls_move.proofs.Decisions.{plan-same, plan-goes}

@@ -1,6 +1,6 @@
 -- `calls_move::not_longs`: question after question.
 use Rattle.sefs.specs.Ask.{notLong}
-use Rattle.calls_steps.proofs.Steps.{long}
+use Rattle.steps.proofs.Steps.{long}
 use Rattle.calls_move.proofs.Asks.{asks-long}
 use Rattle.calls_move.specs.Parts.{shortTwo}
 use Rattle.calls_move.proofs.Asks.{pair-stop, pair-next}

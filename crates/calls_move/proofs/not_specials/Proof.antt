@@ -1,6 +1,6 @@
 -- `calls_move::not_specials`: question after question.
 use Rattle.sefs.specs.Ask.{notSpecial}
-use Rattle.calls_steps.proofs.Steps.{asks-special}
+use Rattle.steps.proofs.Steps.{asks-special}
 use Rattle.calls.proofs.Asks.{asked-went}
 use Rattle.calls_move.specs.Parts.{plainTwo}
 use Rattle.calls_move.proofs.Asks.{pair-stop, pair-next}

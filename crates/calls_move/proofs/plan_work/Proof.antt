@@ -1,7 +1,7 @@
 -- `calls_move::plan_work`: the questions, then what the names lead to.
 use mathlib.Core.Path.{refl, _∙_}
 use Rattle.base.proofs.Outs.{went-has}
-use Rattle.calls_steps.proofs.Ends.{rest-as}
+use Rattle.steps.proofs.Ends.{rest-as}
 use Rattle.calls_move.proofs.Decisions.{work-stop, work-next}
 use borrow.Author.Needs.{needs}
 use Rattle.calls_move.proofs.plan_work.Statement.{statement}

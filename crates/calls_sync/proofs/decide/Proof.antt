@@ -2,12 +2,12 @@
 use mathlib.Core.Path.{sym, ap, subst}
 use native.Mathlib.Omega.{arith}
 use Rattle.mem.specs.Mem.{Whole}
-use Rattle.calls_steps.proofs.Ends.{started}
-use Rattle.calls_sync.specs.Sync.{stateOf}
+use Rattle.steps.proofs.Ends.{started}
 use Rattle.calls_sync.proofs.Syncs.{decided-start}
 use borrow.Author.Needs.{needs}
 use Rattle.calls_sync.proofs.decide.Statement.{statement}
 use Rattle.calls_sync.proofs.decide.Tie as tie
+use Rattle.mem.specs.State.{fsAt}
 
 slice-aggregate-copy : tie.Need-slice-aggregate-copy
 slice-aggregate-copy c = search needs
@@ -33,7 +33,7 @@ try-rows-requires c κs =
     (started _ _ 10 (s .pre .0) (omega arith) (omega arith) (c .before .before .before .begin .ensures), subst Whole (sym (c .before .before .before .before .before .before .copy .ensures)) (s .pre .1))
 
 returns : tie.Need-returns
-returns c = decided-start (ap (stateOf (c .before .before .before .before .before .before .before .before .before .before .before .before .args .arena .now)) (c .before .before .before .before .before .before .before .before .copy .ensures)) (c .before .try-rows .ensures)
+returns c = decided-start (ap (fsAt (c .before .before .before .before .before .before .before .before .before .before .before .before .args .arena .now)) (c .before .before .before .before .before .before .before .before .copy .ensures)) (c .before .try-rows .ensures)
 
 pub decide-spec : {M : Type 1} → statement M
 decide-spec =

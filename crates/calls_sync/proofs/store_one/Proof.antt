@@ -1,6 +1,6 @@
 -- `calls_sync::store_one`: the step is done, as its definition is, and what it left is written.
 use native.Mathlib.Omega.{arith}
-use Rattle.calls_steps.proofs.Ends.{started}
+use Rattle.steps.proofs.Ends.{started}
 use Rattle.calls_sync.proofs.Syncs.{stored-fine, stored-is}
 use borrow.Author.Needs.{needs}
 use Rattle.calls_sync.proofs.store_one.Statement.{statement}

@@ -4,14 +4,14 @@ use mathlib.Core.Bool.{true}
 use native.Mathlib.Omega.{arith}
 use lib.ListN.{length}
 use Rattle.arena.specs.Blocks.{legal}
-use Rattle.calls_sync.specs.Sync.{stateOf}
 use Rattle.calls_sync.proofs.Syncs.{Turn, turn-end, turn-none, turn-does, turn-next}
 use borrow.Author.Needs.{needs}
 use Rattle.calls_sync.proofs.store_rows.Statement.{statement}
 use Rattle.calls_sync.proofs.store_rows.Tie as tie
+use Rattle.mem.specs.State.{fsAt}
 
 abbrev Inv-loop : tie.InvT-loop
-Inv-loop arena₀ mem₀ low₀ more₀ arena mem low more = Turn (stateOf arena₀ mem₀) arena mem low more × ((legal arena ≡ true) × ((length arena ≡ length arena₀) × (length mem ≡ length mem₀)))
+Inv-loop arena₀ mem₀ low₀ more₀ arena mem low more = Turn (fsAt arena₀ mem₀) arena mem low more × ((legal arena ≡ true) × ((length arena ≡ length arena₀) × (length mem ≡ length mem₀)))
 
 abbrev μ-loop : tie.MeasureT-loop
 μ-loop arena₀ mem₀ low₀ more₀ arena mem low more = more

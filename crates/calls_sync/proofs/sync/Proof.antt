@@ -1,7 +1,7 @@
 -- `calls_sync::sync`: memory has the table, and afterwards the one that the call leaves.
 use Rattle.table.specs.declared.Table.{Table}
 use Rattle.sefs.specs.Close.{callSync}
-use Rattle.calls_steps.proofs.Ends.{returned-table}
+use Rattle.steps.proofs.Ends.{returned-table}
 use borrow.Author.Needs.{needs}
 use Rattle.calls_sync.proofs.sync.Statement.{statement}
 use Rattle.calls_sync.proofs.sync.Tie as tie

@@ -1,6 +1,6 @@
 -- `calls_sync::sync_on`: the first questions, then the stores.
 use mathlib.Core.Path.{refl}
-use Rattle.calls_steps.proofs.Ends.{rest-is, rest-has, rest-not, ended-is, ended-refused}
+use Rattle.steps.proofs.Ends.{rest-is, rest-has, rest-not, ended-is, ended-refused}
 use borrow.Author.Needs.{needs}
 use Rattle.calls_sync.proofs.sync_on.Statement.{statement}
 use Rattle.calls_sync.proofs.sync_on.Tie as tie

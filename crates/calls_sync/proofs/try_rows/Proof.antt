@@ -2,14 +2,14 @@
 use mathlib.Core.Path.{_≡_, refl}
 use native.Mathlib.Omega.{arith}
 use lib.ListN.{length}
-use Rattle.calls_sync.specs.Sync.{stateOf}
 use Rattle.calls_sync.proofs.Syncs.{Trying, try-start, try-end, try-none, try-stop, try-next}
 use borrow.Author.Needs.{needs}
 use Rattle.calls_sync.proofs.try_rows.Statement.{statement}
 use Rattle.calls_sync.proofs.try_rows.Tie as tie
+use Rattle.mem.specs.State.{fsAt}
 
 abbrev Inv-loop : tie.InvT-loop
-Inv-loop arena work mem₀ from₀ free₀ low₀ more₀ mem from free low more = Trying arena (stateOf arena mem₀) mem low more from free × (length mem ≡ length mem₀)
+Inv-loop arena work mem₀ from₀ free₀ low₀ more₀ mem from free low more = Trying arena (fsAt arena mem₀) mem low more from free × (length mem ≡ length mem₀)
 
 abbrev μ-loop : tie.MeasureT-loop
 μ-loop arena work mem₀ from₀ free₀ low₀ more₀ mem from free low more = more

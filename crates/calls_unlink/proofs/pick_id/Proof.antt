@@ -1,10 +1,10 @@
 -- `calls_unlink::pick_id`: the node, and whether it is full.
 use Rattle.base.proofs.Outs.{went-has}
-use Rattle.nodes.specs.Steps.{fsAt}
 use Rattle.calls_unlink.proofs.Parts.{id-stop, id-full, id-next}
 use borrow.Author.Needs.{needs}
 use Rattle.calls_unlink.proofs.pick_id.Statement.{statement}
 use Rattle.calls_unlink.proofs.pick_id.Tie as tie
+use Rattle.mem.specs.State.{fsAt}
 
 get-node-requires : tie.Need-get-node-requires
 get-node-requires c κs = search needs

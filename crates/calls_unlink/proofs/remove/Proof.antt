@@ -1,6 +1,6 @@
 -- `calls_unlink::remove`: the workspace is ready.
 use native.Mathlib.Omega.{arith}
-use Rattle.calls_steps.proofs.Ends.{started}
+use Rattle.steps.proofs.Ends.{started}
 use borrow.Author.Needs.{needs}
 use Rattle.calls_unlink.proofs.remove.Statement.{statement}
 use Rattle.calls_unlink.proofs.remove.Tie as tie

@@ -1,6 +1,6 @@
 -- `calls_unlink::unlink`: memory has the table, and what the call left there is settled.
 use Rattle.sefs.specs.Unlink.{callUnlink}
-use Rattle.calls_steps.proofs.Ends.{returned-table}
+use Rattle.steps.proofs.Ends.{returned-table}
 use borrow.Author.Needs.{needs}
 use Rattle.calls_unlink.proofs.unlink.Statement.{statement}
 use Rattle.calls_unlink.proofs.unlink.Tie as tie

@@ -1,6 +1,6 @@
 -- `files_run::ask`: the workspace is ready.
 use borrow.Author.Needs.{needs}
-use Rattle.files_run.proofs.Ready.{started}
+use Rattle.files_run.proofs.Started.{started}
 use Rattle.files_run.proofs.ask.Statement.{statement}
 use Rattle.files_run.proofs.ask.Tie as tie
 

@@ -3,7 +3,7 @@ use mathlib.Core.Path.{sym}
 use native.Mathlib.Omega.{arith}
 use lib.ListN.{length-append, length-drop, drop}
 use borrow.Author.Needs.{needs}
-use Rattle.files_run.proofs.Ready.{started}
+use Rattle.files_run.proofs.Started.{started}
 use lib.Seq.{length-take-le}
 use Rattle.files_run.proofs.read.Statement.{statement}
 use Rattle.files_run.proofs.read.Tie as tie

@@ -5,7 +5,7 @@ use native.Mathlib.Omega.{arith}
 use lib.ListN.{length}
 use borrow.Author.Needs.{needs}
 use Rattle.base.specs.Count.{countTo}
-use Rattle.structs.specs.Verdict.{isFolder}
+use Rattle.structs.specs.Types.{isFolder}
 use Rattle.rules.specs.Image.{laterSlot}
 use Rattle.fsck_links.proofs.Counts.{slot-size, sub-none, sub-more, sub-all}
 use Rattle.fsck_links.proofs.subfolders.Statement.{statement}

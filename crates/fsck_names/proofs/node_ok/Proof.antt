@@ -5,7 +5,7 @@ use mathlib.Core.List.{List}
 use Prim.Native.Nat.{ℕ, _+_}
 use lib.ListN.{set}
 use borrow.Author.Tests.{not-true, not-false}
-use Rattle.structs.specs.Verdict.{isType}
+use Rattle.structs.specs.Types.{isType}
 use Rattle.arena.specs.Places.{headOf}
 use Rattle.structs.specs.declared.DiskINode.{DiskINode}
 use Rattle.sefs.specs.Nodes.{nodeFile}
@@ -28,14 +28,14 @@ returns c =
 rec-of-requires : tie.Need-rec-of-requires
 rec-of-requires c κs = search needs
 
-kind-ok-requires : tie.Need-kind-ok-requires
-kind-ok-requires c κs = search needs
+is-type-requires : tie.Need-is-type-requires
+is-type-requires c κs = search needs
 
 returns-2 : tie.Need-returns-2
 returns-2 c =
     let s = c .before .before .before .before .before .before .before .before .before .before in
     let n = sym (c .before .before .before .before .is-node .ensures .1 (s .args .arena .now) (s .pre .1 .0 .0 .1)) ∙ not-false _ (c .before .before .before .if1 .left) in
-    (node-kind (s .args .arena .now) (tableIn (s .args .mem .now)) (s .args .id) n (ap (λ (x : DiskINode). isType (x .kind)) (sym (c .before .before .rec-of .ensures)) ∙ sym (c .before .kind-ok .ensures) ∙ not-true _ (c .if2 .taken)), λ e. absurd (true≢false (sym e)))
+    (node-kind (s .args .arena .now) (tableIn (s .args .mem .now)) (s .args .id) n (ap (λ (x : DiskINode). isType (x .kind)) (sym (c .before .before .rec-of .ensures)) ∙ sym (c .before .is-type .ensures) ∙ not-true _ (c .if2 .taken)), λ e. absurd (true≢false (sym e)))
 
 claim-requires : tie.Need-claim-requires
 claim-requires c κs = search needs
@@ -49,7 +49,7 @@ returns-3 c =
     let r = c .before .before .before .before .before .before .rec-of .ensures in
     let k = c .before .before .claim in
     let n = sym (c .before .before .before .before .before .before .before .before .is-node .ensures .1 (s .args .arena .now) (s .pre .1 .0 .0 .1)) ∙ not-false _ (c .before .before .before .before .before .before .before .if1 .left) in
-    let f = ap (λ (x : DiskINode). isType (x .kind)) (sym r) ∙ sym (c .before .before .before .before .before .kind-ok .ensures) ∙ not-false _ (c .before .before .before .before .if2 .left) in
+    let f = ap (λ (x : DiskINode). isType (x .kind)) (sym r) ∙ sym (c .before .before .before .before .before .is-type .ensures) ∙ not-false _ (c .before .before .before .before .if2 .left) in
     let q = ap (claimable (s .args .arena .now) (s .args .claimed .now)) r in (
       k .ensures .0 ∙ q ∙ node-claim (s .args .arena .now) (tableIn (s .args .mem .now)) (s .args .id) (s .args .claimed .now) (s .pre .1 .1) n f,
       λ e.
@@ -65,7 +65,7 @@ node-ok-spec =
     is-node-requires
     returns
     rec-of-requires
-    kind-ok-requires
+    is-type-requires
     returns-2
     claim-requires
     same-length

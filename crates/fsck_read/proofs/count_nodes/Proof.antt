@@ -6,7 +6,7 @@ use native.Mathlib.Omega.{arith}
 use borrow.Author.Needs.{needs}
 use Rattle.base.specs.Count.{countTo}
 use Rattle.rules.specs.Image.{isNode}
-use Rattle.fsck_read.specs.Given.{Of}
+use Rattle.fsck_read.specs.Loaded.{Of}
 use Rattle.fsck_read.proofs.Nodes.{nodes-none, nodes-more, nodes-all}
 use Rattle.fsck_read.proofs.count_nodes.Statement.{statement}
 use Rattle.fsck_read.proofs.count_nodes.Tie as tie

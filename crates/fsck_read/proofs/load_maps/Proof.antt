@@ -2,7 +2,7 @@
 use mathlib.Core.Path.{_≡_, refl, sym, _∙_, subst}
 use Prim.Native.Nat.{_+_, _*_, _≤_, _-_}
 use native.Mathlib.Omega.{arith}
-use Rattle.fsck_read.specs.Given.{Mapped}
+use Rattle.fsck_read.specs.Loaded.{Mapped}
 use Rattle.fsck_read.proofs.Loads.{mapped-none, mapped-more}
 use borrow.Author.Needs.{needs}
 use Rattle.fsck_read.proofs.load_maps.Statement.{statement}

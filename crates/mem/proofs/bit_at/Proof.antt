@@ -2,7 +2,7 @@
 use mathlib.Core.Path.{_∙_}
 use native.Mathlib.Omega.{arith}
 use Rattle.base.proofs.Lists.{length-part}
-use Rattle.mem.specs.Mem.{superIn, mapsIn}
+use Rattle.mem.specs.Mem.{superIn, mapsIn, memorySize}
 use Rattle.mem.proofs.Mems.{bit-in}
 use borrow.Author.Needs.{needs}
 use Rattle.mem.proofs.bit_at.Statement.{statement}
@@ -22,7 +22,7 @@ bit-at-requires c κs =
     let s = c .before .before in
     let m = s .args .mem .now in
     let W = s .pre .0 .0 in
-    omega (arith, s .pre .0 .1, W .size, W .few (s .pre .1), length-part m 4387 4899 (omega arith) (omega (arith, W .size)))
+    omega (arith, s .pre .0 .1, W .size, W .few (s .pre .1), length-part m 4387 memorySize (omega arith) (omega (arith, W .size)))
 
 returns : tie.Need-returns
 unfolding mapsIn

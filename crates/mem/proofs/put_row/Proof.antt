@@ -5,7 +5,7 @@ use mathlib.Core.List.{List}
 use Prim.Native.Nat.{ℕ}
 use Rattle.base.specs.Parts.{part}
 use Rattle.table_bytes.specs.Fits.{RowFits}
-use Rattle.mem.specs.Mem.{tableIn}
+use Rattle.mem.specs.Mem.{tableIn, memorySize}
 use Rattle.mem.proofs.Owned.{row-fits}
 use Rattle.mem.proofs.Mems.{row-put, row-put-rest, tabled}
 use borrow.Author.Needs.{needs}
@@ -32,7 +32,7 @@ returns c =
     let W = s .pre .0 in
     let e = w .put-row .ensures .0 in
     tabled m _ (W .size) (w .put-row .kept .0 ∙ W .size)
-    (ap (λ (l : List ℕ). part l 4370 4899) e ∙ row-put-rest m (s .args .i) (s .args .row) (omega arith) (s .pre .1) (fits s))
+    (ap (λ (l : List ℕ). part l 4370 memorySize) e ∙ row-put-rest m (s .args .i) (s .args .row) (omega arith) (s .pre .1) (fits s))
     _ W (ap tableIn e ∙ row-put m (s .args .i) (s .args .row) (omega arith) (s .pre .1) (fits s))
 
 pub put-row-spec : {M : Type 1} → statement M

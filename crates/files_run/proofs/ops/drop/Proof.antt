@@ -3,7 +3,7 @@ use borrow.Author.Needs.{needs}
 use Rattle.arena.specs.Fields.{file}
 use Rattle.overlay.proofs.Chains.{did-well, call-refused, call-done}
 use Rattle.files.specs.Store.{dropFile}
-use Rattle.files_run.proofs.Ready.{started}
+use Rattle.files_run.proofs.Started.{started}
 use Rattle.files_run.proofs.ops.drop.Statement.{statement}
 use Rattle.files_run.proofs.ops.drop.Tie as tie
 

@@ -6,7 +6,7 @@ use Rattle.arena.specs.Fields.{file}
 use Rattle.overlay.proofs.Chains.{did-well, call-refused, call-done}
 use Rattle.files.specs.Store.{putFile}
 use Rattle.files.proofs.Puts.{touched-few}
-use Rattle.files_run.proofs.Ready.{started}
+use Rattle.files_run.proofs.Started.{started}
 use Rattle.files_run.proofs.ops.put.Statement.{statement}
 use Rattle.files_run.proofs.ops.put.Tie as tie
 

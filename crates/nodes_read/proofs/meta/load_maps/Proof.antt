@@ -10,9 +10,10 @@ use Rattle.nodes.proofs.Common.{part-agree}
 use Rattle.nodes_read.proofs.Loads.{maps-none, maps-turn, maps-stop}
 use Rattle.nodes_read.proofs.meta.load_maps.Statement.{statement}
 use Rattle.nodes_read.proofs.meta.load_maps.Tie as tie
+use Rattle.mem.specs.Mem.{memorySize}
 
 abbrev Inv-loop : tie.InvT-loop
-Inv-loop arena first next mem₀ n g₀ mem g = (g ≤ n) × ((length mem ≡ 4899) × ((loadMaps arena g ≡ done (part mem 4387 (4387 + 128 * g))) × (part mem 0 4387 ≡ part mem₀ 0 4387)))
+Inv-loop arena first next mem₀ n g₀ mem g = (g ≤ n) × ((length mem ≡ memorySize) × ((loadMaps arena g ≡ done (part mem 4387 (4387 + 128 * g))) × (part mem 0 4387 ≡ part mem₀ 0 4387)))
 
 abbrev μ-loop : tie.MeasureT-loop
 μ-loop arena first next mem₀ n g₀ mem g = n - g

@@ -1,0 +1,73 @@
+-- `move_steps::move_within`: the slot, the replaced node, the record; 3 blocks, 18 and 3.
+use native.Mathlib.Omega.{arith}
+use Rattle.base.proofs.Outs.{went-has}
+use Rattle.move_steps.proofs.Steps.{within-stop, within-gone, within-done}
+use borrow.Author.Needs.{needs}
+use Rattle.move_steps.proofs.move_within.Statement.{statement}
+use Rattle.move_steps.proofs.move_within.Tie as tie
+
+put-slot-requires : tie.Need-put-slot-requires
+put-slot-requires c κs = search needs
+
+same-length : tie.Need-same-length
+same-length c = search needs
+
+same-length-2 : tie.Need-same-length-2
+same-length-2 c = search needs
+
+returns : tie.Need-returns
+returns c =
+    let s = c .before .before .before .before .before .before .before .before .before .before in
+    within-stop _ _ (s .args .i) (s .args .k) (s .args .gone) (λ j. c .before .before .before .before .before .before .shared-slice-known2 .given j .fits) (s .pre .1 .1 .1 .0) (c .before .before .before .put-slot .ensures) _ _ (c .if1 .taken)
+
+remove-gone-requires : tie.Need-remove-gone-requires
+remove-gone-requires c κs =
+    let s = c .before .before .before .before .before .before .before .before .before .before .before .before in
+    let k = went-has (c .before .before .before .before .before .put-slot .ensures) (c .before .before .if1 .left) in
+    (record { fine = k .fine; whole = k .whole }, (omega (arith, k .room, s .pre .1 .0), (s .pre .1 .1 .0, s .pre .1 .1 .1 .1)))
+
+same-length-3 : tie.Need-same-length-3
+same-length-3 c = search needs
+
+same-length-4 : tie.Need-same-length-4
+same-length-4 c = search needs
+
+returns-2 : tie.Need-returns-2
+returns-2 c =
+    let s = c .before .before .before .before .before .before .before .before .before .before .before .before .before .before .before .before .before .before in
+    within-gone _ _ (s .args .i) (s .args .k) (s .args .gone) (λ j. c .before .before .before .before .before .before .before .before .before .before .before .before .before .before .shared-slice-known2 .given j .fits) (s .pre .1 .1 .1 .0) (c .before .before .before .before .before .before .before .before .before .before .before .put-slot .ensures) (c .before .before .before .before .before .before .before .before .if1 .left) (c .before .before .before .before .before .remove-gone .ensures) _ _ (c .if2 .taken)
+
+sync-row-requires : tie.Need-sync-row-requires
+sync-row-requires c κs =
+    let s = c .before .before .before .before .before .before .before .before .before .before .before .before .before .before .before .before .before .before .before .before in
+    let k = went-has (c .before .before .before .before .before .before .before .before .before .before .before .before .before .put-slot .ensures) (c .before .before .before .before .before .before .before .before .before .before .if1 .left) in
+    let d = went-has (c .before .before .before .before .before .before .before .remove-gone .ensures) (c .before .before .if2 .left) in
+    (record { fine = d .fine; whole = d .whole }, (omega (arith, k .room, d .room, s .pre .1 .0), s .pre .1 .1 .0))
+
+same-length-5 : tie.Need-same-length-5
+same-length-5 c = search needs
+
+same-length-6 : tie.Need-same-length-6
+same-length-6 c = search needs
+
+returns-3 : tie.Need-returns-3
+returns-3 c =
+    let s = c .before .before .before .before .before .before .before .before .before .before .before .before .before .before .before .before .before .before .before .before .before .before .before .before .before in
+    within-done _ _ (s .args .i) (s .args .k) (s .args .gone) (λ j. c .before .before .before .before .before .before .before .before .before .before .before .before .before .before .before .before .before .before .before .before .before .shared-slice-known2 .given j .fits) (s .pre .1 .1 .1 .0) (c .before .before .before .before .before .before .before .before .before .before .before .before .before .before .before .before .before .before .put-slot .ensures) (c .before .before .before .before .before .before .before .before .before .before .before .before .before .before .before .if1 .left) (c .before .before .before .before .before .before .before .before .before .before .before .before .remove-gone .ensures) (c .before .before .before .before .before .before .before .if2 .left) (c .before .before .before .before .sync-row .ensures)
+
+pub move-within-spec : {M : Type 1} → statement M
+move-within-spec =
+    tie.close
+    (tie.spec
+    put-slot-requires
+    same-length
+    same-length-2
+    returns
+    remove-gone-requires
+    same-length-3
+    same-length-4
+    returns-2
+    sync-row-requires
+    same-length-5
+    same-length-6
+    returns-3)

@@ -1,0 +1,295 @@
+// The steps of move: slots first, then the replaced node, then the folders' records. And the type rules, where the new name exists.
+ghost use mathlib.Core.Path.{_≡_};
+ghost use mathlib.Core.List.{List};
+ghost use Prim.Native.Nat.{ℕ, _<_, _≤_};
+ghost use lib.ListN.{length};
+ghost use Rattle.base.specs.Out.{Went};
+ghost use Rattle.overlay.specs.View.{left};
+ghost use Rattle.structs.specs.Layout.{entryOf};
+ghost use Rattle.table.specs.Table.{rowAt};
+ghost use Rattle.sefs.specs.Move.{renamed, readSlots, moveDots, moveLinks};
+ghost use Rattle.mem.specs.Mem.{tableIn, Whole};
+ghost use Rattle.mem.specs.State.{fsOf, Ready, Stepped};
+ghost use Rattle.move_steps.specs.Steps.{InRow, Typed, removeGone, withinFolder, endMove, openMoved, restMove, betweenFolders, moveSlot, moveNamed, ifEmpty, judgeRows, moveOver};
+use base::index;
+use folders::dirent_append;
+use folders::dirent_node_remove;
+use folders::dirent_remove;
+use folders::nlinks_dec;
+use folders::nlinks_inc;
+use folders::put_entry;
+use folders::put_slot;
+use folders::slots::find_slot;
+use folders::slots::slot_at;
+use le::u32_at;
+use mem::id_at;
+use mem::rec_at;
+use nodes::get_node;
+use nodes::release;
+use nodes::sync_row;
+use steps::sync_two;
+use structs::MoveVerdict;
+use structs::move_verdict;
+
+// The node that is replaced: its row, and the target's slot that names it. Or there is none.
+pub enum Gone {
+    Free,
+    Node(usize, usize),
+}
+
+// ---- the steps: slots first, then the replaced node, then the folders' records
+
+fn remove_gone(arena: &[u8], work: &mut [u8], mem: &mut [u8], j: usize, gone: Gone) -> u8
+    requires { ⌜ Ready (now arena) (now work) (now mem) × ((18 ≤ left (now work)) × ((j < 34) × (InRow gone))) ⌝ }
+    ensures { λ r. ⌜ Stepped (removeGone (fsOf (now (arena .entry)) (now (work .entry)) (now (mem .entry))) j gone) (now (arena .entry)) (now (work .entry)) (now (work .exit)) (now (mem .exit)) 18 r ⌝ }
+{
+    match gone {
+        Gone::Free => 0,
+        Gone::Node(row, place) => dirent_node_remove(arena, work, mem, j, row, place),
+    }
+}
+
+// Within one folder the slot gets another name.
+fn move_within(
+    arena: &[u8],
+    work: &mut [u8],
+    mem: &mut [u8],
+    i: usize,
+    k: usize,
+    moved: &[u8],
+    gone: Gone,
+) -> u8
+    requires { ⌜ Ready (now arena) (now work) (now mem) × ((24 ≤ left (now work)) × ((i < 34) × ((length (now moved) ≡ 264) × (InRow gone)))) ⌝ }
+    ensures { λ r. ⌜ Stepped (withinFolder (fsOf (now (arena .entry)) (now (work .entry)) (now (mem .entry))) i k (entryOf (now (moved .entry))) gone) (now (arena .entry)) (now (work .entry)) (now (work .exit)) (now (mem .exit)) 24 r ⌝ }
+{
+    let r = put_slot(arena, work, &mem[..], i, k, moved);
+    if r != 0 {
+        return r;
+    }
+    let r = remove_gone(arena, work, mem, i, gone);
+    if r != 0 {
+        return r;
+    }
+    sync_row(arena, work, mem, i)
+}
+
+// A folder that moves takes its `..` along: the source is named once less, the target once more.
+fn move_dots(mem: &mut [u8], i: usize, j: usize) -> u8
+    requires { ⌜ Whole (now mem) × ((i < 34) × ((j < 34))) ⌝ }
+    ensures { λ r. ⌜ ((a w : List ℕ) → Went (moveDots (fsOf a w (now (mem .entry))) i j) (fsOf a w (now (mem .exit))) (Whole (now (mem .exit))) r) ⌝ }
+{
+    let r = nlinks_dec(mem, i);
+    if r != 0 {
+        return r;
+    }
+    nlinks_inc(mem, j)
+}
+
+// The moved node's type is looked at.
+fn move_links(mem: &mut [u8], i: usize, j: usize, c: usize) -> u8
+    requires { ⌜ Whole (now mem) × ((i < 34) × ((j < 34) × ((c < 34)))) ⌝ }
+    ensures { λ r. ⌜ ((a w : List ℕ) → Went (moveLinks (fsOf a w (now (mem .entry))) i j c) (fsOf a w (now (mem .exit))) (Whole (now (mem .exit))) r) ⌝ }
+{
+    let kind = rec_at(&mem[..], c).kind;
+    if kind > 4 {
+        return 19;
+    }
+    if kind == 2 {
+        return move_dots(mem, i, j);
+    }
+    0
+}
+
+// The moved node, in row c: the links of both folders, their records, and the end of c's opening.
+fn move_end(arena: &[u8], work: &mut [u8], mem: &mut [u8], i: usize, j: usize, c: usize) -> u8
+    requires { ⌜ Ready (now arena) (now work) (now mem) × ((19 ≤ left (now work)) × ((i < 34) × ((j < 34) × ((c < 34))))) ⌝ }
+    ensures { λ r. ⌜ Stepped (endMove (fsOf (now (arena .entry)) (now (work .entry)) (now (mem .entry))) i j c) (now (arena .entry)) (now (work .entry)) (now (work .exit)) (now (mem .exit)) 19 r ⌝ }
+{
+    let r = move_links(mem, i, j, c);
+    if r != 0 {
+        return r;
+    }
+    let r = sync_two(arena, work, mem, j, i);
+    if r != 0 {
+        return r;
+    }
+    release(arena, work, mem, c)
+}
+
+fn move_open(arena: &[u8], work: &mut [u8], mem: &mut [u8], i: usize, j: usize, id: u32) -> u8
+    requires { ⌜ Ready (now arena) (now work) (now mem) × ((19 ≤ left (now work)) × ((i < 34) × ((j < 34)))) ⌝ }
+    ensures { λ r. ⌜ Stepped (openMoved (fsOf (now (arena .entry)) (now (work .entry)) (now (mem .entry))) i j id) (now (arena .entry)) (now (work .entry)) (now (work .exit)) (now (mem .exit)) 19 r ⌝ }
+{
+    let o = get_node(arena, &work[..], mem, id);
+    if o.reason != 0 {
+        return o.reason;
+    }
+    move_end(arena, work, mem, i, j, o.row)
+}
+
+// The slots are moved.
+fn move_rest(
+    arena: &[u8],
+    work: &mut [u8],
+    mem: &mut [u8],
+    i: usize,
+    j: usize,
+    id: u32,
+    gone: Gone,
+) -> u8
+    requires { ⌜ Ready (now arena) (now work) (now mem) × ((37 ≤ left (now work)) × ((i < 34) × ((j < 34) × (InRow gone)))) ⌝ }
+    ensures { λ r. ⌜ Stepped (restMove (fsOf (now (arena .entry)) (now (work .entry)) (now (mem .entry))) i j id gone) (now (arena .entry)) (now (work .entry)) (now (work .exit)) (now (mem .exit)) 37 r ⌝ }
+{
+    let r = remove_gone(arena, work, mem, j, gone);
+    if r != 0 {
+        return r;
+    }
+    move_open(arena, work, mem, i, j, id)
+}
+
+fn move_between(
+    arena: &[u8],
+    work: &mut [u8],
+    mem: &mut [u8],
+    i: usize,
+    j: usize,
+    k: usize,
+    moved: &[u8],
+    gone: Gone,
+) -> u8
+    requires { ⌜ Ready (now arena) (now work) (now mem) × ((45 ≤ left (now work)) × ((i < 34) × ((j < 34) × ((length (now moved) ≡ 264) × (InRow gone))))) ⌝ }
+    ensures { λ r. ⌜ Stepped (betweenFolders (fsOf (now (arena .entry)) (now (work .entry)) (now (mem .entry))) i j k (entryOf (now (moved .entry))) gone) (now (arena .entry)) (now (work .entry)) (now (work .exit)) (now (mem .exit)) 45 r ⌝ }
+{
+    let r = dirent_append(arena, work, mem, j, moved);
+    if r != 0 {
+        return r;
+    }
+    let r = dirent_remove(arena, work, mem, i, k);
+    if r != 0 {
+        return r;
+    }
+    move_rest(arena, work, mem, i, j, u32_at(moved, 0), gone)
+}
+
+pub fn move_slot(
+    arena: &[u8],
+    work: &mut [u8],
+    mem: &mut [u8],
+    i: usize,
+    j: usize,
+    k: usize,
+    moved: &[u8],
+    gone: Gone,
+) -> u8
+    requires { ⌜ Ready (now arena) (now work) (now mem) × ((45 ≤ left (now work)) × ((i < 34) × ((j < 34) × ((length (now moved) ≡ 264) × (InRow gone))))) ⌝ }
+    ensures { λ r. ⌜ Stepped (moveSlot (fsOf (now (arena .entry)) (now (work .entry)) (now (mem .entry))) i j k (entryOf (now (moved .entry))) gone) (now (arena .entry)) (now (work .entry)) (now (work .exit)) (now (mem .exit)) 45 r ⌝ }
+{
+    if id_at(&mem[..], i) == id_at(&mem[..], j) {
+        return move_within(arena, work, mem, i, k, moved, gone);
+    }
+    move_between(arena, work, mem, i, j, k, moved, gone)
+}
+
+// The moved slot keeps the old slot's id and type.
+pub fn rename(slot: &mut [u8], name: &[u8])
+    requires { ⌜ (length (now slot) ≡ 264) × ((length (now name) ≤ 255)) ⌝ }
+    ensures { λ r. ⌜ entryOf (now (slot .exit)) ≡ renamed (entryOf (now (slot .entry))) (now (name .entry)) ⌝ }
+{
+    let id = u32_at(&slot[..], 0);
+    let kind = u32_at(&slot[..], 260);
+    put_entry(slot, id, name, kind);
+}
+
+fn move_steps(
+    arena: &[u8],
+    work: &mut [u8],
+    mem: &mut [u8],
+    i: usize,
+    j: usize,
+    old: &[u8],
+    name: &[u8],
+    gone: Gone,
+) -> u8
+    requires { ⌜ Ready (now arena) (now work) (now mem) × ((45 ≤ left (now work)) × ((i < 34) × ((j < 34) × ((length (now name) ≤ 255) × (InRow gone))))) ⌝ }
+    ensures { λ r. ⌜ Stepped (moveNamed (fsOf (now (arena .entry)) (now (work .entry)) (now (mem .entry))) i j (now (old .entry)) (now (name .entry)) gone) (now (arena .entry)) (now (work .entry)) (now (work .exit)) (now (mem .exit)) 45 r ⌝ }
+{
+    let mut slot = [0u8; 264];
+    let p = find_slot(arena, &work[..], rec_at(&mem[..], i), old, &mut slot);
+    if p.reason != 0 {
+        return p.reason;
+    }
+    rename(&mut slot, name);
+    move_slot(arena, work, mem, i, j, p.place, &slot, gone)
+}
+
+// ---- the new name exists: type rules
+
+// The first n slots can be read.
+fn read_slots<'a>(arena: &'a [u8], work: &'a [u8], mem: &'a [u8], d: usize, n: usize) -> u8
+    requires { ⌜ Ready (now arena) (now work) (now mem) × ((d < 34) × (n ≤ 4294967295)) ⌝ }
+    ensures { λ r. ⌜ Went (readSlots (fsOf (now (arena .entry)) (now (work .entry)) (now (mem .entry))) d n) (fsOf (now (arena .entry)) (now (work .entry)) (now (mem .entry))) Unit r ⌝ }
+{
+    let rec = rec_at(mem, d);
+    let mut slot = [0u8; 264];
+    let mut k: usize = 0;
+    while k < n {
+        let r = slot_at(arena, work, rec, k, &mut slot);
+        if r != 0 {
+            return r;
+        }
+        k = k + 1;
+    }
+    0
+}
+
+// 13 for a replaced folder with over 2 slots; those there are, are read.
+fn if_empty<'a>(arena: &'a [u8], work: &'a [u8], mem: &'a [u8], d: usize) -> u8
+    requires { ⌜ Ready (now arena) (now work) (now mem) × (d < 34) ⌝ }
+    ensures { λ r. ⌜ Went (ifEmpty (fsOf (now (arena .entry)) (now (work .entry)) (now (mem .entry))) d) (fsOf (now (arena .entry)) (now (work .entry)) (now (mem .entry))) Unit r ⌝ }
+{
+    let n = rec_at(mem, d).blocks;
+    if n > 2 {
+        return 13;
+    }
+    read_slots(arena, work, mem, d, index(n))
+}
+
+fn judge<'a>(arena: &'a [u8], work: &'a [u8], mem: &'a [u8], c: usize, d: usize) -> u8
+    requires { ⌜ Ready (now arena) (now work) (now mem) × ((c < 34) × ((d < 34) × ((Typed (rowAt (tableIn (now mem)) c .rec)) × (Typed (rowAt (tableIn (now mem)) d .rec))))) ⌝ }
+    ensures { λ r. ⌜ Went (judgeRows (fsOf (now (arena .entry)) (now (work .entry)) (now (mem .entry))) c d) (fsOf (now (arena .entry)) (now (work .entry)) (now (mem .entry))) Unit r ⌝ }
+{
+    let v = move_verdict(rec_at(mem, c).kind, rec_at(mem, d).kind);
+    match v {
+        MoveVerdict::Allowed => 0,
+        MoveVerdict::NotDir => 7,
+        MoveVerdict::IsDir => 9,
+        MoveVerdict::IfEmpty => if_empty(arena, work, mem, d),
+    }
+}
+
+// Node c goes in the place of node d, which slot k of the target names; the opening of c ends here.
+pub fn move_onto(
+    arena: &[u8],
+    work: &mut [u8],
+    mem: &mut [u8],
+    i: usize,
+    j: usize,
+    old: &[u8],
+    name: &[u8],
+    c: usize,
+    d: usize,
+    k: usize,
+) -> u8
+    requires { ⌜ Ready (now arena) (now work) (now mem) × ((58 ≤ left (now work)) × ((i < 34) × ((j < 34) × ((c < 34) × ((d < 34) × ((length (now name) ≤ 255) × ((Typed (rowAt (tableIn (now mem)) c .rec)) × (Typed (rowAt (tableIn (now mem)) d .rec))))))))) ⌝ }
+    ensures { λ r. ⌜ Stepped (moveOver (fsOf (now (arena .entry)) (now (work .entry)) (now (mem .entry))) i j (now (old .entry)) (now (name .entry)) c d k) (now (arena .entry)) (now (work .entry)) (now (work .exit)) (now (mem .exit)) 58 r ⌝ }
+{
+    let r = judge(arena, &work[..], &mem[..], c, d);
+    if r != 0 {
+        return r;
+    }
+    let r = release(arena, work, mem, c);
+    if r != 0 {
+        return r;
+    }
+    move_steps(arena, work, mem, i, j, old, name, Gone::Node(d, k))
+}
