@@ -1,23 +1,21 @@
 -- The chains lead to the one block that has a key, which in a sound arena is the lowest that has it: what is read there is what the file holds.
-use mathlib.Core.Path.{_≡_, refl, sym, ap, _∙_, subst}
+use mathlib.Core.Path.{_≡_, refl, sym, ap, _∙_}
 use mathlib.Core.Bool.{true, false}
 use mathlib.Core.List.{List}
 use Prim.Native.Nat.{ℕ, suc, _+_, _*_, _-_, _/_, _%_, _≤_, _<_}
-use native.Mathlib.Nat.{zero-add, add-zero}
 use native.Mathlib.Omega.{arith}
 use lib.ListN.{length, getD, replicate}
 use lib.Seq.{ext-getD}
-use Rattle.base.specs.Parts.{part, back, tab}
+use Rattle.base.specs.Parts.{part, tab}
 use Rattle.base.specs.Search.{last, pick}
-use Rattle.base.proofs.Lists.{length-part, getD-part, length-tab, getD-tab, tab-zeros, tab-cong, Stored, stored-none}
-use Rattle.base.proofs.Parts.{run-more, run-all}
+use Rattle.base.proofs.Lists.{length-part, getD-part, length-tab, getD-tab, tab-zeros, tab-cong}
 use Rattle.base.proofs.Searches.{last-is}
 use Rattle.arena.specs.Blocks.{blk, blocks}
 use Rattle.arena.specs.Fields.{File, numberOf}
 use Rattle.arena.specs.Places.{headOf, dataOf}
 use Rattle.sound.specs.Sound.{sound}
 use Rattle.sound.specs.Chain.{isKey}
-use Rattle.files.specs.Read.{there, lengthOf, present, byteAt, readFile}
+use Rattle.files.specs.Read.{there, lengthOf, present, byteAt}
 use Rattle.files_laws.proofs.Views.{byteIn, byte-in, there-at, there-hit, there-of, there-none, length-here, present-at, present-hit, present-of, present-none, byte-here, byte-none}
 use Rattle.files_laws.proofs.Parts.{sound-tidy}
 
@@ -89,31 +87,7 @@ module _ (a : List ℕ) (ok : sound a ≡ true) (f : File) (p n c : ℕ) (fits :
       let t : present a f (p / 480) ≡ false = present-none a f (p / 480) (λ k l. L .after k (omega arith) l) in
       sym (tab-zeros p n) ∙ tab-cong (λ i. 0) (byteAt a f) p p n (λ i h. sym (byte-is i h ∙ byte-none a f (p / 480) t (p % 480 + i)))
 
--- ---- a run, in one part or two
+-- ---- a run
 
 pub run-long : (a : List ℕ) (f : File) (pos n k : ℕ) (l : List ℕ) → n ≡ k → l ≡ run a f pos n → l ≡ run a f pos k
 run-long a f pos n k l e q = q ∙ ap (run a f pos) e
-
-module _ (a : List ℕ) (f : File) (pos : ℕ) (out : List ℕ) (m : ℕ) where
-  first : (l : List ℕ) → m ≤ length out → l ≡ run a f pos m → Stored (length out) (λ j. byteAt a f (pos + j)) (back out 0 m l) m
-  first l h q =
-      subst (λ (x : ℕ). Stored (length out) (λ j. byteAt a f (pos + j)) (back out 0 x l) x) (zero-add m)
-      (run-more (length out) (byteAt a f) pos out l 0 m (omega arith) (q ∙ ap (λ (x : ℕ). tab (byteAt a f) x m) (sym (add-zero pos))) (stored-none (λ j. byteAt a f (pos + j)) out))
-
-  size : m ≤ length out → length (part out 0 m) ≡ m
-  size h = length-part out 0 m (omega arith) h ∙ omega arith
-
-  pub run-one : (l : List ℕ) → m ≡ length out → l ≡ run a f pos (length (part out 0 m)) → back out 0 m l ≡ run a f pos (length out)
-  run-one l e q = run-all (length out) (byteAt a f) pos (back out 0 m l) m (omega arith) (first l (omega arith) (q ∙ ap (run a f pos) (size (omega arith))))
-
-  pub run-two : (l t : List ℕ) → m ≤ length out → l ≡ run a f pos (length (part out 0 m))
-      → t ≡ run a f (pos + m) (length (part (back out 0 m l) m (length (back out 0 m l)))) → back (back out 0 m l) m (length (back out 0 m l)) t ≡ run a f pos (length out)
-  run-two l t h q r =
-      let d : List ℕ = back out 0 m l in
-      let S : Stored (length out) (λ j. byteAt a f (pos + j)) d m = first l h (q ∙ ap (run a f pos) (size h)) in
-      let k : ℕ = length (part d m (length d)) in
-      let n : k ≡ length d - m = length-part d m (length d) (omega (arith, S .size)) (omega arith) in
-      let e : m + k ≡ length d = omega (arith, S .size) in
-      run-all (length out) (byteAt a f) pos (back d m (length d) t) (length d) (omega (arith, S .size))
-      (subst (λ (x : ℕ). Stored (length out) (λ j. byteAt a f (pos + j)) (back d m x t) x) e
-      (run-more (length out) (byteAt a f) pos d t m k (omega (arith, S .size)) r S))

@@ -61,7 +61,7 @@ fn read_part(
     copy(out, &arena[s..e]);
 }
 
-// A run of at most 480 bytes that lies below the length.
+// A run of bytes, block by block.
 pub fn read_run(
     arena: &[u8],
     first: &[u16],
@@ -72,17 +72,21 @@ pub fn read_run(
     out: &mut [u8],
 )
     requires { ⌜ Led (now arena) (now first) (now next) ⌝ }
-    requires { ⌜ (pos < 2061584301600) × (length (now out) ≤ 480) ⌝ }
+    requires { ⌜ pos + length (now out) ≤ 2061584302080 ⌝ }
     ensures { λ _. ⌜ now (out .exit) ≡ tab (byteAt (now (arena .entry)) (file which (now (name .entry)))) pos (length (now (out .entry))) ⌝ }
 {
-    let m = least(480 - pos % 480, out.len());
-    read_part(arena, first, next, which, name, pos, &mut out[0..m]);
-    if m < out.len() {
-        read_part(arena, first, next, which, name, pos + m, &mut out[m..]);
+    let total = out.len();
+    let mut got: usize = 0;
+    while got < total {
+        let p = pos + got;
+        let m = least(480 - p % 480, total - got);
+        let e = got + m;
+        read_part(arena, first, next, which, name, p, &mut out[got..e]);
+        got = e;
     }
 }
 
-// The bytes of the file from pos on, as many as out takes, at most 480; 19 where the file is missing or shorter. Its end is known: who
+// The bytes of the file from pos on, as many as out takes; 19 where the file is missing or shorter. Its end is known: who
 // reads a file more than once asks for it once.
 pub fn read_below(
     arena: &[u8],
@@ -95,7 +99,7 @@ pub fn read_below(
     out: &mut [u8],
 ) -> u8
     requires { ⌜ Led (now arena) (now first) (now next) ⌝ }
-    requires { ⌜ (end ≡ endOf (now arena) (file which (now name))) × ((end ≤ 4294967296) × (length (now out) ≤ 480)) ⌝ }
+    requires { ⌜ (end ≡ endOf (now arena) (file which (now name))) × (end ≤ 4294967296) ⌝ }
     ensures { λ r. ⌜ Went (readFile (now (arena .entry)) (file which (now (name .entry))) pos (length (now (out .entry)))) (now (out .exit)) (length (now (out .exit)) ≡ length (now (out .entry))) r ⌝ }
 {
     if end <= pos {
@@ -118,7 +122,6 @@ pub fn read(
     out: &mut [u8],
 ) -> u8
     requires { ⌜ Led (now arena) (now first) (now next) ⌝ }
-    requires { ⌜ length (now out) ≤ 480 ⌝ }
     ensures { λ r. ⌜ Went (readFile (now (arena .entry)) (file which (now (name .entry))) pos (length (now (out .entry)))) (now (out .exit)) (length (now (out .exit)) ≡ length (now (out .entry))) r ⌝ }
 {
     let end = length_of(arena, first, next, which, name);
