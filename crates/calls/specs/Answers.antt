@@ -5,7 +5,7 @@ use mathlib.Core.List.{List}
 use Prim.Native.Nat.{ℕ, _/_, _<_}
 use lib.ListN.{length}
 use lib.Dec.{eqb}
-use Rattle.base.specs.Out.{Out, done, refused}
+use Rattle.base.specs.Out.{Out, done, refused, kept}
 use Rattle.base.specs.Parts.{paste}
 use Rattle.base.specs.Search.{pick}
 use Rattle.table.specs.declared.Table.{Table}
@@ -82,7 +82,15 @@ pub data Laid (o : Out (List ℕ)) (out now : List ℕ) (n : ℕ) : ℕ → Type
   lay : {l : List ℕ} → o ≡ done l → length l ≡ n → now ≡ paste out 0 l → Laid o out now n 0
   leave : {r : ℕ} → 0 < r → o ≡ refused r → now ≡ out → Laid o out now n r
 
+-- the answer f that the outcome gives, and its bytes at the output's start: the output was `out` and is `now`
+abbrev pub Lays : {A : Type 0} → (Out (List ℕ) → A) → Out (List ℕ) → List ℕ → List ℕ → A → Type 0
+Lays f o out now r = (r ≡ f o) × (now ≡ laid out o)
+
 -- ---- an answer with a table
+
+-- what the outcome says, with its table; t is the one that stays where it is refused
+abbrev pub Replies : Table → Out Table → Reply → Type 0
+Replies t o r = (r .answer ≡ answerOf o) × (r .table ≡ kept t o)
 
 abbrev pub doneWith : Table → Reply
 doneWith t = record { answer = answers.Done; table = t }
