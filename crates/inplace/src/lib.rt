@@ -3,13 +3,16 @@
 ghost use mathlib.Core.Path.{_≡_};
 ghost use Prim.Native.Nat.{_+_, _-_, _<_, _≤_};
 ghost use lib.ListN.{length, replicate};
+ghost use lib.Dec.{ltb};
 ghost use Rattle.base.specs.Parts.{paste};
 ghost use Rattle.base.specs.Search.{pick};
 ghost use Rattle.le.specs.Le.{lePut};
 ghost use Rattle.arena.specs.Blocks.{blk, putBlk, blocks};
-ghost use Rattle.arena.specs.Fields.{file, seal, fresh, zeros};
-ghost use Rattle.files.specs.Store.{clearAll, isPast};
+ghost use Rattle.arena.specs.Fields.{file, numberOf, seal, fresh, zeros};
+ghost use Rattle.arena.specs.Places.{freeOf, dataOf};
+ghost use Rattle.files.specs.Store.{clearAll, isPast, zeroTail};
 use arena::is_data;
+use arena::is_free;
 use arena::make_block;
 use arena::put_check;
 use base::clear;
@@ -78,6 +81,18 @@ pub fn set_length(arena: &mut [u8], k: usize, len: u32)
     number_block(&mut arena[o..o + 512], len);
 }
 
+// The same where it is lower.
+pub fn raise(arena: &mut [u8], k: usize, len: u32)
+    requires { ⌜ k < blocks (now arena) ⌝ }
+    ensures { λ _. ⌜ now (arena .exit) ≡ pick (ltb (numberOf (blk (now (arena .entry)) k)) len) (putBlk (now (arena .entry)) k (seal (lePut (blk (now (arena .entry)) k) 20 4 len))) (now (arena .entry)) ⌝ }
+{
+    let o = 512 * k;
+    if u32_at(&arena[o..o + 512], 20) >= len {
+        return;
+    }
+    set_length(arena, k, len);
+}
+
 // The payload of block k becomes src from `off` on.
 pub fn edit(arena: &mut [u8], k: usize, off: usize, src: &[u8])
     requires { ⌜ (k < blocks (now arena)) × (off + length (now src) ≤ 480) ⌝ }
@@ -105,7 +120,7 @@ pub fn write_new(
 }
 
 // The payload of block k becomes zero from `off` on.
-pub fn zero_tail(arena: &mut [u8], k: usize, off: usize)
+fn clear_tail(arena: &mut [u8], k: usize, off: usize)
     requires { ⌜ (k < blocks (now arena)) × (off ≤ 480) ⌝ }
     ensures { λ _. ⌜ now (arena .exit) ≡ putBlk (now (arena .entry)) k (seal (paste (blk (now (arena .entry)) k) (24 + off) (replicate (480 - off) 0))) ⌝ }
 {
@@ -137,4 +152,51 @@ pub fn free_past(arena: &mut [u8], which: u8, name: &[u8; 16], len: usize)
         free_at(arena, k, yes);
         k = k + 1;
     }
+}
+
+// ---- searches
+
+// The lowest free block, or the number of blocks where there is none. All below `from` are in use.
+pub fn next_free(arena: &[u8], from: usize) -> usize
+    requires { ⌜ from ≤ freeOf (now arena) ⌝ }
+    ensures { λ r. ⌜ r ≡ freeOf (now (arena .entry)) ⌝ }
+{
+    let n = arena.len() / 512;
+    let mut k = from;
+    while k < n {
+        let o = 512 * k;
+        if is_free(&arena[o..o + 512]) {
+            return k;
+        }
+        k = k + 1;
+    }
+    n
+}
+
+// Block `number` of the file.
+fn find_data(arena: &[u8], which: u8, name: &[u8; 16], number: u32) -> usize
+    ensures { λ r. ⌜ r ≡ dataOf (now (arena .entry)) (file which (now (name .entry))) number ⌝ }
+{
+    let n = arena.len() / 512;
+    let mut k: usize = 0;
+    while k < n {
+        let o = 512 * k;
+        if is_data(&arena[o..o + 512], which, name, number) {
+            return k;
+        }
+        k = k + 1;
+    }
+    n
+}
+
+// The bytes past len in the block that len falls into become zero.
+pub fn zero_tail(arena: &mut [u8], which: u8, name: &[u8; 16], len: usize)
+    requires { ⌜ len ≤ 4294967295 ⌝ }
+    ensures { λ _. ⌜ now (arena .exit) ≡ zeroTail (now (arena .entry)) (file which (now (name .entry))) len ⌝ }
+{
+    let k = find_data(&arena[..], which, name, (len / 480) as u32);
+    if k >= arena.len() / 512 {
+        return;
+    }
+    clear_tail(arena, k, len % 480);
 }

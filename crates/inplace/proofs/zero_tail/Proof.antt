@@ -1,43 +1,44 @@
--- `inplace::zero_tail`: the part lent comes back as the block.
-use Rattle.arena.specs.Blocks.{blk, putBlk}
+-- `inplace::zero_tail`: the definition's two cases.
+use mathlib.Core.Path.{_∙_}
+use Rattle.arena.specs.Fields.{file}
+use Rattle.inplace.proofs.Searches.{tail-none, tail-cleared}
 use borrow.Author.Needs.{needs}
 use Rattle.inplace.proofs.zero_tail.Statement.{statement}
 use Rattle.inplace.proofs.zero_tail.Tie as tie
 
-mul-o : tie.Need-mul-o
-mul-o c = search needs
+cast-find-data : tie.Need-cast-find-data
+cast-find-data c = search needs
 
-add-clear-block : tie.Need-add-clear-block
-add-clear-block c = search needs
-
-sub-clear-block : tie.Need-sub-clear-block
-sub-clear-block c = search needs
-
-part-clear-block-start : tie.Need-part-clear-block-start
-part-clear-block-start c = search needs
-
-part-clear-block-end : tie.Need-part-clear-block-end
-part-clear-block-end c = search needs
-
-clear-block-requires : tie.Need-clear-block-requires
-clear-block-requires c κs = search needs
+find-data-requires : tie.Need-find-data-requires
+find-data-requires c κs = search needs
 
 same-length : tie.Need-same-length
 same-length c = search needs
 
 returns : tie.Need-returns
-unfolding blk putBlk
-returns c = rw (c .before .before .clear-block .ensures)
+returns c =
+    let s = c .before .before .before .before in
+    tail-none (s .args .arena .now) (file (s .args .which) (s .args .name .now)) (s .args .len) _ (c .before .find-data .ensures) (c .if1 .taken)
+
+clear-tail-requires : tie.Need-clear-tail-requires
+clear-tail-requires c κs = search needs
+
+same-length-2 : tie.Need-same-length-2
+same-length-2 c = search needs
+
+returns-2 : tie.Need-returns-2
+returns-2 c =
+    let s = c .before .before .before .before .before .before .before .before in
+    c .before .before .clear-tail .ensures ∙ tail-cleared (s .args .arena .now) (file (s .args .which) (s .args .name .now)) (s .args .len) _ (c .before .before .before .before .before .find-data .ensures) (c .before .before .before .before .if1 .left)
 
 pub zero-tail-spec : {M : Type 1} → statement M
 zero-tail-spec =
     tie.close
     (tie.spec
-    mul-o
-    add-clear-block
-    sub-clear-block
-    part-clear-block-start
-    part-clear-block-end
-    clear-block-requires
+    cast-find-data
+    find-data-requires
     same-length
-    returns)
+    returns
+    clear-tail-requires
+    same-length-2
+    returns-2)
