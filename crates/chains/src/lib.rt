@@ -9,13 +9,36 @@ ghost use Rattle.base.specs.Out.{Went};
 ghost use Rattle.base.specs.Parts.{tab};
 ghost use Rattle.arena.specs.Fields.{file};
 ghost use Rattle.files.specs.Read.{there, byteAt, readFile};
-ghost use Rattle.chains.specs.Led.{Led, endOf};
+ghost use Rattle.chains.specs.Led.{Led, endOf, headAt, blockAt};
 use base::clear;
 use base::copy;
 use base::index;
 use base::least;
 use le::u32_at;
 use sound::chain::find;
+
+// One more than the number of the file's head, or 0 where the file is not there.
+pub fn head_at(arena: &[u8], first: &[u16], next: &[u16], which: u8, name: &[u8; 16]) -> usize
+    requires { ⌜ Led (now arena) (now first) (now next) ⌝ }
+    ensures { λ r. ⌜ r ≡ headAt (now (arena .entry)) (file which (now (name .entry))) ⌝ }
+{
+    find(arena, first, next, true, which, name, 0)
+}
+
+// The same of the file's data block of that number.
+pub fn block_at(
+    arena: &[u8],
+    first: &[u16],
+    next: &[u16],
+    which: u8,
+    name: &[u8; 16],
+    number: u32,
+) -> usize
+    requires { ⌜ Led (now arena) (now first) (now next) ⌝ }
+    ensures { λ r. ⌜ (r ≡ blockAt (now (arena .entry)) (file which (now (name .entry))) number) × (r ≤ 4096) ⌝ }
+{
+    find(arena, first, next, false, which, name, number)
+}
 
 // One more than the file's length, or 0 where the file is not there.
 pub fn length_of(arena: &[u8], first: &[u16], next: &[u16], which: u8, name: &[u8; 16]) -> usize
