@@ -1,6 +1,6 @@
 -- Questions: what an answer's number says of the outcome, and one question after another.
 use mathlib.Core.Path.{_≡_, refl, sym, _∙_, ap}
-use mathlib.Core.Bool.{Bool, true, false, _&&_}
+use mathlib.Core.Bool.{Bool, true, false, not, _&&_}
 use mathlib.Core.List.{List}
 use Prim.Native.Nat.{ℕ, zero, suc, _<_, _≤_, _*_}
 use native.Mathlib.Omega.{arith}
@@ -14,6 +14,7 @@ use Rattle.base.specs.declared.Found.the-variants.{At, Nothing}
 use Rattle.base.proofs.Bools.{bool-cases}
 use Rattle.base.proofs.Outs.{ok-bind, bind-assoc, above-zero, went-is, went-has, went-not, went-weaken}
 use Rattle.base.proofs.Searches.{at-found}
+use Rattle.structs.specs.Types.{isFolder, isType}
 use Rattle.structs.specs.declared.DiskINode.{DiskINode}
 use Rattle.utf8.specs.Names.{earlyReason}
 use Rattle.utf8.specs.declared.NameVerdict.{NameVerdict}
@@ -29,8 +30,10 @@ use Rattle.sound.specs.Chain.{Chains, firsts, nexts}
 use Rattle.sound.proofs.Chains.{length-firsts, length-nexts}
 use Rattle.sefs.specs.Ask.{admitArena, admit, byHandle, orBadHandle, known, folder, notRemoved, liveFolder}
 use Rattle.sefs.specs.Read.{readable}
+use Rattle.sefs.specs.Contents.{hasContents}
 use Rattle.chains.specs.Led.{Led}
-use Rattle.calls.specs.Asked.{reached, reachedTwo, Blank}
+use Rattle.mem.specs.Mem.{tableIn, Whole}
+use Rattle.calls.specs.Asked.{Blank, Admitted, byTwo}
 
 -- a refusal has a reason's number, and no reason's number is 0
 abbrev pub Asks : {A : Type 0} → Out A → Type 0
@@ -111,6 +114,20 @@ module _ (r : DiskINode) where
   unfolding readable
   readable-next e = rw e
 
+-- a type above 4, and then 21
+pub asks-contents : (r : DiskINode) → Asks (hasContents r)
+unfolding hasContents
+asks-contents r = asks-then (asks-ensure (leb (r .kind) 4) 19 (omega arith)) (λ _. asks-ensure (isType (r .kind) && not (isFolder (r .kind))) 21 (omega arith))
+
+module _ (r : DiskINode) where
+  pub contents-stop : leb (r .kind) 4 ≡ false → 19 ≡ answer (hasContents r)
+  unfolding hasContents
+  contents-stop e = rw e
+
+  pub contents-next : {n : ℕ} → leb (r .kind) 4 ≡ true → n ≡ answer (ensure (isType (r .kind) && not (isFolder (r .kind))) 21) → n ≡ answer (hasContents r)
+  unfolding hasContents
+  contents-next e q = q ∙ sym (ap (λ (b : Bool). answer (bind (ensure b 19) (λ _. ensure (isType (r .kind) && not (isFolder (r .kind))) 21))) e)
+
 -- a name is bad by reason 5, or by none
 pub early : (v : NameVerdict) → earlyReason v ≡ answer (ensure (eqb (earlyReason v) 0) 5)
 early (Good long) = refl
@@ -133,15 +150,24 @@ handle-at t h i e = well (rw e) (live-below t h i e)
 pub handle-not : (t : Table) (h : Handle) (i : ℕ) → liveRow t h ≡ Nothing → Went (byHandle t h) i (i < 34) 4
 handle-not t h i e = ill {r = 4} (omega arith) (rw e)
 
--- a call with one handle, after its first questions
-module _ {A : Type 0} {P : Type 0} (a : List ℕ) (t : Table) (h : Handle) (f : ℕ → Out A) (row r : ℕ) (g : Went (reached a t h) row P r) where
+-- one handle after the other
+module _ (t : Table) (h k : Handle) {i n : ℕ} (g : Went (byHandle t h) i (i < 34) n) where
+  pub two-not : (v : ℕ × ℕ) (Q : Type 0) → (n ≡ 0 → ⊥) → Went (byTwo t h k) v Q n
+  unfolding byTwo
+  two-not v Q z = ill (above-zero n z) (rw (went-not g z))
+
+  pub two-by : {j r : ℕ} → n ≡ 0 → Went (byHandle t k) j (j < 34) r → Went (byTwo t h k) (i, j) ((i < 34) × (j < 34)) r
+  unfolding byTwo
+  two-by z (well e l) = well (rw (went-is g z, e)) (went-has g z, l)
+  two-by z (ill l e) = ill l (rw (went-is g z, e))
+
+-- a call with one handle, once arena and table are known
+module _ {A : Type 0} {P : Type 0} (a : List ℕ) (t : Table) (h : Handle) (q : admit a t ≡ done tt) (f : ℕ → Out A) (row r : ℕ) (g : Went (byHandle t h) row P r) where
   pub call-stop : (r ≡ 0 → ⊥) → bind (admit a t) (λ _. bind (byHandle t h) f) ≡ refused r
-  unfolding reached
-  call-stop z = sym (bind-assoc (admit a t) (λ _. byHandle t h) f) ∙ rw (went-not g z)
+  call-stop z = rw (q, went-not g z)
 
   pub call-next : r ≡ 0 → bind (admit a t) (λ _. bind (byHandle t h) f) ≡ f row
-  unfolding reached
-  call-next z = sym (bind-assoc (admit a t) (λ _. byHandle t h) f) ∙ rw (went-is g z)
+  call-next z = rw (q, went-is g z)
 
 -- ---- the first questions, with the chains
 
@@ -163,34 +189,20 @@ pub arena-illegal : (a : List ℕ) (P : Type 0) → legal a ≡ false → Went (
 unfolding admitArena
 arena-illegal a P f = ill {r = 1} (omega arith) (rw f)
 
-module _ {P : Type 0} (a : List ℕ) (t : Table) {n : ℕ} (g : Went (admitArena a) tt P n) where
-  pub admit-not : (Q : Type 0) → (n ≡ 0 → ⊥) → Went (admit a t) tt Q n
+module _ {first next : List ℕ} (a m : List ℕ) {n : ℕ} (g : Went (admitArena a) tt (Led a first next) n) where
+  pub admit-not : (Q : Type 0) → (n ≡ 0 → ⊥) → Went (admit a (tableIn m)) tt Q n
   unfolding admit
   admit-not Q z = ill (above-zero n z) (rw (went-not g z))
 
-  pub admit-formed : n ≡ 0 → wellFormed t ≡ true → Went (admit a t) tt P 0
+  pub admit-formed : n ≡ 0 → Whole m → wellFormed (tableIn m) ≡ true → Went (admit a (tableIn m)) tt (Admitted a first next m) 0
   unfolding admit
-  admit-formed z f = well (rw (went-is g z, f)) (went-has g z)
+  admit-formed z w f = well (rw (went-is g z, f)) (record { led = went-has g z; whole = w; formed = f })
 
-  pub admit-ill : n ≡ 0 → wellFormed t ≡ false → Went (admit a t) tt P 3
+  pub admit-ill : (Q : Type 0) → n ≡ 0 → wellFormed (tableIn m) ≡ false → Went (admit a (tableIn m)) tt Q 3
   unfolding admit
-  admit-ill z f = ill {r = 3} (omega arith) (rw (went-is g z, f))
+  admit-ill Q z f = ill {r = 3} (omega arith) (rw (went-is g z, f))
 
-module _ {P : Type 0} (a : List ℕ) (t : Table) (h : Handle) {n : ℕ} (g : Went (admit a t) tt P n) where
-  pub reach-not : (row : ℕ) (Q : Type 0) → (n ≡ 0 → ⊥) → Went (reached a t h) row Q n
-  unfolding reached
-  reach-not row Q z = ill (above-zero n z) (rw (went-not g z))
-
-  pub reach-by : {row r : ℕ} → n ≡ 0 → Went (byHandle t h) row (row < 34) r → Went (reached a t h) row (P × (row < 34)) r
-  unfolding reached
-  reach-by z b = rw (went-is g z) (went-weaken (λ l. (went-has g z, l)) b)
-
-module _ {P : Type 0} (a : List ℕ) (t : Table) (h k : Handle) {i n : ℕ} (g : Went (reached a t h) i (P × (i < 34)) n) where
-  pub two-not : (v : ℕ × ℕ) (Q : Type 0) → (n ≡ 0 → ⊥) → Went (reachedTwo a t h k) v Q n
-  unfolding reachedTwo
-  two-not v Q z = ill (above-zero n z) (rw (went-not g z))
-
-  pub two-by : {j r : ℕ} → n ≡ 0 → Went (byHandle t k) j (j < 34) r → Went (reachedTwo a t h k) (i, j) (P × ((i < 34) × (j < 34))) r
-  unfolding reachedTwo
-  two-by z (well e l) = let p = went-has g z in well (rw (went-is g z, e)) (p .0, (p .1, l))
-  two-by z (ill l e) = ill l (rw (went-is g z, e))
+-- what was tested once is not refused
+pub admitted : {a first next m : List ℕ} → Admitted a first next m → admit a (tableIn m) ≡ done tt
+unfolding admit admitArena
+admitted p = rw (p .led .whole, p .led .fine, p .formed)

@@ -7,12 +7,13 @@ ghost use Prim.Native.Nat.{ℕ, _<_};
 ghost use lib.ListN.{length};
 ghost use Rattle.base.specs.Out.{Went, answer};
 ghost use Rattle.table.specs.Table.{addHold};
-ghost use Rattle.sefs.specs.Ask.{byHandle, goodName, notLong, notSpecial, liveFolder, notRemoved};
+ghost use Rattle.sefs.specs.Ask.{admit, byHandle, goodName, notLong, notSpecial, liveFolder, notRemoved};
 ghost use Rattle.sefs.specs.Ask.{known as knownType, folder as isFolder};
 ghost use Rattle.sefs.specs.Read.{readable as readableAs};
+ghost use Rattle.sefs.specs.Contents.{hasContents};
 ghost use Rattle.mem.specs.Mem.{tableIn, Whole, memorySize};
 ghost use Rattle.calls.specs.Answers.{doneWith, refusedWith, notGiven, notHanded, addedAs, afterOf, givenOf};
-ghost use Rattle.calls.specs.Asked.{reached};
+ghost use Rattle.calls.specs.Asked.{byTwo};
 use base::Found;
 use holds::add_hold;
 use holds::live;
@@ -43,6 +44,12 @@ pub enum Told {
 // The slots that were written, or the reason.
 pub enum Listed {
     Slots(usize),
+    Refused(u8),
+}
+
+// The bytes that were written, or the reason.
+pub enum Taken {
+    Bytes(usize),
     Refused(u8),
 }
 
@@ -228,6 +235,19 @@ pub fn readable(rec: DiskINode) -> u8
     folder(rec)
 }
 
+// What read, write and resize ask of a node: a type above 4 sticks before 21; type 0 is 21.
+pub fn has_contents(rec: DiskINode) -> u8
+    ensures { λ r. ⌜ r ≡ answer (hasContents rec) ⌝ }
+{
+    if rec.kind > 4 {
+        return 19;
+    }
+    if is_type(rec.kind) & (rec.kind != 2) {
+        return 0;
+    }
+    21
+}
+
 // A count as a place: its bound is known here.
 pub fn long(x: u32) -> u64
     ensures { λ r. ⌜ (r ≡ x) × (r < 4294967296) ⌝ }
@@ -255,11 +275,45 @@ pub fn by_handle(mem: &[u8], h: Handle) -> ByHandle
     }
 }
 
-// What a call with one handle asks first, where it reads no file: 1, 2, 3, 4.
-pub fn reach(arena: &[u8], mem: &[u8], h: Handle) -> ByHandle
+// The rows of two handles, where the reason is 0.
+pub struct ByTwo {
+    pub reason: u8,
+    pub row: usize,
+    pub other: usize,
+}
+
+// One handle after the other.
+pub fn by_two(mem: &[u8], h: Handle, k: Handle) -> ByTwo
     requires { ⌜ Whole (now mem) ⌝ }
-    ensures { λ r. ⌜ Went (reached (now (arena .entry)) (tableIn (now (mem .entry))) h) (r .row) (r .row < 34) (r .reason) ⌝ }
+    ensures { λ r. ⌜ Went (byTwo (tableIn (now (mem .entry))) h k) (r .row, r .other) ((r .row < 34) × (r .other < 34)) (r .reason) ⌝ }
+{
+    let b = by_handle(mem, h);
+    if b.reason != 0 {
+        let r = b.reason;
+        return ByTwo {
+            reason: r,
+            row: 0,
+            other: 0,
+        };
+    }
+    let c = by_handle(mem, k);
+    let r = c.reason;
+    let i = b.row;
+    let j = c.row;
+    ByTwo {
+        reason: r,
+        row: i,
+        other: j,
+    }
+}
+
+// ---- arena and table
+
+// 1, 2, 3, where no file is read: the frame of the chains is left.
+pub fn admitted(arena: &[u8], mem: &[u8]) -> u8
+    requires { ⌜ Whole (now mem) ⌝ }
+    ensures { λ r. ⌜ Went (admit (now (arena .entry)) (tableIn (now (mem .entry)))) tt Unit r ⌝ }
 {
     let mut chains = [0u16; 8192];
-    led::reach(arena, &mut chains, mem, h)
+    led::admit(arena, &mut chains, mem)
 }

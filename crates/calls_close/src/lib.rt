@@ -1,38 +1,45 @@
 // The call close: a row's last hold stores a dirty record; at links 0 the node is freed.
 ghost use mathlib.Core.Path.{_≡_};
 ghost use Prim.Native.Nat.{_<_};
-ghost use mathlib.Core.Bool.{true};
+ghost use mathlib.Core.Bool.{true, not, _&&_};
+ghost use lib.Dec.{ltb};
+ghost use Rattle.table.specs.Table.{rowAt};
 ghost use Rattle.arena.specs.Blocks.{legal};
 ghost use Rattle.overlay.specs.View.{Empty};
 ghost use Rattle.sefs.specs.Nodes.{dropNode};
 ghost use Rattle.sefs.specs.Close.{closeSteps, callClose};
 ghost use Rattle.mem.specs.Mem.{tableIn, Whole};
-ghost use Rattle.calls.specs.Asked.{Blank};
+ghost use Rattle.calls.specs.Asked.{Admitted};
 ghost use Rattle.steps.specs.Ends.{Rest, ending, Ended, Returned};
 ghost use Rattle.mem.specs.State.{fsAt};
 use calls::Reply;
-use calls::led::reach;
+use calls::by_handle;
+use calls::led::admit;
 use calls::settle;
 use holds::close_hold;
 use mem::MEMORY;
+use mem::clear_row;
+use mem::dirty_at;
 use mem::put_table;
+use mem::rec_at;
 use nodes::drop_node;
 use nodes_read::meta::load_meta;
 use table::Handle;
 use table::Table;
 
 // What is known before the first store, where the reason is 0: the handle's row, and whether its last hold was closed.
-struct Closing {
-    reason: u8,
-    row: usize,
-    last: bool,
+pub struct Closing {
+    pub reason: u8,
+    pub row: usize,
+    pub last: bool,
 }
 
-fn close_led(arena: &[u8], chains: &mut [u16], mem: &mut [u8], h: Handle) -> Closing
-    requires { ⌜ Blank (now chains) × Whole (now mem) ⌝ }
+// What follows the tests of arena and table, by the chains that they left.
+pub fn close_led(arena: &[u8], first: &[u16], next: &[u16], mem: &mut [u8], h: Handle) -> Closing
+    requires { ⌜ Admitted (now arena) (now first) (now next) (now mem) ⌝ }
     ensures { λ r. ⌜ Rest (callClose (now (arena .entry)) (tableIn (now (mem .entry))) h) (ending (closeSteps (fsAt (now (arena .entry)) (now (mem .exit))) (r .last) (r .row))) ((legal (now (arena .entry)) ≡ true) × (Whole (now (mem .exit)) × (r .row < 34))) (r .reason) ⌝ }
 {
-    let b = reach(arena, chains, &mem[..], h);
+    let b = by_handle(&mem[..], h);
     if b.reason != 0 {
         return Closing {
             reason: b.reason,
@@ -41,8 +48,7 @@ fn close_led(arena: &[u8], chains: &mut [u16], mem: &mut [u8], h: Handle) -> Clo
         };
     }
     let last = close_hold(mem, h.hold);
-    let c = &chains[..];
-    load_meta(arena, &c[..4096], &c[4096..8192], mem);
+    load_meta(arena, first, next, mem);
     Closing {
         reason: 0,
         row: b.row,
@@ -56,7 +62,16 @@ fn close_asked(arena: &[u8], mem: &mut [u8], h: Handle) -> Closing
     ensures { λ r. ⌜ Rest (callClose (now (arena .entry)) (tableIn (now (mem .entry))) h) (ending (closeSteps (fsAt (now (arena .entry)) (now (mem .exit))) (r .last) (r .row))) ((legal (now (arena .entry)) ≡ true) × (Whole (now (mem .exit)) × (r .row < 34))) (r .reason) ⌝ }
 {
     let mut chains = [0u16; 8192];
-    close_led(arena, &mut chains, mem, h)
+    let r = admit(arena, &mut chains, &mem[..]);
+    if r != 0 {
+        return Closing {
+            reason: r,
+            row: 0,
+            last: false,
+        };
+    }
+    let c = &chains[..];
+    close_led(arena, &c[..4096], &c[4096..8192], mem, h)
 }
 
 // The node of row i is dropped. The workspace has no block yet.
@@ -82,13 +97,33 @@ fn close_last(arena: &mut [u8], mem: &mut [u8], i: usize) -> u8
     drop_in(arena, &mut work, mem, i)
 }
 
+// A clean row that has a link: nothing of it is to be stored.
+fn is_stored(mem: &[u8], i: usize) -> bool
+    requires { ⌜ Whole (now mem) × (i < 34) ⌝ }
+    ensures { λ r. ⌜ r ≡ (not (rowAt (tableIn (now (mem .entry))) i .dirty) && ltb 0 (rowAt (tableIn (now (mem .entry))) i .rec .nlinks)) ⌝ }
+{
+    !dirty_at(mem, i) & (0 < rec_at(mem, i).nlinks)
+}
+
+// A row that is stored is cleared in memory, and no workspace is made for it.
+fn drop_row(arena: &mut [u8], mem: &mut [u8], i: usize) -> u8
+    requires { ⌜ (legal (now arena) ≡ true) × (Whole (now mem) × (i < 34)) ⌝ }
+    ensures { λ r. ⌜ Ended (ending (dropNode (fsAt (now (arena .entry)) (now (mem .entry))) i)) (now (arena .entry)) (now (arena .exit)) (tableIn (now (mem .exit))) r ⌝ }
+{
+    if is_stored(&mem[..], i) {
+        clear_row(mem, i);
+        return 0;
+    }
+    close_last(arena, mem, i)
+}
+
 // A row that has another hold is left as it is.
-fn close_row(arena: &mut [u8], mem: &mut [u8], last: bool, i: usize) -> u8
+pub fn close_row(arena: &mut [u8], mem: &mut [u8], last: bool, i: usize) -> u8
     requires { ⌜ (legal (now arena) ≡ true) × (Whole (now mem) × (i < 34)) ⌝ }
     ensures { λ r. ⌜ Ended (ending (closeSteps (fsAt (now (arena .entry)) (now (mem .entry))) last i)) (now (arena .entry)) (now (arena .exit)) (tableIn (now (mem .exit))) r ⌝ }
 {
     if last {
-        return close_last(arena, mem, i);
+        return drop_row(arena, mem, i);
     }
     0
 }

@@ -13,10 +13,10 @@ use Rattle.structs.specs.declared.DiskINode.{DiskINode}
 use Rattle.table.specs.declared.Table.{Table}
 use Rattle.table.specs.declared.Handle.{Handle}
 use Rattle.table.specs.Table.{rowAt}
+use Rattle.sefs.specs.Ask.{admit, byHandle}
 use Rattle.sefs.specs.Read.{readable, namedSlot, callEntry}
 use Rattle.calls.specs.Answers.{answerOf, Laid, lay, leave}
 use Rattle.calls.specs.declared.Answer.the-variants as answers
-use Rattle.calls.specs.Asked.{reached}
 use Rattle.calls.proofs.Asks.{Asks, asks-ensure, asks-then, asks-readable, asked-done, answer-stop, call-stop, call-next}
 use Rattle.calls.proofs.Outputs.{paste-front}
 use Rattle.calls_entry.specs.Entry.{entryAsk, entryIn, answerAs}
@@ -86,13 +86,17 @@ module _ {P : Type 0} {o : Out (List ℕ)} {s : List ℕ} {r : ℕ} (g : Went o 
   pub entry-copied : (out d : List ℕ) (n : ℕ) → r ≡ 0 → length s ≡ n → d ≡ s → Laid o out (d ++ drop n out) n 0
   entry-copied out d n z h e = lay {l = s} (went-is g z) h (ap (λ (x : List ℕ). x ++ drop n out) e ∙ paste-front out s n h)
 
--- ---- the call, after its first questions
+-- ---- the call, once arena and table are known
 
-module _ {P : Type 0} (a : List ℕ) (t : Table) (h : Handle) (k room row r : ℕ) (g : Went (reached a t h) row P r) where
-  pub entry-refused : (out : List ℕ) → (r ≡ 0 → ⊥) → Laid (callEntry a t h k room) out out 264 r
+pub entry-refused : (a : List ℕ) (t : Table) (h : Handle) (k room : ℕ) {n : ℕ} → admit a t ≡ refused n → callEntry a t h k room ≡ refused n
+unfolding callEntry
+entry-refused a t h k room q = rw q
+
+module _ {P : Type 0} (a : List ℕ) (t : Table) (h : Handle) (q : admit a t ≡ done tt) (k room row r : ℕ) (g : Went (byHandle t h) row P r) where
+  pub entry-dead : (out : List ℕ) → (r ≡ 0 → ⊥) → Laid (callEntry a t h k room) out out 264 r
   unfolding callEntry entryIn
-  entry-refused out z = leave (above-zero r z) (call-stop a t h (λ i. entryIn a (rowAt t i .rec) k room) row r g z) refl
+  entry-dead out z = leave (above-zero r z) (call-stop a t h q (λ i. entryIn a (rowAt t i .rec) k room) row r g z) refl
 
   pub entry-goes : {out now : List ℕ} {n s : ℕ} (w : DiskINode) → r ≡ 0 → w ≡ rowAt t row .rec → Laid (entryIn a w k room) out now n s → Laid (callEntry a t h k room) out now n s
   unfolding callEntry entryIn
-  entry-goes w z e L = rw (call-next a t h (λ i. entryIn a (rowAt t i .rec) k room) row r g z, ← e) L
+  entry-goes w z e L = rw (call-next a t h q (λ i. entryIn a (rowAt t i .rec) k room) row r g z, ← e) L

@@ -6,12 +6,13 @@ ghost use Rattle.base.specs.Out.{answer};
 ghost use Rattle.sefs.specs.Read.{callEntry, namedSlot};
 ghost use Rattle.chains.specs.Led.{Led};
 ghost use Rattle.mem.specs.Mem.{tableIn, Whole};
-ghost use Rattle.calls.specs.Answers.{answerOf, laid, Laid};
-ghost use Rattle.calls.specs.Asked.{Blank};
+ghost use Rattle.calls.specs.Answers.{answerOf, Laid, Lays};
+ghost use Rattle.calls.specs.Asked.{Admitted};
 ghost use Rattle.calls_entry.specs.Entry.{entryAsk, entryIn, answerAs};
 use base::copy;
 use calls::Answer;
-use calls::led::reach;
+use calls::by_handle;
+use calls::led::admit;
 use calls::long;
 use calls::readable;
 use chains::slots::end_of;
@@ -89,21 +90,28 @@ fn entry_in(arena: &[u8], first: &[u16], next: &[u16], rec: DiskINode, k: u64, o
     read_entry(arena, first, next, rec, k as usize, out)
 }
 
-// The call, with the place where the chains go.
-fn entry_led(arena: &[u8], chains: &mut [u16], mem: &[u8], h: Handle, k: u64, out: &mut [u8]) -> u8
-    requires { ⌜ Blank (now chains) × Whole (now mem) ⌝ }
+// What follows the tests of arena and table, by the chains that they left.
+pub fn entry_led(
+    arena: &[u8],
+    first: &[u16],
+    next: &[u16],
+    mem: &[u8],
+    h: Handle,
+    k: u64,
+    out: &mut [u8],
+) -> u8
+    requires { ⌜ Admitted (now arena) (now first) (now next) (now mem) ⌝ }
     ensures { λ r. ⌜ Laid (callEntry (now (arena .entry)) (tableIn (now (mem .entry))) h k (length (now (out .entry)))) (now (out .entry)) (now (out .exit)) 264 r ⌝ }
 {
-    let b = reach(arena, chains, mem, h);
+    let b = by_handle(mem, h);
     if b.reason != 0 {
         return b.reason;
     }
-    let c = &chains[..];
     let rec = rec_at(mem, b.row);
-    entry_in(arena, &c[..4096], &c[4096..8192], rec, k, out)
+    entry_in(arena, first, next, rec, k, out)
 }
 
-fn as_answer(reason: u8) -> Answer
+pub fn as_answer(reason: u8) -> Answer
     ensures { λ r. ⌜ r ≡ answerAs reason ⌝ }
 {
     if reason == 0 {
@@ -115,16 +123,19 @@ fn as_answer(reason: u8) -> Answer
 // The call on the table in memory.
 fn entry_on(arena: &[u8], mem: &[u8], h: Handle, k: u64, out: &mut [u8]) -> Answer
     requires { ⌜ Whole (now mem) ⌝ }
-    ensures { λ r. ⌜ r ≡ answerOf (callEntry (now (arena .entry)) (tableIn (now (mem .entry))) h k (length (now (out .entry)))) ⌝ }
-    ensures { λ _. ⌜ now (out .exit) ≡ laid (now (out .entry)) (callEntry (now (arena .entry)) (tableIn (now (mem .entry))) h k (length (now (out .entry)))) ⌝ }
+    ensures { λ r. ⌜ Lays answerOf (callEntry (now (arena .entry)) (tableIn (now (mem .entry))) h k (length (now (out .entry)))) (now (out .entry)) (now (out .exit)) r ⌝ }
 {
     let mut chains = [0u16; 8192];
-    as_answer(entry_led(arena, &mut chains, mem, h, k, out))
+    let r = admit(arena, &mut chains, mem);
+    if r != 0 {
+        return Answer::Refused(r);
+    }
+    let c = &chains[..];
+    as_answer(entry_led(arena, &c[..4096], &c[4096..8192], mem, h, k, out))
 }
 
 pub fn get_entry(arena: &[u8], t: Table, h: Handle, k: u64, out: &mut [u8]) -> Answer
-    ensures { λ r. ⌜ r ≡ answerOf (callEntry (now (arena .entry)) t h k (length (now (out .entry)))) ⌝ }
-    ensures { λ _. ⌜ now (out .exit) ≡ laid (now (out .entry)) (callEntry (now (arena .entry)) t h k (length (now (out .entry)))) ⌝ }
+    ensures { λ r. ⌜ Lays answerOf (callEntry (now (arena .entry)) t h k (length (now (out .entry)))) (now (out .entry)) (now (out .exit)) r ⌝ }
 {
     let mut mem = [0u8; MEMORY];
     put_table(&mut mem, t);

@@ -20,11 +20,10 @@ use Rattle.sefs.specs.State.{Fs}
 use Rattle.sefs.specs.Meta.{loadMeta}
 use Rattle.sefs.specs.Nodes.{Opened, opened, getNode}
 use Rattle.sefs.specs.Slots.{Slot, findSlot}
-use Rattle.sefs.specs.Ask.{admit, goodName, notLong, known, folder, start}
+use Rattle.sefs.specs.Ask.{admit, byHandle, goodName, notLong, known, folder, start}
 use Rattle.sefs.specs.Open.{callRoot, callFind, holdNode}
 use Rattle.mem.specs.Mem.{tableIn, metaIn, Whole}
 use Rattle.calls.specs.Answers.{gotOf, heldTable, givenOf, notHanded}
-use Rattle.calls.specs.Asked.{reached}
 use Rattle.calls.specs.declared.HeldReply.{HeldReply}
 use Rattle.calls.specs.declared.Handed.{Handed}
 use Rattle.calls.proofs.Answers.{given-held, given-refused}
@@ -82,16 +81,14 @@ module _ (a : List ℕ) (t : Table) (id : ℕ) where
 
 -- ---- root
 
-module _ {P : Type 0} (a : List ℕ) (t : Table) {n : ℕ} (g : Went (admit a t) tt P n) where
-  root-is : callRoot a t ≡ bind (admit a t) (λ _. giveNode a t 2)
+module _ (a : List ℕ) (t : Table) where
+  pub root-refused : {n : ℕ} → admit a t ≡ refused n → callRoot a t ≡ refused n
+  unfolding callRoot
+  root-refused q = rw q
+
+  pub root-next : admit a t ≡ done tt → callRoot a t ≡ giveNode a t 2
   unfolding callRoot giveNode
-  root-is = refl
-
-  pub root-stop : (n ≡ 0 → ⊥) → callRoot a t ≡ refused n
-  root-stop z = root-is ∙ rw (went-not g z)
-
-  pub root-next : n ≡ 0 → callRoot a t ≡ giveNode a t 2
-  root-next z = root-is ∙ rw (went-is g z)
+  root-next q = rw q
 
 -- ---- find
 
@@ -188,11 +185,15 @@ rest-is : (a : List ℕ) (t : Table) (name : List ℕ) (r : DiskINode) → rest 
 unfolding giveNamed findIn findAsk findFolder findName findId giveNode
 rest-is a t name r = grouped (λ id. bind (ensure (canHold t) 16) (λ _. holdNode (start a t) id)) (goodName name) (known r) (folder r) (notLong name) (notOrphan r name) (findSlot a r name)
 
-module _ {P : Type 0} (a : List ℕ) (t : Table) (h : Handle) (name : List ℕ) (row r : ℕ) (g : Went (reached a t h) row P r) where
+pub find-refused : (a : List ℕ) (t : Table) (h : Handle) (name : List ℕ) {n : ℕ} → admit a t ≡ refused n → callFind a t h name ≡ refused n
+unfolding callFind
+find-refused a t h name q = rw q
+
+module _ {P : Type 0} (a : List ℕ) (t : Table) (h : Handle) (name : List ℕ) (q : admit a t ≡ done tt) (row r : ℕ) (g : Went (byHandle t h) row P r) where
   pub find-stop : (r ≡ 0 → ⊥) → callFind a t h name ≡ refused r
   unfolding callFind
-  find-stop z = call-stop a t h (λ i. rest a t name (rowAt t i .rec)) row r g z
+  find-stop z = call-stop a t h q (λ i. rest a t name (rowAt t i .rec)) row r g z
 
   pub find-next : r ≡ 0 → callFind a t h name ≡ giveNamed a t (rowAt t row .rec) name
   unfolding callFind
-  find-next z = call-next a t h (λ i. rest a t name (rowAt t i .rec)) row r g z ∙ rest-is a t name (rowAt t row .rec)
+  find-next z = call-next a t h q (λ i. rest a t name (rowAt t i .rec)) row r g z ∙ rest-is a t name (rowAt t row .rec)

@@ -10,16 +10,16 @@ ghost use Rattle.chains.specs.Led.{Led};
 ghost use Rattle.mem.specs.Mem.{tableIn, Whole, memorySize};
 ghost use Rattle.table.specs.Table.{rowAt};
 ghost use Rattle.calls.specs.Answers.{addedAs};
-ghost use Rattle.calls.specs.Asked.{Blank};
+ghost use Rattle.calls.specs.Asked.{Admitted};
 ghost use Rattle.calls_find.specs.Finds.{Gives, giveNode, giveNamed, notOrphan, findName, findFolder, findAsk, findId, findIn};
 use calls::Handed;
 use calls::HeldReply;
+use calls::by_handle;
 use calls::folder;
 use calls::good_name;
 use calls::hand;
 use calls::known;
 use calls::led::admit;
-use calls::led::reach;
 use calls::not_handed;
 use calls::not_long;
 use calls::settle_held;
@@ -71,17 +71,12 @@ fn give_node(arena: &[u8], first: &[u16], next: &[u16], mem: &mut [u8], id: u32)
 
 // ---- root
 
-// The call, with the place where the chains go; so below, too.
-fn root_led(arena: &[u8], chains: &mut [u16], mem: &mut [u8]) -> Handed
-    requires { ⌜ Blank (now chains) × Whole (now mem) ⌝ }
+// What follows the tests of arena and table, by the chains that they left; so below, too.
+pub fn root_led(arena: &[u8], first: &[u16], next: &[u16], mem: &mut [u8]) -> Handed
+    requires { ⌜ Admitted (now arena) (now first) (now next) (now mem) ⌝ }
     ensures { λ r. ⌜ Went (callRoot (now (arena .entry)) (tableIn (now (mem .entry)))) (addedAs (r .handle) (tableIn (now (mem .exit)))) Unit (r .reason) ⌝ }
 {
-    let r = admit(arena, chains, &mem[..]);
-    if r != 0 {
-        return not_handed(r);
-    }
-    let c = &chains[..];
-    give_node(arena, &c[..4096], &c[4096..8192], mem, 2)
+    give_node(arena, first, next, mem, 2)
 }
 
 // The call on the table in memory; so below, too.
@@ -90,7 +85,12 @@ fn root_on(arena: &[u8], mem: &mut [u8]) -> Handed
     ensures { λ r. ⌜ Went (callRoot (now (arena .entry)) (tableIn (now (mem .entry)))) (addedAs (r .handle) (tableIn (now (mem .exit)))) Unit (r .reason) ⌝ }
 {
     let mut chains = [0u16; 8192];
-    root_led(arena, &mut chains, mem)
+    let r = admit(arena, &mut chains, &mem[..]);
+    if r != 0 {
+        return not_handed(r);
+    }
+    let c = &chains[..];
+    root_led(arena, &c[..4096], &c[4096..8192], mem)
 }
 
 pub fn root(arena: &[u8], t: Table) -> HeldReply
@@ -212,16 +212,22 @@ fn give_named(
     give_node(arena, first, next, mem, n.id)
 }
 
-fn find_led(arena: &[u8], chains: &mut [u16], mem: &mut [u8], h: Handle, name: &[u8]) -> Handed
-    requires { ⌜ Blank (now chains) × Whole (now mem) ⌝ }
+pub fn find_led(
+    arena: &[u8],
+    first: &[u16],
+    next: &[u16],
+    mem: &mut [u8],
+    h: Handle,
+    name: &[u8],
+) -> Handed
+    requires { ⌜ Admitted (now arena) (now first) (now next) (now mem) ⌝ }
     ensures { λ r. ⌜ Went (callFind (now (arena .entry)) (tableIn (now (mem .entry))) h (now (name .entry))) (addedAs (r .handle) (tableIn (now (mem .exit)))) Unit (r .reason) ⌝ }
 {
-    let b = reach(arena, chains, &mem[..], h);
+    let b = by_handle(&mem[..], h);
     if b.reason != 0 {
         return not_handed(b.reason);
     }
-    let c = &chains[..];
-    give_named(arena, &c[..4096], &c[4096..8192], mem, b.row, name)
+    give_named(arena, first, next, mem, b.row, name)
 }
 
 fn find_on(arena: &[u8], mem: &mut [u8], h: Handle, name: &[u8]) -> Handed
@@ -229,7 +235,12 @@ fn find_on(arena: &[u8], mem: &mut [u8], h: Handle, name: &[u8]) -> Handed
     ensures { λ r. ⌜ Went (callFind (now (arena .entry)) (tableIn (now (mem .entry))) h (now (name .entry))) (addedAs (r .handle) (tableIn (now (mem .exit)))) Unit (r .reason) ⌝ }
 {
     let mut chains = [0u16; 8192];
-    find_led(arena, &mut chains, mem, h, name)
+    let r = admit(arena, &mut chains, &mem[..]);
+    if r != 0 {
+        return not_handed(r);
+    }
+    let c = &chains[..];
+    find_led(arena, &c[..4096], &c[4096..8192], mem, h, name)
 }
 
 pub fn find(arena: &[u8], t: Table, h: Handle, name: &[u8]) -> HeldReply

@@ -6,23 +6,21 @@ use lib.ListN.{length}
 use Rattle.table.specs.declared.Table.{Table}
 use Rattle.table.specs.declared.Handle.{Handle}
 use Rattle.sefs.specs.Read.{callListing}
-use Rattle.calls.specs.Answers.{listedOf, laid}
+use Rattle.calls.specs.Answers.{listedOf, Lays}
 use Rattle.calls.specs.declared.Listed.{Listed}
-use Rattle.calls_list.specs.Place.{listAt, placeAfter}
+use Rattle.calls.proofs.Answers.{lays-one}
+use Rattle.calls_list.specs.Place.{listAt, movedAs, ListsAt}
 use Rattle.calls_list.specs.declared.Place.{Place}
+use Rattle.calls_list.specs.declared.Moved.{Moved}
 
 -- an answer, the place that was `place` and the output that was `out`
-module _ (a : List ℕ) (t : Table) (place : Place) (out : List ℕ) where
-  abbrev Lists : Listed → Place → List ℕ → Type 0
-  Lists r p o = (r ≡ listedOf (listAt a t place (length out))) × ((p ≡ placeAfter place (listAt a t place (length out))) × (o ≡ laid out (listAt a t place (length out))))
+pub list-one : (a : List ℕ) (t : Table) (place : Place) (out : List ℕ) (r s : Listed) (p q : Place) (o w : List ℕ) → ListsAt a t place out p o r → ListsAt a t place out q w s → (p ≡ q) × ((r ≡ s) × (o ≡ w))
+list-one a t place out r s p q o w x y = (x .0 ∙ sym (y .0), lays-one listedOf (listAt a t place (length out)) out o w r s (x .1) (y .1))
 
-  pub list-one : (r s : Listed) (p q : Place) (o w : List ℕ) → Lists r p o → Lists s q w → (r ≡ s) × ((p ≡ q) × (o ≡ w))
-  list-one r s p q o w x y = (x .0 ∙ sym (y .0), (x .1 .0 ∙ sym (y .1 .0), x .1 .1 ∙ sym (y .1 .1)))
-
--- the same for the listing from a slot on by its number
+-- the same from a slot on by its number; and with the slot that comes next
 module _ (a : List ℕ) (t : Table) (h : Handle) (k : ℕ) (out : List ℕ) where
-  abbrev Slots : Listed → List ℕ → Type 0
-  Slots r o = (r ≡ listedOf (callListing a t h k (length out))) × (o ≡ laid out (callListing a t h k (length out)))
+  pub list-from-one : (r s : Listed) (o w : List ℕ) → Lays listedOf (callListing a t h k (length out)) out o r → Lays listedOf (callListing a t h k (length out)) out w s → (r ≡ s) × (o ≡ w)
+  list-from-one r s o w p q = lays-one listedOf (callListing a t h k (length out)) out o w r s p q
 
-  pub list-from-one : (r s : Listed) (o w : List ℕ) → Slots r o → Slots s w → (r ≡ s) × (o ≡ w)
-  list-from-one r s o w p q = (p .0 ∙ sym (q .0), p .1 ∙ sym (q .1))
+  pub list-on-one : (r s : Moved) (o w : List ℕ) → Lays (movedAs k) (callListing a t h k (length out)) out o r → Lays (movedAs k) (callListing a t h k (length out)) out w s → (r ≡ s) × (o ≡ w)
+  list-on-one r s o w p q = lays-one (movedAs k) (callListing a t h k (length out)) out o w r s p q

@@ -1,11 +1,13 @@
 -- The listing by a place: "the call moves it on by the slots written", and a refusal leaves it.
+use mathlib.Core.Path.{_≡_}
 use mathlib.Core.List.{List}
 use Prim.Native.Nat.{ℕ, _+_, _/_}
 use lib.ListN.{length}
 use Rattle.base.specs.Out.{Out, done, refused}
 use Rattle.table.specs.declared.Table.{Table}
 use Rattle.sefs.specs.Read.{callListing}
-use Rattle.calls.specs.Answers.{listedOf}
+use Rattle.calls.specs.Answers.{listedOf, Lays}
+use Rattle.calls.specs.declared.Listed.{Listed}
 use Rattle.calls_list.specs.declared.Place.{Place}
 use Rattle.calls_list.specs.declared.Moved.{Moved}
 
@@ -24,3 +26,7 @@ placeAfter p o = record { handle = p .handle; next = nextAfter (p .next) o }
 -- the same by value: the answer, and the slot that comes next
 abbrev pub movedAs : ℕ → Out (List ℕ) → Moved
 movedAs next o = record { answer = listedOf o; next = nextAfter next o }
+
+-- the listing from the place p: its answer r, and place and output afterwards
+abbrev pub ListsAt : List ℕ → Table → Place → List ℕ → Place → List ℕ → Listed → Type 0
+ListsAt a t p out q now r = (q ≡ placeAfter p (listAt a t p (length out))) × Lays listedOf (listAt a t p (length out)) out now r

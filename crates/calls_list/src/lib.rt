@@ -10,13 +10,14 @@ ghost use Rattle.sefs.specs.Nodes.{nodeFile};
 ghost use Rattle.sefs.specs.Read.{callListing, listTo};
 ghost use Rattle.chains.specs.Led.{Led, endOf};
 ghost use Rattle.mem.specs.Mem.{tableIn, Whole};
-ghost use Rattle.calls.specs.Answers.{listedOf, laid, Laid};
-ghost use Rattle.calls.specs.Asked.{Blank};
+ghost use Rattle.calls.specs.Answers.{listedOf, Laid, Lays};
+ghost use Rattle.calls.specs.Asked.{Admitted};
 ghost use Rattle.calls_list.specs.List.{listAsk, listIn, listedAs};
-ghost use Rattle.calls_list.specs.Place.{listAt, placeAfter, movedAs};
+ghost use Rattle.calls_list.specs.Place.{movedAs, ListsAt};
 use base::least;
 use calls::Listed;
-use calls::led::reach;
+use calls::by_handle;
+use calls::led::admit;
 use calls::long;
 use calls::readable;
 use chains::slots::end_of;
@@ -131,8 +132,7 @@ fn list_in(
     out: &mut [u8],
 ) -> Listed
     requires { ⌜ Led (now arena) (now first) (now next) ⌝ }
-    ensures { λ r. ⌜ r ≡ listedOf (listIn (now (arena .entry)) rec at (length (now (out .entry)))) ⌝ }
-    ensures { λ _. ⌜ now (out .exit) ≡ laid (now (out .entry)) (listIn (now (arena .entry)) rec at (length (now (out .entry)))) ⌝ }
+    ensures { λ r. ⌜ Lays listedOf (listIn (now (arena .entry)) rec at (length (now (out .entry)))) (now (out .entry)) (now (out .exit)) r ⌝ }
 {
     let room = out.len();
     let r = list_ask(rec, at, room);
@@ -145,42 +145,44 @@ fn list_in(
     as_listed(r, n)
 }
 
-// The call, with the place where the chains go.
-fn list_led(
+// What follows the tests of arena and table, by the chains that they left.
+pub fn list_led(
     arena: &[u8],
-    chains: &mut [u16],
+    first: &[u16],
+    next: &[u16],
     mem: &[u8],
     h: Handle,
     at: u64,
     out: &mut [u8],
 ) -> Listed
-    requires { ⌜ Blank (now chains) × Whole (now mem) ⌝ }
-    ensures { λ r. ⌜ r ≡ listedOf (callListing (now (arena .entry)) (tableIn (now (mem .entry))) h at (length (now (out .entry)))) ⌝ }
-    ensures { λ _. ⌜ now (out .exit) ≡ laid (now (out .entry)) (callListing (now (arena .entry)) (tableIn (now (mem .entry))) h at (length (now (out .entry)))) ⌝ }
+    requires { ⌜ Admitted (now arena) (now first) (now next) (now mem) ⌝ }
+    ensures { λ r. ⌜ Lays listedOf (callListing (now (arena .entry)) (tableIn (now (mem .entry))) h at (length (now (out .entry)))) (now (out .entry)) (now (out .exit)) r ⌝ }
 {
-    let b = reach(arena, chains, mem, h);
+    let b = by_handle(mem, h);
     if b.reason != 0 {
         return Listed::Refused(b.reason);
     }
-    let c = &chains[..];
     let rec = rec_at(mem, b.row);
-    list_in(arena, &c[..4096], &c[4096..8192], rec, at, out)
+    list_in(arena, first, next, rec, at, out)
 }
 
 // The call on the table in memory.
 fn listing_on(arena: &[u8], mem: &[u8], h: Handle, at: u64, out: &mut [u8]) -> Listed
     requires { ⌜ Whole (now mem) ⌝ }
-    ensures { λ r. ⌜ r ≡ listedOf (callListing (now (arena .entry)) (tableIn (now (mem .entry))) h at (length (now (out .entry)))) ⌝ }
-    ensures { λ _. ⌜ now (out .exit) ≡ laid (now (out .entry)) (callListing (now (arena .entry)) (tableIn (now (mem .entry))) h at (length (now (out .entry)))) ⌝ }
+    ensures { λ r. ⌜ Lays listedOf (callListing (now (arena .entry)) (tableIn (now (mem .entry))) h at (length (now (out .entry)))) (now (out .entry)) (now (out .exit)) r ⌝ }
 {
     let mut chains = [0u16; 8192];
-    list_led(arena, &mut chains, mem, h, at, out)
+    let r = admit(arena, &mut chains, mem);
+    if r != 0 {
+        return Listed::Refused(r);
+    }
+    let c = &chains[..];
+    list_led(arena, &c[..4096], &c[4096..8192], mem, h, at, out)
 }
 
 // The slots from `next` on, as stored: as many as there are and as the output takes.
 pub fn list_from(arena: &[u8], t: Table, h: Handle, next: u64, out: &mut [u8]) -> Listed
-    ensures { λ r. ⌜ r ≡ listedOf (callListing (now (arena .entry)) t h next (length (now (out .entry)))) ⌝ }
-    ensures { λ _. ⌜ now (out .exit) ≡ laid (now (out .entry)) (callListing (now (arena .entry)) t h next (length (now (out .entry)))) ⌝ }
+    ensures { λ r. ⌜ Lays listedOf (callListing (now (arena .entry)) t h next (length (now (out .entry)))) (now (out .entry)) (now (out .exit)) r ⌝ }
 {
     let mut mem = [0u8; MEMORY];
     put_table(&mut mem, t);
@@ -204,8 +206,7 @@ pub struct Moved {
 
 // The listing, with the place's fields by value.
 pub fn list_on(arena: &[u8], t: Table, h: Handle, next: u64, out: &mut [u8]) -> Moved
-    ensures { λ r. ⌜ r ≡ movedAs next (callListing (now (arena .entry)) t h next (length (now (out .entry)))) ⌝ }
-    ensures { λ _. ⌜ now (out .exit) ≡ laid (now (out .entry)) (callListing (now (arena .entry)) t h next (length (now (out .entry)))) ⌝ }
+    ensures { λ r. ⌜ Lays (movedAs next) (callListing (now (arena .entry)) t h next (length (now (out .entry)))) (now (out .entry)) (now (out .exit)) r ⌝ }
 {
     let l = list_from(arena, t, h, next, out);
     match l {
@@ -222,9 +223,7 @@ pub fn list_on(arena: &[u8], t: Table, h: Handle, next: u64, out: &mut [u8]) -> 
 
 // The slots from the place on, as stored. The place is taken apart, and only its next slot changes.
 pub fn list(arena: &[u8], t: Table, place: &mut Place, out: &mut [u8]) -> Listed
-    ensures { λ r. ⌜ r ≡ listedOf (listAt (now (arena .entry)) t (now (place .entry)) (length (now (out .entry)))) ⌝ }
-    ensures { λ _. ⌜ now (place .exit) ≡ placeAfter (now (place .entry)) (listAt (now (arena .entry)) t (now (place .entry)) (length (now (out .entry)))) ⌝ }
-    ensures { λ _. ⌜ now (out .exit) ≡ laid (now (out .entry)) (listAt (now (arena .entry)) t (now (place .entry)) (length (now (out .entry)))) ⌝ }
+    ensures { λ r. ⌜ ListsAt (now (arena .entry)) t (now (place .entry)) (now (out .entry)) (now (place .exit)) (now (out .exit)) r ⌝ }
 {
     let h = place.handle;
     let m = list_on(arena, t, h, place.next, out);

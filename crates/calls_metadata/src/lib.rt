@@ -1,18 +1,19 @@
 // The calls metadata and set metadata. They change no byte of the arena.
 ghost use mathlib.Core.Path.{_≡_};
-ghost use Rattle.base.specs.Out.{kept, Went};
+ghost use Rattle.base.specs.Out.{Went};
 ghost use Rattle.base.specs.Search.{pick};
 ghost use Rattle.structs.specs.Types.{isFolder};
 ghost use Rattle.sefs.specs.Read.{metadataOf, callMetadata, callSet};
 ghost use Rattle.sefs.specs.Read.{changed as changedAs};
 ghost use Rattle.mem.specs.Mem.{tableIn, Whole};
-ghost use Rattle.calls.specs.Answers.{answerOf, toldOf};
-ghost use Rattle.calls_metadata.specs.Tell.{told};
+ghost use Rattle.calls.specs.Answers.{toldOf, Replies};
+ghost use Rattle.calls_metadata.specs.Tell.{told, metadataIn, setIn};
 use calls::Reply;
 use calls::Told;
+use calls::admitted;
+use calls::by_handle;
 use calls::known;
 use calls::long;
-use calls::reach;
 use calls::settle;
 use mem::MEMORY;
 use mem::put_table;
@@ -68,18 +69,30 @@ fn tell(id: u32, rec: DiskINode) -> Told
     Told::Tells(metadata_of(id, rec))
 }
 
-// The call on the table in memory; so below, too.
-fn metadata_on(arena: &[u8], mem: &[u8], h: Handle) -> Told
+// What follows the tests of arena and table, on the table in memory; so below, too.
+pub fn metadata_in(mem: &[u8], h: Handle) -> Told
     requires { ⌜ Whole (now mem) ⌝ }
-    ensures { λ r. ⌜ r ≡ toldOf (callMetadata (now (arena .entry)) (tableIn (now (mem .entry))) h) ⌝ }
+    ensures { λ r. ⌜ r ≡ toldOf (metadataIn (tableIn (now (mem .entry))) h) ⌝ }
 {
-    let b = reach(arena, mem, h);
+    let b = by_handle(mem, h);
     if b.reason != 0 {
         return Told::Refused(b.reason);
     }
     let row = row_at(mem, b.row);
     let rec = row.rec;
     tell(row.id, rec)
+}
+
+// The call on the table in memory; so below, too.
+fn metadata_on(arena: &[u8], mem: &[u8], h: Handle) -> Told
+    requires { ⌜ Whole (now mem) ⌝ }
+    ensures { λ r. ⌜ r ≡ toldOf (callMetadata (now (arena .entry)) (tableIn (now (mem .entry))) h) ⌝ }
+{
+    let r = admitted(arena, mem);
+    if r != 0 {
+        return Told::Refused(r);
+    }
+    metadata_in(mem, h)
 }
 
 pub fn metadata(arena: &[u8], t: Table, h: Handle) -> Told
@@ -122,6 +135,32 @@ fn changed(
     }
 }
 
+pub fn set_in(
+    mem: &mut [u8],
+    h: Handle,
+    mode: u16,
+    uid: u64,
+    gid: u64,
+    atime: Timespec,
+    mtime: Timespec,
+    ctime: Timespec,
+) -> u8
+    requires { ⌜ Whole (now mem) ⌝ }
+    ensures { λ r. ⌜ Went (setIn (tableIn (now (mem .entry))) h mode uid gid atime mtime ctime) (tableIn (now (mem .exit))) Unit r ⌝ }
+{
+    let b = by_handle(&mem[..], h);
+    if b.reason != 0 {
+        return b.reason;
+    }
+    let rec = rec_at(&mem[..], b.row);
+    set_rec(
+        mem,
+        b.row,
+        changed(rec, mode, uid, gid, atime, mtime, ctime),
+    );
+    0
+}
+
 fn set_on(
     arena: &[u8],
     mem: &mut [u8],
@@ -136,17 +175,11 @@ fn set_on(
     requires { ⌜ Whole (now mem) ⌝ }
     ensures { λ r. ⌜ Went (callSet (now (arena .entry)) (tableIn (now (mem .entry))) h mode uid gid atime mtime ctime) (tableIn (now (mem .exit))) Unit r ⌝ }
 {
-    let b = reach(arena, &mem[..], h);
-    if b.reason != 0 {
-        return b.reason;
+    let r = admitted(arena, &mem[..]);
+    if r != 0 {
+        return r;
     }
-    let rec = rec_at(&mem[..], b.row);
-    set_rec(
-        mem,
-        b.row,
-        changed(rec, mode, uid, gid, atime, mtime, ctime),
-    );
-    0
+    set_in(mem, h, mode, uid, gid, atime, mtime, ctime)
 }
 
 pub fn set_metadata(
@@ -160,7 +193,7 @@ pub fn set_metadata(
     mtime: Timespec,
     ctime: Timespec,
 ) -> Reply
-    ensures { λ r. ⌜ (r .answer ≡ answerOf (callSet (now (arena .entry)) t h mode uid gid atime mtime ctime)) × (r .table ≡ kept t (callSet (now (arena .entry)) t h mode uid gid atime mtime ctime)) ⌝ }
+    ensures { λ r. ⌜ Replies t (callSet (now (arena .entry)) t h mode uid gid atime mtime ctime) r ⌝ }
 {
     let mut mem = [0u8; MEMORY];
     put_table(&mut mem, t);

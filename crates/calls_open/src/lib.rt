@@ -1,11 +1,11 @@
 // The call open. It changes no byte of the arena, and reads it by the chains of `sound`.
 ghost use mathlib.Core.Path.{_≡_};
 ghost use lib.ListN.{length};
-ghost use Rattle.base.specs.Out.{Went, kept};
+ghost use Rattle.base.specs.Out.{Went};
 ghost use Rattle.table.specs.Table.{emptyTable};
 ghost use Rattle.sefs.specs.Open.{callOpen};
 ghost use Rattle.chains.specs.Led.{Led};
-ghost use Rattle.calls.specs.Answers.{answerOf};
+ghost use Rattle.calls.specs.Answers.{Replies};
 ghost use Rattle.calls.specs.Asked.{Blank};
 ghost use Rattle.calls_open.specs.Opens.{isSefs, openRead};
 ghost use Rattle.mem.specs.Mem.{memorySize};
@@ -66,7 +66,7 @@ fn open_on(arena: &[u8]) -> u8
 }
 
 pub fn open(arena: &[u8]) -> Reply
-    ensures { λ r. ⌜ (r .answer ≡ answerOf (callOpen (now (arena .entry)))) × (r .table ≡ kept emptyTable (callOpen (now (arena .entry)))) ⌝ }
+    ensures { λ r. ⌜ Replies emptyTable (callOpen (now (arena .entry))) r ⌝ }
 {
     let t = table::empty();
     let r = open_on(arena);

@@ -10,7 +10,7 @@ use Rattle.base.specs.Out.{Out, done, refused, bind, Went, well, ill}
 use Rattle.base.specs.Search.{foundBelow}
 use Rattle.base.proofs.Bools.{and-parts}
 use Rattle.base.proofs.Finds.{search-at}
-use Rattle.base.proofs.Outs.{above-zero, bind-is-done, went-is, went-has, went-not}
+use Rattle.base.proofs.Outs.{above-zero, bind-is-done, went-is, went-has}
 use Rattle.base.proofs.Searches.{found-at, found-nothing}
 use Rattle.table.specs.declared.Table.{Table}
 use Rattle.table.specs.Table.{rowAt, isNext, nextRow}
@@ -27,9 +27,8 @@ use Rattle.sefs.specs.Create.{After}
 use Rattle.sefs.specs.Close.{syncFrom, callSync}
 use Rattle.mem.specs.Mem.{tableIn, metaIn, Whole}
 use Rattle.mem.specs.State.{fsOf, Stepped, fsAt}
-use Rattle.chains.specs.Led.{Led}
 use Rattle.steps.specs.Ends.{Rest, on, ending, Ended, went}
-use Rattle.steps.proofs.Ends.{rest-off, ended-refused}
+use Rattle.steps.proofs.Ends.{ended-refused}
 use Rattle.calls_sync.specs.Sync.{Judged, can, cannot, Does, Counted, Left}
 
 -- ---- answers
@@ -207,13 +206,12 @@ ended-stored s a b n g = went (ap ending g)
 
 -- ---- the first questions, and the rest
 
-module _ (a first next m : List ℕ) {r : ℕ} (g : Went (admit a (tableIn m)) tt (Led a first next) r) where
-  sync-is : callSync a (tableIn m) ≡ bind (admit a (tableIn m)) (λ _. ending (syncFrom (start a (tableIn m)) 0 34))
-  unfolding callSync
-  sync-is = refl
+pub sync-refused : (a : List ℕ) (t : Table) {n : ℕ} → admit a t ≡ refused n → callSync a t ≡ refused n
+unfolding callSync
+sync-refused a t q = rw q
 
-  pub sync-not : {e : Out After} {Q : Type 0} → (r ≡ 0 → ⊥) → Rest (callSync a (tableIn m)) e Q r
-  sync-not z = rest-off z (sync-is ∙ rw (went-not g z))
-
-  pub sync-goes : (n : List ℕ) → r ≡ 0 → (metaIn n ≡ loadMeta a) × ((tableIn n ≡ tableIn m) × Whole n) → Rest (callSync a (tableIn m)) (ending (syncFrom (fsAt a n) 0 34)) ((legal a ≡ true) × Whole n) 0
-  sync-goes n z l = on (sync-is ∙ rw (went-is g z, ← l .0, ← l .1 .0)) (went-has g z .whole, l .1 .1)
+-- once arena and table are known
+pub sync-goes : (a m n : List ℕ) → legal a ≡ true → admit a (tableIn m) ≡ done tt → (metaIn n ≡ loadMeta a) × ((tableIn n ≡ tableIn m) × Whole n)
+    → Rest (callSync a (tableIn m)) (ending (syncFrom (fsAt a n) 0 34)) ((legal a ≡ true) × Whole n) 0
+unfolding callSync
+sync-goes a m n w q l = on (rw (q, ← l .0, ← l .1 .0)) (w, l .1 .1)

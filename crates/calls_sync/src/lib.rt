@@ -17,7 +17,7 @@ ghost use Rattle.sefs.specs.Meta.{metaFile};
 ghost use Rattle.sefs.specs.Nodes.{syncRow};
 ghost use Rattle.sefs.specs.Close.{syncFrom, callSync};
 ghost use Rattle.mem.specs.Mem.{tableIn, Whole};
-ghost use Rattle.calls.specs.Asked.{Blank};
+ghost use Rattle.calls.specs.Asked.{Admitted};
 ghost use Rattle.steps.specs.Ends.{Rest, ending, Ended, Returned};
 ghost use Rattle.calls_sync.specs.Sync.{Judged, Does, isLacking, needed, Counted, Left};
 ghost use Rattle.mem.specs.State.{fsAt};
@@ -226,7 +226,7 @@ fn store_rows(arena: &mut [u8], mem: &mut [u8])
 }
 
 // Once the arena and the table are admitted.
-fn sync_in(arena: &mut [u8], mem: &mut [u8]) -> u8
+pub fn sync_in(arena: &mut [u8], mem: &mut [u8]) -> u8
     requires { ⌜ (legal (now arena) ≡ true) × Whole (now mem) ⌝ }
     ensures { λ r. ⌜ Ended (ending (syncFrom (fsAt (now (arena .entry)) (now (mem .entry))) 0 34)) (now (arena .entry)) (now (arena .exit)) (tableIn (now (mem .exit))) r ⌝ }
 {
@@ -240,17 +240,12 @@ fn sync_in(arena: &mut [u8], mem: &mut [u8]) -> u8
 
 // ---- 1, 2, 3, and superblock and maps
 
-fn sync_led(arena: &[u8], chains: &mut [u16], mem: &mut [u8]) -> u8
-    requires { ⌜ Blank (now chains) × Whole (now mem) ⌝ }
-    ensures { λ r. ⌜ Rest (callSync (now (arena .entry)) (tableIn (now (mem .entry)))) (ending (syncFrom (fsAt (now (arena .entry)) (now (mem .exit))) 0 34)) ((legal (now (arena .entry)) ≡ true) × Whole (now (mem .exit))) r ⌝ }
+// What follows the tests of arena and table.
+pub fn sync_led(arena: &[u8], first: &[u16], next: &[u16], mem: &mut [u8])
+    requires { ⌜ Admitted (now arena) (now first) (now next) (now mem) ⌝ }
+    ensures { λ _. ⌜ Rest (callSync (now (arena .entry)) (tableIn (now (mem .entry)))) (ending (syncFrom (fsAt (now (arena .entry)) (now (mem .exit))) 0 34)) ((legal (now (arena .entry)) ≡ true) × Whole (now (mem .exit))) 0 ⌝ }
 {
-    let r = admit(arena, chains, &mem[..]);
-    if r != 0 {
-        return r;
-    }
-    let c = &chains[..];
-    load_meta(arena, &c[..4096], &c[4096..8192], mem);
-    0
+    load_meta(arena, first, next, mem);
 }
 
 // The frame of the chains is left before a workspace is made.
@@ -259,7 +254,13 @@ fn sync_asked(arena: &[u8], mem: &mut [u8]) -> u8
     ensures { λ r. ⌜ Rest (callSync (now (arena .entry)) (tableIn (now (mem .entry)))) (ending (syncFrom (fsAt (now (arena .entry)) (now (mem .exit))) 0 34)) ((legal (now (arena .entry)) ≡ true) × Whole (now (mem .exit))) r ⌝ }
 {
     let mut chains = [0u16; 8192];
-    sync_led(arena, &mut chains, mem)
+    let r = admit(arena, &mut chains, &mem[..]);
+    if r != 0 {
+        return r;
+    }
+    let c = &chains[..];
+    sync_led(arena, &c[..4096], &c[4096..8192], mem);
+    0
 }
 
 // The call on the table in memory.

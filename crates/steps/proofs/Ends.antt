@@ -9,9 +9,8 @@ use Rattle.base.specs.Out.{Out, done, refused, bind, answer, Went, well, ill, s
 use Rattle.base.proofs.Outs.{went-is, went-has, went-not, went-weaken, above-zero}
 use Rattle.arena.specs.Blocks.{blocks, legal}
 use Rattle.arena.proofs.Blocks.{legal-is}
-use Rattle.overlay.specs.View.{view, left, Fine, begun}
+use Rattle.overlay.specs.View.{view, left, Fine, begun, Empty}
 use Rattle.overlay.proofs.Views.{ready}
-use Rattle.overlay.proofs.Views as views
 use Rattle.table.specs.declared.Table.{Table}
 use Rattle.table.specs.declared.Handle.{Handle}
 use Rattle.table.specs.Formed.{wellFormed}
@@ -30,7 +29,7 @@ use Rattle.steps.specs.Ends.{Begun, Rest, on, off, arenaAfter, afterAs, 
 -- ---- the start
 
 -- a workspace of m blocks of zeros, made ready
-pub started : (a w : List ℕ) (m : ℕ) → legal a ≡ true → 10 ≤ m → m ≤ 255 → w ≡ begun (replicate (512 * m) 0) → views.Ready a w m
+pub started : (a w : List ℕ) (m : ℕ) → legal a ≡ true → 10 ≤ m → m ≤ 255 → w ≡ begun (replicate (512 * m) 0) → Empty a w m
 started a w m l h k e = ready a w m (legal-is a l .whole) (legal-is a l .most) h k e
 
 -- the memory that a call has begun with is its state
@@ -38,7 +37,7 @@ pub begun-start : {a first next m n : List ℕ} → Begun a first next m n → f
 begun-start b = rw (b .meta, b .table)
 
 -- and so is a workspace with no block
-pub fs-begun : (a w m : List ℕ) (k : ℕ) → views.Ready a w k → fsOf a w m ≡ fsAt a m
+pub fs-begun : (a w m : List ℕ) (k : ℕ) → Empty a w k → fsOf a w m ≡ fsAt a m
 unfolding fsOf
 fs-begun a w m k R = rw (R .is)
 
@@ -121,11 +120,11 @@ returned-refused t e k q = record { answer = q ∙ rw e; arena = k ∙ rw e }
 pub returned-one : (t : Table) (o : Out After) {a b c : List ℕ} {r s : answered.Reply} → Returned t o a b r → Returned t o a c s → (r ≡ s) × (b ≡ c)
 returned-one t o p q = (p .answer ∙ sym (q .answer), p .arena ∙ sym (q .arena))
 
--- ---- how a call begins: the first questions, and then superblock and maps
+-- ---- how a call begins: the handles' rows, and then superblock and maps
 
-module _ {A R : Type 0} {o : Out A} {v : A} {r : ℕ} (a first next : List ℕ) (g : Went o v (Led a first next × R) r) where
+module _ {A R : Type 0} {o : Out A} {v : A} {r : ℕ} (g : Went o v R r) where
   pub begin-not : (Q : Type 0) → (r ≡ 0 → ⊥) → Went o v Q r
   begin-not Q z = ill (above-zero r z) (went-not g z)
 
-  pub begin-read : (m d : List ℕ) → (metaIn d ≡ loadMeta a) × ((tableIn d ≡ tableIn m) × Whole d) → Went o v (Begun a first next m d × R) r
-  begin-read m d l = went-weaken (λ p. (record { led = p .0; meta = l .0; table = l .1 .0; whole = l .1 .1 }, p .1)) g
+  pub begin-read : {a first next : List ℕ} (m d : List ℕ) → Led a first next → (metaIn d ≡ loadMeta a) × ((tableIn d ≡ tableIn m) × Whole d) → Went o v (Begun a first next m d × R) r
+  begin-read m d k l = went-weaken (λ p. (record { led = k; meta = l .0; table = l .1 .0; whole = l .1 .1 }, p)) g

@@ -20,7 +20,6 @@ use Rattle.structs.proofs.Joins.{bytes-append}
 use Rattle.le.specs.Le.{Bytes}
 use Rattle.utf8.specs.Names.{nameVerdict, earlyReason, isSpecial, nameBytes}
 use Rattle.utf8.proofs.Names.{length-nameBytes}
-use Rattle.overlay.specs.View.{view}
 use Rattle.table.specs.Table.{rowAt}
 use Rattle.sefs.specs.Nodes.{recAt, idAt, syncRow}
 use Rattle.sefs.specs.Slots.{lookTo}
@@ -84,10 +83,6 @@ appended {a} {w} {u} {n} {r} m l name i c id kind b s hi hk e q g =
 pub rec-of : (a w m : List ℕ) (i : ℕ) (x : DiskINode) → x ≡ rowAt (tableIn m) i .rec → x ≡ recAt (fsOf a w m) i
 unfolding fsOf
 rec-of a w m i x e = e
-
-pub view-of : (a w m : List ℕ) → view a w ≡ fsOf a w m .arena
-unfolding fsOf
-view-of a w m = refl
 
 -- ---- two rows
 

@@ -3,20 +3,20 @@ ghost use Prim.Native.Nat.{_<_, _≤_};
 ghost use lib.ListN.{length};
 ghost use Rattle.base.specs.Out.{Went};
 ghost use Rattle.overlay.specs.View.{left};
-ghost use Rattle.sound.specs.Chain.{firsts, nexts};
+ghost use Rattle.sefs.specs.Ask.{byHandle};
 ghost use Rattle.sefs.specs.Nodes.{idAt};
 ghost use Rattle.sefs.specs.Folders.{entry, direntAppend};
 ghost use Rattle.chains.specs.Led.{Led};
-ghost use Rattle.mem.specs.Mem.{tableIn, Whole};
+ghost use Rattle.mem.specs.Mem.{tableIn};
 ghost use Rattle.mem.specs.State.{fsOf, Ready, Stepped};
-ghost use Rattle.calls.specs.Asked.{Blank, reached, reachedTwo};
+ghost use Rattle.calls.specs.Asked.{Admitted, byTwo};
 ghost use Rattle.steps.specs.Ends.{Begun};
 ghost use Rattle.steps.specs.Steps.{noSlot, syncTwo};
 use base::index;
 use calls::ByHandle;
-use calls::led::ByTwo;
-use calls::led::reach;
-use calls::led::reach_two;
+use calls::ByTwo;
+use calls::by_handle;
+use calls::by_two;
 use chains::slots::lookup;
 use folders::dirent_append;
 use folders::put_entry;
@@ -26,39 +26,38 @@ use nodes_read::meta::load_meta;
 use structs::DiskINode;
 use table::Handle;
 
-// ---- before the first store: what a call asks, and reads by the chains of `sound`
+// ---- before the first store: what a call asks, and reads by the chains of `sound`, once arena and table are tested
 
-// 1, 2, 3, 4, and superblock and maps.
-pub fn reach_read(arena: &[u8], chains: &mut [u16], mem: &mut [u8], h: Handle) -> ByHandle
-    requires { ⌜ Blank (now chains) × Whole (now mem) ⌝ }
-    ensures { λ r. ⌜ Went (reached (now (arena .entry)) (tableIn (now (mem .entry))) h) (r .row) (Begun (now (arena .entry)) (firsts (now (chains .exit))) (nexts (now (chains .exit))) (now (mem .entry)) (now (mem .exit)) × (r .row < 34)) (r .reason) ⌝ }
+// 4, and superblock and maps.
+pub fn reach_read(arena: &[u8], first: &[u16], next: &[u16], mem: &mut [u8], h: Handle) -> ByHandle
+    requires { ⌜ Admitted (now arena) (now first) (now next) (now mem) ⌝ }
+    ensures { λ r. ⌜ Went (byHandle (tableIn (now (mem .entry))) h) (r .row) (Begun (now (arena .entry)) (now (first .entry)) (now (next .entry)) (now (mem .entry)) (now (mem .exit)) × (r .row < 34)) (r .reason) ⌝ }
 {
-    let b = reach(arena, chains, &mem[..], h);
+    let b = by_handle(&mem[..], h);
     if b.reason != 0 {
         return b;
     }
-    let c = &chains[..];
-    load_meta(arena, &c[..4096], &c[4096..8192], mem);
+    load_meta(arena, first, next, mem);
     b
 }
 
 // The same with two handles.
 pub fn reach_two_read(
     arena: &[u8],
-    chains: &mut [u16],
+    first: &[u16],
+    next: &[u16],
     mem: &mut [u8],
     h: Handle,
     k: Handle,
 ) -> ByTwo
-    requires { ⌜ Blank (now chains) × Whole (now mem) ⌝ }
-    ensures { λ r. ⌜ Went (reachedTwo (now (arena .entry)) (tableIn (now (mem .entry))) h k) (r .row, r .other) (Begun (now (arena .entry)) (firsts (now (chains .exit))) (nexts (now (chains .exit))) (now (mem .entry)) (now (mem .exit)) × ((r .row < 34) × (r .other < 34))) (r .reason) ⌝ }
+    requires { ⌜ Admitted (now arena) (now first) (now next) (now mem) ⌝ }
+    ensures { λ r. ⌜ Went (byTwo (tableIn (now (mem .entry))) h k) (r .row, r .other) (Begun (now (arena .entry)) (now (first .entry)) (now (next .entry)) (now (mem .entry)) (now (mem .exit)) × ((r .row < 34) × (r .other < 34))) (r .reason) ⌝ }
 {
-    let b = reach_two(arena, chains, &mem[..], h, k);
+    let b = by_two(&mem[..], h, k);
     if b.reason != 0 {
         return b;
     }
-    let c = &chains[..];
-    load_meta(arena, &c[..4096], &c[4096..8192], mem);
+    load_meta(arena, first, next, mem);
     b
 }
 

@@ -8,8 +8,8 @@ use Rattle.calls_close.proofs.close_row.Statement.{statement}
 use Rattle.calls_close.proofs.close_row.Tie as tie
 use Rattle.mem.specs.State.{fsAt}
 
-close-last-requires : tie.Need-close-last-requires
-close-last-requires c κs = search needs
+drop-row-requires : tie.Need-drop-row-requires
+drop-row-requires c κs = search needs
 
 same-length : tie.Need-same-length
 same-length c = search needs
@@ -20,7 +20,7 @@ same-length-2 c = search needs
 returns : tie.Need-returns
 returns c =
     let s = c .before .before .before .before .before .before .before .before .before .before .args in
-    ended-is (steps-last (fsAt (s .arena .now) (s .mem .now)) (s .last) (s .i) (c .before .before .before .before .before .before .before .if1 .taken)) (c .before .before .before .before .close-last .ensures)
+    ended-is (steps-last (fsAt (s .arena .now) (s .mem .now)) (s .last) (s .i) (c .before .before .before .before .before .before .before .if1 .taken)) (c .before .before .before .before .drop-row .ensures)
 
 returns-2 : tie.Need-returns-2
 returns-2 c =
@@ -29,4 +29,4 @@ returns-2 c =
 
 pub close-row-spec : {M : Type 1} → statement M
 close-row-spec =
-    tie.close (tie.spec close-last-requires same-length same-length-2 returns returns-2)
+    tie.close (tie.spec drop-row-requires same-length same-length-2 returns returns-2)

@@ -51,11 +51,11 @@ use Rattle.table.proofs.Handle.Laws as Hd′
 use Rattle.table.proofs.Table as Tb
 use Rattle.table.proofs.Table.Laws as Tb′
 use Rattle.sefs.specs.Read.{callListing}
-use Rattle.calls.specs.Answers.{listedOf, laid}
+use Rattle.calls.specs.Answers.{Lays}
 use Rattle.calls.specs.declared.Listed.{Listed}
 use Rattle.calls.proofs.Listed as Li
 use Rattle.calls.proofs.Listed.Laws as Li′
-use Rattle.calls_list.specs.Place.{placeAfter, movedAs}
+use Rattle.calls_list.specs.Place.{movedAs, ListsAt}
 use Rattle.calls_list.specs.declared.Place.{Place}
 use Rattle.calls_list.specs.declared.Moved.{Moved}
 use Rattle.calls_list.proofs.Place as P
@@ -151,16 +151,14 @@ module _ {M : Type 1} (𝓤 : URA M) (H : Heap 𝓤) (A : Atoms 𝓤) (W : Given
       owned ! Hd.the-row (Is Hd.the-row) (LL.makes Hd.the-type Hd′.the-plain 𝓤 H A) (p .handle) _ is $ fjoin ! $ move ! (3 ∷ 0 ∷ []) $ fjoin ! $ move ! (2 ∷ 0 ∷ []) $ fjoin ! $
       move ! (1 ∷ 0 ∷ []) $ join ! $ frame ! $ done !
 
-  exits : (r : Listed) (m : ℕ) (u : Val) (zs : List ℕ) → (r ≡ listedOf found) × ((at-next m ≡ placeAfter p found) × (zs ≡ laid (out .now) found)) → length zs ≡ length (out .now)
+  exits : (r : Listed) (m : ℕ) (u : Val) (zs : List ℕ) → ListsAt (arena .now) t p (out .now) (at-next m) zs r → length zs ≡ length (out .now)
       → ent 𝓤 (⋆ 𝓤 H A (‵ (fobs γ (P.the-row .coded .code (at-next m))) ∷ ‵ (fbor κ′ (Body (mem P.the-row) b o γ)) ∷ ‵ (flft κ′ q′) ∷ ‵ (flft κ q) ∷ ‵ (flft κ″ q″) ∷ ‵ (finally u8 (out .name) zs) ∷ ‵ (Li.the-row .own r (u ∷ [])) ∷ [])) (Post u)
   exits r m u zs e l =
       qed W (‵ (fobs γ (P.the-row .coded .code (at-next m))) ∷ ‵ (fbor κ′ (Body (mem P.the-row) b o γ)) ∷ ‵ (flft κ′ q′) ∷ ‵ (flft κ q) ∷ ‵ (flft κ″ q″) ∷ ‵ (finally u8 (out .name) zs) ∷ ‵ (Li.the-row .own r (u ∷ [])) ∷ []) ∵
       suffices ! _ (ends-at 𝓤 H A list.ended stayed (list.clauses 𝓤 H A at-mem run) W (((κ, (κ′, (κ″, tt))), (q, (q′, (q″, tt))), bounds, a, vals), tt) u r (tt, (tt, (at-next m, (zs, tt)))) (tt, (tt, (tt, (l, tt))))) $
       nothing ! $ move ! (5 ∷ 0 ∷ []) $ join ! $ move ! (3 ∷ 0 ∷ []) $ join ! $ move ! (3 ∷ 0 ∷ []) $ join ! $ move ! (1 ∷ 2 ∷ 3 ∷ 4 ∷ 0 ∷ []) $
       feqI ! (List Val) (vptr b o ∷ []) (vptr b o ∷ []) refl $ fjoin3 ! $ nothing ! $ move ! (2 ∷ 0 ∷ []) $ fjoin ! $ move ! (1 ∷ 0 ∷ []) $ fjoin ! $ nothing ! $ fjoin ! $ nothing ! $ fjoin ! $ move ! (2 ∷ 0 ∷ 1 ∷ []) $ group ! 3 $ frame ! $
-      use0 W (raw (fact 𝓤 (zs ≡ laid (out .now) found))) (factI 𝓤 (zs ≡ laid (out .now) found) (emp 𝓤) (e .1 .1)) $
-      use0 W (raw (fact 𝓤 (at-next m ≡ placeAfter p found))) (factI 𝓤 (at-next m ≡ placeAfter p found) (emp 𝓤) (e .1 .0)) $
-      use0 W (raw (fact 𝓤 (r ≡ listedOf found))) (factI 𝓤 (r ≡ listedOf found) (emp 𝓤) (e .0)) $ done !
+      use0 W (raw (fact 𝓤 (ListsAt (arena .now) t p (out .now) (at-next m) zs r))) (factI 𝓤 (ListsAt (arena .now) t p (out .now) (at-next m) zs r) (emp 𝓤) e) $ done !
 
   -- what whoever holds the place knows of its fields
   abbrev isH : Is P.the-row p (mach (p .next) ∷ []) → Is Hd.the-row (p .handle) (hv ∷ [])
@@ -206,8 +204,8 @@ module _ {M : Type 1} (𝓤 : URA M) (H : Heap 𝓤) (A : Atoms 𝓤) (W : Given
         calls-at ! fm (ListOn 𝓤 H A at-mem run) known to (and-then ! (load ! (from ! (stop !)) (look ! 22 refl)) (and-then ! (load ! (from ! (stop !)) (look ! 20 refl)) (and-then ! (load ! (from ! (stop !)) (look ! 14 refl)) (and-then ! (load ! (from ! (stop !)) (look ! 10 refl)) (and-then ! (load ! (from ! (stop !)) (look ! 6 refl)) (no-more !)))))) (λ w.
         use1 W (later (some (λ (r : Moved). ((‵ (flft κ q) ⊛ ‵ (flft κ″ q″) ⊛ ‵ ftrue) ⊛ ‵ (Mv.the-row .own r (w ∷ []))) ⊛ raw (ensured 𝓤 H A list-on.ended (list-on.clauses 𝓤 H A at-mem run) (κ, (κ″, tt)) passed tt r)))) (id⊢ 𝓤 _) $ await ! tt $ pick ! (λ r.
         -- what it ensures, at some last list of the output
-        split ! $ move ! (1 ∷ []) $ use1 W (some (λ (zs : Unit {0} × (Unit {0} × (Unit {0} × (Unit {0} × (List ℕ × Unit {0}))))). ‵ (lasts list-on.ended (κ, (κ″, tt)) passed zs) ⊛ raw (fact 𝓤 (r ≡ movedAs (p .next) found)) ⊛ raw (fact 𝓤 (zs .1 .1 .1 .1 .0 ≡ laid (out .now) found)))) (id⊢ 𝓤 _) $ pick ! (λ zs.
-        split ! $ move ! (1 ∷ []) $ split ! $ heard ! (r ≡ movedAs (p .next) found) (λ e. heard ! (zs .1 .1 .1 .1 .0 ≡ laid (out .now) found) (λ e′. fsplit ! $ drop ! $ fsplit ! $ drop ! $ fsplit ! $ drop ! $ fsplit ! $ drop ! $ fsplit ! $ fsplit ! $ move ! (1 ∷ []) $ feqL ! (λ l.
+        split ! $ move ! (1 ∷ []) $ use1 W (some (λ (zs : Unit {0} × (Unit {0} × (Unit {0} × (Unit {0} × (List ℕ × Unit {0}))))). ‵ (lasts list-on.ended (κ, (κ″, tt)) passed zs) ⊛ raw (fact 𝓤 (Lays (movedAs (p .next)) found (out .now) (zs .1 .1 .1 .1 .0) r)))) (id⊢ 𝓤 _) $ pick ! (λ zs.
+        split ! $ move ! (1 ∷ []) $ heard ! (Lays (movedAs (p .next)) found (out .now) (zs .1 .1 .1 .1 .0) r) (λ e. fsplit ! $ drop ! $ fsplit ! $ drop ! $ fsplit ! $ drop ! $ fsplit ! $ drop ! $ fsplit ! $ fsplit ! $ move ! (1 ∷ []) $ feqL ! (λ l.
         move ! (2 ∷ []) $ split ! $ move ! (1 ∷ []) $ peeks ! Mv.the-row (Is Mv.the-row) (shows 𝓤 H A Mv.the-row) r (w ∷ []) (λ is.
         -- [what the answer owns; the tokens; the output's last list; …; the place's cell; what a Place owns; the open borrow; obs; auth; _9; …]
         -- its answer is taken apart: the next slot goes to the place, the rest is the result
@@ -221,7 +219,7 @@ module _ {M : Type 1} (𝓤 : URA M) (H : Heap 𝓤) (A : Atoms 𝓤) (W : Given
         returns ! (look ! 25 refl) $ forget ! 7 refl $ forget ! 9 refl $ forget ! 11 refl $ forget ! 13 refl $ forget ! 15 refl $ forget ! 17 refl $ forget ! 19 refl $ forget ! 21 refl $ forget ! 23 refl $ forget ! 25 refl $
         move ! (25 ∷ 26 ∷ []) $ free1 ! $ move ! (23 ∷ 24 ∷ []) $ free1 ! $ move ! (21 ∷ 22 ∷ []) $ free1 ! $ move ! (19 ∷ 20 ∷ []) $ free1 ! $ move ! (17 ∷ 18 ∷ []) $ free1 ! $ move ! (15 ∷ 16 ∷ []) $ free1 ! $ move ! (13 ∷ 14 ∷ []) $ free1 ! $ move ! (11 ∷ 12 ∷ []) $ free1 ! $ move ! (9 ∷ 10 ∷ []) $ free1 ! $ move ! (7 ∷ 8 ∷ []) $ free1 ! $ free0 ! $
         move ! (4 ∷ []) $ split ! $ move ! (1 ∷ []) $ split ! $ keep ! (3 ∷ 4 ∷ 5 ∷ 2 ∷ 0 ∷ 7 ∷ 6 ∷ []) $
-        by ! (exits (r .answer) (r .next) _ (zs .1 .1 .1 .1 .0) (ap (λ (m : Moved). m .answer) e, (ap (λ (m : Moved). at-next (m .next)) e, e′)) l))))))))))))))))))))
+        by ! (exits (r .answer) (r .next) _ (zs .1 .1 .1 .1 .0) (ap (λ (m : Moved). at-next (m .next)) (e .0), (ap (λ (m : Moved). m .answer) (e .0), e .1)) l)))))))))))))))))))
 
 module _ {M : Type 1} (𝓤 : URA M) (H : Heap 𝓤) (A : Atoms 𝓤) (W : Given 𝓤 H A) (at-mem : Memory → SProp 𝓤) (run : Routine → Fun 𝓤) where
   list-walks : (C : Calls 𝓤 H) (Λ : Loops 𝓤 H) → FmC 𝓤 H (W .laws) C → Triple 𝓤 (C #calls-list·list-on) (ListOn 𝓤 H A at-mem run) → Walks 𝓤 H A list.ended stayed (WpFn 𝓤 H C Λ code.function) (list.clauses 𝓤 H A at-mem run)

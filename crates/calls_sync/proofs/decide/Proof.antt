@@ -3,7 +3,6 @@ use mathlib.Core.Path.{sym, ap, subst}
 use native.Mathlib.Omega.{arith}
 use Rattle.mem.specs.Mem.{Whole}
 use Rattle.steps.proofs.Ends.{started}
-use Rattle.calls_sync.specs.Sync.{fsAt}
 use Rattle.calls_sync.proofs.Syncs.{decided-start}
 use borrow.Author.Needs.{needs}
 use Rattle.calls_sync.proofs.decide.Statement.{statement}

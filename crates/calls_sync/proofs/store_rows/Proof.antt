@@ -4,7 +4,6 @@ use mathlib.Core.Bool.{true}
 use native.Mathlib.Omega.{arith}
 use lib.ListN.{length}
 use Rattle.arena.specs.Blocks.{legal}
-use Rattle.calls_sync.specs.Sync.{fsAt}
 use Rattle.calls_sync.proofs.Syncs.{Turn, turn-end, turn-none, turn-does, turn-next}
 use borrow.Author.Needs.{needs}
 use Rattle.calls_sync.proofs.store_rows.Statement.{statement}

@@ -1,61 +1,21 @@
--- `calls_sync::sync_led`: the first questions, then superblock and maps.
-use mathlib.Core.Path.{sym, _∙_}
-use Rattle.base.proofs.Outs.{went-has}
-use Rattle.sound.proofs.Chains.{length-firsts}
-use Rattle.calls_sync.proofs.Syncs.{sync-not, sync-goes}
+-- `calls_sync::sync_led`: superblock and maps.
+use Rattle.mem.specs.Mem.{tableIn}
+use Rattle.calls.proofs.Asks.{admitted}
+use Rattle.calls_sync.proofs.Syncs.{sync-goes}
 use borrow.Author.Needs.{needs}
 use Rattle.calls_sync.proofs.sync_led.Statement.{statement}
 use Rattle.calls_sync.proofs.sync_led.Tie as tie
 
-admit-requires : tie.Need-admit-requires
-admit-requires c κs = search needs
+load-meta-requires : tie.Need-load-meta-requires
+load-meta-requires c κs = search needs
 
 same-length : tie.Need-same-length
 same-length c = search needs
 
-same-length-2 : tie.Need-same-length-2
-same-length-2 c = search needs
-
 returns : tie.Need-returns
-returns c = sync-not (c .before .before .before .before .before .before .before .before .before .args .arena .now) _ _ (c .before .before .before .before .before .before .before .before .before .args .mem .now) (c .before .before .before .admit .ensures) (c .if1 .taken)
-
-slice-aggregate-load-meta : tie.Need-slice-aggregate-load-meta
-slice-aggregate-load-meta c = sym (length-firsts (c .before .before .before .before .before .admit .last .1 .0) (c .before .before .before .before .before .admit .kept .1 .0 ∙ c .before .before .before .before .before .before .before .before .before .before .before .pre .0 .size))
-
-sub-load-meta : tie.Need-sub-load-meta
-sub-load-meta c = search needs
-
-part-load-meta-start : tie.Need-part-load-meta-start
-part-load-meta-start c = search needs
-
-part-load-meta-end : tie.Need-part-load-meta-end
-part-load-meta-end c = search needs
-
-load-meta-requires : tie.Need-load-meta-requires
-load-meta-requires c κs = (went-has (c .before .before .before .before .before .before .before .admit .ensures) (c .before .before .before .before .if1 .left), c .before .before .before .before .before .before .before .before .before .before .before .before .before .pre .1 .size)
-
-same-length-3 : tie.Need-same-length-3
-same-length-3 c = search needs
-
-same-length-4 : tie.Need-same-length-4
-same-length-4 c = search needs
-
-returns-2 : tie.Need-returns-2
-returns-2 c = sync-goes (c .before .before .before .before .before .before .before .before .before .before .before .before .before .before .before .before .args .arena .now) _ _ (c .before .before .before .before .before .before .before .before .before .before .before .before .before .before .before .before .args .mem .now) (c .before .before .before .before .before .before .before .before .before .before .admit .ensures) _ (c .before .before .before .before .before .before .before .if1 .left) (c .before .before .load-meta .ensures)
+returns c =
+    let s = c .before .before .before .before .before .before .before .before in
+    sync-goes (s .args .arena .now) (s .args .mem .now) _ (s .pre .led .whole) (admitted (s .pre)) (c .before .before .load-meta .ensures)
 
 pub sync-led-spec : {M : Type 1} → statement M
-sync-led-spec =
-    tie.close
-    (tie.spec
-    admit-requires
-    same-length
-    same-length-2
-    returns
-    slice-aggregate-load-meta
-    sub-load-meta
-    part-load-meta-start
-    part-load-meta-end
-    load-meta-requires
-    same-length-3
-    same-length-4
-    returns-2)
+sync-led-spec = tie.close (tie.spec load-meta-requires same-length returns)

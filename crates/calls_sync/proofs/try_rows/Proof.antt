@@ -2,7 +2,6 @@
 use mathlib.Core.Path.{_≡_, refl}
 use native.Mathlib.Omega.{arith}
 use lib.ListN.{length}
-use Rattle.calls_sync.specs.Sync.{fsAt}
 use Rattle.calls_sync.proofs.Syncs.{Trying, try-start, try-end, try-none, try-stop, try-next}
 use borrow.Author.Needs.{needs}
 use Rattle.calls_sync.proofs.try_rows.Statement.{statement}
