@@ -37,7 +37,7 @@ use Rattle.sefs.specs.Create.{After, after, linkSteps, callLink}
 use Rattle.mem.specs.State.{fsOf, Ready, Still, Stepped, fsAt}
 use Rattle.chains.proofs.Lookups.{lookup-is}
 use Rattle.calls.proofs.Asks.{Asks, asks-ensure, asks-then, asks-live, asked-not, asked-done, asked-went, answer-stop, answer-next}
-use Rattle.calls.specs.Asked.{reached, reachedTwo}
+use Rattle.calls.specs.Asked.{byTwo}
 use Rattle.steps.specs.Ends.{Begun, Rest, on, off, ending}
 use Rattle.calls_link.specs.Link.{linkAsk, linkChild, linkMoves, linkWork, Asked}
 use Rattle.steps.specs.Steps.{noSlot, syncTwo}
@@ -147,18 +147,20 @@ module _ (s : Fs) (i c : ℕ) (name : List ℕ) (rec : DiskINode) (k : rec ≡ r
     work-child child q o (well e u) = on (rw (← k, went-is g z, went-is h o, ← q, e)) (went-has g z)
     work-child child q o (ill l e) = off l (rw (← k, went-is g z, went-is h o, ← q, e))
 
--- the call, once its handles are known
-module _ (a first next m n : List ℕ) (h child : Handle) (name : List ℕ) {i c r : ℕ} (g : Went (reachedTwo a (tableIn m) h child) (i, c) (Begun a first next m n × ((i < 34) × (c < 34))) r) where
-  link-two : callLink a (tableIn m) h name child ≡ bind (reachedTwo a (tableIn m) h child) (λ p. ending (linkWork (start a (tableIn m)) (p .0) name (p .1)))
-  unfolding reachedTwo reached
-  link-two = link-is a (tableIn m) h name child ∙ go (admit a (tableIn m)) (byHandle (tableIn m) h) (byHandle (tableIn m) child)
+pub link-refused : (a : List ℕ) (t : Table) (h : Handle) (name : List ℕ) (child : Handle) {n : ℕ} → admit a t ≡ refused n → callLink a t h name child ≡ refused n
+link-refused a t h name child q = link-is a t h name child ∙ rw q
+
+-- the call, once arena, table and handles are known
+module _ (a first next m n : List ℕ) (h child : Handle) (name : List ℕ) (q : admit a (tableIn m) ≡ done tt) {i c r : ℕ} (g : Went (byTwo (tableIn m) h child) (i, c) (Begun a first next m n × ((i < 34) × (c < 34))) r) where
+  link-two : callLink a (tableIn m) h name child ≡ bind (byTwo (tableIn m) h child) (λ p. ending (linkWork (start a (tableIn m)) (p .0) name (p .1)))
+  unfolding byTwo
+  link-two = link-is a (tableIn m) h name child ∙ rw q (go (byHandle (tableIn m) h) (byHandle (tableIn m) child))
     where
-      go : (o : Out Unit) (b d : Out ℕ) → bind o (λ _. bind b (λ i. bind d (λ c. ending (linkWork (start a (tableIn m)) i name c))))
-          ≡ bind {A = ℕ × ℕ} (bind {B = ℕ × ℕ} (bind o (λ _. b)) (λ i. bind {B = ℕ × ℕ} d (λ j. done (i, j)))) (λ p. ending (linkWork (start a (tableIn m)) (p .0) name (p .1)))
-      go (done u) (done i) (done c) = refl
-      go (done u) (done i) (refused k) = refl
-      go (done u) (refused k) d = refl
-      go (refused k) b d = refl
+      go : (b d : Out ℕ) → bind b (λ i. bind d (λ c. ending (linkWork (start a (tableIn m)) i name c)))
+          ≡ bind {A = ℕ × ℕ} (bind {B = ℕ × ℕ} b (λ i. bind {B = ℕ × ℕ} d (λ j. done (i, j)))) (λ p. ending (linkWork (start a (tableIn m)) (p .0) name (p .1)))
+      go (done i) (done c) = refl
+      go (done i) (refused k) = refl
+      go (refused k) d = refl
 
   pub link-not : {e : Out After} {Q : Type 0} → (r ≡ 0 → ⊥) → Rest (callLink a (tableIn m) h name child) e Q r
   link-not z = rest-off z (link-two ∙ rw (went-not g z))

@@ -8,13 +8,14 @@ ghost use Rattle.sefs.specs.Create.{callLink};
 ghost use Rattle.chains.specs.Led.{Led};
 ghost use Rattle.mem.specs.Mem.{tableIn, Whole};
 ghost use Rattle.mem.specs.State.{fsOf, Ready, Stepped, fsAt};
-ghost use Rattle.calls.specs.Asked.{Blank};
+ghost use Rattle.calls.specs.Asked.{Admitted};
 ghost use Rattle.steps.specs.Ends.{Rest, ending, Ended, Returned};
 ghost use Rattle.calls_link.specs.Link.{linkAsk, linkChild, linkMoves, linkWork, Asked};
 use calls::Reply;
 use calls::good_name;
 use calls::known;
-use calls::led::ByTwo;
+use calls::led::admit;
+use calls::ByTwo;
 use calls::live_folder;
 use calls::not_long;
 use calls::settle;
@@ -88,31 +89,24 @@ fn link_asks(
     link_child(rec_at(mem, c))
 }
 
-fn link_led(
+// What follows the tests of arena and table, by the chains that they left.
+pub fn link_led(
     arena: &[u8],
-    chains: &mut [u16],
+    first: &[u16],
+    next: &[u16],
     mem: &mut [u8],
     h: Handle,
     name: &[u8],
     child: Handle,
 ) -> ByTwo
-    requires { ⌜ Blank (now chains) × Whole (now mem) ⌝ }
+    requires { ⌜ Admitted (now arena) (now first) (now next) (now mem) ⌝ }
     ensures { λ r. ⌜ Rest (callLink (now (arena .entry)) (tableIn (now (mem .entry))) h (now (name .entry)) child) (ending (linkMoves (fsAt (now (arena .entry)) (now (mem .exit))) (r .row) (now (name .entry)) (r .other))) (Asked (now (arena .entry)) (now (mem .exit)) (now (name .entry)) (r .row) (r .other)) (r .reason) ⌝ }
 {
-    let b = reach_two_read(arena, chains, mem, h, child);
+    let b = reach_two_read(arena, first, next, mem, h, child);
     if b.reason != 0 {
         return b;
     }
-    let c = &chains[..];
-    let r = link_asks(
-        arena,
-        &c[..4096],
-        &c[4096..8192],
-        &mem[..],
-        b.row,
-        name,
-        b.other,
-    );
+    let r = link_asks(arena, first, next, &mem[..], b.row, name, b.other);
     ByTwo {
         reason: r,
         row: b.row,
@@ -126,7 +120,16 @@ fn link_asked(arena: &[u8], mem: &mut [u8], h: Handle, name: &[u8], child: Handl
     ensures { λ r. ⌜ Rest (callLink (now (arena .entry)) (tableIn (now (mem .entry))) h (now (name .entry)) child) (ending (linkMoves (fsAt (now (arena .entry)) (now (mem .exit))) (r .row) (now (name .entry)) (r .other))) (Asked (now (arena .entry)) (now (mem .exit)) (now (name .entry)) (r .row) (r .other)) (r .reason) ⌝ }
 {
     let mut chains = [0u16; 8192];
-    link_led(arena, &mut chains, mem, h, name, child)
+    let r = admit(arena, &mut chains, &mem[..]);
+    if r != 0 {
+        return ByTwo {
+            reason: r,
+            row: 0,
+            other: 0,
+        };
+    }
+    let c = &chains[..];
+    link_led(arena, &c[..4096], &c[4096..8192], mem, h, name, child)
 }
 
 // ---- the steps
@@ -161,7 +164,7 @@ fn link_in(arena: &mut [u8], work: &mut [u8], mem: &mut [u8], i: usize, name: &[
 }
 
 // The workspace is made.
-fn link_rows(arena: &mut [u8], mem: &mut [u8], i: usize, name: &[u8], c: usize) -> u8
+pub fn link_rows(arena: &mut [u8], mem: &mut [u8], i: usize, name: &[u8], c: usize) -> u8
     requires { ⌜ Asked (now arena) (now mem) (now name) i c ⌝ }
     ensures { λ r. ⌜ Ended (ending (linkMoves (fsAt (now (arena .entry)) (now (mem .entry))) i (now (name .entry)) c)) (now (arena .entry)) (now (arena .exit)) (tableIn (now (mem .exit))) r ⌝ }
 {

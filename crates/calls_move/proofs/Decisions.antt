@@ -4,10 +4,12 @@ use mathlib.Core.Bool.{true}
 use mathlib.Core.List.{List}
 use Prim.Native.Nat.{ℕ, _≤_, _<_}
 use native.Mathlib.Omega.{arith}
+use native.Mathlib.Decide.{ℕ-discrete}
 use lib.ListN.{length}
 use borrow.Author.Tests.{eq-eqb, ne-eqb}
 use Rattle.base.specs.Out.{Out, done, refused, bind, Went, well, ill}
-use Rattle.base.specs.Search.{foundBelow}
+use lib.Dec.{eqb}
+use Rattle.base.specs.Search.{pick, foundBelow}
 use Rattle.base.proofs.Outs.{went-is, went-has, went-not, went-next, went-stop, went-weaken}
 use Rattle.base.proofs.Searches.{found-at, found-nothing}
 use Rattle.le.specs.Le.{leAt}
@@ -16,6 +18,7 @@ use Rattle.structs.specs.declared.DiskEntry.{DiskEntry}
 use Rattle.structs.specs.Layout.{entryOf}
 use Rattle.arena.specs.Blocks.{legal}
 use Rattle.table.specs.Table.{rowAt}
+use Rattle.table.specs.declared.Table.{Table}
 use Rattle.table.specs.declared.Handle.{Handle}
 use Rattle.sefs.specs.State.{Fs}
 use Rattle.sefs.specs.Ask.{admit, byHandle, start}
@@ -26,7 +29,7 @@ use Rattle.sefs.specs.Move.{renamed, replace, moveTo, callMove}
 use Rattle.mem.specs.Mem.{tableIn, Whole}
 use Rattle.mem.specs.State.{Stepped, fsAt}
 use Rattle.chains.proofs.Lookups.{lookup-is}
-use Rattle.calls.specs.Asked.{reached, reachedTwo}
+use Rattle.calls.specs.Asked.{byTwo}
 use Rattle.steps.specs.Ends.{Begun, Rest, on, off, ending}
 use Rattle.steps.proofs.Ends.{begun-start, rest-off, rest-as}
 use Rattle.move_steps.specs.declared.Gone.the-variants.{Free}
@@ -91,13 +94,12 @@ module _ (a m n : List ℕ) (i j : ℕ) (old name : List ℕ) (k new was d c : �
     unfolding replaceNode
     node-unknown o = rest-off o (rw (went-is g z, went-not known-at o))
 
-    pub node-same : {Q : Type 0} (v : DiskEntry) → p ≡ 0 → was ≡ new → Q → Rest (replaceNode (fsAt a m) i j old name k new was) (planned (fsAt a m) (fsAt a n) 0 i j old name v k d c) Q 0
-    unfolding replaceNode planned
-    node-same v o l q = on (rw (went-is g z, went-is known-at o, eq-eqb was new l)) q
-
-    pub node-over : {Q : Type 0} (v : DiskEntry) → p ≡ 0 → (was ≡ new → ⊥) → Q → Rest (replaceNode (fsAt a m) i j old name k new was) (planned (fsAt a m) (fsAt a n) 2 i j old name v k d c) Q 0
+    pub node-goes : {Q : Type 0} (v : DiskEntry) (way : ℕ) → p ≡ 0 → way ≡ pick (eqb was new) 0 2 → Q → Rest (replaceNode (fsAt a m) i j old name k new was) (planned (fsAt a m) (fsAt a n) way i j old name v k d c) Q 0
     unfolding replaceNode planned planSteps
-    node-over v o l q = on (rw (went-is g z, went-is known-at o, ne-eqb was new l)) q
+    node-goes v way o w q = elim (ℕ-discrete was new) [
+      | yes l ↦ on (rw (went-is g z, went-is known-at o, w, eq-eqb was new l)) q
+      | no l ↦ on (rw (went-is g z, went-is known-at o, w, ne-eqb was new l)) q
+    ]
 
 -- ---- the old name is found
 
@@ -159,18 +161,21 @@ module _ (a m : List ℕ) (i j : ℕ) (old name : List ℕ) {r : ℕ} {P : Type 
   unfolding moveWork
   work-next z h = rest-as (rw (went-is asks-at z)) (λ p. (went-has asks-at z, p)) h
 
--- the call, once its handles are known
-module _ (a first next m n : List ℕ) (h target : Handle) (old name : List ℕ) {i j r : ℕ} (g : Went (reachedTwo a (tableIn m) h target) (i, j) (Begun a first next m n × ((i < 34) × (j < 34))) r) where
-  move-two : callMove a (tableIn m) h old target name ≡ bind (reachedTwo a (tableIn m) h target) (λ p. moveWork (start a (tableIn m)) (p .0) (p .1) old name)
-  unfolding reachedTwo reached
-  move-two = move-is a (tableIn m) h old target name ∙ go (admit a (tableIn m)) (byHandle (tableIn m) h) (byHandle (tableIn m) target)
+-- the call, once arena and table are known, and its handles
+pub move-refused : (a : List ℕ) (t : Table) (h : Handle) (old : List ℕ) (target : Handle) (name : List ℕ) {n : ℕ} → admit a t ≡ refused n → callMove a t h old target name ≡ refused n
+unfolding callMove
+move-refused a t h old target name q = rw q
+
+module _ (a first next m n : List ℕ) (h target : Handle) (old name : List ℕ) (k : admit a (tableIn m) ≡ done tt) {i j r : ℕ} (g : Went (byTwo (tableIn m) h target) (i, j) (Begun a first next m n × ((i < 34) × (j < 34))) r) where
+  move-two : callMove a (tableIn m) h old target name ≡ bind (byTwo (tableIn m) h target) (λ p. moveWork (start a (tableIn m)) (p .0) (p .1) old name)
+  unfolding byTwo
+  move-two = move-is a (tableIn m) h old target name ∙ rw k (go (byHandle (tableIn m) h) (byHandle (tableIn m) target))
     where
-      go : (o : Out Unit) (b d : Out ℕ) → bind o (λ _. bind b (λ i. bind d (λ j. moveWork (start a (tableIn m)) i j old name)))
-          ≡ bind {A = ℕ × ℕ} (bind {B = ℕ × ℕ} (bind o (λ _. b)) (λ i. bind {B = ℕ × ℕ} d (λ j. done (i, j)))) (λ p. moveWork (start a (tableIn m)) (p .0) (p .1) old name)
-      go (done u) (done i) (done c) = refl
-      go (done u) (done i) (refused k) = refl
-      go (done u) (refused k) d = refl
-      go (refused k) b d = refl
+      go : (b d : Out ℕ) → bind b (λ i. bind d (λ j. moveWork (start a (tableIn m)) i j old name))
+          ≡ bind {A = ℕ × ℕ} (bind {B = ℕ × ℕ} b (λ i. bind {B = ℕ × ℕ} d (λ j. done (i, j)))) (λ p. moveWork (start a (tableIn m)) (p .0) (p .1) old name)
+      go (done i) (done c) = refl
+      go (done i) (refused k) = refl
+      go (refused k) d = refl
 
   pub move-not : {e : Out After} {Q : Type 0} → (r ≡ 0 → ⊥) → Rest (callMove a (tableIn m) h old target name) e Q r
   move-not z = rest-off z (move-two ∙ rw (went-not g z))

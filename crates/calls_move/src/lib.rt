@@ -4,6 +4,8 @@ ghost use mathlib.Core.Path.{_≡_};
 ghost use mathlib.Core.List.{List};
 ghost use Prim.Native.Nat.{ℕ, _<_, _≤_};
 ghost use lib.ListN.{length};
+ghost use lib.Dec.{eqb};
+ghost use Rattle.base.specs.Search.{pick};
 ghost use Rattle.structs.specs.Layout.{entryOf};
 ghost use Rattle.structs.specs.declared.DiskEntry.{DiskEntry};
 ghost use Rattle.base.specs.Out.{Went};
@@ -13,7 +15,7 @@ ghost use Rattle.sefs.specs.Move.{callMove};
 ghost use Rattle.mem.specs.Mem.{tableIn, Whole, memorySize};
 ghost use Rattle.mem.specs.State.{fsOf, Stepped, Ready, fsAt};
 ghost use Rattle.chains.specs.Led.{Led};
-ghost use Rattle.calls.specs.Asked.{Blank};
+ghost use Rattle.calls.specs.Asked.{Admitted};
 ghost use Rattle.steps.specs.Ends.{Rest, ending, Ended, Returned};
 ghost use Rattle.move_steps.specs.declared.Gone.the-variants.{Free};
 ghost use Rattle.move_steps.specs.Steps.{Typed, moveNamed};
@@ -24,6 +26,7 @@ use calls::Reply;
 use calls::done;
 use calls::good_name;
 use calls::known;
+use calls::led::admit;
 use calls::live_folder;
 use calls::not_long;
 use calls::not_special;
@@ -104,14 +107,24 @@ fn known_two(moved: DiskINode, gone: DiskINode) -> u8
 
 // A move that is decided but for its steps, where the reason is 0. Its way is 0: both names are one node's, and nothing changes; 1: the new name is
 // free, and the slot at `place` is moved; 2: the moved node goes in the place of the one that is gone, which slot `place` of the target names.
-struct Plan {
-    reason: u8,
-    way: u8,
-    row: usize,
-    other: usize,
-    place: usize,
-    gone: usize,
-    moved: usize,
+pub struct Plan {
+    pub reason: u8,
+    pub way: u8,
+    pub row: usize,
+    pub other: usize,
+    pub place: usize,
+    pub gone: usize,
+    pub moved: usize,
+}
+
+// The way where the new name is node `new` and the old name node `was`.
+fn way_onto(was: u32, new: u32) -> u8
+    ensures { λ r. ⌜ r ≡ pick (eqb was new) 0 2 ⌝ }
+{
+    if was == new {
+        return 0;
+    }
+    2
 }
 
 // Slot k of the target names node `new`, and the old name is node `was`.
@@ -154,20 +167,9 @@ fn plan_node(
             moved: 0,
         };
     }
-    if was == new {
-        return Plan {
-            reason: 0,
-            way: 0,
-            row: i,
-            other: j,
-            place: k,
-            gone: p.gone,
-            moved: p.moved,
-        };
-    }
     Plan {
         reason: 0,
-        way: 2,
+        way: way_onto(was, new),
         row: i,
         other: j,
         place: k,
@@ -372,9 +374,11 @@ fn plan_work(
     plan_found(arena, first, next, mem, slot, i, j, old, name)
 }
 
-fn plan_led(
+// What follows the tests of arena and table, by the chains that they left.
+pub fn plan_led(
     arena: &[u8],
-    chains: &mut [u16],
+    first: &[u16],
+    next: &[u16],
     mem: &mut [u8],
     slot: &mut [u8],
     h: Handle,
@@ -382,10 +386,10 @@ fn plan_led(
     target: Handle,
     name: &[u8],
 ) -> Plan
-    requires { ⌜ Blank (now chains) × (Whole (now mem) × (length (now slot) ≡ 264)) ⌝ }
+    requires { ⌜ Admitted (now arena) (now first) (now next) (now mem) × (length (now slot) ≡ 264) ⌝ }
     ensures { λ r. ⌜ Rest (callMove (now (arena .entry)) (tableIn (now (mem .entry))) h (now (old .entry)) target (now (name .entry))) (planned (start (now (arena .entry)) (tableIn (now (mem .entry)))) (fsAt (now (arena .entry)) (now (mem .exit))) (r .way) (r .row) (r .other) (now (old .entry)) (now (name .entry)) (entryOf (now (slot .exit))) (r .place) (r .gone) (r .moved)) (Agreed (now (arena .entry)) (now (mem .exit)) (now (name .entry)) (now (slot .exit)) (r .way) (r .row) (r .other) (r .gone) (r .moved)) (r .reason) ⌝ }
 {
-    let b = reach_two_read(arena, chains, mem, h, target);
+    let b = reach_two_read(arena, first, next, mem, h, target);
     if b.reason != 0 {
         return Plan {
             reason: b.reason,
@@ -397,18 +401,9 @@ fn plan_led(
             moved: 0,
         };
     }
-    let c = &chains[..];
-    plan_work(
-        arena,
-        &c[..4096],
-        &c[4096..8192],
-        mem,
-        slot,
-        b.row,
-        b.other,
-        old,
-        name,
-    )
+    let i = b.row;
+    let j = b.other;
+    plan_work(arena, first, next, mem, slot, i, j, old, name)
 }
 
 // The frame of the chains is left before a workspace is made.
@@ -425,7 +420,30 @@ fn decide(
     ensures { λ r. ⌜ Rest (callMove (now (arena .entry)) (tableIn (now (mem .entry))) h (now (old .entry)) target (now (name .entry))) (planned (start (now (arena .entry)) (tableIn (now (mem .entry)))) (fsAt (now (arena .entry)) (now (mem .exit))) (r .way) (r .row) (r .other) (now (old .entry)) (now (name .entry)) (entryOf (now (slot .exit))) (r .place) (r .gone) (r .moved)) (Agreed (now (arena .entry)) (now (mem .exit)) (now (name .entry)) (now (slot .exit)) (r .way) (r .row) (r .other) (r .gone) (r .moved)) (r .reason) ⌝ }
 {
     let mut chains = [0u16; 8192];
-    plan_led(arena, &mut chains, mem, slot, h, old, target, name)
+    let r = admit(arena, &mut chains, &mem[..]);
+    if r != 0 {
+        return Plan {
+            reason: r,
+            way: 0,
+            row: 0,
+            other: 0,
+            place: 0,
+            gone: 0,
+            moved: 0,
+        };
+    }
+    let c = &chains[..];
+    plan_led(
+        arena,
+        &c[..4096],
+        &c[4096..8192],
+        mem,
+        slot,
+        h,
+        old,
+        target,
+        name,
+    )
 }
 
 // ---- the steps
@@ -482,7 +500,14 @@ fn move_in(
 }
 
 // The workspace is made.
-fn move_rows(arena: &mut [u8], mem: &mut [u8], slot: &[u8], p: Plan, old: &[u8], name: &[u8]) -> u8
+pub fn move_rows(
+    arena: &mut [u8],
+    mem: &mut [u8],
+    slot: &[u8],
+    p: Plan,
+    old: &[u8],
+    name: &[u8],
+) -> u8
     requires { ⌜ Agreed (now arena) (now mem) (now name) (now slot) (p .way) (p .row) (p .other) (p .gone) (p .moved) ⌝ }
     ensures { λ r. ⌜ Ended (ending (planSteps (fsAt (now (arena .entry)) (now (mem .entry))) (p .way) (p .row) (p .other) (now (old .entry)) (now (name .entry)) (entryOf (now (slot .entry))) (p .place) (p .gone) (p .moved))) (now (arena .entry)) (now (arena .exit)) (tableIn (now (mem .exit))) r ⌝ }
 {

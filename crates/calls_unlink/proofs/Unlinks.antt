@@ -15,7 +15,6 @@ use Rattle.sefs.specs.Folders.{direntNodeRemove}
 use Rattle.sefs.specs.Ask.{admit, byHandle, goodName, notLong, notSpecial, liveFolder, start}
 use Rattle.sefs.specs.Create.{After, after}
 use Rattle.sefs.specs.Unlink.{notFull, unlinkSteps, callUnlink}
-use Rattle.calls.specs.Asked.{reached}
 use Rattle.mem.specs.Mem.{tableIn}
 use Rattle.steps.specs.Ends.{Begun, Rest, ending}
 use Rattle.steps.proofs.Ends.{bind-same, begun-start, rest-off, rest-as, rest-then}
@@ -54,17 +53,19 @@ row-is : (a : List ℕ) (t : Table) (i : ℕ) (name : List ℕ)
 unfolding unlinkIn unlinkAsks nameAsks
 row-is a t i name = asks-is (goodName name) (liveFolder (recAt (start a t) i)) (notSpecial name) (notLong name) (removeName (start a t) i name) _ (name-is (start a t) i name)
 
-unlink-is : (a : List ℕ) (t : Table) (h : Handle) (name : List ℕ) → callUnlink a t h name ≡ bind (reached a t h) (λ i. ending (unlinkIn (start a t) i name))
-unfolding callUnlink reached
-unlink-is a t h name =
-    bind-same (admit a t) _ _ (λ _. bind-same (byHandle t h) _ _ (λ i. row-is a t i name))
-    ∙ sym (bind-assoc (admit a t) (λ _. byHandle t h) (λ i. ending (unlinkIn (start a t) i name)))
+unlink-is : (a : List ℕ) (t : Table) (h : Handle) (name : List ℕ) → callUnlink a t h name ≡ bind (admit a t) (λ _. bind (byHandle t h) (λ i. ending (unlinkIn (start a t) i name)))
+unfolding callUnlink
+unlink-is a t h name = bind-same (admit a t) _ _ (λ _. bind-same (byHandle t h) _ _ (λ i. row-is a t i name))
 
-module _ (a first next m n : List ℕ) (h : Handle) (name : List ℕ) {i r : ℕ} (g : Went (reached a (tableIn m) h) i (Begun a first next m n × (i < 34)) r) where
+pub unlink-refused : (a : List ℕ) (t : Table) (h : Handle) (name : List ℕ) {n : ℕ} → admit a t ≡ refused n → callUnlink a t h name ≡ refused n
+unlink-refused a t h name q = unlink-is a t h name ∙ rw q
+
+-- once arena, table and handle are known
+module _ (a first next m n : List ℕ) (h : Handle) (name : List ℕ) (q : admit a (tableIn m) ≡ done tt) {i r : ℕ} (g : Went (byHandle (tableIn m) h) i (Begun a first next m n × (i < 34)) r) where
   pub unlink-not : {e : Out After} {Q : Type 0} → (r ≡ 0 → ⊥) → Rest (callUnlink a (tableIn m) h name) e Q r
-  unlink-not z = rest-off z (unlink-is a (tableIn m) h name ∙ rw (went-not g z))
+  unlink-not z = rest-off z (unlink-is a (tableIn m) h name ∙ rw (q, went-not g z))
 
-  pub unlink-row : {e : Out Fs} {Q : Type 0} {q : ℕ} → r ≡ 0 → Rest (unlinkIn (fsAt a n) i name) e Q q → Rest (callUnlink a (tableIn m) h name) (ending e) ((legal a ≡ true) × Q) q
+  pub unlink-row : {e : Out Fs} {Q : Type 0} {x : ℕ} → r ≡ 0 → Rest (unlinkIn (fsAt a n) i name) e Q x → Rest (callUnlink a (tableIn m) h name) (ending e) ((legal a ≡ true) × Q) x
   unlink-row z f =
       let b = went-has g z .0 in
-      rest-as (unlink-is a (tableIn m) h name ∙ rw (went-is g z, ← begun-start b)) (λ p. (b .led .whole, p)) (rest-then (λ s. done (after s)) f)
+      rest-as (unlink-is a (tableIn m) h name ∙ rw (q, went-is g z, ← begun-start b)) (λ p. (b .led .whole, p)) (rest-then (λ s. done (after s)) f)

@@ -10,11 +10,12 @@ ghost use Rattle.sefs.specs.Unlink.{notFull, callUnlink};
 ghost use Rattle.chains.specs.Led.{Led};
 ghost use Rattle.mem.specs.Mem.{tableIn, Whole};
 ghost use Rattle.mem.specs.State.{fsOf, Ready, Stepped, fsAt};
-ghost use Rattle.calls.specs.Asked.{Blank};
+ghost use Rattle.calls.specs.Asked.{Admitted};
 ghost use Rattle.steps.specs.Ends.{Rest, ending, Ended, Returned};
 ghost use Rattle.calls_unlink.specs.Steps.{nameAsks, unlinkAsks, removeNode, removeId, removeName, unlinkIn};
 use calls::Reply;
 use calls::good_name;
+use calls::led::admit;
 use calls::live_folder;
 use calls::not_long;
 use calls::not_special;
@@ -76,11 +77,11 @@ fn not_full(rec: DiskINode) -> u8
 }
 
 // What is found before the first store, where the reason is 0: the folder's row, the node's, and the place of the slot that names it.
-struct Picked {
-    reason: u8,
-    row: usize,
-    node: usize,
-    place: usize,
+pub struct Picked {
+    pub reason: u8,
+    pub row: usize,
+    pub node: usize,
+    pub place: usize,
 }
 
 // Slot k of folder i names the node `id`.
@@ -172,11 +173,19 @@ fn pick_in(
     pick_name(arena, first, next, mem, i, name)
 }
 
-fn pick_led(arena: &[u8], chains: &mut [u16], mem: &mut [u8], h: Handle, name: &[u8]) -> Picked
-    requires { ⌜ Blank (now chains) × Whole (now mem) ⌝ }
+// What follows the tests of arena and table, by the chains that they left.
+pub fn unlink_led(
+    arena: &[u8],
+    first: &[u16],
+    next: &[u16],
+    mem: &mut [u8],
+    h: Handle,
+    name: &[u8],
+) -> Picked
+    requires { ⌜ Admitted (now arena) (now first) (now next) (now mem) ⌝ }
     ensures { λ r. ⌜ Rest (callUnlink (now (arena .entry)) (tableIn (now (mem .entry))) h (now (name .entry))) (ending (removeNode (fsAt (now (arena .entry)) (now (mem .exit))) (r .row) (r .node) (r .place))) ((legal (now (arena .entry)) ≡ true) × (Whole (now (mem .exit)) × ((r .row < 34) × (r .node < 34)))) (r .reason) ⌝ }
 {
-    let b = reach_read(arena, chains, mem, h);
+    let b = reach_read(arena, first, next, mem, h);
     if b.reason != 0 {
         return Picked {
             reason: b.reason,
@@ -185,17 +194,26 @@ fn pick_led(arena: &[u8], chains: &mut [u16], mem: &mut [u8], h: Handle, name: &
             place: 0,
         };
     }
-    let c = &chains[..];
-    pick_in(arena, &c[..4096], &c[4096..8192], mem, b.row, name)
+    pick_in(arena, first, next, mem, b.row, name)
 }
 
 // The frame of the chains is left before a workspace is made.
-fn pick(arena: &[u8], mem: &mut [u8], h: Handle, name: &[u8]) -> Picked
+fn unlink_asked(arena: &[u8], mem: &mut [u8], h: Handle, name: &[u8]) -> Picked
     requires { ⌜ Whole (now mem) ⌝ }
     ensures { λ r. ⌜ Rest (callUnlink (now (arena .entry)) (tableIn (now (mem .entry))) h (now (name .entry))) (ending (removeNode (fsAt (now (arena .entry)) (now (mem .exit))) (r .row) (r .node) (r .place))) ((legal (now (arena .entry)) ≡ true) × (Whole (now (mem .exit)) × ((r .row < 34) × (r .node < 34)))) (r .reason) ⌝ }
 {
     let mut chains = [0u16; 8192];
-    pick_led(arena, &mut chains, mem, h, name)
+    let r = admit(arena, &mut chains, &mem[..]);
+    if r != 0 {
+        return Picked {
+            reason: r,
+            row: 0,
+            node: 0,
+            place: 0,
+        };
+    }
+    let c = &chains[..];
+    unlink_led(arena, &c[..4096], &c[4096..8192], mem, h, name)
 }
 
 // ---- the steps
@@ -225,7 +243,7 @@ fn remove_in(arena: &mut [u8], work: &mut [u8], mem: &mut [u8], i: usize, c: usi
 }
 
 // The workspace is made.
-fn remove(arena: &mut [u8], mem: &mut [u8], i: usize, c: usize, k: usize) -> u8
+pub fn remove(arena: &mut [u8], mem: &mut [u8], i: usize, c: usize, k: usize) -> u8
     requires { ⌜ (legal (now arena) ≡ true) × (Whole (now mem) × ((i < 34) × (c < 34))) ⌝ }
     ensures { λ r. ⌜ Ended (ending (removeNode (fsAt (now (arena .entry)) (now (mem .entry))) i c k)) (now (arena .entry)) (now (arena .exit)) (tableIn (now (mem .exit))) r ⌝ }
 {
@@ -239,7 +257,7 @@ fn unlink_on(arena: &mut [u8], mem: &mut [u8], h: Handle, name: &[u8]) -> u8
     requires { ⌜ Whole (now mem) ⌝ }
     ensures { λ r. ⌜ Ended (callUnlink (now (arena .entry)) (tableIn (now (mem .entry))) h (now (name .entry))) (now (arena .entry)) (now (arena .exit)) (tableIn (now (mem .exit))) r ⌝ }
 {
-    let p = pick(&arena[..], mem, h, name);
+    let p = unlink_asked(&arena[..], mem, h, name);
     if p.reason != 0 {
         return p.reason;
     }

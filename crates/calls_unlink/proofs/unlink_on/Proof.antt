@@ -5,8 +5,8 @@ use borrow.Author.Needs.{needs}
 use Rattle.calls_unlink.proofs.unlink_on.Statement.{statement}
 use Rattle.calls_unlink.proofs.unlink_on.Tie as tie
 
-pick-requires : tie.Need-pick-requires
-pick-requires c κs = search needs
+unlink-asked-requires : tie.Need-unlink-asked-requires
+unlink-asked-requires c κs = search needs
 
 same-length : tie.Need-same-length
 same-length c = search needs
@@ -15,10 +15,10 @@ same-length-2 : tie.Need-same-length-2
 same-length-2 c = search needs
 
 returns : tie.Need-returns
-returns c = ended-refused (c .if1 .taken) (rest-not (c .before .before .before .before .pick .ensures) (c .if1 .taken)) refl
+returns c = ended-refused (c .if1 .taken) (rest-not (c .before .before .before .before .unlink-asked .ensures) (c .if1 .taken)) refl
 
 remove-requires : tie.Need-remove-requires
-remove-requires c κs = rest-has (c .before .before .before .before .before .before .pick .ensures) (c .before .before .if1 .left)
+remove-requires c κs = rest-has (c .before .before .before .before .before .before .unlink-asked .ensures) (c .before .before .if1 .left)
 
 same-length-3 : tie.Need-same-length-3
 same-length-3 c = search needs
@@ -27,13 +27,13 @@ same-length-4 : tie.Need-same-length-4
 same-length-4 c = search needs
 
 returns-2 : tie.Need-returns-2
-returns-2 c = ended-is (rest-is (c .before .before .before .before .before .before .before .before .before .before .before .pick .ensures) (c .before .before .before .before .before .before .before .if1 .left)) (c .before .before .before .before .remove .ensures)
+returns-2 c = ended-is (rest-is (c .before .before .before .before .before .before .before .before .before .before .before .unlink-asked .ensures) (c .before .before .before .before .before .before .before .if1 .left)) (c .before .before .before .before .remove .ensures)
 
 pub unlink-on-spec : {M : Type 1} → statement M
 unlink-on-spec =
     tie.close
     (tie.spec
-    pick-requires
+    unlink-asked-requires
     same-length
     same-length-2
     returns

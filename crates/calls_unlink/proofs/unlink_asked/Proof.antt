@@ -1,0 +1,66 @@
+-- `calls_unlink::unlink_asked`: arena and table, then the rest by the chains that were left.
+use mathlib.Core.Path.{sym}
+use Rattle.base.proofs.Outs.{went-has, went-not}
+use Rattle.sound.proofs.Chains.{length-firsts}
+use Rattle.mem.specs.Mem.{tableIn}
+use Rattle.calls.proofs.Asks.{blank}
+use Rattle.steps.proofs.Ends.{rest-off}
+use Rattle.calls_unlink.proofs.Unlinks.{unlink-refused}
+use borrow.Author.Needs.{needs}
+use Rattle.calls_unlink.proofs.unlink_asked.Statement.{statement}
+use Rattle.calls_unlink.proofs.unlink_asked.Tie as tie
+
+slice-aggregate-admit : tie.Need-slice-aggregate-admit
+slice-aggregate-admit c = search needs
+
+admit-requires : tie.Need-admit-requires
+admit-requires c κs = (blank, c .before .before .before .before .before .pre)
+
+same-length : tie.Need-same-length
+same-length c = search needs
+
+returns : tie.Need-returns
+returns c =
+    let s = c .before .before .before .before .before .before .before .before .args in
+    rest-off (c .if1 .taken) (unlink-refused (s .arena .now) (tableIn (s .mem .now)) (s .h) (s .name .now) (went-not (c .before .before .admit .ensures) (c .if1 .taken)))
+
+slice-aggregate-c : tie.Need-slice-aggregate-c
+slice-aggregate-c c = search needs
+
+slice-aggregate-unlink-led : tie.Need-slice-aggregate-unlink-led
+slice-aggregate-unlink-led c = sym (length-firsts (c .before .before .before .before .admit .last .1 .0) (c .before .before .before .before .admit .kept .1 .0))
+
+sub-unlink-led : tie.Need-sub-unlink-led
+sub-unlink-led c = search needs
+
+part-unlink-led-start : tie.Need-part-unlink-led-start
+part-unlink-led-start c = search needs
+
+part-unlink-led-end : tie.Need-part-unlink-led-end
+part-unlink-led-end c = search needs
+
+unlink-led-requires : tie.Need-unlink-led-requires
+unlink-led-requires c κs = went-has (c .before .before .before .before .before .before .admit .ensures) (c .before .before .before .before .if1 .left)
+
+same-length-2 : tie.Need-same-length-2
+same-length-2 c = search needs
+
+returns-2 : tie.Need-returns-2
+returns-2 c = search needs
+
+pub unlink-asked-spec : {M : Type 1} → statement M
+unlink-asked-spec =
+    tie.close
+    (tie.spec
+    slice-aggregate-admit
+    admit-requires
+    same-length
+    returns
+    slice-aggregate-c
+    slice-aggregate-unlink-led
+    sub-unlink-led
+    part-unlink-led-start
+    part-unlink-led-end
+    unlink-led-requires
+    same-length-2
+    returns-2)
