@@ -1,6 +1,6 @@
 //! `driver timed ROUNDS < SCRIPT`: the nanoseconds that the Rust takes for each kind of call of a script, the least of so many rounds. Its
 //! device keeps files as plain bytes in memory, and a hold is an `Arc` at the lowest free place: nothing is compared here.
-use crate::script::{Call, Command, Handle, Next, Script, NAMES};
+use crate::script::{Call, Command, Handle, Next, Script, KINDS, NAMES};
 use crate::world::{feed, kind_of, metadata_of, text, Lister, FED};
 use rcore_fs::dev::{DevError, DevResult};
 use rcore_fs::vfs::{FileSystem, INode, Result};
@@ -120,17 +120,20 @@ impl Image {
             Call::List(h, next, room) => self.node(h).iterate_entries(*next as usize, &mut Lister::new(*room as usize)).map(|_| ()),
             Call::Sync => self.fs.as_ref().unwrap().sync(),
             Call::Close(h) => Ok(self.holds[h.hold as usize] = None),
+            Call::Read(h, at, room) => self.node(h).read_at(*at as usize, &mut vec![0; *room as usize]).map(|_| ()),
+            Call::Write(h, at, data) => self.node(h).write_at(*at as usize, data).map(|_| ()),
+            Call::Resize(h, length) => self.node(h).resize(*length as usize),
             Call::Check => panic!("the Rust has no checker"),
         }
     }
 }
 
 pub fn timed(out: &mut impl Write, bytes: &[u8], rounds: u64) -> std::io::Result<()> {
-    let mut best = [f64::INFINITY; 15];
-    let mut counts = [0u32; 15];
+    let mut best = [f64::INFINITY; KINDS];
+    let mut counts = [0u32; KINDS];
     for _ in 0..rounds {
-        let (mut script, mut image, mut spent) = (Script(bytes), Image::default(), [0f64; 15]);
-        counts = [0; 15];
+        let (mut script, mut image, mut spent) = (Script(bytes), Image::default(), [0f64; KINDS]);
+        counts = [0; KINDS];
         while let Next::Do(command) = script.next() {
             let Command::Call(call) = command else { continue };
             let from = Instant::now();
@@ -138,11 +141,11 @@ pub fn timed(out: &mut impl Write, bytes: &[u8], rounds: u64) -> std::io::Result
             spent[call.number()] += from.elapsed().as_nanos() as f64;
             counts[call.number()] += 1;
         }
-        for k in 0..15 {
+        for k in 0..KINDS {
             best[k] = best[k].min(spent[k] / counts[k] as f64);
         }
     }
-    for k in (0..15).filter(|k| counts[*k] > 0) {
+    for k in (0..KINDS).filter(|k| counts[*k] > 0) {
         writeln!(out, "{} {} {:.0}", NAMES[k], counts[k], best[k])?;
     }
     Ok(())
