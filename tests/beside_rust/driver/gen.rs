@@ -551,9 +551,13 @@ impl Sequence {
         }
     }
 
-    /// A script has its limit, so late writes are short.
+    /// A script has its limit, so late writes are short, and those of a sample shorter than a few blocks.
     fn data(&mut self) -> Vec<u8> {
-        let most = if self.script.len() > 900_000 { 16 } else { 8192 };
+        let most = match self.script.len() {
+            _ if self.answered => 1000,
+            0..=900_000 => 8192,
+            _ => 16,
+        };
         (0..self.amount().min(most)).map(|_| self.dice.next() as u8).collect()
     }
 }
