@@ -6,7 +6,7 @@
 //! A sum that is not known is a dash.
 //!
 //!     = LINE          the Rust's answer and the sums: the port prints this line
-//!     ~RULE LINE      left out by that rule; document 01's answer
+//!     ~RULE LINE      left out by that rule; the documents' answer
 //!     ?RULE NAME SUMS left out by that rule; no answer is said, but a refusal keeps these sums
 //!     ! TEXT          the Rust broke off where no rule foresaw it; the run ends
 mod device;
