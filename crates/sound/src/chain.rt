@@ -126,6 +126,22 @@ pub fn add_block(arena: &[u8], chains: &mut [u16], k: usize) -> bool
     true
 }
 
+// Block k joins the chains, where it is used. Nothing of it is tested.
+pub fn join(arena: &[u8], chains: &mut [u16], k: usize)
+    requires { ⌜ (k < blocks (now arena)) × ((k < 4096) × (length (now chains) ≡ 8192)) ⌝ }
+    requires { ⌜ Chains (now arena) (firsts (now chains)) (nexts (now chains)) k ⌝ }
+    ensures { λ _. ⌜ Chains (now (arena .entry)) (firsts (now (chains .exit))) (nexts (now (chains .exit))) (k + 1) ⌝ }
+{
+    let o = 512 * k;
+    let part = &arena[o..o + 512];
+    if part[0] == 0 {
+        return;
+    }
+    let number = u32_at(part, 20);
+    let h = hash_key(part[0] == 1, part[1], &part[4..20], number);
+    insert(chains, k, h);
+}
+
 // One more than the number of the block that has that key, or 0. The chains are those of all blocks.
 pub fn find(
     arena: &[u8],

@@ -12,6 +12,7 @@ ghost use Rattle.arena.specs.Blocks.{blocks};
 ghost use Rattle.sound.specs.Sound.{under, sound as soundArena};
 ghost use Rattle.sound.specs.Chain.{Chains, firsts, nexts, alone};
 use chain::add_block;
+use chain::join;
 use chain::under_at;
 
 // Every block by itself and no key twice; the chains of all blocks.
@@ -30,6 +31,32 @@ fn all_alone(arena: &[u8], chains: &mut [u16]) -> bool
         k = k + 1;
     }
     true
+}
+
+// The chains of no block.
+fn unchain(chains: &mut [u16])
+    requires { ⌜ length (now chains) ≡ 8192 ⌝ }
+    ensures { λ _. ⌜ ((h : ℕ) → h < 4096 → getD (now (chains .exit)) h 0 ≡ 0) ⌝ }
+{
+    let mut h: usize = 0;
+    while h < 4096 {
+        chains[h] = 0;
+        h = h + 1;
+    }
+}
+
+// The chains of all blocks, for an arena that its owner knows to be sound: no block is tested.
+pub fn chain_all(arena: &[u8], chains: &mut [u16])
+    requires { ⌜ (blocks (now arena) ≤ 4096) × (length (now chains) ≡ 8192) ⌝ }
+    ensures { λ _. ⌜ Chains (now (arena .entry)) (firsts (now (chains .exit))) (nexts (now (chains .exit))) (blocks (now (arena .entry))) ⌝ }
+{
+    unchain(chains);
+    let n = arena.len() / 512;
+    let mut k: usize = 0;
+    while k < n {
+        join(arena, chains, k);
+        k = k + 1;
+    }
 }
 
 // Every data block under its head.
