@@ -27,7 +27,6 @@ use Rattle.sefs.specs.Create.{Given, birth, nameFolder, named, given, createSte
 use Rattle.mem.specs.Mem.{tableIn, Whole}
 use Rattle.mem.specs.State.{fsOf, Ready, Still, Stepped, fsAt}
 use Rattle.folders.proofs.States.{stepped-next}
-use Rattle.calls.specs.Asked.{reached}
 use Rattle.calls.proofs.Asks.{asks-live, asked-done, asked-went, call-stop, call-next}
 use Rattle.steps.specs.Steps.{noSlot, syncTwo}
 use Rattle.steps.proofs.Steps.{asks-good, long}
@@ -89,9 +88,13 @@ unfolding callCreate
 create-is a t h name kind mode time uuid =
     bind-same (admit a t) _ _ (λ _. bind-same (byHandle t h) _ _ (λ i. work-is (start a t) i name kind mode time uuid (canHold t)))
 
-module _ (a first next m n : List ℕ) (h : Handle) (name : List ℕ) (kind mode : ℕ) (time : Timespec) (uuid : List ℕ) {i r : ℕ} (g : Went (reached a (tableIn m) h) i (Begun a first next m n × (i < 34)) r) where
+pub create-refused : (a : List ℕ) (t : Table) (h : Handle) (name : List ℕ) (kind mode : ℕ) (time : Timespec) (uuid : List ℕ) {n : ℕ} → admit a t ≡ refused n → callCreate a t h name kind mode time uuid ≡ refused n
+create-refused a t h name kind mode time uuid q = create-is a t h name kind mode time uuid ∙ rw q
+
+-- once arena, table and handle are known
+module _ (a first next m n : List ℕ) (h : Handle) (name : List ℕ) (kind mode : ℕ) (time : Timespec) (uuid : List ℕ) (x : admit a (tableIn m) ≡ done tt) {i r : ℕ} (g : Went (byHandle (tableIn m) h) i (Begun a first next m n × (i < 34)) r) where
   pub create-not : {e : Out Given} {Q : Type 0} → (r ≡ 0 → ⊥) → Rest (callCreate a (tableIn m) h name kind mode time uuid) e Q r
-  create-not z = rest-off z (create-is a (tableIn m) h name kind mode time uuid ∙ call-stop a (tableIn m) h (λ i. holding (createWork (start a (tableIn m)) i name kind mode time uuid (canHold (tableIn m)))) i r g z)
+  create-not z = rest-off z (create-is a (tableIn m) h name kind mode time uuid ∙ call-stop a (tableIn m) h x (λ i. holding (createWork (start a (tableIn m)) i name kind mode time uuid (canHold (tableIn m)))) i r g z)
 
   pub create-row : {e : Out Opened} {q : ℕ} → r ≡ 0 → Rest (createWork (fsAt a n) i name kind mode time uuid (canHold (tableIn n))) e (length name ≤ 255) q
       → Rest (callCreate a (tableIn m) h name kind mode time uuid) (holding e) (Asked a n name i) q
@@ -99,7 +102,7 @@ module _ (a first next m n : List ℕ) (h : Handle) (name : List ℕ) (kind mode
       let p = went-has g z in
       rest-as
       (create-is a (tableIn m) h name kind mode time uuid
-      ∙ call-next a (tableIn m) h (λ i. holding (createWork (start a (tableIn m)) i name kind mode time uuid (canHold (tableIn m)))) i r g z
+      ∙ call-next a (tableIn m) h x (λ i. holding (createWork (start a (tableIn m)) i name kind mode time uuid (canHold (tableIn m)))) i r g z
       ∙ rw (← begun-start (p .0), ← p .0 .table))
       (λ l. record { legal = p .0 .led .whole; whole = p .0 .whole; folder = p .1; short = l })
       (rest-then (λ x. done (given (x .state) (addHold (x .state .table) (x .row)))) f)

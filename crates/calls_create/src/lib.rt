@@ -13,7 +13,7 @@ ghost use Rattle.sefs.specs.Nodes.{opened as openedAs};
 ghost use Rattle.sefs.specs.Create.{birth as bornOf, nameFolder, named, callCreate};
 ghost use Rattle.chains.specs.Led.{Led};
 ghost use Rattle.mem.specs.Mem.{tableIn, Whole};
-ghost use Rattle.calls.specs.Asked.{Blank};
+ghost use Rattle.calls.specs.Asked.{Admitted};
 ghost use Rattle.steps.specs.Ends.{Rest};
 ghost use Rattle.mem.specs.State.{fsOf, Ready, Still, Stepped, fsAt};
 ghost use Rattle.calls.specs.Answers.{addedAs};
@@ -24,6 +24,7 @@ use calls::Handed;
 use calls::HeldReply;
 use calls::good_name;
 use calls::hand;
+use calls::led::admit;
 use calls::live_folder;
 use calls::not_handed;
 use calls::not_long;
@@ -131,31 +132,24 @@ fn create_asks(
     create_free(arena, first, next, rec, name, new.kind, file, room)
 }
 
-fn create_led(
+// What follows the tests of arena and table, by the chains that they left.
+pub fn create_led(
     arena: &[u8],
-    chains: &mut [u16],
+    first: &[u16],
+    next: &[u16],
     mem: &mut [u8],
     h: Handle,
     name: &[u8],
     new: New,
 ) -> ByHandle
-    requires { ⌜ Blank (now chains) × Whole (now mem) ⌝ }
+    requires { ⌜ Admitted (now arena) (now first) (now next) (now mem) ⌝ }
     ensures { λ r. ⌜ Rest (callCreate (now (arena .entry)) (tableIn (now (mem .entry))) h (now (name .entry)) (new .kind) (new .mode) (new .time) (new .file)) (holding (createMoves (fsAt (now (arena .entry)) (now (mem .exit))) (r .row) (now (name .entry)) (new .kind) (new .mode) (new .time) (new .file))) (Asked (now (arena .entry)) (now (mem .exit)) (now (name .entry)) (r .row)) (r .reason) ⌝ }
 {
-    let b = reach_read(arena, chains, mem, h);
+    let b = reach_read(arena, first, next, mem, h);
     if b.reason != 0 {
         return b;
     }
-    let c = &chains[..];
-    let r = create_asks(
-        arena,
-        &c[..4096],
-        &c[4096..8192],
-        &mem[..],
-        b.row,
-        name,
-        new,
-    );
+    let r = create_asks(arena, first, next, &mem[..], b.row, name, new);
     ByHandle {
         reason: r,
         row: b.row,
@@ -168,7 +162,12 @@ fn create_asked(arena: &[u8], mem: &mut [u8], h: Handle, name: &[u8], new: New) 
     ensures { λ r. ⌜ Rest (callCreate (now (arena .entry)) (tableIn (now (mem .entry))) h (now (name .entry)) (new .kind) (new .mode) (new .time) (new .file)) (holding (createMoves (fsAt (now (arena .entry)) (now (mem .exit))) (r .row) (now (name .entry)) (new .kind) (new .mode) (new .time) (new .file))) (Asked (now (arena .entry)) (now (mem .exit)) (now (name .entry)) (r .row)) (r .reason) ⌝ }
 {
     let mut chains = [0u16; 8192];
-    create_led(arena, &mut chains, mem, h, name, new)
+    let r = admit(arena, &mut chains, &mem[..]);
+    if r != 0 {
+        return ByHandle { reason: r, row: 0 };
+    }
+    let c = &chains[..];
+    create_led(arena, &c[..4096], &c[4096..8192], mem, h, name, new)
 }
 
 // ---- the steps
@@ -307,7 +306,7 @@ fn create_begin(arena: &mut [u8], mem: &mut [u8], i: usize, name: &[u8], new: Ne
 }
 
 // The hold on the node that was made.
-fn create_rows(arena: &mut [u8], mem: &mut [u8], i: usize, name: &[u8], new: New) -> Handed
+pub fn create_rows(arena: &mut [u8], mem: &mut [u8], i: usize, name: &[u8], new: New) -> Handed
     requires { ⌜ Asked (now arena) (now mem) (now name) i ⌝ }
     ensures { λ r. ⌜ EndedHeld (holding (createMoves (fsAt (now (arena .entry)) (now (mem .entry))) i (now (name .entry)) (new .kind) (new .mode) (new .time) (new .file))) (now (arena .entry)) (now (arena .exit)) (addedAs (r .handle) (tableIn (now (mem .exit)))) (r .reason) ⌝ }
 {

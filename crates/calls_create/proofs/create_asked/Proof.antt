@@ -1,21 +1,66 @@
--- `calls_create::create_asked`: the chains' place is zero.
+-- `calls_create::create_asked`: arena and table, then the rest by the chains that were left.
+use mathlib.Core.Path.{sym}
+use Rattle.base.proofs.Outs.{went-has, went-not}
+use Rattle.sound.proofs.Chains.{length-firsts}
+use Rattle.mem.specs.Mem.{tableIn}
 use Rattle.calls.proofs.Asks.{blank}
+use Rattle.steps.proofs.Ends.{rest-off}
+use Rattle.calls_create.proofs.Creates.{create-refused}
 use borrow.Author.Needs.{needs}
 use Rattle.calls_create.proofs.create_asked.Statement.{statement}
 use Rattle.calls_create.proofs.create_asked.Tie as tie
 
-slice-aggregate-create-led : tie.Need-slice-aggregate-create-led
-slice-aggregate-create-led c = search needs
+slice-aggregate-admit : tie.Need-slice-aggregate-admit
+slice-aggregate-admit c = search needs
 
-create-led-requires : tie.Need-create-led-requires
-create-led-requires c κs = (blank, c .before .before .before .before .before .pre)
+admit-requires : tie.Need-admit-requires
+admit-requires c κs = (blank, c .before .before .before .before .before .pre)
 
 same-length : tie.Need-same-length
 same-length c = search needs
 
 returns : tie.Need-returns
-returns c = search needs
+returns c =
+    let s = c .before .before .before .before .before .before .before .before .args in
+    rest-off (c .if1 .taken) (create-refused (s .arena .now) (tableIn (s .mem .now)) (s .h) (s .name .now) (s .new .kind) (s .new .mode) (s .new .time) (s .new .file) (went-not (c .before .before .admit .ensures) (c .if1 .taken)))
+
+slice-aggregate-c : tie.Need-slice-aggregate-c
+slice-aggregate-c c = search needs
+
+slice-aggregate-create-led : tie.Need-slice-aggregate-create-led
+slice-aggregate-create-led c = sym (length-firsts (c .before .before .before .before .admit .last .1 .0) (c .before .before .before .before .admit .kept .1 .0))
+
+sub-create-led : tie.Need-sub-create-led
+sub-create-led c = search needs
+
+part-create-led-start : tie.Need-part-create-led-start
+part-create-led-start c = search needs
+
+part-create-led-end : tie.Need-part-create-led-end
+part-create-led-end c = search needs
+
+create-led-requires : tie.Need-create-led-requires
+create-led-requires c κs = went-has (c .before .before .before .before .before .before .admit .ensures) (c .before .before .before .before .if1 .left)
+
+same-length-2 : tie.Need-same-length-2
+same-length-2 c = search needs
+
+returns-2 : tie.Need-returns-2
+returns-2 c = search needs
 
 pub create-asked-spec : {M : Type 1} → statement M
 create-asked-spec =
-    tie.close (tie.spec slice-aggregate-create-led create-led-requires same-length returns)
+    tie.close
+    (tie.spec
+    slice-aggregate-admit
+    admit-requires
+    same-length
+    returns
+    slice-aggregate-c
+    slice-aggregate-create-led
+    sub-create-led
+    part-create-led-start
+    part-create-led-end
+    create-led-requires
+    same-length-2
+    returns-2)

@@ -1,7 +1,6 @@
--- `calls_create::create_led`: the first questions, then the others by the chains that they left.
-use mathlib.Core.Path.{sym, _∙_}
+-- `calls_create::create_led`: the handle's row, then the other questions by the chains.
 use Rattle.base.proofs.Outs.{went-has}
-use Rattle.sound.proofs.Chains.{length-firsts}
+use Rattle.calls.proofs.Asks.{admitted}
 use Rattle.calls_create.proofs.Creates.{create-not, create-row}
 use borrow.Author.Needs.{needs}
 use Rattle.calls_create.proofs.create_led.Statement.{statement}
@@ -13,55 +12,25 @@ reach-read-requires c κs = search needs
 same-length : tie.Need-same-length
 same-length c = search needs
 
-same-length-2 : tie.Need-same-length-2
-same-length-2 c = search needs
-
 returns : tie.Need-returns
 returns c =
-    let s = c .before .before .before .before .before .before .before .before .before .before .before .before .before in
-    create-not (s .args .arena .now) _ _ (s .args .mem .now) _ (s .args .h) (s .args .name .now) (s .args .new .kind) (s .args .new .mode) (s .args .new .time) (s .args .new .file) (c .before .before .before .before .before .before .reach-read .ensures) (c .if1 .taken)
-
-slice-aggregate-create-asks : tie.Need-slice-aggregate-create-asks
-slice-aggregate-create-asks c = sym (length-firsts (c .before .before .before .before .before .before .before .before .reach-read .last .1 .0) (c .before .before .before .before .before .before .before .before .reach-read .kept .1 .0 ∙ c .before .before .before .before .before .before .before .before .before .before .before .before .before .before .before .pre .0 .size))
-
-sub-create-asks : tie.Need-sub-create-asks
-sub-create-asks c = search needs
-
-part-create-asks-start : tie.Need-part-create-asks-start
-part-create-asks-start c = search needs
-
-part-create-asks-end : tie.Need-part-create-asks-end
-part-create-asks-end c = search needs
+    let s = c .before .before .before .before .before .before .before .before .before .before .before in
+    create-not (s .args .arena .now) _ _ (s .args .mem .now) _ (s .args .h) (s .args .name .now) (s .args .new .kind) (s .args .new .mode) (s .args .new .time) (s .args .new .file) (admitted (s .pre)) (c .before .before .before .before .reach-read .ensures) (c .if1 .taken)
 
 create-asks-requires : tie.Need-create-asks-requires
 create-asks-requires c κs =
-    let p = went-has (c .before .before .before .before .before .before .before .before .before .before .reach-read .ensures) (c .before .before .before .before .if1 .left) in
+    let p = went-has (c .before .before .before .before .before .reach-read .ensures) (c .before .if1 .left) in
     (p .0 .led, (p .0 .whole, p .1))
 
-same-length-3 : tie.Need-same-length-3
-same-length-3 c = search needs
-
-same-length-4 : tie.Need-same-length-4
-same-length-4 c = search needs
+same-length-2 : tie.Need-same-length-2
+same-length-2 c = search needs
 
 returns-2 : tie.Need-returns-2
 returns-2 c =
-    let s = c .before .before .before .before .before .before .before .before .before .before .before .before .before .before .before .before .before .before in
-    create-row (s .args .arena .now) _ _ (s .args .mem .now) _ (s .args .h) (s .args .name .now) (s .args .new .kind) (s .args .new .mode) (s .args .new .time) (s .args .new .file) (c .before .before .before .before .before .before .before .before .before .before .before .reach-read .ensures) (c .before .before .before .before .before .if1 .left) (c .create-asks .ensures)
+    let s = c .before .before .before .before .before .before .before .before .before .before .before .before .before in
+    create-row (s .args .arena .now) _ _ (s .args .mem .now) _ (s .args .h) (s .args .name .now) (s .args .new .kind) (s .args .new .mode) (s .args .new .time) (s .args .new .file) (admitted (s .pre)) (c .before .before .before .before .before .before .reach-read .ensures) (c .before .before .if1 .left) (c .create-asks .ensures)
 
 pub create-led-spec : {M : Type 1} → statement M
 create-led-spec =
     tie.close
-    (tie.spec
-    reach-read-requires
-    same-length
-    same-length-2
-    returns
-    slice-aggregate-create-asks
-    sub-create-asks
-    part-create-asks-start
-    part-create-asks-end
-    create-asks-requires
-    same-length-3
-    same-length-4
-    returns-2)
+    (tie.spec reach-read-requires same-length returns create-asks-requires same-length-2 returns-2)
