@@ -20,7 +20,7 @@ use Rattle.sefs.specs.Read.{callMetadata, callSet, callEntry, callListing}
 use Rattle.sefs.specs.Close.{callSync, callClose}
 use Rattle.le.specs.Le.{Bytes}
 use Rattle.structs.specs.Fits.{TimeFits}
-use Rattle.calls.specs.Answers.{answerOf, answerNumber, gotNumber, toldOf, toldNumber, listedOf, listedNumber}
+use Rattle.calls.specs.Answers.{answerOf, answerNumber, gotNumber, toldOf, toldNumber, listedOf, listedNumber, Lays, Replies}
 use Rattle.calls.specs.declared.Reply as answered
 use Rattle.calls.specs.declared.HeldReply as handed
 use Rattle.calls.specs.declared.Answer.{Answer}
@@ -90,6 +90,16 @@ by-gift c p (refused n) w e r R =
     subst (λ (u : Table). Stays (p .arena) u (gotNumber (r .answer))) (sym (R .1))
     (subst (λ (g : _). Stays (p .arena) (p .table) (gotNumber g)) (sym (R .0)) (stays-refused c p (λ (x : Added). pair (p .arena) (x .table)) w n e))
 
+-- calls that change the table alone
+by-reply : (c : Call) (p : Pair) (o : Out Table) → Well c p → does c p ≡ bind o (λ t. done (pair (p .arena) t))
+    → (r : answered.Reply) → Replies (p .table) o r → Stays (p .arena) (r .table) (answerNumber (r .answer))
+by-reply c p (done t) w e r R =
+    subst (λ (u : Table). Stays (p .arena) u (answerNumber (r .answer))) (sym (R .1))
+    (subst (λ (g : Answer). Stays (p .arena) t (answerNumber g)) (sym (R .0)) (stays-done c p (λ (t : Table). pair (p .arena) t) w t e))
+by-reply c p (refused n) w e r R =
+    subst (λ (u : Table). Stays (p .arena) u (answerNumber (r .answer))) (sym (R .1))
+    (subst (λ (g : Answer). Stays (p .arena) (p .table) (answerNumber g)) (sym (R .0)) (stays-refused c p (λ (t : Table). pair (p .arena) t) w n e))
+
 -- calls that change nothing
 by-none : {A : Type 0} (c : Call) (p : Pair) (o : Out A) → Well c p → does c p ≡ bind o (λ _. done p) → Stays (p .arena) (p .table) (answer o)
 by-none {A} c p (done x) w e = stays-done {A = A} c p (λ (y : A). p) w x e
@@ -155,34 +165,24 @@ module _ (p : Pair) (y : Passed p) where
         subst (Stays (p .arena) (p .table)) (sym (ap toldNumber e ∙ told-number o)) (by-none (metadata h) p (callMetadata (p .arena) (p .table) h) (held (metadata h) H refl) refl)
 
     pub set-metadata-keeps : (mode uid gid : ℕ) (atime mtime ctime : Timespec) → SetFits mode uid gid atime mtime ctime → (r : answered.Reply)
-        → (r .answer ≡ answerOf (callSet (p .arena) (p .table) h mode uid gid atime mtime ctime))
-        → (r .table ≡ kept (p .table) (callSet (p .arena) (p .table) h mode uid gid atime mtime ctime))
-        → Stays (p .arena) (r .table) (answerNumber (r .answer))
+        → Replies (p .table) (callSet (p .arena) (p .table) h mode uid gid atime mtime ctime) r → Stays (p .arena) (r .table) (answerNumber (r .answer))
     unfolding does
-    set-metadata-keeps mode uid gid atime mtime ctime S r =
-        go (callSet (p .arena) (p .table) h mode uid gid atime mtime ctime) (held (setMetadata h mode uid gid atime mtime ctime) (H, S) refl) refl
-      where
-        go : (o : Out Table) → Well (setMetadata h mode uid gid atime mtime ctime) p → does (setMetadata h mode uid gid atime mtime ctime) p ≡ bind o (λ t. done (pair (p .arena) t))
-            → (r .answer ≡ answerOf o) → (r .table ≡ kept (p .table) o) → Stays (p .arena) (r .table) (answerNumber (r .answer))
-        go (done t) w e i j =
-            subst (λ (u : Table). Stays (p .arena) u (answerNumber (r .answer))) (sym j)
-            (subst (λ (g : Answer). Stays (p .arena) t (answerNumber g)) (sym i) (stays-done (setMetadata h mode uid gid atime mtime ctime) p (λ (t : Table). pair (p .arena) t) w t e))
-        go (refused n) w e i j =
-            subst (λ (u : Table). Stays (p .arena) u (answerNumber (r .answer))) (sym j)
-            (subst (λ (g : Answer). Stays (p .arena) (p .table) (answerNumber g)) (sym i) (stays-refused (setMetadata h mode uid gid atime mtime ctime) p (λ (t : Table). pair (p .arena) t) w n e))
+    set-metadata-keeps mode uid gid atime mtime ctime S =
+        by-reply (setMetadata h mode uid gid atime mtime ctime) p (callSet (p .arena) (p .table) h mode uid gid atime mtime ctime) (held (setMetadata h mode uid gid atime mtime ctime) (H, S) refl) refl
 
-    module _ (k room : ℕ) (K : k < 2 ^ 64) (R : room < 2 ^ 64) where
-      pub get-entry-keeps : (r : Answer) → r ≡ answerOf (callEntry (p .arena) (p .table) h k room) → Stays (p .arena) (p .table) (answerNumber r)
+    -- the output was `out` and is `now`
+    module _ (k : ℕ) (out now : List ℕ) (K : k < 2 ^ 64) (R : length out < 2 ^ 64) where
+      pub get-entry-keeps : (r : Answer) → Lays answerOf (callEntry (p .arena) (p .table) h k (length out)) out now r → Stays (p .arena) (p .table) (answerNumber r)
       unfolding does
       get-entry-keeps r e =
-          subst (Stays (p .arena) (p .table)) (sym (ap answerNumber e ∙ answer-number (callEntry (p .arena) (p .table) h k room)))
-          (by-none (getEntry h k room) p (callEntry (p .arena) (p .table) h k room) (held (getEntry h k room) (H, K, R) refl) refl)
+          subst (Stays (p .arena) (p .table)) (sym (ap answerNumber (e .0) ∙ answer-number (callEntry (p .arena) (p .table) h k (length out))))
+          (by-none (getEntry h k (length out)) p (callEntry (p .arena) (p .table) h k (length out)) (held (getEntry h k (length out)) (H, K, R) refl) refl)
 
-      pub listing-keeps : (r : Listed) → r ≡ listedOf (callListing (p .arena) (p .table) h k room) → Stays (p .arena) (p .table) (listedNumber r)
+      pub listing-keeps : (r : Listed) → Lays listedOf (callListing (p .arena) (p .table) h k (length out)) out now r → Stays (p .arena) (p .table) (listedNumber r)
       unfolding does
       listing-keeps r e =
-          subst (Stays (p .arena) (p .table)) (sym (ap listedNumber e ∙ listed-number (callListing (p .arena) (p .table) h k room)))
-          (by-none (listing h k room) p (callListing (p .arena) (p .table) h k room) (held (listing h k room) (H, K, R) refl) refl)
+          subst (Stays (p .arena) (p .table)) (sym (ap listedNumber (e .0) ∙ listed-number (callListing (p .arena) (p .table) h k (length out))))
+          (by-none (listing h k (length out)) p (callListing (p .arena) (p .table) h k (length out)) (held (listing h k (length out)) (H, K, R) refl) refl)
 
     pub close-keeps : (b : List ℕ) (r : answered.Reply) → Returned (p .table) (callClose (p .arena) (p .table) h) (p .arena) b r → Stays b (r .table) (answerNumber (r .answer))
     unfolding does
