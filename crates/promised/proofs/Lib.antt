@@ -1,3 +1,4 @@
 pub mod Calls
+pub mod Contents
 pub mod Checks
 pub mod Ones
