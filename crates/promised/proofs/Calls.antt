@@ -214,7 +214,7 @@ module _ (p : Pair) (y : Passed p) where
   unfolding does
   sync-keeps = by-return sync p (callSync (p .arena) (p .table)) (held sync tt refl) refl
 
-pub isDone : Answer → Bool
+unfoldable pub isDone : Answer → Bool
 isDone answers.Done = true
 isDone (answers.Refused n) = false
 
