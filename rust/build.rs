@@ -39,15 +39,30 @@ fn library(name: &str, variable: &str) -> (PathBuf, String) {
     }
 }
 
-/// An archive of one object. It has no index: rustc makes one when it puts the object into the crate's own library.
-fn archive_of(name: &str, object: &[u8]) -> Vec<u8> {
-    let mut all = ARCHIVE.to_vec();
-    all.extend(format!("{:<16}{:<12}{:<6}{:<6}{:<8}{:<10}`\n", format!("{name}.o/"), 0, 0, 0, 644, object.len()).bytes());
-    all.extend(object);
-    if object.len() % 2 == 1 {
-        all.push(b'\n');
-    }
+/// The functions of a library, as `src/edge.rs` declares them.
+fn functions(name: &str) -> impl Iterator<Item = &'static str> + '_ {
+    let declared = include_str!("src/edge.rs").lines().filter_map(|line| line.trim().strip_prefix("fn dz_")?.split('(').next());
+    declared.filter(move |function| function.starts_with("own_") == (name == "owners"))
+}
+
+/// A member's head and its bytes, which end at an even place.
+fn member(name: &str, mut bytes: Vec<u8>) -> Vec<u8> {
+    let mut all = format!("{name:<16}{:<12}{:<6}{:<6}{:<8}{:<10}`\n", 0, 0, 0, 644, bytes.len()).into_bytes();
+    all.append(&mut bytes);
+    all.resize(all.len().next_multiple_of(2), b'\n');
     all
+}
+
+/// An archive of one object, with the index that a linker asks for: how many functions there are, where the member of each is, their names.
+fn archive_of(name: &str, object: &[u8]) -> Vec<u8> {
+    let names: Vec<_> = functions(name).flat_map(|function| format!("dz_{function}\0").into_bytes()).collect();
+    let count = functions(name).count() as u32;
+    let index = |place: u32| {
+        let numbers = [count].into_iter().chain((0..count).map(|_| place));
+        member("/", numbers.flat_map(u32::to_be_bytes).chain(names.iter().copied()).collect())
+    };
+    let place = (ARCHIVE.len() + index(0).len()) as u32;
+    [ARCHIVE.to_vec(), index(place), member(&format!("{name}.o/"), object.to_vec())].concat()
 }
 
 fn main() {
