@@ -43,8 +43,8 @@ written b u y = record {
   passes = subst (λ (v : Table). Passed (pair b v)) (sym (tableOf-tableBytes u (y .typed .fits))) y;
 }
 
-as : {a b t u : List ℕ} → b ≡ a → u ≡ t → Trusted a t → Trusted b u
-as e q y = subst (λ (b : List ℕ). Trusted b _) (sym e) (subst (Trusted _) (sym q) y)
+moved : {a b t u : List ℕ} → b ≡ a → u ≡ t → Trusted a t → Trusted b u
+moved {a = a} {u = u} e q y = subst (λ (x : List ℕ). Trusted x u) (sym e) (subst (Trusted a) (sym q) y)
 
 module _ (a t : List ℕ) (y : Trusted a t) where
   abbrev own : Pair
@@ -57,28 +57,28 @@ module _ (a t : List ℕ) (y : Trusted a t) where
     went q d = subst Passed (ap (kept own) d) (keeps own c (y .passes) (record { fits = F; leaves = e }) .passes)
 
     leaves-trusted : (o : Out After) → does c own ≡ bind o (λ x. done (pair (x .arena) (x .table))) → {b u : List ℕ} {n : ℕ} → Leaves o a b t u n → Trusted b u
-    leaves-trusted (done x) d L = as (L .arena) (L .table) (written (x .arena) (x .table) (went (pair (x .arena) (x .table)) d))
-    leaves-trusted (refused m) d L = as (L .arena) (L .table) y
+    leaves-trusted (done x) d L = moved (L .arena) (L .table) (written (x .arena) (x .table) (went (pair (x .arena) (x .table)) d))
+    leaves-trusted (refused m) d L = moved (L .arena) (L .table) y
 
     makes-trusted : (o : Out Given) → does c own ≡ bind o (λ x. done (pair (x .arena) (x .table))) → (i j : Bool) {b u w v : List ℕ} {n : ℕ} → Makes (guard i 255 (guard j 255 o)) a b t u w v n → Trusted b u
-    makes-trusted (done x) d true true L = as (L .arena) (L .table) (written (x .arena) (x .table) (went (pair (x .arena) (x .table)) d))
-    makes-trusted (refused m) d true true L = as (L .arena) (L .table) y
-    makes-trusted o d true false L = as (L .arena) (L .table) y
-    makes-trusted o d false j L = as (L .arena) (L .table) y
+    makes-trusted (done x) d true true L = moved (L .arena) (L .table) (written (x .arena) (x .table) (went (pair (x .arena) (x .table)) d))
+    makes-trusted (refused m) d true true L = moved (L .arena) (L .table) y
+    makes-trusted o d true false L = moved (L .arena) (L .table) y
+    makes-trusted o d false j L = moved (L .arena) (L .table) y
 
     holds-trusted : (o : Out Added) → does c own ≡ bind o (λ x. done (pair a (x .table))) → (i : Bool) {u w v : List ℕ} {n : ℕ} → Holds (guard i 255 o) t u w v n → Trusted a u
-    holds-trusted (done x) d true L = as refl (L .table) (written a (x .table) (went (pair a (x .table)) d))
-    holds-trusted (refused m) d true L = as refl (L .table) y
-    holds-trusted o d false L = as refl (L .table) y
+    holds-trusted (done x) d true L = moved refl (L .table) (written a (x .table) (went (pair a (x .table)) d))
+    holds-trusted (refused m) d true L = moved refl (L .table) y
+    holds-trusted o d false L = moved refl (L .table) y
 
     sets-trusted : (o : Out Table) → does c own ≡ bind o (λ x. done (pair a x)) → {u : List ℕ} {n : ℕ} → Sets o t u n → Trusted a u
-    sets-trusted (done x) d L = as refl (L .table) (written a x (went (pair a x) d))
-    sets-trusted (refused m) d L = as refl (L .table) y
+    sets-trusted (done x) d L = moved refl (L .table) (written a x (went (pair a x) d))
+    sets-trusted (refused m) d L = moved refl (L .table) y
 
   -- ---- one law a call. Those that only read leave arena and table as they are
 
-  module _ {b u : List ℕ} {n : ℕ} where
-    pub sync-owned : Leaves (callSync a (tableOf t)) a b t u n → Trusted b u
+  module _ {u : List ℕ} {n : ℕ} where
+    pub sync-owned : {b : List ℕ} → Leaves (callSync a (tableOf t)) a b t u n → Trusted b u
     unfolding does
     sync-owned = leaves-trusted sync tt refl (callSync a (tableOf t)) refl
 
@@ -91,27 +91,27 @@ module _ (a t : List ℕ) (y : Trusted a t) where
       unfolding does
       find-owned name w N = holds-trusted (find h name) (H, N) refl (callFind a (tableOf t) h name) refl (eqb (length w) 2)
 
-      pub close-owned : Leaves (callClose a (tableOf t) h) a b t u n → Trusted b u
+      pub close-owned : {b : List ℕ} → Leaves (callClose a (tableOf t) h) a b t u n → Trusted b u
       unfolding does
       close-owned = leaves-trusted (close h) H refl (callClose a (tableOf t) h) refl
 
-      pub create-owned : (name w : List ℕ) {v : List ℕ} (kind mode : ℕ) (time : Timespec) (file : List ℕ) → Bytes name → NewFits kind mode time file
+      pub create-owned : (name w : List ℕ) {b v : List ℕ} (kind mode : ℕ) (time : Timespec) (file : List ℕ) → Bytes name → NewFits kind mode time file
           → Makes (sized 16 file (sized 2 w (callCreate a (tableOf t) h name kind mode time file))) a b t u w v n → Trusted b u
       unfolding does
       create-owned name w kind mode time file N F =
           makes-trusted (create h name kind mode time file) (H, N, F) refl (callCreate a (tableOf t) h name kind mode time file) refl (eqb (length file) 16) (eqb (length w) 2)
 
-      pub link-owned : (name : List ℕ) → Bytes name → (child : Handle) → HandleFits child → Leaves (callLink a (tableOf t) h name child) a b t u n → Trusted b u
+      pub link-owned : (name : List ℕ) → Bytes name → (child : Handle) → HandleFits child → {b : List ℕ} → Leaves (callLink a (tableOf t) h name child) a b t u n → Trusted b u
       unfolding does
       link-owned name N child C = leaves-trusted (link h name child) (H, N, C) refl (callLink a (tableOf t) h name child) refl
 
-      pub unlink-owned : (name : List ℕ) → Bytes name → Leaves (callUnlink a (tableOf t) h name) a b t u n → Trusted b u
+      pub unlink-owned : (name : List ℕ) → Bytes name → {b : List ℕ} → Leaves (callUnlink a (tableOf t) h name) a b t u n → Trusted b u
       unfolding does
       unlink-owned name N = leaves-trusted (unlink h name) (H, N) refl (callUnlink a (tableOf t) h name) refl
 
       -- "and move no folder to another folder"
       pub move-owned : (old : List ℕ) → Bytes old → (target : Handle) → HandleFits target → (name : List ℕ) → Bytes name → carries own (move h old target name) ≡ false
-          → Leaves (callMove a (tableOf t) h old target name) a b t u n → Trusted b u
+          → {b : List ℕ} → Leaves (callMove a (tableOf t) h old target name) a b t u n → Trusted b u
       unfolding does
       move-owned old O target T name N e = leaves-trusted (move h old target name) (H, O, T, N) e (callMove a (tableOf t) h old target name) refl
 
