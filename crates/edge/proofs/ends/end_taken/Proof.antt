@@ -7,9 +7,6 @@ use Rattle.edge.proofs.ends.end_taken.Tie as tie
 enum-known-t : tie.Need-enum-known-t
 enum-known-t c = search needs
 
-cast-put-next : tie.Need-cast-put-next
-cast-put-next c = search needs
-
 put-next-requires : tie.Need-put-next-requires
 put-next-requires c κs = search needs
 
@@ -35,7 +32,6 @@ end-taken-spec =
     tie.close
     (tie.spec
     enum-known-t
-    cast-put-next
     put-next-requires
     enum-known-t-2
     cast-result
