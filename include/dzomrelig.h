@@ -1,4 +1,4 @@
-/* Dzomrelig at the C edge: the fifteen calls of document 01 and the three of order 1, proved (crates/edge). Plain C11, usable from C++.
+/* Dzomrelig at the C edge: the fifteen calls of document 01 and the three of order 1, proved (crates/edge), and those for owners (crates/owners). Plain C11, usable from C++.
  *
  * How the calls take and give things:
  * - Arena, table, names and output are a pointer and a length. No pointer is null, and a slice that a call may change overlaps no other.
@@ -237,6 +237,51 @@ uint32_t dz_get_entry(const uint8_t *arena, size_t arena_len, const uint8_t *tab
  * Changes: *next, out. Reasons: BadArena, Damaged, BadTable, BadHandle, NotDir, OutFull; Stuck. */
 uint32_t dz_list(const uint8_t *arena, size_t arena_len, const uint8_t *table, size_t table_len,
                  uint32_t hold, uint64_t stamp, uint64_t *next, size_t words, uint8_t *out, size_t out_len);
+
+/* ---- for owners
+ *
+ * Each call above tests the whole arena and the table first, which is nearly all of its time. An owner has both tested once, and then makes the
+ * calls below. They take, give and answer the same as those above, but for BadArena, Damaged and BadTable, which can't come; and they take the
+ * chains beside the arena: DZ_CHAINS words of 16 bits that lead to its blocks, which the calls keep. dz_own_chains fills them first.
+ *
+ * What an owner promises, at each of these calls:
+ * - Nobody else writes arena, chains and table: since the check passed (dz_check gave 0), or since dz_format was done, only calls of this section did.
+ * - None of them was a move of a folder to another folder that was done, and no dz_format and no dz_open came in between. (After any of these,
+ *   dz_check and dz_own_chains make an owner again. After a dz_format that is done dz_own_chains alone does.)
+ * Who keeps that may always make the next call (theorem `keeps`, docs/PROOFS.md). A call whose promise is broken may do anything: use the calls above
+ * for an arena from elsewhere. */
+
+#define DZ_CHAINS 8192
+
+/* The chains of the arena. Changes: chains. Reasons: WrongSize (not DZ_CHAINS words), BadArena. It promises nothing and asks nothing. */
+uint32_t dz_own_chains(const uint8_t *arena, size_t arena_len, uint16_t *chains, size_t chains_len);
+
+uint32_t dz_own_sync(uint8_t *arena, size_t arena_len, uint16_t *chains, size_t chains_len, uint8_t *table, size_t table_len);
+uint32_t dz_own_root(const uint8_t *arena, size_t arena_len, const uint16_t *chains, size_t chains_len, uint8_t *table, size_t table_len,
+                     uint64_t *handle, size_t words);
+uint32_t dz_own_find(const uint8_t *arena, size_t arena_len, const uint16_t *chains, size_t chains_len, uint8_t *table, size_t table_len,
+                     uint32_t hold, uint64_t stamp, const uint8_t *name, size_t name_len, uint64_t *handle, size_t words);
+uint32_t dz_own_close(uint8_t *arena, size_t arena_len, uint16_t *chains, size_t chains_len, uint8_t *table, size_t table_len, uint32_t hold,
+                      uint64_t stamp);
+uint32_t dz_own_create(uint8_t *arena, size_t arena_len, uint16_t *chains, size_t chains_len, uint8_t *table, size_t table_len, uint32_t hold,
+                       uint64_t stamp, const uint8_t *name, size_t name_len, uint32_t type, uint16_t mode, int64_t sec, int64_t nsec,
+                       const uint8_t *file, size_t file_len, uint64_t *handle, size_t words);
+uint32_t dz_own_link(uint8_t *arena, size_t arena_len, uint16_t *chains, size_t chains_len, uint8_t *table, size_t table_len, uint32_t hold,
+                     uint64_t stamp, const uint8_t *name, size_t name_len, uint32_t child_hold, uint64_t child_stamp);
+uint32_t dz_own_unlink(uint8_t *arena, size_t arena_len, uint16_t *chains, size_t chains_len, uint8_t *table, size_t table_len, uint32_t hold,
+                       uint64_t stamp, const uint8_t *name, size_t name_len);
+uint32_t dz_own_move(uint8_t *arena, size_t arena_len, uint16_t *chains, size_t chains_len, uint8_t *table, size_t table_len, uint32_t hold,
+                     uint64_t stamp, const uint8_t *old_name, size_t old_len, uint32_t to_hold, uint64_t to_stamp, const uint8_t *new_name,
+                     size_t new_len);
+uint32_t dz_own_metadata(const uint8_t *arena, size_t arena_len, const uint16_t *chains, size_t chains_len, const uint8_t *table, size_t table_len,
+                         uint32_t hold, uint64_t stamp, uint64_t *metadata, size_t words);
+uint32_t dz_own_set_metadata(const uint8_t *arena, size_t arena_len, const uint16_t *chains, size_t chains_len, uint8_t *table, size_t table_len,
+                             uint32_t hold, uint64_t stamp, uint16_t mode, uint64_t uid, uint64_t gid, int64_t atime_sec, int64_t atime_nsec,
+                             int64_t mtime_sec, int64_t mtime_nsec, int64_t ctime_sec, int64_t ctime_nsec);
+uint32_t dz_own_get_entry(const uint8_t *arena, size_t arena_len, const uint16_t *chains, size_t chains_len, const uint8_t *table, size_t table_len,
+                          uint32_t hold, uint64_t stamp, uint64_t slot, uint8_t *out, size_t out_len);
+uint32_t dz_own_list(const uint8_t *arena, size_t arena_len, const uint16_t *chains, size_t chains_len, const uint8_t *table, size_t table_len,
+                     uint32_t hold, uint64_t stamp, uint64_t *next, size_t words, uint8_t *out, size_t out_len);
 
 #ifdef __cplusplus
 }

@@ -1,11 +1,13 @@
-//! Finds the library of the proved calls and hands it to the linker, or says in one line how to make it.
+//! Finds the libraries of the proved calls and hands them to the linker, or says in one line how to make them.
 //!
-//! On x86-64 that is the archive of `rt staticlib edge`, elsewhere the object of `tests/native edge OBJECT`. DZOMRELIG_LIB names another file,
-//! an archive or an object. Either is put into OUT_DIR as an archive, so that crates which depend on this one get it too.
+//! On x86-64 they are the archives of `rt staticlib edge` and `rt staticlib owners`, elsewhere the objects of `tests/native LIBRARY OBJECT`.
+//! DZOMRELIG_LIB and DZOMRELIG_OWNERS_LIB name other files, archives or objects. Each is put into OUT_DIR as an archive, so that crates which depend
+//! on this one get it too.
 use std::path::{Path, PathBuf};
 use std::{env, fs, process};
 
-const NAME: &str = "dzomrelig_edge";
+/// The crate, and the variable that names another file.
+const LIBRARIES: [(&str, &str); 2] = [("owners", "DZOMRELIG_OWNERS_LIB"), ("edge", "DZOMRELIG_LIB")];
 const ARCHIVE: &[u8] = b"!<arch>\n";
 const OBJECT: &[u8] = b"\x7fELF";
 
@@ -14,55 +16,72 @@ fn fail(why: &str) -> ! {
     process::exit(1)
 }
 
-/// The library's file, and how it is made.
-fn library() -> (PathBuf, String) {
-    println!("cargo:rerun-if-env-changed=DZOMRELIG_LIB");
-    if let Some(named) = env::var_os("DZOMRELIG_LIB") {
+/// A library's file, and how it is made.
+fn library(name: &str, variable: &str) -> (PathBuf, String) {
+    println!("cargo:rerun-if-env-changed={variable}");
+    if let Some(named) = env::var_os(variable) {
         return (
             PathBuf::from(named),
-            "DZOMRELIG_LIB names the archive of `rt staticlib edge` or the object of `tests/native edge OBJECT`".into(),
+            format!("{variable} names the archive of `rt staticlib {name}` or the object of `tests/native {name} OBJECT`"),
         );
     }
     let top = Path::new(&env::var_os("CARGO_MANIFEST_DIR").unwrap_or_default()).join("..");
     if env::var("CARGO_CFG_TARGET_ARCH").as_deref() == Ok("x86_64") {
         (
-            top.join("target/staticlib/libedge.a"),
-            "make it by `rt staticlib edge` at the repository's top, or name it in DZOMRELIG_LIB".into(),
+            top.join(format!("target/staticlib/lib{name}.a")),
+            format!("make it by `rt staticlib {name}` at the repository's top, or name it in {variable}"),
         )
     } else {
         (
-            top.join("target/native/edge.o"),
-            "make it by `tests/native edge target/native/edge.o` at the repository's top, or name it in DZOMRELIG_LIB".into(),
+            top.join(format!("target/native/{name}.o")),
+            format!("make it by `tests/native {name} target/native/{name}.o` at the repository's top, or name it in {variable}"),
         )
     }
 }
 
-/// An archive of one object. It has no index: rustc makes one when it puts the object into the crate's own library.
-fn archive_of(object: &[u8]) -> Vec<u8> {
-    let mut all = ARCHIVE.to_vec();
-    all.extend(format!("{:<16}{:<12}{:<6}{:<6}{:<8}{:<10}`\n", "edge.o/", 0, 0, 0, 644, object.len()).bytes());
-    all.extend(object);
-    if object.len() % 2 == 1 {
-        all.push(b'\n');
-    }
+/// The functions of a library, as `src/edge.rs` declares them.
+fn functions(name: &str) -> impl Iterator<Item = &'static str> + '_ {
+    let declared = include_str!("src/edge.rs").lines().filter_map(|line| line.trim().strip_prefix("fn dz_")?.split('(').next());
+    declared.filter(move |function| function.starts_with("own_") == (name == "owners"))
+}
+
+/// A member's head and its bytes, which end at an even place.
+fn member(name: &str, mut bytes: Vec<u8>) -> Vec<u8> {
+    let mut all = format!("{name:<16}{:<12}{:<6}{:<6}{:<8}{:<10}`\n", 0, 0, 0, 644, bytes.len()).into_bytes();
+    all.append(&mut bytes);
+    all.resize(all.len().next_multiple_of(2), b'\n');
     all
 }
 
-fn main() {
-    let (file, how) = library();
-    println!("cargo:rerun-if-changed={}", file.display());
-    let Ok(bytes) = fs::read(&file) else { fail(&format!("no library of the proved calls at {}: {how}", file.display())) };
-    let archive = if bytes.starts_with(ARCHIVE) {
-        bytes
-    } else if bytes.starts_with(OBJECT) {
-        archive_of(&bytes)
-    } else {
-        fail(&format!("{} is neither an archive nor an object: {how}", file.display()))
+/// An archive of one object, with the index that a linker asks for: how many functions there are, where the member of each is, their names.
+fn archive_of(name: &str, object: &[u8]) -> Vec<u8> {
+    let names: Vec<_> = functions(name).flat_map(|function| format!("dz_{function}\0").into_bytes()).collect();
+    let count = functions(name).count() as u32;
+    let index = |place: u32| {
+        let numbers = [count].into_iter().chain((0..count).map(|_| place));
+        member("/", numbers.flat_map(u32::to_be_bytes).chain(names.iter().copied()).collect())
     };
+    let place = (ARCHIVE.len() + index(0).len()) as u32;
+    [ARCHIVE.to_vec(), index(place), member(&format!("{name}.o/"), object.to_vec())].concat()
+}
+
+fn main() {
     let out = PathBuf::from(env::var_os("OUT_DIR").unwrap_or_default());
-    if let Err(why) = fs::write(out.join(format!("lib{NAME}.a")), archive) {
-        fail(&format!("{}: {why}", out.display()));
-    }
     println!("cargo:rustc-link-search=native={}", out.display());
-    println!("cargo:rustc-link-lib=static={NAME}");
+    for (name, variable) in LIBRARIES {
+        let (file, how) = library(name, variable);
+        println!("cargo:rerun-if-changed={}", file.display());
+        let Ok(bytes) = fs::read(&file) else { fail(&format!("no library of the proved calls at {}: {how}", file.display())) };
+        let archive = if bytes.starts_with(ARCHIVE) {
+            bytes
+        } else if bytes.starts_with(OBJECT) {
+            archive_of(name, &bytes)
+        } else {
+            fail(&format!("{} is neither an archive nor an object: {how}", file.display()))
+        };
+        if let Err(why) = fs::write(out.join(format!("libdzomrelig_{name}.a")), archive) {
+            fail(&format!("{}: {why}", out.display()));
+        }
+        println!("cargo:rustc-link-lib=static=dzomrelig_{name}");
+    }
 }

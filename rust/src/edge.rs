@@ -3,6 +3,11 @@
 //! A [`Pair`] is an arena and its table of open nodes. Nobody else can write them: the fields are this module's own. What the C functions ask of
 //! their caller is met by the types here: a slice gives a pointer that is not null and the length that belongs to it; `&mut` slices overlap nothing;
 //! table, file name and words are arrays of the sizes that the calls want, so that a wrong size can't be passed.
+//!
+//! The calls for owners (`dz_own_`) leave the tests of arena and table out, and ask for more: that both would pass them, and that the chains are the
+//! arena's (`Owned` of crates/owners). A pair has chains where that is so, and only then are these calls made. It gets them where it was just formatted
+//! or the check passed (theorems `fresh` and `check`, docs/PROOFS.md). Each of these calls leaves a pair that passes again, and chains that are right
+//! (`keeps`; the calls' own contracts). What `keeps` leaves out takes the chains away: open, and a move of a folder to another folder.
 #![allow(unsafe_code)]
 use alloc::boxed::Box;
 use alloc::vec::Vec;
@@ -34,6 +39,35 @@ extern "C" {
     fn dz_get_entry(a: *const u8, al: usize, t: *const u8, tl: usize, hold: u32, stamp: u64, slot: u64, out: *mut u8, ol: usize) -> u32;
     fn dz_list(a: *const u8, al: usize, t: *const u8, tl: usize, hold: u32, stamp: u64, next: *mut u64, words: usize, out: *mut u8, ol: usize) -> u32;
 }
+
+// The same for owners.
+#[rustfmt::skip]
+extern "C" {
+    fn dz_own_chains(a: *const u8, al: usize, c: *mut u16, cl: usize) -> u32;
+    fn dz_own_sync(a: *mut u8, al: usize, c: *mut u16, cl: usize, t: *mut u8, tl: usize) -> u32;
+    fn dz_own_root(a: *const u8, al: usize, c: *const u16, cl: usize, t: *mut u8, tl: usize, handle: *mut u64, words: usize) -> u32;
+    fn dz_own_find(a: *const u8, al: usize, c: *const u16, cl: usize, t: *mut u8, tl: usize, hold: u32, stamp: u64, name: *const u8, nl: usize,
+                   handle: *mut u64, words: usize) -> u32;
+    fn dz_own_close(a: *mut u8, al: usize, c: *mut u16, cl: usize, t: *mut u8, tl: usize, hold: u32, stamp: u64) -> u32;
+    fn dz_own_create(a: *mut u8, al: usize, c: *mut u16, cl: usize, t: *mut u8, tl: usize, hold: u32, stamp: u64, name: *const u8, nl: usize,
+                     kind: u32, mode: u16, sec: i64, nsec: i64, file: *const u8, fl: usize, handle: *mut u64, words: usize) -> u32;
+    fn dz_own_link(a: *mut u8, al: usize, c: *mut u16, cl: usize, t: *mut u8, tl: usize, hold: u32, stamp: u64, name: *const u8, nl: usize,
+                   child_hold: u32, child_stamp: u64) -> u32;
+    fn dz_own_unlink(a: *mut u8, al: usize, c: *mut u16, cl: usize, t: *mut u8, tl: usize, hold: u32, stamp: u64, name: *const u8, nl: usize) -> u32;
+    fn dz_own_move(a: *mut u8, al: usize, c: *mut u16, cl: usize, t: *mut u8, tl: usize, hold: u32, stamp: u64, old: *const u8, ol: usize,
+                   to_hold: u32, to_stamp: u64, new: *const u8, nl: usize) -> u32;
+    fn dz_own_metadata(a: *const u8, al: usize, c: *const u16, cl: usize, t: *const u8, tl: usize, hold: u32, stamp: u64,
+                       metadata: *mut u64, words: usize) -> u32;
+    fn dz_own_set_metadata(a: *const u8, al: usize, c: *const u16, cl: usize, t: *mut u8, tl: usize, hold: u32, stamp: u64, mode: u16, uid: u64, gid: u64,
+                           asec: i64, ansec: i64, msec: i64, mnsec: i64, csec: i64, cnsec: i64) -> u32;
+    fn dz_own_get_entry(a: *const u8, al: usize, c: *const u16, cl: usize, t: *const u8, tl: usize, hold: u32, stamp: u64, slot: u64,
+                        out: *mut u8, ol: usize) -> u32;
+    fn dz_own_list(a: *const u8, al: usize, c: *const u16, cl: usize, t: *const u8, tl: usize, hold: u32, stamp: u64, next: *mut u64, words: usize,
+                   out: *mut u8, ol: usize) -> u32;
+}
+
+/// The words of the chains.
+const CHAINS: usize = 8192;
 
 fn answer(number: u32) -> Result<(), Reason> {
     match number {
@@ -79,6 +113,8 @@ fn told(number: u32, words: [u64; 14]) -> Result<Metadata, Reason> {
 pub(crate) struct Pair {
     arena: Vec<u8>,
     table: Box<[u8; TABLE]>,
+    /// There where the calls for owners may be made: see the module's lines.
+    chains: Option<Box<[u16; CHAINS]>>,
 }
 
 // SAFETY of every block below: as the module's first lines say. A call keeps no pointer, and writes only what it is given as `*mut`.
@@ -86,7 +122,7 @@ pub(crate) struct Pair {
 impl Pair {
     /// An arena and a table of any bytes.
     pub(crate) fn of(arena: Vec<u8>, table: Box<[u8; TABLE]>) -> Pair {
-        Pair { arena, table }
+        Pair { arena, table, chains: None }
     }
 
     pub(crate) fn arena(&self) -> &[u8] {
@@ -101,19 +137,37 @@ impl Pair {
         (self.arena, self.table)
     }
 
+    pub(crate) fn is_owned(&self) -> bool {
+        self.chains.is_some()
+    }
+
+    /// From a pair that passes: the chains are built, and the calls for owners are made from now on.
+    fn own(&mut self) {
+        let (a, mut c) = (&self.arena, Box::new([0; CHAINS]));
+        let n = unsafe { dz_own_chains(a.as_ptr(), a.len(), c.as_mut_ptr(), c.len()) };
+        self.chains = Some(c).filter(|_| n == 0);
+    }
+
     pub(crate) fn format(&mut self, time: Time, file: FileName) -> Result<(), Reason> {
         let (a, t, FileName(f)) = (&mut self.arena, &mut self.table, file);
-        answer(unsafe { dz_format(a.as_mut_ptr(), a.len(), t.as_mut_ptr(), t.len(), time.sec, time.nsec, f.as_ptr(), f.len()) })
+        let n = unsafe { dz_format(a.as_mut_ptr(), a.len(), t.as_mut_ptr(), t.len(), time.sec, time.nsec, f.as_ptr(), f.len()) };
+        answer(n).map(|()| self.own())
     }
 
     pub(crate) fn open(&mut self) -> Result<(), Reason> {
         let (a, t) = (&self.arena, &mut self.table);
-        answer(unsafe { dz_open(a.as_ptr(), a.len(), t.as_mut_ptr(), t.len()) })
+        let n = unsafe { dz_open(a.as_ptr(), a.len(), t.as_mut_ptr(), t.len()) };
+        answer(n).map(|()| self.chains = None)
     }
 
     pub(crate) fn sync(&mut self) -> Result<(), Reason> {
         let (a, t) = (&mut self.arena, &mut self.table);
-        answer(unsafe { dz_sync(a.as_mut_ptr(), a.len(), t.as_mut_ptr(), t.len()) })
+        answer(unsafe {
+            match &mut self.chains {
+                Some(c) => dz_own_sync(a.as_mut_ptr(), a.len(), c.as_mut_ptr(), c.len(), t.as_mut_ptr(), t.len()),
+                None => dz_sync(a.as_mut_ptr(), a.len(), t.as_mut_ptr(), t.len()),
+            }
+        })
     }
 
     pub(crate) fn check(&self) -> Result<Counts, FailedRule> {
@@ -122,61 +176,130 @@ impl Pair {
         counted(n, w)
     }
 
+    /// Where the check passes, the calls for owners are made from now on.
+    pub(crate) fn trust(&mut self) -> Result<Counts, FailedRule> {
+        let counts = self.check()?;
+        self.own();
+        Ok(counts)
+    }
+
     pub(crate) fn root(&mut self) -> Result<Handle, Reason> {
         let (a, t, mut w) = (&self.arena, &mut self.table, [0; 2]);
-        let n = unsafe { dz_root(a.as_ptr(), a.len(), t.as_mut_ptr(), t.len(), w.as_mut_ptr(), w.len()) };
+        let n = unsafe {
+            match &self.chains {
+                Some(c) => dz_own_root(a.as_ptr(), a.len(), c.as_ptr(), c.len(), t.as_mut_ptr(), t.len(), w.as_mut_ptr(), w.len()),
+                None => dz_root(a.as_ptr(), a.len(), t.as_mut_ptr(), t.len(), w.as_mut_ptr(), w.len()),
+            }
+        };
         held(n, w)
     }
 
     pub(crate) fn find(&mut self, h: Handle, name: &[u8]) -> Result<Handle, Reason> {
         let (a, t, mut w) = (&self.arena, &mut self.table, [0; 2]);
-        let n = unsafe { dz_find(a.as_ptr(), a.len(), t.as_mut_ptr(), t.len(), h.hold, h.stamp, name.as_ptr(), name.len(), w.as_mut_ptr(), w.len()) };
+        let n = unsafe {
+            match &self.chains {
+                Some(c) => dz_own_find(a.as_ptr(), a.len(), c.as_ptr(), c.len(), t.as_mut_ptr(), t.len(), h.hold, h.stamp, name.as_ptr(), name.len(),
+                                       w.as_mut_ptr(), w.len()),
+                None => dz_find(a.as_ptr(), a.len(), t.as_mut_ptr(), t.len(), h.hold, h.stamp, name.as_ptr(), name.len(), w.as_mut_ptr(), w.len()),
+            }
+        };
         held(n, w)
     }
 
     pub(crate) fn close(&mut self, h: Handle) -> Result<(), Reason> {
         let (a, t) = (&mut self.arena, &mut self.table);
-        answer(unsafe { dz_close(a.as_mut_ptr(), a.len(), t.as_mut_ptr(), t.len(), h.hold, h.stamp) })
+        answer(unsafe {
+            match &mut self.chains {
+                Some(c) => dz_own_close(a.as_mut_ptr(), a.len(), c.as_mut_ptr(), c.len(), t.as_mut_ptr(), t.len(), h.hold, h.stamp),
+                None => dz_close(a.as_mut_ptr(), a.len(), t.as_mut_ptr(), t.len(), h.hold, h.stamp),
+            }
+        })
     }
 
     pub(crate) fn create(&mut self, h: Handle, name: &[u8], kind: u32, mode: u16, time: Time, file: FileName) -> Result<Handle, Reason> {
         let (a, t, mut w, FileName(f)) = (&mut self.arena, &mut self.table, [0; 2], file);
         let n = unsafe {
-            dz_create(a.as_mut_ptr(), a.len(), t.as_mut_ptr(), t.len(), h.hold, h.stamp, name.as_ptr(), name.len(), kind, mode,
-                      time.sec, time.nsec, f.as_ptr(), f.len(), w.as_mut_ptr(), w.len())
+            match &mut self.chains {
+                Some(c) => dz_own_create(a.as_mut_ptr(), a.len(), c.as_mut_ptr(), c.len(), t.as_mut_ptr(), t.len(), h.hold, h.stamp,
+                                         name.as_ptr(), name.len(), kind, mode, time.sec, time.nsec, f.as_ptr(), f.len(), w.as_mut_ptr(), w.len()),
+                None => dz_create(a.as_mut_ptr(), a.len(), t.as_mut_ptr(), t.len(), h.hold, h.stamp, name.as_ptr(), name.len(), kind, mode,
+                                  time.sec, time.nsec, f.as_ptr(), f.len(), w.as_mut_ptr(), w.len()),
+            }
         };
         held(n, w)
     }
 
     pub(crate) fn link(&mut self, h: Handle, name: &[u8], node: Handle) -> Result<(), Reason> {
         let (a, t) = (&mut self.arena, &mut self.table);
-        answer(unsafe { dz_link(a.as_mut_ptr(), a.len(), t.as_mut_ptr(), t.len(), h.hold, h.stamp, name.as_ptr(), name.len(), node.hold, node.stamp) })
+        answer(unsafe {
+            match &mut self.chains {
+                Some(c) => dz_own_link(a.as_mut_ptr(), a.len(), c.as_mut_ptr(), c.len(), t.as_mut_ptr(), t.len(), h.hold, h.stamp,
+                                       name.as_ptr(), name.len(), node.hold, node.stamp),
+                None => dz_link(a.as_mut_ptr(), a.len(), t.as_mut_ptr(), t.len(), h.hold, h.stamp, name.as_ptr(), name.len(), node.hold, node.stamp),
+            }
+        })
     }
 
     pub(crate) fn unlink(&mut self, h: Handle, name: &[u8]) -> Result<(), Reason> {
         let (a, t) = (&mut self.arena, &mut self.table);
-        answer(unsafe { dz_unlink(a.as_mut_ptr(), a.len(), t.as_mut_ptr(), t.len(), h.hold, h.stamp, name.as_ptr(), name.len()) })
+        answer(unsafe {
+            match &mut self.chains {
+                Some(c) => dz_own_unlink(a.as_mut_ptr(), a.len(), c.as_mut_ptr(), c.len(), t.as_mut_ptr(), t.len(), h.hold, h.stamp,
+                                         name.as_ptr(), name.len()),
+                None => dz_unlink(a.as_mut_ptr(), a.len(), t.as_mut_ptr(), t.len(), h.hold, h.stamp, name.as_ptr(), name.len()),
+            }
+        })
+    }
+
+    /// Whether the node of that name may be a folder that goes to another folder (`carries`, crates/sequences). The hold to look at it is not kept.
+    fn may_carry(&mut self, h: Handle, name: &[u8], to: Handle) -> bool {
+        match (self.metadata(h), self.metadata(to)) {
+            (Ok(from), Ok(to)) if from.inode == to.inode => return false,
+            _ => {}
+        }
+        let kept = self.table.clone();
+        let node = self.find(h, name).and_then(|node| self.metadata(node));
+        self.table = kept;
+        node.map_or(true, |node| node.kind == Kind::Folder)
     }
 
     pub(crate) fn rename(&mut self, h: Handle, old: &[u8], to: Handle, new: &[u8]) -> Result<(), Reason> {
+        let carries = self.is_owned() && self.may_carry(h, old, to);
         let (a, t) = (&mut self.arena, &mut self.table);
-        answer(unsafe {
-            dz_move(a.as_mut_ptr(), a.len(), t.as_mut_ptr(), t.len(), h.hold, h.stamp, old.as_ptr(), old.len(), to.hold, to.stamp,
-                    new.as_ptr(), new.len())
-        })
+        let n = unsafe {
+            match &mut self.chains {
+                Some(c) => dz_own_move(a.as_mut_ptr(), a.len(), c.as_mut_ptr(), c.len(), t.as_mut_ptr(), t.len(), h.hold, h.stamp,
+                                       old.as_ptr(), old.len(), to.hold, to.stamp, new.as_ptr(), new.len()),
+                None => dz_move(a.as_mut_ptr(), a.len(), t.as_mut_ptr(), t.len(), h.hold, h.stamp, old.as_ptr(), old.len(), to.hold, to.stamp,
+                                new.as_ptr(), new.len()),
+            }
+        };
+        if carries && n == 0 {
+            self.chains = None;
+        }
+        answer(n)
     }
 
     pub(crate) fn metadata(&self, h: Handle) -> Result<Metadata, Reason> {
         let (a, t, mut w) = (&self.arena, &self.table, [0; 14]);
-        let n = unsafe { dz_metadata(a.as_ptr(), a.len(), t.as_ptr(), t.len(), h.hold, h.stamp, w.as_mut_ptr(), w.len()) };
+        let n = unsafe {
+            match &self.chains {
+                Some(c) => dz_own_metadata(a.as_ptr(), a.len(), c.as_ptr(), c.len(), t.as_ptr(), t.len(), h.hold, h.stamp, w.as_mut_ptr(), w.len()),
+                None => dz_metadata(a.as_ptr(), a.len(), t.as_ptr(), t.len(), h.hold, h.stamp, w.as_mut_ptr(), w.len()),
+            }
+        };
         told(n, w)
     }
 
     pub(crate) fn set_metadata(&mut self, h: Handle, s: &Attributes) -> Result<(), Reason> {
         let (a, t) = (&self.arena, &mut self.table);
         answer(unsafe {
-            dz_set_metadata(a.as_ptr(), a.len(), t.as_mut_ptr(), t.len(), h.hold, h.stamp, s.mode, s.uid, s.gid,
-                            s.atime.sec, s.atime.nsec, s.mtime.sec, s.mtime.nsec, s.ctime.sec, s.ctime.nsec)
+            match &self.chains {
+                Some(c) => dz_own_set_metadata(a.as_ptr(), a.len(), c.as_ptr(), c.len(), t.as_mut_ptr(), t.len(), h.hold, h.stamp, s.mode, s.uid, s.gid,
+                                               s.atime.sec, s.atime.nsec, s.mtime.sec, s.mtime.nsec, s.ctime.sec, s.ctime.nsec),
+                None => dz_set_metadata(a.as_ptr(), a.len(), t.as_mut_ptr(), t.len(), h.hold, h.stamp, s.mode, s.uid, s.gid,
+                                        s.atime.sec, s.atime.nsec, s.mtime.sec, s.mtime.nsec, s.ctime.sec, s.ctime.nsec),
+            }
         })
     }
 
@@ -200,13 +323,24 @@ impl Pair {
 
     pub(crate) fn entry(&self, h: Handle, slot: u64, out: &mut [u8]) -> Result<(), Reason> {
         let (a, t) = (&self.arena, &self.table);
-        answer(unsafe { dz_get_entry(a.as_ptr(), a.len(), t.as_ptr(), t.len(), h.hold, h.stamp, slot, out.as_mut_ptr(), out.len()) })
+        answer(unsafe {
+            match &self.chains {
+                Some(c) => dz_own_get_entry(a.as_ptr(), a.len(), c.as_ptr(), c.len(), t.as_ptr(), t.len(), h.hold, h.stamp, slot, out.as_mut_ptr(), out.len()),
+                None => dz_get_entry(a.as_ptr(), a.len(), t.as_ptr(), t.len(), h.hold, h.stamp, slot, out.as_mut_ptr(), out.len()),
+            }
+        })
     }
 
     /// The slot to go on with.
     pub(crate) fn list(&self, h: Handle, next: u64, out: &mut [u8]) -> Result<u64, Reason> {
         let (a, t, mut w) = (&self.arena, &self.table, [next; 1]);
-        let n = unsafe { dz_list(a.as_ptr(), a.len(), t.as_ptr(), t.len(), h.hold, h.stamp, w.as_mut_ptr(), w.len(), out.as_mut_ptr(), out.len()) };
+        let n = unsafe {
+            match &self.chains {
+                Some(c) => dz_own_list(a.as_ptr(), a.len(), c.as_ptr(), c.len(), t.as_ptr(), t.len(), h.hold, h.stamp, w.as_mut_ptr(), w.len(),
+                                       out.as_mut_ptr(), out.len()),
+                None => dz_list(a.as_ptr(), a.len(), t.as_ptr(), t.len(), h.hold, h.stamp, w.as_mut_ptr(), w.len(), out.as_mut_ptr(), out.len()),
+            }
+        };
         let [next] = w;
         answer(n).map(|()| next)
     }

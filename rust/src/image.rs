@@ -15,6 +15,14 @@ use crate::{
 /// It owns the bytes of both, so that these calls alone write them. Calls that change nothing take `&self` and may run side by side; an `Image` can be
 /// sent to another thread, and teams share one behind a lock. Nothing is kept outside it: a clone is an image of its own.
 ///
+/// # Tested once, or in each call
+///
+/// An image that was just [formatted](Image::format) passes the checker, and so does one that was [checked](Image::checked). Only the calls here write it,
+/// and these leave an image that passes again: that is proved (`fresh` and `keeps`, docs/PROOFS.md). So its calls leave the test of the whole image out,
+/// which is nearly all of their time, and give none of the reasons that it could find ([`is_owned`](Image::is_owned)). With any other image each call
+/// makes that test first. An image that is [reopened](Image::reopen) becomes such a one, and so does one where a folder went to another folder;
+/// [`trust`](Image::trust) asks the checker again.
+///
 /// # Reasons
 ///
 /// A call is done, or it is refused with a [`Reason`] and has changed nothing. Each call says which reasons it gives, in the order in which it gives
@@ -51,8 +59,8 @@ impl Image {
     ///
     /// Reasons: as [`untrusted`](Image::untrusted); then the checker's lowest rule that fails.
     pub fn checked(bytes: impl Into<Vec<u8>>) -> Result<Image, Unfit> {
-        let image = Image::untrusted(bytes)?;
-        image.check()?;
+        let mut image = Image::untrusted(bytes)?;
+        image.trust()?;
         Ok(image)
     }
 
@@ -121,6 +129,16 @@ impl Image {
     /// Asks the checker: what it counts where image and table pass, or else the lowest rule that fails. It never refuses.
     pub fn check(&self) -> Result<Counts, FailedRule> {
         self.pair.check()
+    }
+
+    /// Asks the checker; where image and table pass, the calls from now on leave the test of the image out.
+    pub fn trust(&mut self) -> Result<Counts, FailedRule> {
+        self.pair.trust()
+    }
+
+    /// Whether the calls leave the test of the image out.
+    pub fn is_owned(&self) -> bool {
+        self.pair.is_owned()
     }
 }
 

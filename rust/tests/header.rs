@@ -33,6 +33,7 @@ fn sizes_and_types() {
         ("DZ_COUNTS_WORDS", 3),
         ("DZ_NEXT_WORDS", 1),
         ("DZ_READ_WORDS", 1),
+        ("DZ_CHAINS", 8192),
     ];
     for (name, value) in ours {
         assert_eq!(numbers.get(name), Some(&value), "{name}");
@@ -66,6 +67,8 @@ fn as_rust(parameter: &str) -> &'static str {
         "uint8_t *" => "*mut u8",
         "const uint8_t *" => "*const u8",
         "uint64_t *" => "*mut u64",
+        "uint16_t *" => "*mut u16",
+        "const uint16_t *" => "*const u16",
         "size_t" => "usize",
         "uint16_t" => "u16",
         "uint32_t" => "u32",
@@ -78,7 +81,7 @@ fn as_rust(parameter: &str) -> &'static str {
 #[test]
 fn functions() {
     let declared: Vec<_> = HEADER.lines().filter_map(|l| l.strip_prefix("uint32_t dz_")).map(|l| l.split('(').next().unwrap()).collect();
-    assert_eq!(declared.len(), 18);
+    assert_eq!(declared.len(), 18 + 13);
     for name in declared {
         let theirs: Vec<_> = parameters(HEADER, &format!("\nuint32_t dz_{name}(")).into_iter().map(as_rust).collect();
         let ours: Vec<_> = parameters(EDGE, &format!("fn dz_{name}(")).into_iter().map(|p| p.split_once(": ").unwrap().1).collect();

@@ -1,5 +1,6 @@
-// A call script (docs/REPLAY.md) timed on the port, each call by itself: calls FILE ROUNDS. Prints each kind of call with its number and the
-// nanoseconds of one, the least of so many rounds; then the check of the image that is left, and the soundness test alone.
+// A call script (docs/REPLAY.md) timed on the port, each call by itself: calls FILE ROUNDS [own]. Prints each kind of call with its number and the
+// nanoseconds of one, the least of so many rounds; then the check of the image that is left, and the soundness test alone. With `own` the calls for
+// owners are made; the chains are built after the format, and are not timed.
 // calls contents BLOCKS FILES ROUNDS: the same of reads and writes on an image of so many blocks and files, and of plain copies (plain.c).
 #include <stdbool.h>
 #include <stdint.h>
@@ -22,7 +23,16 @@ enum { ALL = 18 };
 static const char *const KINDS[ALL] = {"format", "open", "root", "find", "create", "link", "unlink", "move", "metadata", "set", "entry", "list", "sync", "close", "check", "read", "write", "resize"};
 static uint8_t arena[DZ_BLOCK * DZ_BLOCKS_MOST], table[DZ_TABLE], out[8192], *script, *at;
 static uint64_t words[DZ_METADATA_WORDS];
+static uint16_t chains[DZ_CHAINS];
 static size_t len;
+static bool own;
+
+#define ARENA arena, len
+#define CHAINS chains, DZ_CHAINS
+#define TABLE table, DZ_TABLE
+// a call with its table and the rest of its arguments, on either way
+#define CALL(name, ...) (own ? dz_own_##name(ARENA, CHAINS, TABLE, __VA_ARGS__) : dz_##name(ARENA, TABLE, __VA_ARGS__))
+
 static double best[ALL];
 
 static double now(void)
@@ -63,23 +73,23 @@ static uint32_t call(int kind)
     if (kind > 2 && kind != 12) hold = (uint32_t)number(4), stamp = number(8);
     if (kind >= 3 && kind <= 7) l = number(2), name = bytes(l);
     switch (kind) {
-    case 0: time_of(t); return dz_format(arena, len, table, DZ_TABLE, t[0], t[1], bytes(16), 16);
-    case 1: return dz_open(arena, len, table, DZ_TABLE);
-    case 2: return dz_root(arena, len, table, DZ_TABLE, words, DZ_HANDLE_WORDS);
-    case 3: return dz_find(arena, len, table, DZ_TABLE, hold, stamp, name, l, words, DZ_HANDLE_WORDS);
-    case 4: to = (uint32_t)number(4), k = number(2), time_of(t); return dz_create(arena, len, table, DZ_TABLE, hold, stamp, name, l, to, (uint16_t)k, t[0], t[1], bytes(16), 16, words, DZ_HANDLE_WORDS);
-    case 5: to = (uint32_t)number(4), tos = number(8); return dz_link(arena, len, table, DZ_TABLE, hold, stamp, name, l, to, tos);
-    case 6: return dz_unlink(arena, len, table, DZ_TABLE, hold, stamp, name, l);
-    case 7: to = (uint32_t)number(4), tos = number(8), o = number(2), new = bytes(o); return dz_move(arena, len, table, DZ_TABLE, hold, stamp, name, l, to, tos, new, o);
-    case 8: return dz_metadata(arena, len, table, DZ_TABLE, hold, stamp, words, DZ_METADATA_WORDS);
-    case 9: k = number(2), tos = number(8), o = number(8), time_of(t), time_of(t + 2), time_of(t + 4); return dz_set_metadata(arena, len, table, DZ_TABLE, hold, stamp, (uint16_t)k, tos, o, t[0], t[1], t[2], t[3], t[4], t[5]);
-    case 10: k = number(8), o = number(2); return dz_get_entry(arena, len, table, DZ_TABLE, hold, stamp, k, out, o);
-    case 11: words[0] = number(8), o = number(2); return dz_list(arena, len, table, DZ_TABLE, hold, stamp, words, DZ_NEXT_WORDS, out, o);
-    case 12: return dz_sync(arena, len, table, DZ_TABLE);
-    case 13: return dz_close(arena, len, table, DZ_TABLE, hold, stamp);
-    case 15: k = number(8), o = number(2); return dz_read(arena, len, table, DZ_TABLE, hold, stamp, k, out, o, words, DZ_READ_WORDS);
-    case 16: k = number(8), o = number(2); return dz_write(arena, len, table, DZ_TABLE, hold, stamp, k, bytes(o), o);
-    case 17: return dz_resize(arena, len, table, DZ_TABLE, hold, stamp, number(8));
+    case 0: time_of(t); return dz_format(ARENA, TABLE, t[0], t[1], bytes(16), 16);
+    case 1: return dz_open(ARENA, TABLE);
+    case 2: return CALL(root, words, DZ_HANDLE_WORDS);
+    case 3: return CALL(find, hold, stamp, name, l, words, DZ_HANDLE_WORDS);
+    case 4: to = (uint32_t)number(4), k = number(2), time_of(t), new = bytes(16); return CALL(create, hold, stamp, name, l, to, (uint16_t)k, t[0], t[1], new, 16, words, DZ_HANDLE_WORDS);
+    case 5: to = (uint32_t)number(4), tos = number(8); return CALL(link, hold, stamp, name, l, to, tos);
+    case 6: return CALL(unlink, hold, stamp, name, l);
+    case 7: to = (uint32_t)number(4), tos = number(8), o = number(2), new = bytes(o); return CALL(move, hold, stamp, name, l, to, tos, new, o);
+    case 8: return CALL(metadata, hold, stamp, words, DZ_METADATA_WORDS);
+    case 9: k = number(2), tos = number(8), o = number(8), time_of(t), time_of(t + 2), time_of(t + 4); return CALL(set_metadata, hold, stamp, (uint16_t)k, tos, o, t[0], t[1], t[2], t[3], t[4], t[5]);
+    case 10: k = number(8), o = number(2); return CALL(get_entry, hold, stamp, k, out, o);
+    case 11: words[0] = number(8), o = number(2); return CALL(list, hold, stamp, words, DZ_NEXT_WORDS, out, o);
+    case 12: return own ? dz_own_sync(ARENA, CHAINS, TABLE) : dz_sync(ARENA, TABLE);
+    case 13: return CALL(close, hold, stamp);
+    case 15: k = number(8), o = number(2); return CALL(read, hold, stamp, k, out, o, words, DZ_READ_WORDS);
+    case 16: k = number(8), o = number(2), new = bytes(o); return CALL(write, hold, stamp, k, new, o);
+    case 17: k = number(8); return CALL(resize, hold, stamp, k);
     default: fprintf(stderr, "calls: %s is not timed\n", KINDS[kind]); exit(2);
     }
 }
@@ -102,6 +112,7 @@ static void play(size_t size, uint64_t *count)
         spent[kind] += now() - from;
         count[kind]++;
         if (r) fprintf(stderr, "calls: %s answered %u\n", KINDS[kind], r), exit(1);
+        if (own && kind == 0 && dz_own_chains(ARENA, CHAINS)) exit(1);
     }
     for (int k = 0; k < ALL; k++)
         if (count[k] && (best[k] == 0 || spent[k] / (double)count[k] < best[k])) best[k] = spent[k] / (double)count[k];
@@ -202,6 +213,7 @@ int main(int n, char **args)
     FILE *file = n > 2 ? fopen(args[1], "rb") : 0;
     uint64_t count[ALL];
     if (!file) return 2;
+    own = n > 3;
     script = malloc(1 << 22);
     size_t size = fread(script, 1, 1 << 22, file);
     double sound = 1e18, check = 1e18;

@@ -1,5 +1,5 @@
 #!/usr/bin/env python3
-"""calls.py: every kind of call timed on the port and on the Rust, by the same call scripts (docs/REPLAY.md) in one run.
+"""calls.py: every kind of call timed on the Rust and on the port, tested and by an owner, by the same call scripts (docs/REPLAY.md) in one run.
 
 An image of 16, 128, 1,024 and 4,096 blocks is filled with files, then every kind of call is made 20 times; no call is refused. Contents of 480,
 8,192 and 100,000 bytes are read, written over and written into an empty file, beside a plain copy through blocks (plain.c). Both sides are built
@@ -61,8 +61,9 @@ def script(blocks, rounds):
         s.put(33, h, struct.pack("<QH", 0, 400), b"outline." * 50)
         s.put(32, h, struct.pack("<QH", 0, 400))
         s.put(34, h, struct.pack("<Q", 0))
-        s.put(21, folder, s.name(b"link"), h)
-        s.put(23, folder, s.name(b"link"), folder, s.name(b"other"))
+        # link, moves and unlink in the folder that fills the image
+        s.put(21, root, s.name(b"link"), h)
+        s.put(23, root, s.name(b"link"), folder, s.name(b"other"))
         s.put(23, folder, s.name(b"other"), root, s.name(b"there"))
         s.put(22, root, s.name(b"there"))
         s.put(22, root, s.name(b"new"))
@@ -89,8 +90,9 @@ def full(blocks, files):
 
 def build():
     os.makedirs(OUT, exist_ok=True)
-    objects = [os.path.join(OUT, f"{library}.o") for library in ("edge", "bench")]
-    for library, made in zip(("edge", "bench"), objects):
+    libraries = ("edge", "owners", "owners_contents", "bench")
+    objects = [os.path.join(OUT, f"{library}.o") for library in libraries]
+    for library, made in zip(libraries, objects):
         subprocess.run([os.path.join(TOP, "tests", "native"), library, made], check=True)
     host, here = os.path.join(OUT, "calls"), os.path.join(TOP, "tests", "bench")
     subprocess.run(["cc", "-O3", "-o", host, os.path.join(here, "calls.c"), os.path.join(here, "plain.c"), *objects], check=True)
@@ -127,19 +129,19 @@ def main():
     host, rust = build()
     path = os.path.join(OUT, "calls.script")
 
-    def port(data):
+    def port(data, *way):
         with open(path, "wb") as file:
             file.write(data)
-        return times(subprocess.run([host, path, ROUNDS], check=True, capture_output=True, text=True).stdout)
+        return times(subprocess.run([host, path, ROUNDS, *way], check=True, capture_output=True, text=True).stdout)
 
     sizes, rows = (16, 128, 1024, 4096), {}
     for blocks in sizes:
         data = script(blocks, 20)
-        ours = port(data)
+        tested, owner = port(data), port(data, "own")
         theirs = times(subprocess.run([rust, "timed", ROUNDS], input=data, check=True, capture_output=True).stdout.decode())
         for kind, ns in theirs.items():
-            rows.setdefault(kind, []).append(f"{ours[kind] / 1000:.1f} / {ns / 1000:.2f} ({ours[kind] / ns:.0f})")
-        rows.setdefault("sound alone", []).append(f"{ours['sound'] / 1000:.1f}")
+            rows.setdefault(kind, []).append(f"{ns / 1000:.2f} / {tested[kind] / 1000:.1f} / {owner[kind] / 1000:.1f} ({owner[kind] / ns:.1f})")
+        rows.setdefault("sound alone", []).append(f"{tested['sound'] / 1000:.1f}")
     print("| call | " + " | ".join(f"{n:,} blocks" for n in sizes) + " |\n|" + "---|" * (len(sizes) + 1))
     for kind in [k for k in rows if k != "sound alone"] + ["sound alone"]:
         print(f"| {kind} | " + " | ".join(rows[kind]) + " |")

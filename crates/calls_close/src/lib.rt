@@ -98,7 +98,7 @@ fn close_last(arena: &mut [u8], mem: &mut [u8], i: usize) -> u8
 }
 
 // A clean row that has a link: nothing of it is to be stored.
-fn is_stored(mem: &[u8], i: usize) -> bool
+pub fn is_stored(mem: &[u8], i: usize) -> bool
     requires { ⌜ Whole (now mem) × (i < 34) ⌝ }
     ensures { λ r. ⌜ r ≡ (not (rowAt (tableIn (now (mem .entry))) i .dirty) && ltb 0 (rowAt (tableIn (now (mem .entry))) i .rec .nlinks)) ⌝ }
 {

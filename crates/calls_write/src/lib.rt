@@ -189,7 +189,7 @@ fn put_blocks(arena: &mut [u8], k: usize, name: &[u8; 16], pos: usize, src: &[u8
 }
 
 // The node of row i, whose file's head is block k. Where the end is not above the size, the record stays.
-fn write_row(
+pub fn write_row(
     arena: &mut [u8],
     mem: &mut [u8],
     i: usize,

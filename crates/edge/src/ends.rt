@@ -24,7 +24,7 @@ use table_bytes::write_table;
 
 // A refusal writes nothing. (As a branch of the callers this would cost them one more table of stack.) That a table has 4,370 bytes is
 // known of a parameter alone, by its type.
-fn put_table(table: &mut [u8], t: Table, done: bool)
+pub fn put_table(table: &mut [u8], t: Table, done: bool)
     requires { ⌜ length (now table) ≡ 4370 ⌝ }
     ensures { λ _. ⌜ now (table .exit) ≡ pick done (tableBytes t) (now (table .entry)) ⌝ }
 {

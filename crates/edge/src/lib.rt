@@ -1,8 +1,8 @@
 // The calls as C functions (include/dzomrelig.h). A slice is its pointer and its length. Each returns 0, or document 01's number; a table
 // that is not 4,370 bytes, a file's name that is not 16, or words for a result that are not as many as it has: 255, and nothing is called.
-mod args;
-mod ends;
-mod results;
+pub mod args;
+pub mod ends;
+pub mod results;
 
 ghost use lib.ListN.{length, getD};
 ghost use Rattle.table_bytes.specs.Layout.{tableOf};

@@ -2,3 +2,4 @@ pub mod Calls
 pub mod Contents
 pub mod Checks
 pub mod Ones
+pub mod Owners

@@ -6,6 +6,7 @@ pub mod script;
 use std::sync::atomic::{AtomicU64, Ordering};
 
 use dzomrelig::{FileName, Handle, Image, Kind, Reason, Time};
+use script::{way, TESTED};
 
 /// The time of every call that takes one; before 1970, so that signs are tried too.
 pub const TIME: Time = Time::new(-5, 6);
@@ -21,7 +22,8 @@ pub fn file(number: u64) -> FileName {
 
 /// A fresh image and a handle on its root.
 pub fn fresh(blocks: usize) -> (Image, Handle) {
-    let mut image = Image::format(blocks, TIME, ROOT_FILE).unwrap();
+    let mut image = way(&Image::format(blocks, TIME, ROOT_FILE).unwrap());
+    assert_ne!(image.is_owned(), TESTED);
     let root = image.root().unwrap();
     (image, root)
 }

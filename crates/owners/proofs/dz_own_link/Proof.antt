@@ -1,0 +1,65 @@
+-- `owners::dz_own_link`: the call on the table in memory; the chains are its own.
+use mathlib.Core.Path.{sym}
+use Rattle.sefs.specs.Create.{callLink}
+use Rattle.owners.proofs.Laws.{keeps, own-leaves}
+use borrow.Author.Needs.{needs}
+use Rattle.owners.proofs.dz_own_link.Statement.{statement}
+use Rattle.owners.proofs.dz_own_link.Tie as tie
+
+handle-requires : tie.Need-handle-requires
+handle-requires c κs = search needs
+
+slice-aggregate-begin : tie.Need-slice-aggregate-begin
+slice-aggregate-begin c = search needs
+
+begin-requires : tie.Need-begin-requires
+begin-requires c κs = search needs
+
+slice-aggregate-link-on : tie.Need-slice-aggregate-link-on
+slice-aggregate-link-on c = search needs
+
+handle-requires-2 : tie.Need-handle-requires-2
+handle-requires-2 c κs = search needs
+
+link-on-requires : tie.Need-link-on-requires
+link-on-requires c κs = let b = c .before .before .before .before .before in keeps (b .before .before .before .before .before .before .before .before .pre) (b .begin .ensures .0) (b .begin .ensures .1)
+
+slice-aggregate-end-after : tie.Need-slice-aggregate-end-after
+slice-aggregate-end-after c = search needs
+
+end-after-requires : tie.Need-end-after-requires
+end-after-requires c κs = search needs
+
+same-length : tie.Need-same-length
+same-length c = search needs
+
+same-length-2 : tie.Need-same-length-2
+same-length-2 c = search needs
+
+same-length-3 : tie.Need-same-length-3
+same-length-3 c = search needs
+
+returns : tie.Need-returns
+returns c =
+    let e = c .before .before in
+    let o = e .before .before .before .before .before .before .before .before in
+    let b = o .before .before .before .before .before .before in
+    let s = b .before .before .before .before .before .before .before .before in
+    (own-leaves (λ x. callLink (s .args .arena .now) (sym (b .begin .ensures .0) x) (sym (o .before .handle2 .ensures) x) (s .args .name .now) (sym (b .before .before .before .handle .ensures) x)) (o .link-on .ensures .0) (e .end-after .ensures), o .link-on .ensures .1)
+
+pub dz-own-link-spec : {M : Type 1} → statement M
+dz-own-link-spec =
+    tie.close
+    (tie.spec
+    handle-requires
+    slice-aggregate-begin
+    begin-requires
+    slice-aggregate-link-on
+    handle-requires-2
+    link-on-requires
+    slice-aggregate-end-after
+    end-after-requires
+    same-length
+    same-length-2
+    same-length-3
+    returns)

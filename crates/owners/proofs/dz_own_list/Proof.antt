@@ -1,0 +1,85 @@
+-- `owners::dz_own_list`: 255 where the place is not one word; else the call by the chains, on the table in memory.
+use mathlib.Core.Path.{sym, _∙_}
+use lib.ListN.{length, getD}
+use Rattle.sound.proofs.Chains.{length-firsts}
+use Rattle.sefs.specs.Read.{callListing}
+use Rattle.edge.proofs.Laws.{sized-is, sized-not, lists-not}
+use Rattle.owners.proofs.Laws.{admitted, own-lists, listed-room}
+use borrow.Author.Needs.{needs}
+use Rattle.owners.proofs.dz_own_list.Statement.{statement}
+use Rattle.owners.proofs.dz_own_list.Tie as tie
+
+returns : tie.Need-returns
+returns c = lists-not (sized-not 1 (c .before .before .before .before .before .before .args .next .now) _ (c .if1 .taken))
+
+slice-read-from : tie.Need-slice-read-from
+slice-read-from c = search needs
+
+slice-aggregate-begin : tie.Need-slice-aggregate-begin
+slice-aggregate-begin c = search needs
+
+begin-requires : tie.Need-begin-requires
+begin-requires c κs = search needs
+
+slice-aggregate-list-led : tie.Need-slice-aggregate-list-led
+slice-aggregate-list-led c = let s = c .before .before .before .before .before .before .before .before .before .before .before in sym (length-firsts (s .args .chains .now) (s .pre .chained .size))
+
+sub-list-led : tie.Need-sub-list-led
+sub-list-led c = search needs
+
+part-list-led-start : tie.Need-part-list-led-start
+part-list-led-start c = search needs
+
+part-list-led-end : tie.Need-part-list-led-end
+part-list-led-end c = search needs
+
+slice-aggregate-list-led-2 : tie.Need-slice-aggregate-list-led-2
+slice-aggregate-list-led-2 c = search needs
+
+handle-requires : tie.Need-handle-requires
+handle-requires c κs = search needs
+
+list-led-requires : tie.Need-list-led-requires
+list-led-requires c κs = let b = c .before .before .before .before .before .before in admitted (b .before .before .before .before .before .before .before .before .before .pre) (b .begin .ensures .0) (b .begin .ensures .1)
+
+end-listed-requires : tie.Need-end-listed-requires
+end-listed-requires c κs =
+    let l = c .before .before .before in
+    let b = l .before .before .before .before .before .before .before in
+    let i = b .before .before .before in
+    let s = i .before .before .before .before .before .before in
+    (i .if1 .left, listed-room (s .args .arena .now) (s .args .table .now) (b .begin .last .0) (l .before .before .handle .result) (getD (s .args .next .now) 0 0) (length (s .args .out .now)) (l .list-led .result) (λ j. i .before .before .before .shared-slice-known3 .given j .fits) (s .pre .size) (b .begin .ensures .0) (i .before .before .slice-known .given 0 .fits) (l .list-led .ensures .0))
+
+same-length : tie.Need-same-length
+same-length c = search needs
+
+same-length-2 : tie.Need-same-length-2
+same-length-2 c = search needs
+
+returns-2 : tie.Need-returns-2
+returns-2 c =
+    let e = c .before .before in
+    let l = e .before .before .before .before in
+    let b = l .before .before .before .before .before .before .before in
+    let s = b .before .before .before .before .before .before .before .before .before in
+    own-lists (sized-is 1 (s .args .next .now) _ (b .before .before .before .if1 .left) ∙ (λ x. callListing (s .args .arena .now) (sym (b .begin .ensures .0) x) (sym (l .before .before .handle .ensures) x) (getD (s .args .next .now) 0 0) (length (s .args .out .now)))) (l .list-led .ensures) (e .end-listed .ensures)
+
+pub dz-own-list-spec : {M : Type 1} → statement M
+dz-own-list-spec =
+    tie.close
+    (tie.spec
+    returns
+    slice-read-from
+    slice-aggregate-begin
+    begin-requires
+    slice-aggregate-list-led
+    sub-list-led
+    part-list-led-start
+    part-list-led-end
+    slice-aggregate-list-led-2
+    handle-requires
+    list-led-requires
+    end-listed-requires
+    same-length
+    same-length-2
+    returns-2)

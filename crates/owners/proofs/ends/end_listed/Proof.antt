@@ -1,0 +1,45 @@
+-- `owners::ends::end_listed`: the slots that were written are counted. The sum fits, as its caller knows.
+use native.Mathlib.Omega.{arith}
+use Rattle.owners.proofs.Laws.{listed-slots-word}
+use borrow.Author.Needs.{needs}
+use Rattle.owners.proofs.ends.end_listed.Statement.{statement}
+use Rattle.owners.proofs.ends.end_listed.Tie as tie
+
+enum-known-l : tie.Need-enum-known-l
+enum-known-l c = search needs
+
+add-put-next : tie.Need-add-put-next
+add-put-next c = let s = c .before .before .before .before .before in omega (arith, s .pre .1 _ (c .before .before .l .given .1))
+
+put-next-requires : tie.Need-put-next-requires
+put-next-requires c κs = search needs
+
+enum-known-l-2 : tie.Need-enum-known-l-2
+enum-known-l-2 c = search needs
+
+cast-result : tie.Need-cast-result
+cast-result c = search needs
+
+same-length : tie.Need-same-length
+same-length c = search needs
+
+returns : tie.Need-returns
+returns c =
+    let s = c .before .before .before .before .before .before .before .before in
+    listed-slots-word (s .args .next .now) (s .args .from) (c .before .before .before .before .before .l .given .1) (c .before .before .put-next .ensures)
+
+returns-2 : tie.Need-returns-2
+returns-2 c = search needs
+
+pub end-listed-spec : {M : Type 1} → statement M
+end-listed-spec =
+    tie.close
+    (tie.spec
+    enum-known-l
+    add-put-next
+    put-next-requires
+    enum-known-l-2
+    cast-result
+    same-length
+    returns
+    returns-2)

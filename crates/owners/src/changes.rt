@@ -1,0 +1,210 @@
+// The calls that change the arena, on the table in memory. What they ask is read by the chains; after their steps the chains are made again.
+ghost use mathlib.Core.Path.{_≡_};
+ghost use mathlib.Core.Bool.{true, not, _&&_};
+ghost use Prim.Native.Nat.{_<_};
+ghost use lib.Dec.{ltb};
+ghost use Rattle.table.specs.Table.{rowAt};
+ghost use Rattle.arena.specs.Blocks.{legal};
+ghost use Rattle.table_bytes.specs.Layout.{tableOf};
+ghost use lib.ListN.{length};
+ghost use Rattle.sefs.specs.Close.{closeSteps, callClose, callSync};
+ghost use Rattle.sefs.specs.Create.{callCreate, callLink};
+ghost use Rattle.sefs.specs.Move.{callMove};
+ghost use Rattle.sefs.specs.Unlink.{callUnlink};
+ghost use Rattle.mem.specs.Mem.{tableIn, Whole};
+ghost use Rattle.mem.specs.State.{fsAt};
+ghost use Rattle.calls.specs.Answers.{addedAs};
+ghost use Rattle.steps.specs.Ends.{ending, Ended};
+ghost use Rattle.calls_create.specs.Held.{EndedHeld};
+ghost use Rattle.owners.specs.Owned.{Chained, Kept};
+use crate::ends::begin;
+use calls::Handed;
+use calls::not_handed;
+use calls_close::close_led;
+use calls_close::close_row;
+use calls_close::is_stored;
+use calls_create::New;
+use calls_create::create_led;
+use calls_create::create_rows;
+use calls_link::link_led;
+use calls_link::link_rows;
+use calls_move::move_rows;
+use calls_move::plan_led;
+use calls_sync::sync_in;
+use calls_sync::sync_led;
+use calls_unlink::remove;
+use calls_unlink::unlink_led;
+use sound::chain_all;
+use table::Handle;
+
+// ---- close
+
+// Whether closing row i stores anything: its last hold was closed, and it is dirty or has no link.
+fn stores(mem: &[u8], last: bool, i: usize) -> bool
+    requires { ⌜ Whole (now mem) × (i < 34) ⌝ }
+    ensures { λ r. ⌜ r ≡ (last && not (not (rowAt (tableIn (now (mem .entry))) i .dirty) && ltb 0 (rowAt (tableIn (now (mem .entry))) i .rec .nlinks))) ⌝ }
+{
+    last & !is_stored(mem, i)
+}
+
+// Where nothing is stored, the chains stay right.
+fn close_kept(arena: &mut [u8], chains: &mut [u16], mem: &mut [u8], last: bool, i: usize) -> u8
+    requires { ⌜ Chained (now arena) (now chains) × ((legal (now arena) ≡ true) × (Whole (now mem) × (i < 34))) ⌝ }
+    ensures { λ r. ⌜ Ended (ending (closeSteps (fsAt (now (arena .entry)) (now (mem .entry))) last i)) (now (arena .entry)) (now (arena .exit)) (tableIn (now (mem .exit))) r ⌝ }
+    ensures { λ _. ⌜ Chained (now (arena .exit)) (now (chains .exit)) ⌝ }
+{
+    let again = stores(&mem[..], last, i);
+    let r = close_row(arena, mem, last, i);
+    if again {
+        chain_all(&arena[..], chains);
+    }
+    r
+}
+
+pub fn close_on(arena: &mut [u8], chains: &mut [u16], mem: &mut [u8], h: Handle) -> u8
+    requires { ⌜ Kept (now arena) (now chains) (now mem) ⌝ }
+    ensures { λ r. ⌜ Ended (callClose (now (arena .entry)) (tableIn (now (mem .entry))) h) (now (arena .entry)) (now (arena .exit)) (tableIn (now (mem .exit))) r ⌝ }
+    ensures { λ _. ⌜ Chained (now (arena .exit)) (now (chains .exit)) ⌝ }
+{
+    let c = &chains[..];
+    let b = close_led(&arena[..], &c[..4096], &c[4096..8192], mem, h);
+    if b.reason != 0 {
+        return b.reason;
+    }
+    close_kept(arena, chains, mem, b.last, b.row)
+}
+
+// ---- sync
+
+pub fn sync_on(arena: &mut [u8], chains: &mut [u16], mem: &mut [u8]) -> u8
+    requires { ⌜ Kept (now arena) (now chains) (now mem) ⌝ }
+    ensures { λ r. ⌜ Ended (callSync (now (arena .entry)) (tableIn (now (mem .entry)))) (now (arena .entry)) (now (arena .exit)) (tableIn (now (mem .exit))) r ⌝ }
+    ensures { λ _. ⌜ Chained (now (arena .exit)) (now (chains .exit)) ⌝ }
+{
+    let c = &chains[..];
+    sync_led(&arena[..], &c[..4096], &c[4096..8192], mem);
+    let r = sync_in(arena, mem);
+    chain_all(&arena[..], chains);
+    r
+}
+
+// ---- names
+
+pub fn create_on(
+    arena: &mut [u8],
+    chains: &mut [u16],
+    mem: &mut [u8],
+    h: Handle,
+    name: &[u8],
+    new: New,
+) -> Handed
+    requires { ⌜ Kept (now arena) (now chains) (now mem) ⌝ }
+    ensures { λ r. ⌜ EndedHeld (callCreate (now (arena .entry)) (tableIn (now (mem .entry))) h (now (name .entry)) (new .kind) (new .mode) (new .time) (new .file)) (now (arena .entry)) (now (arena .exit)) (addedAs (r .handle) (tableIn (now (mem .exit)))) (r .reason) ⌝ }
+    ensures { λ _. ⌜ Chained (now (arena .exit)) (now (chains .exit)) ⌝ }
+{
+    let c = &chains[..];
+    let b = create_led(&arena[..], &c[..4096], &c[4096..8192], mem, h, name, new);
+    if b.reason != 0 {
+        return not_handed(b.reason);
+    }
+    let r = create_rows(arena, mem, b.row, name, new);
+    chain_all(&arena[..], chains);
+    r
+}
+
+pub fn link_on(
+    arena: &mut [u8],
+    chains: &mut [u16],
+    mem: &mut [u8],
+    h: Handle,
+    name: &[u8],
+    child: Handle,
+) -> u8
+    requires { ⌜ Kept (now arena) (now chains) (now mem) ⌝ }
+    ensures { λ r. ⌜ Ended (callLink (now (arena .entry)) (tableIn (now (mem .entry))) h (now (name .entry)) child) (now (arena .entry)) (now (arena .exit)) (tableIn (now (mem .exit))) r ⌝ }
+    ensures { λ _. ⌜ Chained (now (arena .exit)) (now (chains .exit)) ⌝ }
+{
+    let c = &chains[..];
+    let b = link_led(&arena[..], &c[..4096], &c[4096..8192], mem, h, name, child);
+    if b.reason != 0 {
+        return b.reason;
+    }
+    let r = link_rows(arena, mem, b.row, name, b.other);
+    chain_all(&arena[..], chains);
+    r
+}
+
+pub fn unlink_on(arena: &mut [u8], chains: &mut [u16], mem: &mut [u8], h: Handle, name: &[u8]) -> u8
+    requires { ⌜ Kept (now arena) (now chains) (now mem) ⌝ }
+    ensures { λ r. ⌜ Ended (callUnlink (now (arena .entry)) (tableIn (now (mem .entry))) h (now (name .entry))) (now (arena .entry)) (now (arena .exit)) (tableIn (now (mem .exit))) r ⌝ }
+    ensures { λ _. ⌜ Chained (now (arena .exit)) (now (chains .exit)) ⌝ }
+{
+    let c = &chains[..];
+    let b = unlink_led(&arena[..], &c[..4096], &c[4096..8192], mem, h, name);
+    if b.reason != 0 {
+        return b.reason;
+    }
+    let r = remove(arena, mem, b.row, b.node, b.place);
+    chain_all(&arena[..], chains);
+    r
+}
+
+// `slot` is room for the moved slot. Where both names are one node's, nothing changes: memory gets the table again as it was.
+fn move_slot(
+    arena: &mut [u8],
+    chains: &mut [u16],
+    mem: &mut [u8],
+    slot: &mut [u8],
+    table: &[u8],
+    h: Handle,
+    old: &[u8],
+    target: Handle,
+    name: &[u8],
+) -> u8
+    requires { ⌜ Kept (now arena) (now chains) (now mem) ⌝ }
+    requires { ⌜ (length (now slot) ≡ 264) × ((length (now table) ≡ 4370) × (tableIn (now mem) ≡ tableOf (now table))) ⌝ }
+    ensures { λ r. ⌜ Ended (callMove (now (arena .entry)) (tableIn (now (mem .entry))) h (now (old .entry)) target (now (name .entry))) (now (arena .entry)) (now (arena .exit)) (tableIn (now (mem .exit))) r ⌝ }
+    ensures { λ _. ⌜ Chained (now (arena .exit)) (now (chains .exit)) ⌝ }
+{
+    let c = &chains[..];
+    let p = plan_led(
+        &arena[..],
+        &c[..4096],
+        &c[4096..8192],
+        mem,
+        slot,
+        h,
+        old,
+        target,
+        name,
+    );
+    if p.reason != 0 {
+        return p.reason;
+    }
+    if p.way == 0 {
+        begin(mem, table);
+        return 0;
+    }
+    let r = move_rows(arena, mem, &slot[..], p, old, name);
+    chain_all(&arena[..], chains);
+    r
+}
+
+pub fn move_on(
+    arena: &mut [u8],
+    chains: &mut [u16],
+    mem: &mut [u8],
+    table: &[u8],
+    h: Handle,
+    old: &[u8],
+    target: Handle,
+    name: &[u8],
+) -> u8
+    requires { ⌜ Kept (now arena) (now chains) (now mem) ⌝ }
+    requires { ⌜ (length (now table) ≡ 4370) × (tableIn (now mem) ≡ tableOf (now table)) ⌝ }
+    ensures { λ r. ⌜ Ended (callMove (now (arena .entry)) (tableIn (now (mem .entry))) h (now (old .entry)) target (now (name .entry))) (now (arena .entry)) (now (arena .exit)) (tableIn (now (mem .exit))) r ⌝ }
+    ensures { λ _. ⌜ Chained (now (arena .exit)) (now (chains .exit)) ⌝ }
+{
+    let mut slot = [0u8; 264];
+    move_slot(arena, chains, mem, &mut slot, table, h, old, target, name)
+}

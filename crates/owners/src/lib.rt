@@ -1,0 +1,365 @@
+// The calls of an owner: nobody else writes its arena and its table, and a check of both has passed, or they were just formatted. Then reasons
+// 1, 2 and 3 can't come (`owned`, crates/promised), and nothing tests for them. The owner keeps the chains of all blocks beside the arena: a
+// call that changes the arena makes them again.
+mod changes;
+pub mod ends;
+
+ghost use mathlib.Core.Path.{_≡_};
+ghost use lib.ListN.{length, getD};
+ghost use Rattle.table_bytes.specs.Layout.{tableOf};
+ghost use Rattle.sefs.specs.Close.{callSync, callClose};
+ghost use Rattle.sefs.specs.Create.{callCreate, callLink};
+ghost use Rattle.sefs.specs.Move.{callMove};
+ghost use Rattle.sefs.specs.Open.{callRoot, callFind};
+ghost use Rattle.sefs.specs.Read.{callMetadata, callSet, callEntry, callListing};
+ghost use Rattle.sefs.specs.Unlink.{callUnlink};
+ghost use Rattle.edge.specs.Words.{handleOf, timeOf};
+ghost use Rattle.edge.specs.Edge.{sized, Leaves, Makes, Holds, Sets, Tells, Shows, Lists};
+ghost use Rattle.owners.specs.Owned.{Chained, Owned, Builds};
+use calls_entry::entry_led;
+use calls_find::find_led;
+use calls_find::root_led;
+use calls_list::list_led;
+use calls_metadata::metadata_in;
+use calls_metadata::set_in;
+use changes::close_on;
+use changes::create_on;
+use changes::link_on;
+use changes::move_on;
+use changes::sync_on;
+use changes::unlink_on;
+use edge::args::file_of;
+use edge::args::handle;
+use edge::args::new_node;
+use edge::args::time;
+use edge::ends::end_told;
+use ends::begin;
+use ends::end_after;
+use ends::end_held;
+use ends::end_listed;
+use mem::MEMORY;
+use sound::chain_all;
+
+// Words, and what a slice of another size is answered with, as in the header.
+const CHAINS: usize = 8192;
+
+const FILE_NAME: usize = 16;
+
+const HANDLE_WORDS: usize = 2;
+
+const METADATA_WORDS: usize = 14;
+
+const NEXT_WORDS: usize = 1;
+
+const WRONG_SIZE: u32 = 255;
+
+// ---- the whole image
+
+// The chains of all blocks, before the first call. They ask nothing of the arena but its length.
+#[no_mangle]
+pub extern "C" fn dz_own_chains(arena: &[u8], chains: &mut [u16]) -> u32
+    ensures { λ r. ⌜ Builds (now (arena .entry)) (now (chains .entry)) (now (chains .exit)) r ⌝ }
+{
+    if chains.len() != CHAINS {
+        return WRONG_SIZE;
+    }
+    if !arena::legal(arena) {
+        return 1;
+    }
+    chain_all(arena, chains);
+    0
+}
+
+#[no_mangle]
+pub extern "C" fn dz_own_sync(arena: &mut [u8], chains: &mut [u16], table: &mut [u8]) -> u32
+    requires { ⌜ Owned (now arena) (now chains) (now table) ⌝ }
+    ensures { λ r. ⌜ Leaves (callSync (now (arena .entry)) (tableOf (now (table .entry)))) (now (arena .entry)) (now (arena .exit)) (now (table .entry)) (now (table .exit)) r ⌝ }
+    ensures { λ _. ⌜ Chained (now (arena .exit)) (now (chains .exit)) ⌝ }
+{
+    let mut mem = [0u8; MEMORY];
+    begin(&mut mem, &table[..]);
+    let r = sync_on(arena, chains, &mut mem);
+    end_after(table, &mem, r)
+}
+
+// ---- holds
+
+#[no_mangle]
+pub extern "C" fn dz_own_root(
+    arena: &[u8],
+    chains: &[u16],
+    table: &mut [u8],
+    out: &mut [u64],
+) -> u32
+    requires { ⌜ Owned (now arena) (now chains) (now table) ⌝ }
+    ensures { λ r. ⌜ Holds (sized 2 (now (out .entry)) (callRoot (now (arena .entry)) (tableOf (now (table .entry))))) (now (table .entry)) (now (table .exit)) (now (out .entry)) (now (out .exit)) r ⌝ }
+{
+    if out.len() != HANDLE_WORDS {
+        return WRONG_SIZE;
+    }
+    let mut mem = [0u8; MEMORY];
+    begin(&mut mem, &table[..]);
+    let h = root_led(arena, &chains[..4096], &chains[4096..8192], &mut mem);
+    end_held(table, out, &mem, h)
+}
+
+#[no_mangle]
+pub extern "C" fn dz_own_find(
+    arena: &[u8],
+    chains: &[u16],
+    table: &mut [u8],
+    hold: u32,
+    stamp: u64,
+    name: &[u8],
+    out: &mut [u64],
+) -> u32
+    requires { ⌜ Owned (now arena) (now chains) (now table) ⌝ }
+    ensures { λ r. ⌜ Holds (sized 2 (now (out .entry)) (callFind (now (arena .entry)) (tableOf (now (table .entry))) (handleOf hold stamp) (now (name .entry)))) (now (table .entry)) (now (table .exit)) (now (out .entry)) (now (out .exit)) r ⌝ }
+{
+    if out.len() != HANDLE_WORDS {
+        return WRONG_SIZE;
+    }
+    let mut mem = [0u8; MEMORY];
+    begin(&mut mem, &table[..]);
+    let h = find_led(
+        arena,
+        &chains[..4096],
+        &chains[4096..8192],
+        &mut mem,
+        handle(hold, stamp),
+        name,
+    );
+    end_held(table, out, &mem, h)
+}
+
+#[no_mangle]
+pub extern "C" fn dz_own_close(
+    arena: &mut [u8],
+    chains: &mut [u16],
+    table: &mut [u8],
+    hold: u32,
+    stamp: u64,
+) -> u32
+    requires { ⌜ Owned (now arena) (now chains) (now table) ⌝ }
+    ensures { λ r. ⌜ Leaves (callClose (now (arena .entry)) (tableOf (now (table .entry))) (handleOf hold stamp)) (now (arena .entry)) (now (arena .exit)) (now (table .entry)) (now (table .exit)) r ⌝ }
+    ensures { λ _. ⌜ Chained (now (arena .exit)) (now (chains .exit)) ⌝ }
+{
+    let mut mem = [0u8; MEMORY];
+    begin(&mut mem, &table[..]);
+    let r = close_on(arena, chains, &mut mem, handle(hold, stamp));
+    end_after(table, &mem, r)
+}
+
+// ---- names
+
+#[no_mangle]
+pub extern "C" fn dz_own_create(
+    arena: &mut [u8],
+    chains: &mut [u16],
+    table: &mut [u8],
+    hold: u32,
+    stamp: u64,
+    name: &[u8],
+    kind: u32,
+    mode: u16,
+    sec: i64,
+    nsec: i64,
+    file: &[u8],
+    out: &mut [u64],
+) -> u32
+    requires { ⌜ Owned (now arena) (now chains) (now table) ⌝ }
+    ensures { λ r. ⌜ Makes (sized 16 (now (file .entry)) (sized 2 (now (out .entry)) (callCreate (now (arena .entry)) (tableOf (now (table .entry))) (handleOf hold stamp) (now (name .entry)) kind mode (timeOf sec nsec) (now (file .entry))))) (now (arena .entry)) (now (arena .exit)) (now (table .entry)) (now (table .exit)) (now (out .entry)) (now (out .exit)) r ⌝ }
+    ensures { λ _. ⌜ Chained (now (arena .exit)) (now (chains .exit)) ⌝ }
+{
+    if file.len() != FILE_NAME {
+        return WRONG_SIZE;
+    }
+    if out.len() != HANDLE_WORDS {
+        return WRONG_SIZE;
+    }
+    let new = new_node(kind, mode, time(sec, nsec), file_of(file));
+    let mut mem = [0u8; MEMORY];
+    begin(&mut mem, &table[..]);
+    let h = create_on(arena, chains, &mut mem, handle(hold, stamp), name, new);
+    end_held(table, out, &mem, h)
+}
+
+#[no_mangle]
+pub extern "C" fn dz_own_link(
+    arena: &mut [u8],
+    chains: &mut [u16],
+    table: &mut [u8],
+    hold: u32,
+    stamp: u64,
+    name: &[u8],
+    child_hold: u32,
+    child_stamp: u64,
+) -> u32
+    requires { ⌜ Owned (now arena) (now chains) (now table) ⌝ }
+    ensures { λ r. ⌜ Leaves (callLink (now (arena .entry)) (tableOf (now (table .entry))) (handleOf hold stamp) (now (name .entry)) (handleOf «child_hold» «child_stamp»)) (now (arena .entry)) (now (arena .exit)) (now (table .entry)) (now (table .exit)) r ⌝ }
+    ensures { λ _. ⌜ Chained (now (arena .exit)) (now (chains .exit)) ⌝ }
+{
+    let child = handle(child_hold, child_stamp);
+    let mut mem = [0u8; MEMORY];
+    begin(&mut mem, &table[..]);
+    let r = link_on(arena, chains, &mut mem, handle(hold, stamp), name, child);
+    end_after(table, &mem, r)
+}
+
+#[no_mangle]
+pub extern "C" fn dz_own_unlink(
+    arena: &mut [u8],
+    chains: &mut [u16],
+    table: &mut [u8],
+    hold: u32,
+    stamp: u64,
+    name: &[u8],
+) -> u32
+    requires { ⌜ Owned (now arena) (now chains) (now table) ⌝ }
+    ensures { λ r. ⌜ Leaves (callUnlink (now (arena .entry)) (tableOf (now (table .entry))) (handleOf hold stamp) (now (name .entry))) (now (arena .entry)) (now (arena .exit)) (now (table .entry)) (now (table .exit)) r ⌝ }
+    ensures { λ _. ⌜ Chained (now (arena .exit)) (now (chains .exit)) ⌝ }
+{
+    let mut mem = [0u8; MEMORY];
+    begin(&mut mem, &table[..]);
+    let r = unlink_on(arena, chains, &mut mem, handle(hold, stamp), name);
+    end_after(table, &mem, r)
+}
+
+#[no_mangle]
+pub extern "C" fn dz_own_move(
+    arena: &mut [u8],
+    chains: &mut [u16],
+    table: &mut [u8],
+    hold: u32,
+    stamp: u64,
+    old: &[u8],
+    to_hold: u32,
+    to_stamp: u64,
+    name: &[u8],
+) -> u32
+    requires { ⌜ Owned (now arena) (now chains) (now table) ⌝ }
+    ensures { λ r. ⌜ Leaves (callMove (now (arena .entry)) (tableOf (now (table .entry))) (handleOf hold stamp) (now (old .entry)) (handleOf «to_hold» «to_stamp») (now (name .entry))) (now (arena .entry)) (now (arena .exit)) (now (table .entry)) (now (table .exit)) r ⌝ }
+    ensures { λ _. ⌜ Chained (now (arena .exit)) (now (chains .exit)) ⌝ }
+{
+    let to = handle(to_hold, to_stamp);
+    let mut mem = [0u8; MEMORY];
+    begin(&mut mem, &table[..]);
+    let h = handle(hold, stamp);
+    let r = move_on(arena, chains, &mut mem, &table[..], h, old, to, name);
+    end_after(table, &mem, r)
+}
+
+// ---- metadata
+
+// Arena and chains are not read. They stand here since the promise speaks of them.
+#[no_mangle]
+pub extern "C" fn dz_own_metadata(
+    arena: &[u8],
+    chains: &[u16],
+    table: &[u8],
+    hold: u32,
+    stamp: u64,
+    out: &mut [u64],
+) -> u32
+    requires { ⌜ Owned (now arena) (now chains) (now table) ⌝ }
+    ensures { λ r. ⌜ Tells (sized 14 (now (out .entry)) (callMetadata (now (arena .entry)) (tableOf (now (table .entry))) (handleOf hold stamp))) (now (out .entry)) (now (out .exit)) r ⌝ }
+{
+    if out.len() != METADATA_WORDS {
+        return WRONG_SIZE;
+    }
+    let mut mem = [0u8; MEMORY];
+    begin(&mut mem, table);
+    let t = metadata_in(&mem, handle(hold, stamp));
+    end_told(out, t)
+}
+
+#[no_mangle]
+pub extern "C" fn dz_own_set_metadata(
+    arena: &[u8],
+    chains: &[u16],
+    table: &mut [u8],
+    hold: u32,
+    stamp: u64,
+    mode: u16,
+    uid: u64,
+    gid: u64,
+    asec: i64,
+    ansec: i64,
+    msec: i64,
+    mnsec: i64,
+    csec: i64,
+    cnsec: i64,
+) -> u32
+    requires { ⌜ Owned (now arena) (now chains) (now table) ⌝ }
+    ensures { λ r. ⌜ Sets (callSet (now (arena .entry)) (tableOf (now (table .entry))) (handleOf hold stamp) mode uid gid (timeOf asec ansec) (timeOf msec mnsec) (timeOf csec cnsec)) (now (table .entry)) (now (table .exit)) r ⌝ }
+{
+    let h = handle(hold, stamp);
+    let atime = time(asec, ansec);
+    let mtime = time(msec, mnsec);
+    let ctime = time(csec, cnsec);
+    let mut mem = [0u8; MEMORY];
+    begin(&mut mem, &table[..]);
+    let r = set_in(&mut mem, h, mode, uid, gid, atime, mtime, ctime);
+    end_after(table, &mem, r)
+}
+
+// ---- slots
+
+#[no_mangle]
+pub extern "C" fn dz_own_get_entry(
+    arena: &[u8],
+    chains: &[u16],
+    table: &[u8],
+    hold: u32,
+    stamp: u64,
+    slot: u64,
+    out: &mut [u8],
+) -> u32
+    requires { ⌜ Owned (now arena) (now chains) (now table) ⌝ }
+    ensures { λ r. ⌜ Shows (callEntry (now (arena .entry)) (tableOf (now (table .entry))) (handleOf hold stamp) slot (length (now (out .entry)))) (now (out .entry)) (now (out .exit)) r ⌝ }
+{
+    let mut mem = [0u8; MEMORY];
+    begin(&mut mem, table);
+    let r = entry_led(
+        arena,
+        &chains[..4096],
+        &chains[4096..8192],
+        &mem,
+        handle(hold, stamp),
+        slot,
+        out,
+    );
+    r as u32
+}
+
+// The word is the slot to begin with, and then the one to go on with.
+#[no_mangle]
+pub extern "C" fn dz_own_list(
+    arena: &[u8],
+    chains: &[u16],
+    table: &[u8],
+    hold: u32,
+    stamp: u64,
+    next: &mut [u64],
+    out: &mut [u8],
+) -> u32
+    requires { ⌜ Owned (now arena) (now chains) (now table) ⌝ }
+    ensures { λ r. ⌜ Lists (sized 1 (now (next .entry)) (callListing (now (arena .entry)) (tableOf (now (table .entry))) (handleOf hold stamp) (getD (now (next .entry)) 0 0) (length (now (out .entry))))) (now (out .entry)) (now (out .exit)) (now (next .entry)) (now (next .exit)) r ⌝ }
+{
+    if next.len() != NEXT_WORDS {
+        return WRONG_SIZE;
+    }
+    let from = next[0];
+    let mut mem = [0u8; MEMORY];
+    begin(&mut mem, table);
+    let l = list_led(
+        arena,
+        &chains[..4096],
+        &chains[4096..8192],
+        &mem,
+        handle(hold, stamp),
+        from,
+        out,
+    );
+    end_listed(next, from, l)
+}

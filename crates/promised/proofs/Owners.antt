@@ -1,0 +1,122 @@
+-- Who owns arena and table, and has seen the check pass, may make each call of crates/owners; and after each he may make the next.
+use mathlib.Core.Path.{_≡_, refl, sym, ap, subst}
+use mathlib.Core.Bool.{Bool, true, false}
+use mathlib.Core.List.{List}
+use Prim.Native.Nat.{ℕ}
+use lib.ListN.{length}
+use lib.Dec.{eqb}
+use Rattle.base.specs.Out.{Out, done, refused, bind, guard, kept}
+use Rattle.le.specs.Le.{Bytes}
+use Rattle.structs.specs.declared.Timespec.{Timespec}
+use Rattle.table.specs.declared.Table.{Table}
+use Rattle.table.specs.declared.Handle.{Handle}
+use Rattle.table.specs.declared.Added.{Added}
+use Rattle.table_bytes.specs.Layout.{tableOf, tableBytes}
+use Rattle.table_bytes.proofs.Layouts.{length-fits, tableOf-tableBytes}
+use Rattle.sefs.specs.Open.{callRoot, callFind}
+use Rattle.sefs.specs.Create.{After, Given, callCreate, callLink}
+use Rattle.sefs.specs.Unlink.{callUnlink}
+use Rattle.sefs.specs.Move.{callMove}
+use Rattle.sefs.specs.Read.{callSet}
+use Rattle.sefs.specs.Close.{callSync, callClose}
+use Rattle.rules.proofs.Check.{check-pass}
+use Rattle.sequences.specs.Pairs.{Pair, pair, Passed}
+use Rattle.sequences.specs.Calls.{Call, root, find, create, link, unlink, move, setMetadata, sync, close, Fits, HandleFits, NewFits, SetFits, does, next, carries}
+use Rattle.sequences.specs.Promises.{Keeps, Plain, Well}
+use Rattle.sequences.proofs.Sequences.{keeps}
+use Rattle.edge.specs.Edge.{sized, Leaves, Makes, Holds, Sets}
+use Rattle.owners.specs.Owned.{Chained, Owned}
+use Rattle.promised.specs.Promised.{Trusted}
+
+-- ---- before a call
+
+pub owned : {a c t : List ℕ} → Trusted a t → Chained a c → Owned a c t
+owned {a = a} {t = t} y k =
+    let A = check-pass a (tableOf t) (y .passes .passes) in
+    record { whole = A .rule1 .length; fine = A .rule1 .sound; chained = k; size = y .size; formed = A .rule2 .formed }
+
+-- ---- after a call: the table's bytes are those of a table that passes, or as they were
+
+written : (b : List ℕ) (u : Table) → Passed (pair b u) → Trusted b (tableBytes u)
+written b u y = record {
+  size = length-fits u (y .typed .fits);
+  passes = subst (λ (v : Table). Passed (pair b v)) (sym (tableOf-tableBytes u (y .typed .fits))) y;
+}
+
+moved : {a b t u : List ℕ} → b ≡ a → u ≡ t → Trusted a t → Trusted b u
+moved {a = a} {u = u} e q y = subst (λ (x : List ℕ). Trusted x u) (sym e) (subst (Trusted a) (sym q) y)
+
+module _ (a t : List ℕ) (y : Trusted a t) where
+  abbrev own : Pair
+  own = pair a (tableOf t)
+
+  -- a call that fits and carries no folder
+  module _ (c : Call) (F : Fits c) (e : carries own c ≡ false) where
+    went : (q : Pair) → does c own ≡ done q → Passed q
+    unfolding Keeps
+    went q d = subst Passed (ap (kept own) d) (keeps own c (y .passes) (record { fits = F; leaves = e }) .passes)
+
+    leaves-trusted : (o : Out After) → does c own ≡ bind o (λ x. done (pair (x .arena) (x .table))) → {b u : List ℕ} {n : ℕ} → Leaves o a b t u n → Trusted b u
+    leaves-trusted (done x) d L = moved (L .arena) (L .table) (written (x .arena) (x .table) (went (pair (x .arena) (x .table)) d))
+    leaves-trusted (refused m) d L = moved (L .arena) (L .table) y
+
+    makes-trusted : (o : Out Given) → does c own ≡ bind o (λ x. done (pair (x .arena) (x .table))) → (i j : Bool) {b u w v : List ℕ} {n : ℕ} → Makes (guard i 255 (guard j 255 o)) a b t u w v n → Trusted b u
+    makes-trusted (done x) d true true L = moved (L .arena) (L .table) (written (x .arena) (x .table) (went (pair (x .arena) (x .table)) d))
+    makes-trusted (refused m) d true true L = moved (L .arena) (L .table) y
+    makes-trusted o d true false L = moved (L .arena) (L .table) y
+    makes-trusted o d false j L = moved (L .arena) (L .table) y
+
+    holds-trusted : (o : Out Added) → does c own ≡ bind o (λ x. done (pair a (x .table))) → (i : Bool) {u w v : List ℕ} {n : ℕ} → Holds (guard i 255 o) t u w v n → Trusted a u
+    holds-trusted (done x) d true L = moved refl (L .table) (written a (x .table) (went (pair a (x .table)) d))
+    holds-trusted (refused m) d true L = moved refl (L .table) y
+    holds-trusted o d false L = moved refl (L .table) y
+
+    sets-trusted : (o : Out Table) → does c own ≡ bind o (λ x. done (pair a x)) → {u : List ℕ} {n : ℕ} → Sets o t u n → Trusted a u
+    sets-trusted (done x) d L = moved refl (L .table) (written a x (went (pair a x) d))
+    sets-trusted (refused m) d L = moved refl (L .table) y
+
+  -- ---- one law a call. Those that only read leave arena and table as they are
+
+  module _ {u : List ℕ} {n : ℕ} where
+    pub sync-owned : {b : List ℕ} → Leaves (callSync a (tableOf t)) a b t u n → Trusted b u
+    unfolding does
+    sync-owned = leaves-trusted sync tt refl (callSync a (tableOf t)) refl
+
+    pub root-owned : (w : List ℕ) {v : List ℕ} → Holds (sized 2 w (callRoot a (tableOf t))) t u w v n → Trusted a u
+    unfolding does
+    root-owned w = holds-trusted root tt refl (callRoot a (tableOf t)) refl (eqb (length w) 2)
+
+    module _ (h : Handle) (H : HandleFits h) where
+      pub find-owned : (name w : List ℕ) {v : List ℕ} → Bytes name → Holds (sized 2 w (callFind a (tableOf t) h name)) t u w v n → Trusted a u
+      unfolding does
+      find-owned name w N = holds-trusted (find h name) (H, N) refl (callFind a (tableOf t) h name) refl (eqb (length w) 2)
+
+      pub close-owned : {b : List ℕ} → Leaves (callClose a (tableOf t) h) a b t u n → Trusted b u
+      unfolding does
+      close-owned = leaves-trusted (close h) H refl (callClose a (tableOf t) h) refl
+
+      pub create-owned : (name w : List ℕ) {b v : List ℕ} (kind mode : ℕ) (time : Timespec) (file : List ℕ) → Bytes name → NewFits kind mode time file
+          → Makes (sized 16 file (sized 2 w (callCreate a (tableOf t) h name kind mode time file))) a b t u w v n → Trusted b u
+      unfolding does
+      create-owned name w kind mode time file N F =
+          makes-trusted (create h name kind mode time file) (H, N, F) refl (callCreate a (tableOf t) h name kind mode time file) refl (eqb (length file) 16) (eqb (length w) 2)
+
+      pub link-owned : (name : List ℕ) → Bytes name → (child : Handle) → HandleFits child → {b : List ℕ} → Leaves (callLink a (tableOf t) h name child) a b t u n → Trusted b u
+      unfolding does
+      link-owned name N child C = leaves-trusted (link h name child) (H, N, C) refl (callLink a (tableOf t) h name child) refl
+
+      pub unlink-owned : (name : List ℕ) → Bytes name → {b : List ℕ} → Leaves (callUnlink a (tableOf t) h name) a b t u n → Trusted b u
+      unfolding does
+      unlink-owned name N = leaves-trusted (unlink h name) (H, N) refl (callUnlink a (tableOf t) h name) refl
+
+      -- "and move no folder to another folder"
+      pub move-owned : (old : List ℕ) → Bytes old → (target : Handle) → HandleFits target → (name : List ℕ) → Bytes name → carries own (move h old target name) ≡ false
+          → {b : List ℕ} → Leaves (callMove a (tableOf t) h old target name) a b t u n → Trusted b u
+      unfolding does
+      move-owned old O target T name N e = leaves-trusted (move h old target name) (H, O, T, N) e (callMove a (tableOf t) h old target name) refl
+
+      pub set-metadata-owned : (mode uid gid : ℕ) (atime mtime ctime : Timespec) → SetFits mode uid gid atime mtime ctime
+          → Sets (callSet a (tableOf t) h mode uid gid atime mtime ctime) t u n → Trusted a u
+      unfolding does
+      set-metadata-owned mode uid gid atime mtime ctime S =
+          sets-trusted (setMetadata h mode uid gid atime mtime ctime) (H, S) refl (callSet a (tableOf t) h mode uid gid atime mtime ctime) refl

@@ -1,0 +1,125 @@
+//! Which images are tested once: what gives that, and what takes it away. An image of either kind answers the same, byte for byte.
+mod common;
+
+use common::{create, file, fresh, Numbers, ROOT_FILE, TIME};
+use dzomrelig::{Attributes, FailedRule, Handle, Image, Kind, Place, Reason, HOLDS};
+
+#[test]
+fn formatted_and_checked() {
+    let (mut image, root) = fresh(32);
+    assert!(image.is_owned() && image.clone().is_owned());
+    create(&mut image, root, "a", Kind::File).unwrap();
+    image.sync().unwrap();
+    assert!(Image::checked(image.bytes()).unwrap().is_owned());
+    let mut other = Image::untrusted(image.bytes()).unwrap();
+    assert!(!other.is_owned());
+    assert_eq!(other.trust(), other.check());
+    assert!(other.is_owned());
+    let mut parts = Image::from_parts(image.bytes(), *image.table());
+    assert!(!parts.is_owned() && parts.trust().is_ok() && parts.is_owned());
+}
+
+#[test]
+fn reopened_and_reformatted() {
+    let (mut image, root) = fresh(16);
+    let a = create(&mut image, root, "a", Kind::File).unwrap();
+    image.unlink(root, "a").unwrap();
+    image.reopen().unwrap();
+    // the open node is lost: rule 7
+    assert!(!image.is_owned());
+    assert_eq!(image.trust(), Err(FailedRule::Links));
+    assert!(!image.is_owned());
+    assert_eq!(image.metadata(a), Err(Reason::BadHandle));
+    image.reformat(TIME, ROOT_FILE).unwrap();
+    assert!(image.is_owned());
+}
+
+#[test]
+fn a_refused_open_or_format_changes_nothing() {
+    let mut wrong = Image::from_parts([0; 100], [0; dzomrelig::TABLE]);
+    assert_eq!(wrong.reformat(TIME, ROOT_FILE), Err(Reason::BadArena));
+    assert_eq!(wrong.reopen(), Err(Reason::BadArena));
+    assert!(!wrong.is_owned() && wrong.trust().is_err() && !wrong.is_owned());
+}
+
+#[test]
+fn folders_that_are_moved() {
+    let (mut image, root) = fresh(64);
+    let a = create(&mut image, root, "a", Kind::Folder).unwrap();
+    let b = create(&mut image, root, "b", Kind::Folder).unwrap();
+    create(&mut image, a, "c", Kind::Folder).unwrap();
+    create(&mut image, a, "f", Kind::File).unwrap();
+    // a file to another folder, a folder within one, and moves that are refused
+    image.rename(a, "f", b, "f").unwrap();
+    image.rename(a, "c", a, "d").unwrap();
+    let again = image.find(root, "a").unwrap();
+    image.rename(a, "d", again, "c").unwrap();
+    assert_eq!(image.rename(a, "c", b, "f"), Err(Reason::NotDir));
+    assert_eq!(image.rename(a, "x", b, "x"), Err(Reason::EntryNotFound));
+    assert!(image.is_owned());
+    let table = *image.table();
+    let mut copy = image.clone();
+    copy.rename(a, "c", b, "c").unwrap();
+    assert!(!copy.is_owned());
+    assert_eq!(copy.trust(), Err(FailedRule::Parents));
+    assert_eq!(image.table(), &table);
+    // a table that is full can't tell
+    while image.root().is_ok() {}
+    assert!(image.is_owned());
+    image.rename(b, "f", a, "f").unwrap();
+    assert!(!image.is_owned());
+    assert!(image.trust().is_ok() && image.is_owned());
+}
+
+/// One call by chance on both images; both answer the same.
+fn both(owned: &mut Image, tested: &mut Image, n: &mut Numbers, known: &mut Vec<Handle>) {
+    let (h, g) = (known[n.below(known.len() as u64) as usize], known[n.below(known.len() as u64) as usize]);
+    let names = ["a", "b", "c", "folder", "sub", "", ".", "..", "\u{e4}"].map(str::as_bytes);
+    let (x, y) = (names[n.below(9) as usize], names[n.below(9) as usize]);
+    let (kind, number, slot) = (n.below(6) as u32, n.below(60), n.below(6));
+    let (what, mode, room) = (n.below(14), n.next() as u16, n.below(4) as usize * 300);
+    let call = |image: &mut Image| -> (Result<Option<Handle>, Reason>, Vec<u8>) {
+        let (mut out, mut place) = (vec![7; room], Place { folder: h, next: slot });
+        let answer = match what {
+            0 => image.root().map(Some),
+            1 | 2 => image.find(h, x).map(Some),
+            3 | 4 => image.create_numbered(h, x, kind, mode, TIME, file(number)).map(Some),
+            5 => image.link(h, x, g).map(|()| None),
+            6 => image.unlink(h, x).map(|()| None),
+            7 => image.rename(h, x, g, y).map(|()| None),
+            8 => image.metadata(h).map(|m| Some(Handle { hold: m.inode, stamp: m.size })),
+            9 => image.set_metadata(h, &Attributes { mode, ..Attributes::default() }).map(|()| None),
+            10 => image.entry_into(h, slot, &mut out).map(|()| None),
+            11 => image.list(&mut place, &mut out).map(|n| Some(Handle { hold: n as u32, stamp: place.next })),
+            12 => image.sync().map(|()| None),
+            _ => image.close(h).map(|()| None),
+        };
+        (answer, out)
+    };
+    let answer = call(owned);
+    assert_eq!(answer, call(tested));
+    assert!(owned.bytes() == tested.bytes() && owned.table() == tested.table());
+    if let (0..=4, Ok(Some(handle))) = (what, answer.0) {
+        known.push(handle);
+    }
+}
+
+#[test]
+fn both_ways_answer_the_same() {
+    let n = &mut Numbers(0x0DDB_1A5E_5BAD_5EED);
+    for round in 0..60 {
+        let (mut owned, root) = fresh(16 + 8 * round);
+        let mut tested = Image::from_parts(owned.bytes(), *owned.table());
+        let mut known = vec![root];
+        for _ in 0..200 {
+            both(&mut owned, &mut tested, n, &mut known);
+            if known.len() > HOLDS {
+                known.remove(1);
+            }
+            if !owned.is_owned() && owned.trust().is_err() {
+                break;
+            }
+            assert!(!tested.is_owned());
+        }
+    }
+}
