@@ -282,6 +282,12 @@ uint32_t dz_own_get_entry(const uint8_t *arena, size_t arena_len, const uint16_t
                           uint32_t hold, uint64_t stamp, uint64_t slot, uint8_t *out, size_t out_len);
 uint32_t dz_own_list(const uint8_t *arena, size_t arena_len, const uint16_t *chains, size_t chains_len, const uint8_t *table, size_t table_len,
                      uint32_t hold, uint64_t stamp, uint64_t *next, size_t words, uint8_t *out, size_t out_len);
+uint32_t dz_own_read(const uint8_t *arena, size_t arena_len, const uint16_t *chains, size_t chains_len, const uint8_t *table, size_t table_len,
+                     uint32_t hold, uint64_t stamp, uint64_t place, uint8_t *out, size_t out_len, uint64_t *count, size_t words);
+uint32_t dz_own_write(uint8_t *arena, size_t arena_len, uint16_t *chains, size_t chains_len, uint8_t *table, size_t table_len,
+                      uint32_t hold, uint64_t stamp, uint64_t place, const uint8_t *data, size_t data_len);
+uint32_t dz_own_resize(uint8_t *arena, size_t arena_len, uint16_t *chains, size_t chains_len, uint8_t *table, size_t table_len,
+                       uint32_t hold, uint64_t stamp, uint64_t length);
 
 #ifdef __cplusplus
 }
