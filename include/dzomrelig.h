@@ -1,4 +1,4 @@
-/* Dzomrelig at the C edge: the fifteen calls of document 01, proved (crates/edge), and those for owners (crates/owners). Plain C11, usable from C++.
+/* Dzomrelig at the C edge: the fifteen calls of document 01 and the three of order 1, proved (crates/edge), and those for owners (crates/owners). Plain C11, usable from C++.
  *
  * How the calls take and give things:
  * - Arena, table, names and output are a pointer and a length. No pointer is null, and a slice that a call may change overlaps no other.
@@ -30,6 +30,7 @@ extern "C" {
 #define DZ_SLOT 264           /* a slot of a folder, as get entry and listing write it */
 #define DZ_FILE_NAME 16       /* the name of a node's own file, new for every node */
 #define DZ_NAME_LONGEST 255   /* a name in a folder: UTF-8, with no zero byte */
+#define DZ_FILE_LONGEST 4294967295 /* the contents of a file, symlink or socket */
 
 /* ---- types */
 
@@ -61,6 +62,8 @@ extern "C" {
 #define DZ_WRONG_FS 18        /* no image of this file system */
 #define DZ_STUCK 19           /* the Rust would fail an assertion here */
 #define DZ_OUT_FULL 20        /* a slot remains, and the output has no room for one */
+#define DZ_NOT_FILE 21        /* a folder, where contents are asked for */
+#define DZ_FILE_TOO_BIG 22    /* a write or resize would end past DZ_FILE_LONGEST */
 #define DZ_WRONG_SIZE 255     /* a slice of a fixed size has another */
 
 static inline const char *dz_reason_name(uint32_t reason)
@@ -87,6 +90,8 @@ static inline const char *dz_reason_name(uint32_t reason)
     case DZ_WRONG_FS: return "WrongFs";
     case DZ_STUCK: return "Stuck";
     case DZ_OUT_FULL: return "OutFull";
+    case DZ_NOT_FILE: return "NotFile";
+    case DZ_FILE_TOO_BIG: return "FileTooBig";
     case DZ_WRONG_SIZE: return "WrongSize";
     default: return "unknown";
     }
@@ -113,6 +118,7 @@ typedef struct dz_counts_t {
 #define DZ_METADATA_WORDS 14
 #define DZ_COUNTS_WORDS 3
 #define DZ_NEXT_WORDS 1
+#define DZ_READ_WORDS 1
 
 static inline uint64_t *dz_handle_words(dz_handle_t *handle) { return (uint64_t *)(void *)handle; }
 static inline uint64_t *dz_metadata_words(dz_metadata_t *metadata) { return (uint64_t *)(void *)metadata; }
@@ -201,6 +207,24 @@ uint32_t dz_set_metadata(const uint8_t *arena, size_t arena_len, uint8_t *table,
                          int64_t atime_sec, int64_t atime_nsec, int64_t mtime_sec, int64_t mtime_nsec,
                          int64_t ctime_sec, int64_t ctime_nsec);
 
+/* ---- contents of files, symlinks and sockets */
+
+/* The bytes from `place` on that lie below the node's size, as many as the output has room for; *count is how many, one word. The output's
+ * bytes after them stay. Changes: out, *count. Reasons: BadArena, Damaged, BadTable, BadHandle, NotFile; Stuck. */
+uint32_t dz_read(const uint8_t *arena, size_t arena_len, const uint8_t *table, size_t table_len,
+                 uint32_t hold, uint64_t stamp, uint64_t place, uint8_t *out, size_t out_len, uint64_t *count, size_t words);
+
+/* Writes all these bytes from `place` on. Past the size, file and size grow, also by no bytes; what lies between reads as zeros. The size
+ * stands in the table: close and sync store it. Changes: arena, table. Reasons: BadArena, Damaged, BadTable, BadHandle, NotFile, FileTooBig;
+ * NoDeviceSpace, Stuck. */
+uint32_t dz_write(uint8_t *arena, size_t arena_len, uint8_t *table, size_t table_len,
+                  uint32_t hold, uint64_t stamp, uint64_t place, const uint8_t *data, size_t data_len);
+
+/* Makes the node's file and size exactly so long. What is cut off is gone; a longer file takes no block. Stored as by dz_write.
+ * Changes: arena, table. Reasons: BadArena, Damaged, BadTable, BadHandle, NotFile, FileTooBig; Stuck. */
+uint32_t dz_resize(uint8_t *arena, size_t arena_len, uint8_t *table, size_t table_len,
+                   uint32_t hold, uint64_t stamp, uint64_t length);
+
 /* ---- slots */
 
 /* One slot of a folder, as stored, at the output's start: DZ_SLOT bytes.
@@ -258,6 +282,12 @@ uint32_t dz_own_get_entry(const uint8_t *arena, size_t arena_len, const uint16_t
                           uint32_t hold, uint64_t stamp, uint64_t slot, uint8_t *out, size_t out_len);
 uint32_t dz_own_list(const uint8_t *arena, size_t arena_len, const uint16_t *chains, size_t chains_len, const uint8_t *table, size_t table_len,
                      uint32_t hold, uint64_t stamp, uint64_t *next, size_t words, uint8_t *out, size_t out_len);
+uint32_t dz_own_read(const uint8_t *arena, size_t arena_len, const uint16_t *chains, size_t chains_len, const uint8_t *table, size_t table_len,
+                     uint32_t hold, uint64_t stamp, uint64_t place, uint8_t *out, size_t out_len, uint64_t *count, size_t words);
+uint32_t dz_own_write(uint8_t *arena, size_t arena_len, uint16_t *chains, size_t chains_len, uint8_t *table, size_t table_len,
+                      uint32_t hold, uint64_t stamp, uint64_t place, const uint8_t *data, size_t data_len);
+uint32_t dz_own_resize(uint8_t *arena, size_t arena_len, uint16_t *chains, size_t chains_len, uint8_t *table, size_t table_len,
+                       uint32_t hold, uint64_t stamp, uint64_t length);
 
 #ifdef __cplusplus
 }

@@ -1,4 +1,4 @@
-// A font's image in a file: a folder with two glyphs, listed and checked. glyphs IMAGE.
+// A font's image in a file: a folder with two glyphs, one drawn; listed and checked. glyphs IMAGE.
 #include <stdio.h>
 #include <stdlib.h>
 #include <string.h>
@@ -42,8 +42,17 @@ int main(int n, char **words)
     must("root", dz_root(arena, sizeof arena, table, DZ_TABLE, dz_handle_words(&root), DZ_HANDLE_WORDS));
 
     dz_handle_t folder = create(root, "glyphs", DZ_FOLDER);
-    close_node(create(folder, "A", DZ_FILE));
+    dz_handle_t a = create(folder, "A", DZ_FILE);
     close_node(create(folder, "Ж", DZ_FILE));
+
+    // an outline is saved, and read back
+    const char outline[] = "M0 0 L5 9 L9 0";
+    uint8_t bytes[64];
+    uint64_t count = 0;
+    must("write", dz_write(arena, sizeof arena, table, DZ_TABLE, (uint32_t)a.hold, a.stamp, 0, (const uint8_t *)outline, strlen(outline)));
+    must("read", dz_read(arena, sizeof arena, table, DZ_TABLE, (uint32_t)a.hold, a.stamp, 0, bytes, sizeof bytes, &count, DZ_READ_WORDS));
+    printf("A: %.*s\n", (int)count, (const char *)bytes);
+    close_node(a);
 
     uint8_t slots[8 * DZ_SLOT];
     uint64_t next = 0;

@@ -36,7 +36,7 @@ fn walk(image: &mut Image, folder: Handle, depth: usize, seen: &mut BTreeSet<u32
                     walk(image, node, depth + 1, seen)?;
                 }
             }
-            Ok(m) => println!("{indent}{name} (node {}, {:?}, links {}, mode {:o})", m.inode, m.kind, m.links, m.mode),
+            Ok(m) => println!("{indent}{name} (node {}, {:?}, {} bytes, links {}, mode {:o})", m.inode, m.kind, m.size, m.links, m.mode),
             Err(reason) => println!("{indent}{name} (node {}: {reason})", entry.id),
         }
         image.close(node)?;

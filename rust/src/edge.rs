@@ -33,6 +33,9 @@ extern "C" {
     fn dz_metadata(a: *const u8, al: usize, t: *const u8, tl: usize, hold: u32, stamp: u64, metadata: *mut u64, words: usize) -> u32;
     fn dz_set_metadata(a: *const u8, al: usize, t: *mut u8, tl: usize, hold: u32, stamp: u64, mode: u16, uid: u64, gid: u64,
                        asec: i64, ansec: i64, msec: i64, mnsec: i64, csec: i64, cnsec: i64) -> u32;
+    fn dz_read(a: *const u8, al: usize, t: *const u8, tl: usize, hold: u32, stamp: u64, place: u64, out: *mut u8, ol: usize, count: *mut u64, words: usize) -> u32;
+    fn dz_write(a: *mut u8, al: usize, t: *mut u8, tl: usize, hold: u32, stamp: u64, place: u64, data: *const u8, dl: usize) -> u32;
+    fn dz_resize(a: *mut u8, al: usize, t: *mut u8, tl: usize, hold: u32, stamp: u64, length: u64) -> u32;
     fn dz_get_entry(a: *const u8, al: usize, t: *const u8, tl: usize, hold: u32, stamp: u64, slot: u64, out: *mut u8, ol: usize) -> u32;
     fn dz_list(a: *const u8, al: usize, t: *const u8, tl: usize, hold: u32, stamp: u64, next: *mut u64, words: usize, out: *mut u8, ol: usize) -> u32;
 }
@@ -61,6 +64,11 @@ extern "C" {
                         out: *mut u8, ol: usize) -> u32;
     fn dz_own_list(a: *const u8, al: usize, c: *const u16, cl: usize, t: *const u8, tl: usize, hold: u32, stamp: u64, next: *mut u64, words: usize,
                    out: *mut u8, ol: usize) -> u32;
+    fn dz_own_read(a: *const u8, al: usize, c: *const u16, cl: usize, t: *const u8, tl: usize, hold: u32, stamp: u64, place: u64,
+                   out: *mut u8, ol: usize, count: *mut u64, words: usize) -> u32;
+    fn dz_own_write(a: *mut u8, al: usize, c: *mut u16, cl: usize, t: *mut u8, tl: usize, hold: u32, stamp: u64, place: u64,
+                    data: *const u8, dl: usize) -> u32;
+    fn dz_own_resize(a: *mut u8, al: usize, c: *mut u16, cl: usize, t: *mut u8, tl: usize, hold: u32, stamp: u64, length: u64) -> u32;
 }
 
 /// The words of the chains.
@@ -296,6 +304,41 @@ impl Pair {
                                                s.atime.sec, s.atime.nsec, s.mtime.sec, s.mtime.nsec, s.ctime.sec, s.ctime.nsec),
                 None => dz_set_metadata(a.as_ptr(), a.len(), t.as_mut_ptr(), t.len(), h.hold, h.stamp, s.mode, s.uid, s.gid,
                                         s.atime.sec, s.atime.nsec, s.mtime.sec, s.mtime.nsec, s.ctime.sec, s.ctime.nsec),
+            }
+        })
+    }
+
+    /// How many bytes were read.
+    pub(crate) fn read(&self, h: Handle, place: u64, out: &mut [u8]) -> Result<u64, Reason> {
+        let (a, t, mut w) = (&self.arena, &self.table, [0; 1]);
+        let n = unsafe {
+            match &self.chains {
+                Some(c) => dz_own_read(a.as_ptr(), a.len(), c.as_ptr(), c.len(), t.as_ptr(), t.len(), h.hold, h.stamp, place, out.as_mut_ptr(), out.len(),
+                                       w.as_mut_ptr(), w.len()),
+                None => dz_read(a.as_ptr(), a.len(), t.as_ptr(), t.len(), h.hold, h.stamp, place, out.as_mut_ptr(), out.len(), w.as_mut_ptr(), w.len()),
+            }
+        };
+        let [count] = w;
+        answer(n).map(|()| count)
+    }
+
+    pub(crate) fn write(&mut self, h: Handle, place: u64, data: &[u8]) -> Result<(), Reason> {
+        let (a, t) = (&mut self.arena, &mut self.table);
+        answer(unsafe {
+            match &mut self.chains {
+                Some(c) => dz_own_write(a.as_mut_ptr(), a.len(), c.as_mut_ptr(), c.len(), t.as_mut_ptr(), t.len(), h.hold, h.stamp, place,
+                                        data.as_ptr(), data.len()),
+                None => dz_write(a.as_mut_ptr(), a.len(), t.as_mut_ptr(), t.len(), h.hold, h.stamp, place, data.as_ptr(), data.len()),
+            }
+        })
+    }
+
+    pub(crate) fn resize(&mut self, h: Handle, length: u64) -> Result<(), Reason> {
+        let (a, t) = (&mut self.arena, &mut self.table);
+        answer(unsafe {
+            match &mut self.chains {
+                Some(c) => dz_own_resize(a.as_mut_ptr(), a.len(), c.as_mut_ptr(), c.len(), t.as_mut_ptr(), t.len(), h.hold, h.stamp, length),
+                None => dz_resize(a.as_mut_ptr(), a.len(), t.as_mut_ptr(), t.len(), h.hold, h.stamp, length),
             }
         })
     }

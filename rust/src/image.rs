@@ -7,7 +7,7 @@ use core::fmt;
 use crate::edge::Pair;
 use crate::{
     Attributes, Counts, Entries, Entry, FailedRule, FileName, Handle, Kind, Metadata, Place, Reason, Time, Unfit, BLOCK, BLOCKS_LEAST,
-    BLOCKS_MOST, SLOT, TABLE,
+    BLOCKS_MOST, FILE_LONGEST, SLOT, TABLE,
 };
 
 /// An image, the table of its open nodes, and the calls on them.
@@ -247,6 +247,58 @@ impl Image {
     /// Reasons: `BadHandle`.
     pub fn set_metadata(&mut self, handle: Handle, attributes: &Attributes) -> Result<(), Reason> {
         self.pair.set_metadata(handle, attributes)
+    }
+}
+
+// ---- contents
+
+impl Image {
+    /// Reads the bytes of a file, symlink or socket from a place on: as many as there are below its size and the output has room for. How many were
+    /// read; the output's bytes after them stay. At the size and beyond there are none.
+    ///
+    /// Bytes that were never written are zeros. A node that was unlinked can be read while it is open.
+    ///
+    /// Reasons: `BadHandle`, `NotFile`; `Stuck`.
+    pub fn read_at(&self, handle: Handle, place: u64, out: &mut [u8]) -> Result<usize, Reason> {
+        Ok(usize::try_from(self.pair.read(handle, place, out)?).unwrap_or(0))
+    }
+
+    /// All bytes of a file, symlink or socket.
+    ///
+    /// A file takes no block for bytes that were never written, so it may have up to [`FILE_LONGEST`] of them, and all are given.
+    ///
+    /// Reasons: as [`read_at`](Image::read_at); `FileTooBig` (a damaged size beyond the longest file), `OutFull` (no memory for so many bytes).
+    pub fn read_to_vec(&self, handle: Handle) -> Result<Vec<u8>, Reason> {
+        self.read_at(handle, 0, &mut [])?;
+        let size = self.metadata(handle)?.size;
+        if size > FILE_LONGEST {
+            return Err(Reason::FileTooBig);
+        }
+        let (size, mut out) = (usize::try_from(size).map_err(|_| Reason::OutFull)?, Vec::new());
+        out.try_reserve_exact(size).map_err(|_| Reason::OutFull)?;
+        out.resize(size, 0);
+        let count = self.read_at(handle, 0, &mut out)?;
+        out.truncate(count);
+        Ok(out)
+    }
+
+    /// Writes bytes into a file, symlink or socket from a place on: all of them, or none where it is refused. Past the size, file and size grow, and
+    /// what lies between reads as zeros. No bytes at a place past the size make it grow as well, unlike in POSIX.
+    ///
+    /// The size stands in the table; [`close`](Image::close) and [`sync`](Image::sync) store it. No time changes.
+    ///
+    /// Reasons: `BadHandle`, `NotFile`, `FileTooBig` (the end is past [`FILE_LONGEST`]); `Stuck`, `NoDeviceSpace`.
+    pub fn write_at(&mut self, handle: Handle, place: u64, data: impl AsRef<[u8]>) -> Result<(), Reason> {
+        self.pair.write(handle, place, data.as_ref())
+    }
+
+    /// Makes a file, symlink or socket shorter or longer. What is cut off is gone: where it grows again there are zeros. A longer file takes no block.
+    ///
+    /// The size stands in the table; [`close`](Image::close) and [`sync`](Image::sync) store it. No time changes.
+    ///
+    /// Reasons: `BadHandle`, `NotFile`, `FileTooBig` (past [`FILE_LONGEST`]); `Stuck`.
+    pub fn resize(&mut self, handle: Handle, length: u64) -> Result<(), Reason> {
+        self.pair.resize(handle, length)
     }
 }
 

@@ -30,5 +30,7 @@ pub const TABLE: usize = 4370;
 pub const SLOT: usize = 264;
 /// The longest name in a folder, in bytes.
 pub const NAME_LONGEST: usize = 255;
+/// The longest contents of a file, symlink or socket, in bytes.
+pub const FILE_LONGEST: u64 = 4_294_967_295;
 /// How many handles can be live at once.
 pub const HOLDS: usize = 32;

@@ -4,7 +4,7 @@ use core::fmt;
 
 /// Why a call was refused. A call that is refused has changed nothing.
 ///
-/// Where more than one reason holds, each call says in which order it gives them. The number, 1 to 20, is the same at every edge of the library.
+/// Where more than one reason holds, each call says in which order it gives them. The number, 1 to 22, is the same at every edge of the library.
 #[derive(Clone, Copy, PartialEq, Eq, Hash, Debug)]
 #[non_exhaustive]
 pub enum Reason {
@@ -48,12 +48,16 @@ pub enum Reason {
     Stuck,
     /// 20: a slot remains, and the output has no room for one.
     OutFull,
+    /// 21: a folder, where contents are asked for.
+    NotFile,
+    /// 22: a write or resize would end past 4,294,967,295 bytes.
+    FileTooBig,
     /// A number that no call gives.
     Unknown(u32),
 }
 
 /// The reasons in the order of their numbers, with name and meaning.
-const REASONS: [(Reason, &str, &str); 20] = [
+const REASONS: [(Reason, &str, &str); 22] = [
     (Reason::BadArena, "BadArena", "the image's length is not 16 to 4,096 whole blocks"),
     (Reason::Damaged, "Damaged", "the image is not sound"),
     (Reason::BadTable, "BadTable", "the table of open nodes is not well formed"),
@@ -74,15 +78,17 @@ const REASONS: [(Reason, &str, &str); 20] = [
     (Reason::WrongFs, "WrongFs", "no image of this file system"),
     (Reason::Stuck, "Stuck", "what is stored does not fit together, and the call can't go on"),
     (Reason::OutFull, "OutFull", "a slot remains, and the output has no room for one"),
+    (Reason::NotFile, "NotFile", "a folder, where contents are asked for"),
+    (Reason::FileTooBig, "FileTooBig", "a write or resize would end past 4,294,967,295 bytes"),
 ];
 
 impl Reason {
-    /// All twenty, in the order of their numbers.
+    /// All of them, in the order of their numbers.
     pub fn all() -> impl Iterator<Item = Reason> {
         REASONS.iter().map(|&(reason, ..)| reason)
     }
 
-    /// The reason's number: 1 to 20, or the number that no call gives.
+    /// The reason's number: 1 to 22, or the number that no call gives.
     pub fn number(self) -> u32 {
         match self {
             Reason::Unknown(number) => number,
@@ -151,7 +157,7 @@ pub enum FailedRule {
     Maps,
     /// 5: each node has a type and a file of its own, and there are no other files.
     Nodes,
-    /// 6: each folder's slots are whole, and its names distinct.
+    /// 6: each folder's slots are whole, and its names distinct; every other node's file is as long as its size.
     Folders,
     /// 7: each link count is the number of names.
     Links,
@@ -185,7 +191,7 @@ impl FailedRule {
             FailedRule::Superblock => "the superblock says what is there",
             FailedRule::Maps => "the maps mark the nodes, and open nodes are as stored",
             FailedRule::Nodes => "each node has a type and a file of its own, and there are no other files",
-            FailedRule::Folders => "each folder's slots are whole, and its names distinct",
+            FailedRule::Folders => "each folder's slots are whole, and its names distinct; every other node's file is as long as its size",
             FailedRule::Links => "each link count is the number of names",
             FailedRule::Parents => "each folder's `..` is the folder that names it, and leads up to the root",
             FailedRule::Unknown(_) => "a number that the checker does not give",

@@ -4,7 +4,7 @@ mod common;
 
 use common::damage::seal;
 use common::{create, file, fresh, Numbers, TIME};
-use dzomrelig::{Attributes, Handle, Image, Kind, Place, BLOCK, SLOT, TABLE};
+use dzomrelig::{Attributes, Handle, Image, Kind, Place, BLOCK, FILE_LONGEST, SLOT, TABLE};
 
 fn name(n: &mut Numbers) -> Vec<u8> {
     let fixed: [&[u8]; 10] = [b"", b".", b"..", b"a", b"b", b"c", b"folder", b"sub", b"\xff", b"a\0"];
@@ -23,11 +23,20 @@ fn handle(n: &mut Numbers, known: &[Handle]) -> Handle {
     }
 }
 
+/// A place or a length: mostly small, and now and then at an end.
+fn number(n: &mut Numbers) -> u64 {
+    match n.below(8) {
+        0 => u64::MAX - n.below(3),
+        1 => FILE_LONGEST - 1 + n.below(3),
+        _ => n.below(2000),
+    }
+}
+
 /// One call by chance: whether it was done.
 fn call(image: &mut Image, n: &mut Numbers, known: &mut Vec<Handle>) -> bool {
     let (h, g) = (handle(n, known), handle(n, known));
     let mut out = vec![0; n.below(4) as usize * 200];
-    let made = match n.below(16) {
+    let made = match n.below(20) {
         0 => image.root().map(Some),
         1..=3 => image.find(h, name(n)).map(Some),
         4 | 5 => image.create_numbered(h, name(n), n.below(6) as u32, n.next() as u16, TIME, file(n.below(50))).map(Some),
@@ -40,6 +49,9 @@ fn call(image: &mut Image, n: &mut Numbers, known: &mut Vec<Handle>) -> bool {
         12 => image.list(&mut Place { folder: h, next: n.below(4) }, &mut out).map(|_| None),
         13 => image.snapshot(h).map(|_| None),
         14 => image.sync().map(|()| None),
+        15 => image.read_at(h, number(n), &mut out).map(|_| None),
+        16 | 17 => image.write_at(h, number(n), name(n)).map(|()| None),
+        18 => image.resize(h, number(n)).map(|()| None),
         _ => image.close(h).map(|()| None),
     };
     if let Ok(Some(handle)) = made {
@@ -73,6 +85,8 @@ fn grown() -> (Image, Vec<Handle>) {
     let b = create(&mut image, sub, "b", Kind::Symlink).unwrap();
     image.link(folder, "c", a).unwrap();
     image.unlink(root, "a").unwrap();
+    image.write_at(a, 470, "outline of a glyph").unwrap();
+    image.write_at(b, 0, "../c").unwrap();
     (image, vec![root, folder, sub, a, b])
 }
 

@@ -2,7 +2,10 @@
 mod common;
 
 use common::{create, file, fresh, names, ROOT_FILE, TIME};
-use dzomrelig::{Attributes, Counts, Entry, FailedRule, Image, Kind, Place, Reason, Time, Unfit, BLOCK, BLOCKS_MOST, HOLDS, SLOT, TABLE};
+use dzomrelig::{
+    Attributes, Counts, Entry, FailedRule, Handle, Image, Kind, Place, Reason, Time, Unfit, BLOCK, BLOCKS_MOST, FILE_LONGEST, HOLDS, SLOT,
+    TABLE,
+};
 
 #[test]
 fn format() {
@@ -177,6 +180,136 @@ fn metadata_is_set_and_read() {
     image.close(a).unwrap();
     let a = image.find(root, "a").unwrap();
     assert_eq!(image.metadata(a), Ok(after));
+}
+
+/// So many bytes, none of them zero.
+fn outline(length: usize) -> Vec<u8> {
+    (0..length).map(|i| (i % 251) as u8 + 1).collect()
+}
+
+/// The bytes of a node are these: read whole, in pieces, and told by metadata.
+fn has(image: &Image, node: Handle, want: &[u8]) {
+    assert_eq!(image.read_to_vec(node).unwrap(), want);
+    assert_eq!(image.metadata(node).unwrap().size, want.len() as u64);
+    for room in [7, 480, 10_000] {
+        let (mut found, mut out) = (Vec::<u8>::new(), vec![238; room]);
+        loop {
+            let n = image.read_at(node, found.len() as u64, &mut out).unwrap();
+            found.extend(&out[..n]);
+            if n < room {
+                break;
+            }
+        }
+        assert_eq!(found, want);
+    }
+    assert!(image.check().is_ok());
+}
+
+#[test]
+fn what_is_written_is_read() {
+    let (mut image, root) = fresh(128);
+    for (name, kind) in [("file", Kind::File), ("link", Kind::Symlink), ("socket", Kind::Socket)] {
+        let node = create(&mut image, root, name, kind).unwrap();
+        has(&image, node, b"");
+        let mut want = outline(1000);
+        image.write_at(node, 0, &want).unwrap();
+        has(&image, node, &want);
+        // in the middle, across two blocks, and over the end
+        for (at, data) in [(3, "abc"), (478, "border"), (998, "longer")] {
+            image.write_at(node, at, data).unwrap();
+            let at = at as usize;
+            want.resize(want.len().max(at + data.len()), 0);
+            want[at..at + data.len()].copy_from_slice(data.as_bytes());
+            has(&image, node, &want);
+        }
+        // the output's rest stays
+        let mut out = [238; 10];
+        assert_eq!(image.read_at(node, 1000, &mut out), Ok(4));
+        assert_eq!(&out, b"nger\xee\xee\xee\xee\xee\xee");
+        for place in [1004, 1005, FILE_LONGEST, u64::MAX] {
+            assert_eq!(image.read_at(node, place, &mut out), Ok(0));
+        }
+        assert_eq!(image.read_at(node, 0, &mut []), Ok(0));
+        image.close(node).unwrap();
+        let node = image.find(root, name).unwrap();
+        has(&image, node, &want);
+        image.close(node).unwrap();
+    }
+}
+
+#[test]
+fn holes_take_no_block() {
+    let (mut image, root) = fresh(32);
+    let a = create(&mut image, root, "a", Kind::File).unwrap();
+    let free = image.check().unwrap().free;
+    image.write_at(a, 100_000, "far").unwrap();
+    assert_eq!(image.check().unwrap().free, free - 1);
+    has(&image, a, &[vec![0; 100_000], b"far".into()].concat());
+    image.write_at(a, 50_000, "near").unwrap();
+    assert_eq!(image.check().unwrap().free, free - 2);
+    image.resize(a, 50_002).unwrap();
+    assert_eq!(image.check().unwrap().free, free - 1);
+    has(&image, a, &[vec![0; 50_000], b"ne".into()].concat());
+    // as long as a file can be
+    image.write_at(a, FILE_LONGEST - 1, "z").unwrap();
+    let mut out = [238; 4];
+    assert_eq!(image.read_at(a, FILE_LONGEST - 3, &mut out), Ok(3));
+    assert_eq!(out, [0, 0, b'z', 238]);
+    assert_eq!(image.metadata(a).unwrap().size, FILE_LONGEST);
+}
+
+#[test]
+fn shrunk_and_grown() {
+    let (mut image, root) = fresh(32);
+    let a = create(&mut image, root, "a", Kind::File).unwrap();
+    image.write_at(a, 0, outline(2000)).unwrap();
+    for length in [2000, 1500, 961, 960, 959, 481, 3] {
+        image.resize(a, length).unwrap();
+        has(&image, a, &outline(length as usize));
+    }
+    // the old tail stays away
+    image.resize(a, 2000).unwrap();
+    has(&image, a, &[outline(3), vec![0; 1997]].concat());
+    image.resize(a, 0).unwrap();
+    has(&image, a, b"");
+    // no bytes: nothing, but beyond the size
+    image.write_at(a, 0, "").unwrap();
+    has(&image, a, b"");
+    image.write_at(a, 700, "").unwrap();
+    has(&image, a, &[0; 700]);
+    image.write_at(a, 300, "").unwrap();
+    has(&image, a, &[0; 700]);
+}
+
+#[test]
+fn contents_of_an_unlinked_node() {
+    let (mut image, root) = fresh(32);
+    let a = create(&mut image, root, "a", Kind::File).unwrap();
+    let free = image.check().unwrap().free;
+    image.write_at(a, 0, outline(100)).unwrap();
+    image.unlink(root, "a").unwrap();
+    has(&image, a, &outline(100));
+    image.write_at(a, 100, outline(900)).unwrap();
+    image.resize(a, 90).unwrap();
+    has(&image, a, &outline(90));
+    image.close(a).unwrap();
+    // the head's block comes back too
+    assert_eq!(image.check().unwrap().free, free + 1);
+}
+
+#[test]
+fn a_size_stands_in_the_table_until_it_is_stored() {
+    let (mut image, root) = fresh(32);
+    let a = create(&mut image, root, "a", Kind::File).unwrap();
+    image.write_at(a, 0, "outline").unwrap();
+    // the host goes down: the file is longer than the stored size
+    let lost = Image::untrusted(image.bytes()).unwrap();
+    assert_eq!(lost.check(), Err(FailedRule::Folders));
+    image.sync().unwrap();
+    let mut kept = Image::checked(image.bytes()).unwrap();
+    let root = kept.root().unwrap();
+    let a = kept.find(root, "a").unwrap();
+    has(&kept, a, b"outline");
 }
 
 #[test]

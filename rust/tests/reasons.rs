@@ -3,17 +3,23 @@ mod common;
 
 use common::damage::{self, record, superblock, table};
 use common::{create, file, fresh, ROOT_FILE, TIME};
-use dzomrelig::{Attributes, FailedRule, Handle, Image, Kind, NoReason, Place, Reason, Unfit, BLOCK, NAME_LONGEST, SLOT, TABLE};
+use dzomrelig::{
+    Attributes, FailedRule, Handle, Image, Kind, NoReason, Place, Reason, Unfit, BLOCK, FILE_LONGEST, NAME_LONGEST, SLOT, TABLE,
+};
 
 type Call = fn(&mut Image, Handle, &[u8]) -> Option<Reason>;
 
-/// The calls that take a table: those with no handle, those with one, and those with a name beside it.
-const CALLS: [Call; 15] = [
+/// The calls that take a table: those with no handle, those with one (of any node, with contents, of a folder), and those with a name beside it.
+const CALLS: [Call; 19] = [
     |i, _, _| i.root().err(),
     |i, _, _| i.sync().err(),
     |i, h, _| i.metadata(h).err(),
     |i, h, _| i.set_metadata(h, &Attributes::default()).err(),
     |i, h, _| i.close(h).err(),
+    |i, h, _| i.read_at(h, 0, &mut [0; 8]).err(),
+    |i, h, _| i.read_to_vec(h).err(),
+    |i, h, _| i.write_at(h, 0, "a").err(),
+    |i, h, _| i.resize(h, 1).err(),
     |i, h, _| i.entry(h, 0).err(),
     |i, h, _| i.entry_into(h, 0, &mut [0; SLOT]).err(),
     |i, h, _| i.list(&mut Place::new(h), &mut [0; SLOT]).err(),
@@ -26,8 +32,9 @@ const CALLS: [Call; 15] = [
     |i, h, name| i.rename(h, "b", h, name).err(),
 ];
 const HANDLES: usize = 2;
-const FOLDERS: usize = 5;
-const NAMES: usize = 9;
+const CONTENTS: usize = 5;
+const FOLDERS: usize = 9;
+const NAMES: usize = 13;
 
 /// The call is refused for this reason, and nothing has changed.
 fn no<T: std::fmt::Debug>(image: &mut Image, reason: Reason, call: impl FnOnce(&mut Image) -> Result<T, Reason>) {
@@ -36,11 +43,16 @@ fn no<T: std::fmt::Debug>(image: &mut Image, reason: Reason, call: impl FnOnce(&
     assert!(image.bytes() == before.bytes() && image.table() == before.table(), "{reason} changed something");
 }
 
-/// Each of the calls from one on is refused for this reason.
-fn all_no(image: &mut Image, reason: Reason, h: Handle, name: &[u8], from: usize) {
-    for call in &CALLS[from..] {
+/// Each of these calls is refused for this reason.
+fn each_no(image: &mut Image, reason: Reason, h: Handle, name: &[u8], calls: &[Call]) {
+    for call in calls {
         no(image, reason, |image| call(image, h, name).map_or(Ok(()), Err));
     }
+}
+
+/// Each of the calls from one on is refused for this reason.
+fn all_no(image: &mut Image, reason: Reason, h: Handle, name: &[u8], from: usize) {
+    each_no(image, reason, h, name, &CALLS[from..]);
 }
 
 #[test]
@@ -179,6 +191,63 @@ fn by_call() {
     assert_eq!(i.check().unwrap().nodes, 6);
 }
 
+/// The calls of order 1, with a place or length: 21, then 22; then 17, and 19.
+#[test]
+fn contents() {
+    let (mut image, root) = fresh(16);
+    let i = &mut image;
+    let a = create(i, root, "a", Kind::File).unwrap();
+    each_no(i, Reason::NotFile, root, b"", &CALLS[CONTENTS..FOLDERS]);
+    no(i, Reason::NotFile, |i| i.write_at(root, u64::MAX, "a"));
+    no(i, Reason::NotFile, |i| i.resize(root, u64::MAX));
+    for (place, data) in [(FILE_LONGEST, "a"), (FILE_LONGEST + 1, ""), (u64::MAX, ""), (u64::MAX, "ab")] {
+        no(i, Reason::FileTooBig, |i| i.write_at(a, place, data));
+    }
+    for length in [FILE_LONGEST + 1, u64::MAX] {
+        no(i, Reason::FileTooBig, |i| i.resize(a, length));
+    }
+    let free = i.check().unwrap().free as usize;
+    for (place, length) in [(0, 480 * free + 1), (479, 480 * free)] {
+        no(i, Reason::NoDeviceSpace, |i| i.write_at(a, place, vec![9; length]));
+    }
+    i.write_at(a, 480, vec![9; 480 * free]).unwrap();
+    no(i, Reason::NoDeviceSpace, |i| i.write_at(a, 479, "ab"));
+    i.resize(a, 480).unwrap();
+    i.write_at(a, 479, "ab").unwrap();
+    i.sync().unwrap();
+
+    // the file is not there
+    let mut bytes = i.bytes().to_vec();
+    let table = *i.table();
+    for block in bytes.chunks_exact_mut(BLOCK).filter(|b| b[1] == 1 && b[4..20] != ROOT_FILE.0) {
+        block[4] ^= 255;
+        damage::seal(block);
+    }
+    let mut lost = Image::from_parts(bytes, table);
+    each_no(&mut lost, Reason::Stuck, a, b"", &CALLS[CONTENTS..FOLDERS]);
+    no(&mut lost, Reason::Stuck, |i| i.write_at(a, 0, ""));
+    no(&mut lost, Reason::FileTooBig, |i| i.resize(a, u64::MAX));
+
+    // a size that no file can have: the bytes past the file are zeros, and there is no vector for all of them
+    let mut bytes = image.into_bytes();
+    record(&mut bytes, 3, damage::SIZE, &[255; 8]);
+    let mut image = Image::untrusted(bytes.clone()).unwrap();
+    let root = image.root().unwrap();
+    let a = image.find(root, "a").unwrap();
+    let mut out = [238; 8];
+    assert_eq!(image.read_at(a, u64::MAX - 4, &mut out), Ok(4));
+    assert_eq!(out, [0, 0, 0, 0, 238, 238, 238, 238]);
+    no(&mut image, Reason::FileTooBig, |i| i.read_to_vec(a));
+    assert_eq!(image.check(), Err(FailedRule::Folders));
+
+    // type 0
+    record(&mut bytes, 3, damage::TYPE, &[0]);
+    let mut image = Image::untrusted(bytes).unwrap();
+    let root = image.root().unwrap();
+    let a = image.find(root, "a").unwrap();
+    each_no(&mut image, Reason::NotFile, a, b"", &CALLS[CONTENTS..FOLDERS]);
+}
+
 #[test]
 fn too_many_links() {
     let (mut image, root) = fresh(32);
@@ -291,7 +360,7 @@ fn stuck() {
 #[test]
 fn failed_rules() {
     type Wrong = fn(&mut Vec<u8>);
-    let wrongs: [(FailedRule, Wrong); 5] = [
+    let wrongs: [(FailedRule, Wrong); 6] = [
         (FailedRule::Superblock, |b| superblock(b, damage::UNUSED, 7)),
         (FailedRule::Maps, |b| {
             damage::write(b, None, 128, &[0xF1]);
@@ -299,6 +368,7 @@ fn failed_rules() {
         }),
         (FailedRule::Nodes, |b| record(b, 3, damage::FILE, &[9; 16])),
         (FailedRule::Folders, |b| damage::write(b, Some(ROOT_FILE), 2 * SLOT + 4, b".")),
+        (FailedRule::Folders, |b| record(b, 3, damage::SIZE, &[1])),
         (FailedRule::Links, |b| record(b, 3, damage::LINKS, &[2])),
     ];
     for (rule, wrong) in wrongs {
@@ -333,6 +403,8 @@ fn numbers_names_and_texts() {
         "WrongFs",
         "Stuck",
         "OutFull",
+        "NotFile",
+        "FileTooBig",
     ];
     assert_eq!(Reason::all().map(Reason::name).collect::<Vec<_>>(), names);
     for (number, reason) in (1..).zip(Reason::all()) {
@@ -340,7 +412,7 @@ fn numbers_names_and_texts() {
         assert!(reason.to_string().starts_with(&format!("{} ({number}): ", reason.name())));
         assert_eq!(format!("{reason:?}"), reason.name());
     }
-    for number in [0, 21, 255, u32::MAX] {
+    for number in [0, 23, 255, u32::MAX] {
         assert_eq!(Reason::try_from(number), Err(NoReason(number)));
     }
     let unknown = Reason::Unknown(255);
@@ -348,7 +420,7 @@ fn numbers_names_and_texts() {
         (unknown.number(), unknown.name(), unknown.to_string().as_str()),
         (255, "Unknown", "Unknown (255): a number that no call gives")
     );
-    assert_eq!(NoReason(21).to_string(), "21 is no reason's number");
+    assert_eq!(NoReason(23).to_string(), "23 is no reason's number");
     let errors: [Box<dyn std::error::Error>; 4] = [
         Box::new(Reason::NotDir),
         Box::new(FailedRule::Links),

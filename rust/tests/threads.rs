@@ -32,6 +32,7 @@ fn edit(image: &Mutex<Image>, folder: Handle, editor: u64) {
         let id = image.lock().unwrap().metadata(made).unwrap().inode;
         let found = image.lock().unwrap().find(folder, &name).unwrap();
         assert_eq!(image.lock().unwrap().metadata(found).unwrap().inode, id);
+        image.lock().unwrap().write_at(made, 0, &name).unwrap();
         kept.push(name.clone());
         let mut there = names(&image.lock().unwrap(), folder);
         there.sort();
@@ -44,6 +45,7 @@ fn edit(image: &Mutex<Image>, folder: Handle, editor: u64) {
             kept.retain(|k| *k != name);
         }
         image.lock().unwrap().close(made).unwrap();
+        assert_eq!(image.lock().unwrap().read_to_vec(found).unwrap(), name.as_bytes());
         assert_eq!(image.lock().unwrap().metadata(found).unwrap().inode, id);
         image.lock().unwrap().close(found).unwrap();
     }
@@ -96,6 +98,9 @@ fn small_stack() {
         image.link(root, "c", b).unwrap();
         image.rename(root, "c", a, "d").unwrap();
         image.unlink(a, "d").unwrap();
+        image.write_at(b, 470, "outline of a glyph").unwrap();
+        image.resize(b, 481).unwrap();
+        assert_eq!(image.read_to_vec(b).unwrap().len(), 481);
         image.sync().unwrap();
         image.close(b).unwrap();
         assert_eq!(image.check().unwrap().nodes, 3);

@@ -1,6 +1,7 @@
 // A call script (docs/REPLAY.md) timed on the port, each call by itself: calls FILE ROUNDS [own]. Prints each kind of call with its number and the
 // nanoseconds of one, the least of so many rounds; then the check of the image that is left, and the soundness test alone. With `own` the calls for
 // owners are made; the chains are built after the format, and are not timed.
+// calls contents BLOCKS FILES ROUNDS: the same of reads and writes on an image of so many blocks and files, and of plain copies (plain.c).
 #include <stdbool.h>
 #include <stdint.h>
 #include <stdio.h>
@@ -14,7 +15,12 @@
 typedef const uint8_t *in;
 bool bench_sound(in arena, size_t len);
 
-static const char *const KINDS[15] = {"format", "open", "root", "find", "create", "link", "unlink", "move", "metadata", "set", "entry", "list", "sync", "close", "check"};
+// plain.c
+void plain_read(in blocks, size_t place, uint8_t *out, size_t len);
+void plain_write(uint8_t *blocks, size_t place, in data, size_t len);
+
+enum { ALL = 18 };
+static const char *const KINDS[ALL] = {"format", "open", "root", "find", "create", "link", "unlink", "move", "metadata", "set", "entry", "list", "sync", "close", "check", "read", "write", "resize"};
 static uint8_t arena[DZ_BLOCK * DZ_BLOCKS_MOST], table[DZ_TABLE], out[8192], *script, *at;
 static uint64_t words[DZ_METADATA_WORDS];
 static uint16_t chains[DZ_CHAINS];
@@ -27,7 +33,7 @@ static bool own;
 // a call with its table and the rest of its arguments, on either way
 #define CALL(name, ...) (own ? dz_own_##name(ARENA, CHAINS, TABLE, __VA_ARGS__) : dz_##name(ARENA, TABLE, __VA_ARGS__))
 
-static double best[15];
+static double best[ALL];
 
 static double now(void)
 {
@@ -81,14 +87,17 @@ static uint32_t call(int kind)
     case 11: words[0] = number(8), o = number(2); return CALL(list, hold, stamp, words, DZ_NEXT_WORDS, out, o);
     case 12: return own ? dz_own_sync(ARENA, CHAINS, TABLE) : dz_sync(ARENA, TABLE);
     case 13: return CALL(close, hold, stamp);
-    default: fprintf(stderr, "calls: command %d is not timed\n", kind + 16); exit(2);
+    case 15: k = number(8), o = number(2); return CALL(read, hold, stamp, k, out, o, words, DZ_READ_WORDS);
+    case 16: k = number(8), o = number(2), new = bytes(o); return CALL(write, hold, stamp, k, new, o);
+    case 17: k = number(8); return CALL(resize, hold, stamp, k);
+    default: fprintf(stderr, "calls: %s is not timed\n", KINDS[kind]); exit(2);
     }
 }
 
 static void play(size_t size, uint64_t *count)
 {
-    double spent[15] = {0};
-    memset(count, 0, 15 * sizeof *count);
+    double spent[ALL] = {0};
+    memset(count, 0, ALL * sizeof *count);
     for (at = script; at < script + size;) {
         int byte = *at++;
         if (byte == 2) {
@@ -96,21 +105,113 @@ static void play(size_t size, uint64_t *count)
             memset(arena, 0, len);
             continue;
         }
+        // commands from 32 on follow 16 to 30
+        int kind = byte - (byte < 32 ? 16 : 17);
         double from = now();
-        uint32_t r = call(byte - 16);
-        spent[byte - 16] += now() - from;
-        count[byte - 16]++;
-        if (r) fprintf(stderr, "calls: %s answered %u\n", KINDS[byte - 16], r), exit(1);
-        if (own && byte == 16 && dz_own_chains(ARENA, CHAINS)) exit(1);
+        uint32_t r = call(kind);
+        spent[kind] += now() - from;
+        count[kind]++;
+        if (r) fprintf(stderr, "calls: %s answered %u\n", KINDS[kind], r), exit(1);
+        if (own && kind == 0 && dz_own_chains(ARENA, CHAINS)) exit(1);
     }
-    for (int k = 0; k < 15; k++)
+    for (int k = 0; k < ALL; k++)
         if (count[k] && (best[k] == 0 || spent[k] / (double)count[k] < best[k])) best[k] = spent[k] / (double)count[k];
+}
+
+// ---- contents
+
+enum { LONGEST = 100000, PLACE = 100, TIMES = 20 };
+static uint8_t data[LONGEST], copy[LONGEST], blocks[DZ_BLOCK * (LONGEST / 480 + 2)];
+static uint32_t hold;
+static uint64_t stamp;
+
+static void must(uint32_t reason)
+{
+    if (reason) fprintf(stderr, "calls: answered %s\n", dz_reason_name(reason)), exit(1);
+}
+
+static void create(const char *name)
+{
+    static uint64_t files;
+    uint8_t file[DZ_FILE_NAME] = {1};
+    files++;
+    memcpy(file + 8, &files, 8);
+    must(dz_create(arena, len, table, DZ_TABLE, 0, 1, (in)name, strlen(name), DZ_FILE, 420, 0, 0, file, DZ_FILE_NAME, words, DZ_HANDLE_WORDS));
+    hold = (uint32_t)words[0], stamp = words[1];
+}
+
+static void resize(uint64_t size) { must(dz_resize(arena, len, table, DZ_TABLE, hold, stamp, size)); }
+
+enum { READ, WRITE, NEW, PLAIN_READ, PLAIN_WRITE, ACTS };
+static const char *const ACT_NAMES[ACTS] = {"read", "write", "new", "plain-read", "plain-write"};
+
+static void act(int what, size_t size)
+{
+    switch (what) {
+    case READ: must(dz_read(arena, len, table, DZ_TABLE, hold, stamp, PLACE, copy, size, words, DZ_READ_WORDS)); break;
+    case WRITE:
+    case NEW: must(dz_write(arena, len, table, DZ_TABLE, hold, stamp, PLACE, data, size)); break;
+    case PLAIN_READ: plain_read(blocks, PLACE, copy, size); break;
+    case PLAIN_WRITE: plain_write(blocks, PLACE, data, size); break;
+    }
+}
+
+// a new write goes into an empty file, each other into one that has its blocks
+static double acted(int what, size_t size)
+{
+    double spent = 0;
+    for (int i = 0; i < TIMES; i++) {
+        if (what == NEW) resize(0);
+        double from = now();
+        act(what, size);
+        spent += now() - from;
+    }
+    return spent / TIMES;
+}
+
+static void contents(size_t n, int files, int rounds)
+{
+    static const size_t sizes[3] = {480, 8192, LONGEST};
+    char name[32];
+    len = DZ_BLOCK * n;
+    for (size_t i = 0; i < LONGEST; i++) data[i] = (uint8_t)(i * 7 + 1);
+    must(dz_format(arena, len, table, DZ_TABLE, 0, 0, data, DZ_FILE_NAME));
+    must(dz_root(arena, len, table, DZ_TABLE, words, DZ_HANDLE_WORDS));
+    for (int i = 0; i < files; i++) {
+        snprintf(name, sizeof name, "glyph%d", i);
+        create(name);
+        must(dz_close(arena, len, table, DZ_TABLE, hold, stamp));
+    }
+    create("outline");
+    for (int what = 0; what < ACTS; what++)
+        for (int s = 0; s < 3; s++) {
+            double least = 1e18;
+            if (what < NEW) act(WRITE, LONGEST);
+            for (int r = 0; r < rounds; r++) {
+                double t = acted(what, sizes[s]);
+                if (t < least) least = t;
+            }
+            if (what == READ && memcmp(copy, data, sizes[s])) fprintf(stderr, "calls: other bytes\n"), exit(1);
+            printf("%s%zu %d %.0f\n", ACT_NAMES[what], sizes[s], TIMES, least);
+        }
+    double sound = 1e18;
+    for (int r = 0; r < rounds * TIMES; r++) {
+        double from = now();
+        if (!bench_sound(arena, len)) exit(1);
+        double spent = now() - from;
+        if (spent < sound) sound = spent;
+    }
+    printf("sound 1 %.0f\n", sound);
 }
 
 int main(int n, char **args)
 {
+    if (n == 5 && !strcmp(args[1], "contents")) {
+        contents((size_t)atoi(args[2]), atoi(args[3]), atoi(args[4]));
+        return 0;
+    }
     FILE *file = n > 2 ? fopen(args[1], "rb") : 0;
-    uint64_t count[15];
+    uint64_t count[ALL];
     if (!file) return 2;
     own = n > 3;
     script = malloc(1 << 22);
@@ -126,7 +227,7 @@ int main(int n, char **args)
         if (then - from < sound) sound = then - from;
         if (end - then < check) check = end - then;
     }
-    for (int k = 0; k < 15; k++)
+    for (int k = 0; k < ALL; k++)
         if (count[k]) printf("%s %lu %.0f\n", KINDS[k], (unsigned long)count[k], best[k]);
     printf("check 1 %.0f\nsound 1 %.0f\n", check, sound);
     return 0;

@@ -1,8 +1,9 @@
 #!/usr/bin/env python3
 """calls.py: every kind of call timed on the Rust and on the port, tested and by an owner, by the same call scripts (docs/REPLAY.md) in one run.
 
-An image of 16, 128, 1,024 and 4,096 blocks is filled with files, then every kind of call is made 20 times; no call is refused. Both sides are
-built for release; the least of 5 rounds counts. Needs a C compiler (cc) and what tests/beside_rust needs.
+An image of 16, 128, 1,024 and 4,096 blocks is filled with files, then every kind of call is made 20 times; no call is refused. Contents of 480,
+8,192 and 100,000 bytes are read, written over and written into an empty file, beside a plain copy through blocks (plain.c). Both sides are built
+for release; the least of 5 rounds counts. Needs a C compiler (cc) and what tests/beside_rust needs.
 """
 import os
 import struct
@@ -57,6 +58,9 @@ def script(blocks, rounds):
         s.put(28)
         s.close(h)
         h = s.create(root, b"new", 1, 2)
+        s.put(33, h, struct.pack("<QH", 0, 400), b"outline." * 50)
+        s.put(32, h, struct.pack("<QH", 0, 400))
+        s.put(34, h, struct.pack("<Q", 0))
         # link, moves and unlink in the folder that fills the image
         s.put(21, root, s.name(b"link"), h)
         s.put(23, root, s.name(b"link"), folder, s.name(b"other"))
@@ -86,18 +90,39 @@ def full(blocks, files):
 
 def build():
     os.makedirs(OUT, exist_ok=True)
-    libraries = ("edge", "owners", "bench")
+    libraries = ("edge", "owners", "owners_contents", "bench")
     objects = [os.path.join(OUT, f"{library}.o") for library in libraries]
     for library, made in zip(libraries, objects):
         subprocess.run([os.path.join(TOP, "tests", "native"), library, made], check=True)
-    host = os.path.join(OUT, "calls")
-    subprocess.run(["cc", "-O2", "-o", host, os.path.join(TOP, "tests", "bench", "calls.c"), *objects], check=True)
+    host, here = os.path.join(OUT, "calls"), os.path.join(TOP, "tests", "bench")
+    subprocess.run(["cc", "-O3", "-o", host, os.path.join(here, "calls.c"), os.path.join(here, "plain.c"), *objects], check=True)
     subprocess.run([os.path.join(TOP, "tests", "beside_rust", "build")], check=True)
     return host, os.path.join(TOP, "target", "beside_rust", "driver-release")
 
 
 def times(text):
     return {kind: int(ns) for kind, _, ns in (line.split() for line in text.splitlines())}
+
+
+def contents(host, rust):
+    """Reads and writes of three sizes, and how long a plain copy takes."""
+    sizes, rows = (1024, 4096), {}
+    for blocks in sizes:
+        files = str(blocks // 8)
+        ours = times(subprocess.run([host, "contents", str(blocks), files, ROUNDS], check=True, capture_output=True, text=True).stdout)
+        theirs = times(subprocess.run([rust, "contents", files, ROUNDS], check=True, capture_output=True, text=True).stdout)
+        for size in (480, 8192, 100_000):
+            for kind, words in (("read", "read"), ("write", "write over"), ("new", "write anew")):
+                mine, its = ours[f"{kind}{size}"], theirs[f"{kind}{size}"]
+                row = rows.setdefault(f"{words}, {size:,} bytes", [])
+                row.append(f"{mine / 1000:.1f} / {its / 1000:.2f} ({mine / its:.0f})")
+                if blocks == sizes[-1]:
+                    row.append(f"{ours[('plain-read' if kind == 'read' else 'plain-write') + str(size)] / 1000:.2f}")
+        rows.setdefault("sound alone", []).append(f"{ours['sound'] / 1000:.1f}")
+    rows["sound alone"].append("")
+    print("\n| contents | " + " | ".join(f"{n:,} blocks" for n in sizes) + " | plain copy |\n|" + "---|" * (len(sizes) + 2))
+    for kind in [k for k in rows if k != "sound alone"] + ["sound alone"]:
+        print(f"| {kind} | " + " | ".join(rows[kind]) + " |")
 
 
 def main():
@@ -120,6 +145,7 @@ def main():
     print("| call | " + " | ".join(f"{n:,} blocks" for n in sizes) + " |\n|" + "---|" * (len(sizes) + 1))
     for kind in [k for k in rows if k != "sound alone"] + ["sound alone"]:
         print(f"| {kind} | " + " | ".join(rows[kind]) + " |")
+    contents(host, rust)
     for blocks, files in ((128, 66), (4096, 2225)):
         print(f"check of {blocks:,} blocks with {files:,} files: {port(full(blocks, files))['check'] / 1000:.0f} µs")
 

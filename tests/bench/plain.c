@@ -1,15 +1,41 @@
-// The checks of all blocks, added, as one writes them in C.
+// What one writes in C: the checks of all blocks, added; and bytes copied through the payloads of blocks in a row, each block written sealed.
 #include <stddef.h>
 #include <stdint.h>
+#include <string.h>
+
+enum { BLOCK = 512, PAYLOAD = 480 };
+
+static uint32_t check(const uint8_t *b)
+{
+    uint32_t s = 0;
+    for (uint32_t i = 0; i < 508; i++) s += (i + 1) * b[i];
+    return s;
+}
 
 uint64_t plain_check(const uint8_t *arena, size_t len)
 {
     uint64_t all = 0;
-    for (size_t k = 0; k < len / 512; k++) {
-        const uint8_t *b = arena + 512 * k;
-        uint32_t s = 0;
-        for (uint32_t i = 0; i < 508; i++) s += (i + 1) * b[i];
-        all += s;
-    }
+    for (size_t k = 0; k < len / BLOCK; k++) all += check(arena + BLOCK * k);
     return all;
+}
+
+void plain_read(const uint8_t *blocks, size_t place, uint8_t *out, size_t len)
+{
+    for (size_t done = 0; done < len;) {
+        size_t at = (place + done) % PAYLOAD, n = PAYLOAD - at < len - done ? PAYLOAD - at : len - done;
+        memcpy(out + done, blocks + (place + done) / PAYLOAD * BLOCK + 24 + at, n);
+        done += n;
+    }
+}
+
+void plain_write(uint8_t *blocks, size_t place, const uint8_t *data, size_t len)
+{
+    for (size_t done = 0; done < len;) {
+        size_t at = (place + done) % PAYLOAD, n = PAYLOAD - at < len - done ? PAYLOAD - at : len - done;
+        uint8_t *b = blocks + (place + done) / PAYLOAD * BLOCK;
+        memcpy(b + 24 + at, data + done, n);
+        uint32_t s = check(b);
+        for (int i = 0; i < 4; i++) b[508 + i] = (uint8_t)(s >> (8 * i));
+        done += n;
+    }
 }

@@ -69,7 +69,7 @@ class Counts:
         print(f"sequences {scripts}, calls {calls}")
         print(f"compared with the Rust {sum(self.same.values())}: {by(self.same, 0)}")
         print(f"  their answers: {by(self.same, 1)}")
-        print(f"left out by a rule, the answer that document 01 gives compared {sum(self.left.values())}: {by(self.left, 0)}")
+        print(f"left out by a rule, the answer that the documents give compared {sum(self.left.values())}: {by(self.left, 0)}")
         print(f"left out by a rule, no answer said {sum(self.unsaid.values())}: {by(self.unsaid, 0)}")
         print(f"differences {len(self.differences)}")
         for name, at, line, got in self.differences[:SHOWN]:

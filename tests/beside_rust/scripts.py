@@ -8,7 +8,7 @@ sys.path.insert(0, str(pathlib.Path(__file__).resolve().parent.parent / "model")
 import replay_model as model
 from arena_model import BLOCK, META, PAYLOAD, sealed
 
-FILE, FOLDER = 1, 2
+FILE, FOLDER, SYMLINK, SOCKET = 1, 2, 3, 4
 TIME = (5, -6)
 # Where a record has its fields: place and size.
 FIELDS = {"size": (0, 8), "type": (8, 4), "mode": (12, 2), "links": (14, 2), "blocks": (16, 4), "file": (80, 16)}
@@ -69,6 +69,15 @@ class Builder:
 
     def list(self, h, at=0, room=8192):
         self.call("list", h, at, room, words=f"{shown(h)} from {at} output {room}")
+
+    def read(self, h, at=0, room=8192):
+        self.call("read", h, at, room, words=f"{shown(h)} from {at} output {room}")
+
+    def write(self, h, at, data):
+        self.call("write", h, at, data, words=f"{shown(h)} at {at} {bytes_shown(data)}")
+
+    def resize(self, h, size):
+        self.call("resize", h, size, words=f"{shown(h)} to {size}")
 
     def close(self, h):
         self.call("close", h, words=shown(h))
@@ -136,11 +145,17 @@ def pack(shape, arg):
         return arg.to_bytes(2, "little")
     if shape == "h":
         return struct.pack("<IQ", *arg)
-    if shape == "n":
+    if shape in "nw":
         return struct.pack("<H", len(arg)) + arg
     if shape == "t":
         return struct.pack("<2q", *arg)
     return arg
+
+
+def bytes_shown(data):
+    if len(data) <= 16:
+        return data.hex() or "no bytes"
+    return f"{len(data)} bytes" + ("" if any(data) else " of zeros")
 
 
 def shown(h):
@@ -160,7 +175,7 @@ def packed(name, args):
         return b"\3" + struct.pack("<IB", *args)
     if name == "table":
         return b"\4" + args[0]
-    return bytes([16 + model.NAMES.index(name)]) + b"".join(pack(shape, arg) for shape, arg in zip(model.SHAPES[name], args))
+    return bytes([model.BYTES[name]]) + b"".join(pack(shape, arg) for shape, arg in zip(model.SHAPES[name], args))
 
 
 class Maker:
@@ -220,7 +235,7 @@ def told(name, args):
         elif shape == "t":
             words.append(f"{arg[0]}s{arg[1]}ns")
         elif isinstance(arg, bytes):
-            words.append(arg.hex() if len(arg) <= 16 else f"{len(arg)} bytes" + ("" if any(arg) else " of zeros"))
+            words.append(bytes_shown(arg))
         else:
             words.append(str(arg))
     return " ".join([name, *words])

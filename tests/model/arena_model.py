@@ -98,13 +98,14 @@ class Arena:
         k = self.place(2, file, number)
         return bytes(PAYLOAD) if k is None else self.blocks[k][24:504]
 
+    def span(self, file, pos, n):
+        """The bytes from pos on; past the length they are zeros, as in an absent block."""
+        return bytes(self.payload(file, p // PAYLOAD)[p % PAYLOAD] for p in range(pos, pos + n))
+
     def read(self, file, pos, n):
         if pos + n > self.length(file):
             raise Refused(19)
-        out = bytearray()
-        for p in range(pos, pos + n):
-            out.append(self.payload(file, p // PAYLOAD)[p % PAYLOAD])
-        return bytes(out)
+        return self.span(file, pos, n)
 
     def put(self, file, pos, data):
         old = self.length(file)

@@ -51,6 +51,23 @@ def u32(n):
     return n.to_bytes(4, "little")
 
 
+def with_contents():
+    """The same, with bytes in `A` across two blocks, and `C` longer than what it has."""
+    model = grown()
+    root, a, c = (0, 1), (1, 2), (3, 4)
+    for name, args in (("open", ()), ("root", ()), ("find", (root, b"A")), ("find", (root, b"B")), ("find", ((2, 3), b"C")),
+                       ("write", (a, 470, b"outline" * 3)), ("resize", (c, 5000)), ("write", (c, 9999, b"")), ("sync", ())):
+        line = model.run(name, args)
+        assert " ok" in line, line
+    return model
+
+
+def resized(file, size):
+    model = with_contents()
+    model.files.cut((1, file), size)
+    return model.arena_bytes()
+
+
 def other_file():
     model = fresh()
     model.files.make((1, b"x" * 16))
@@ -68,6 +85,7 @@ RUNS = (
     ("a fresh image of 16 blocks", lambda: fresh().arena_bytes(), "pass nodes 1 unused 1021 free 11"),
     ("a fresh image of 128 blocks", lambda: fresh(128).arena_bytes(), "pass nodes 1 unused 1021 free 123"),
     ("grown: A, B, B/C", lambda: grown().arena_bytes(), "pass nodes 4 unused 1018 free 20"),
+    ("grown, with contents", lambda: with_contents().arena_bytes(), "pass nodes 4 unused 1018 free 18"),
     ("no byte", lambda: b"", "fail rule 1"),
     ("one byte more than 65,536", lambda: fresh(128).arena_bytes() + b"\0", "fail rule 1"),
     ("a fresh image of 129 blocks", lambda: fresh(129).arena_bytes(), "fail rule 1"),
@@ -81,6 +99,9 @@ RUNS = (
     ("a file that is no node's", other_file, "fail rule 5"),
     ("slot 0 has another name", lambda: changed(ROOT, 4, b",\0"), "fail rule 6"),
     ("slot 1 is of type 1", lambda: changed(ROOT, 264 + 260, u32(1)), "fail rule 6"),
+    ("a file is longer than its size", lambda: resized(b"A" * 16, 492), "fail rule 6"),
+    ("a file is shorter than its size", lambda: resized(b"C" * 16, 9998), "fail rule 6"),
+    ("a size of 2^64 - 1", lambda: changed(META, 128 * 3, b"\xff" * 8, grown()), "fail rule 6"),
     ("the root has 3 links", lambda: changed(META, RECORD + 14, b"\3\0"), "fail rule 7"),
     ("`..` of the root names node 3", lambda: changed(ROOT, 264, u32(3)), "fail rule 8"),
 )

@@ -1,9 +1,9 @@
 #!/usr/bin/env python3
-"""refusals.py [--write]: the last part of crates/replay/stdin, in which every reason of document 01 is answered and a folder is moved to
-another folder, and its lines.
+"""refusals.py [--write]: the last part of crates/replay/stdin, in which every reason of document 01 and of order 1 is answered, contents are
+written, read and resized, and a folder is moved to another folder, and its lines.
 
-Each step below says the reason that document 01 gives; the lines, sums and all, are the independent model's (replay_model.py), and the
-port is not asked. Without --write it says whether stdin and stdout end as made here (exit status 1 where not).
+Each step below says the reason that the documents give, or the bytes that a read finds; the lines, sums and all, are the independent
+model's (replay_model.py), and the port is not asked. Without --write it says whether stdin and stdout end as made here (exit status 1 where not).
 """
 import pathlib
 import struct
@@ -11,11 +11,14 @@ import sys
 
 HERE = pathlib.Path(__file__).resolve().parent
 sys.path.insert(0, str(HERE.parent / "beside_rust"))
-from scripts import FILE, FOLDER, META, TIME, Builder, model, table_bytes
+from arena_model import LIMIT, sealed, sum_of
+from scripts import FILE, FOLDER, META, SOCKET, SYMLINK, TIME, Builder, model, table_bytes
 
 GATE = HERE.parent.parent / "crates" / "replay"
 # What stands before this part: the course examples, the Rust's own lines (beside_rust/sample), and each rule of the checker broken.
 BYTES, LINES = 205_737, 5_768
+# The longest script that crates/replay takes.
+MOST = 262_144
 ROOT_FILE = bytes([200] * 16)
 NOBODY = (7, 7)
 # Zero bytes, and what RFC 3629 does not allow: a tail alone, a lead alone, overlong, a surrogate, beyond U+10FFFF.
@@ -50,6 +53,30 @@ class Script(Builder):
         self.check()
         assert self.line.startswith(f"check fail rule {rule} "), self.line
 
+    def reads(self, h, at, room, want):
+        """A read finds these bytes; the output after them stays."""
+        before = self.at.sums()
+        self.read(h, at, room)
+        output = sum_of(want.ljust(model.OUTPUT, bytes([238])))
+        assert self.line == f"read ok {len(want)} o {output} {before}", (self.line, want)
+
+    def stores(self, name, *args):
+        """A write or resize is done, and the pair passes after it."""
+        self.call(name, *args)
+        self.ok()
+        self.check()
+        self.ok()
+
+    def sized(self, h, size):
+        self.metadata(h)
+        assert self.line.split(" ")[3] == str(size), (self.line, size)
+
+    def lost(self, file):
+        """The file gets another name."""
+        k = self.at.files.place(1, file)
+        old = self.at.files.blocks[k]
+        self.poke_block(k, old, sealed(old[:4] + b"lost" + old[8:]))
+
     def arena(self, length):
         self.raw(b"\2" + struct.pack("<I", length), f"arena of {length} bytes")
         self.at.set_arena(bytes(length))
@@ -72,12 +99,18 @@ def create(h, name, kind=FILE, file=b"f" * 16):
 def looks(h, name=b"a"):
     """Every call that takes a table and leaves the arena."""
     return (("root",), ("find", h, name), ("metadata", h), ("set", h, 420, 1, 2, TIME, TIME, TIME), ("entry", h, 0, 264),
-            ("list", h, 0, 8192))
+            ("list", h, 0, 8192), ("read", h, 0, 8))
 
 
 def changes(h, name=b"a"):
     """Every call that takes a table and may change the arena."""
-    return (create(h, name), ("link", h, name, h), ("unlink", h, name), ("move", h, name, h, b"b"), ("sync",), ("close", h))
+    return (create(h, name), ("link", h, name, h), ("unlink", h, name), ("move", h, name, h, b"b"), ("sync",), ("close", h),
+            ("write", h, 0, b"a"), ("resize", h, 1))
+
+
+def takes_contents(h, at=0, data=b""):
+    """The calls of order 1, at that place and with those bytes, and to that length."""
+    return ("read", h, at, len(data)), ("write", h, at, data), ("resize", h, at)
 
 
 def takes_table(h):
@@ -199,11 +232,12 @@ def table_full(b):
 
 
 def last_stamp(b):
-    """A table set from outside: the last stamps, and a dirty row whose record lies past the longest file."""
+    """A table set from outside: the last stamps, a dirty row whose record lies past the longest file, and a type above 4."""
     root = b.fresh(32)
     b.close(b.create(root, "a"))
     b.close(root)
-    b.table(table_bytes([(2 ** 25, 1, record(FOLDER, 2, 3, ROOT_FILE))], [(0, 1)], 2 ** 64 - 2))
+    b.table(table_bytes([(2 ** 25, 1, record(FOLDER, 2, 3, ROOT_FILE)), (4, 0, record(5, 1, 0, ROOT_FILE))], [(0, 1), (1, 2)], 2 ** 64 - 2))
+    b.no(19, *takes_contents((1, 2)), *takes_contents((1, 2), 2 ** 64 - 1, b"a"))
     b.no(17, ("sync",), ("unlink", (0, 1), b"a"), ("close", (0, 1)))
     b.ok(b.root())
     b.no(16, ("root",), ("find", (0, 1), b"a"), create((0, 1), b"b"))
@@ -265,6 +299,167 @@ def stuck(b):
     b.no(19, ("open",), ("root",), ("sync",), ("close", root), ("find", root, b"a"))
 
 
+def contents(b):
+    """What is written is what is read, and all other bytes stay: a file, a symlink and a socket."""
+    root = b.fresh(32)
+    for name, kind in (("file", FILE), ("link", SYMLINK), ("socket", SOCKET)):
+        h = b.ok(b.create(root, name, kind))
+        b.reads(h, 0, 10, b"")
+        b.stores("write", h, 0, b"abcdefghij")
+        b.sized(h, 10)
+        for at, room, want in ((0, 10, b"abcdefghij"), (3, 4, b"defg"), (8, 100, b"ij"), (9, 0, b""), (10, 1, b""), (2 ** 64 - 1, 8192, b"")):
+            b.reads(h, at, room, want)
+        b.stores("write", h, 2, b"XY")
+        b.sized(h, 10)
+        b.stores("write", h, 475, b"0123456789")
+        b.reads(h, 0, 8192, b"abXYefghij" + bytes(465) + b"0123456789")
+        holes(b, h)
+        shrunk(b, h)
+        b.close(h)
+        b.ok()
+        h = b.ok(b.find(root, name))
+        b.sized(h, 1500)
+        b.reads(h, 0, 1500, b"ab" + bytes(1498))
+        b.close(h)
+
+
+def holes(b, h):
+    """A write far behind the end makes its own blocks alone; what is between reads as zeros, and a later write fills some of it."""
+    b.stores("write", h, 480 * 4 - 2, b"far away")
+    b.sized(h, 480 * 4 + 6)
+    b.reads(h, 480, 480 * 4, b"56789" + bytes(480 * 3 - 7) + b"far away")
+    long = bytes(range(1, 256)) * 2
+    b.stores("write", h, 480 * 2 - 15, long)
+    b.reads(h, 480 * 2 - 16, 512, b"\0" + long + b"\0")
+
+
+def shrunk(b, h):
+    """A shorter file has lost its tail: where it grows again there are zeros. An empty write beyond the end grows it too."""
+    b.stores("resize", h, 480 * 4 + 6)
+    b.stores("resize", h, 478)
+    b.reads(h, 470, 100, b"\0\0\0\0\0" + b"012")
+    b.stores("resize", h, 3000)
+    b.reads(h, 474, 8192, b"\0" + b"012" + bytes(3000 - 478))
+    b.stores("resize", h, 480)
+    b.stores("resize", h, 2)
+    b.stores("write", h, 1, b"")
+    b.stores("write", h, 2, b"")
+    b.sized(h, 2)
+    b.stores("write", h, 1500, b"")
+    b.sized(h, 1500)
+    b.reads(h, 0, 8192, b"ab" + bytes(1498))
+
+
+def held_on(b):
+    """A node that was removed and is still held keeps its contents; the last close gives the blocks back."""
+    root = b.fresh(32)
+    a = b.ok(b.create(root, "a"))
+    b.stores("write", a, 0, b"before")
+    b.unlink(root, "a")
+    b.ok()
+    b.reads(a, 0, 100, b"before")
+    b.stores("write", a, 1000, b"after")
+    b.reads(a, 998, 100, b"\0\0after")
+    b.stores("resize", a, 3)
+    b.reads(a, 0, 100, b"bef")
+    b.sized(a, 3)
+    b.close(a)
+    b.check()
+    assert free_in(b.line) == 26, b.line
+    b.no(4, *takes_contents(a))
+
+
+def free_in(line):
+    return int(line.split(" ")[7])
+
+
+def limits(b):
+    """21, which comes before 22; 22; and the longest file."""
+    root = b.fresh()
+    a = b.ok(b.create(root, "a"))
+    b.no(4, *takes_contents(NOBODY, 2 ** 64 - 1, b"a"))
+    b.no(21, *takes_contents(root), *takes_contents(root, 2 ** 64 - 1, b"a"))
+    b.no(22, ("write", a, 2 ** 64 - 1, b""), ("write", a, 2 ** 64 - 1, b"ab"), ("write", a, LIMIT, b"a"), ("write", a, LIMIT + 1, b""))
+    b.no(22, ("resize", a, LIMIT + 1), ("resize", a, 2 ** 64 - 1))
+    b.reads(a, 2 ** 64 - 1, 8192, b"")
+    b.stores("write", a, LIMIT - 1, b"z")
+    b.sized(a, LIMIT)
+    b.reads(a, LIMIT - 3, 8192, b"\0\0z")
+    b.reads(a, LIMIT, 8192, b"")
+    b.stores("write", a, LIMIT, b"")
+    b.no(22, ("write", a, LIMIT, b"a"))
+    b.stores("resize", a, LIMIT)
+    b.stores("resize", a, LIMIT - 1)
+    b.reads(a, LIMIT - 3, 8192, b"\0\0")
+    b.stores("resize", a, 0)
+
+
+def device_full(b):
+    """17 where a write needs a block more than there are; a longer file needs none, and a shorter one gives some back."""
+    root = b.fresh()
+    a = b.ok(b.create(root, "a"))
+    for name in "bcde":
+        b.ok(b.create(root, name))
+    free = len(b.at.files.free())
+    assert free == 2, free
+    b.no(17, ("write", a, 0, bytes([9]) * (480 * free + 1)), ("write", a, 479, bytes([9]) * (480 * free)))
+    b.stores("write", a, 480, bytes([9]) * (480 * free))
+    b.no(17, ("write", a, 0, b"a"), ("write", a, 479, b"ab"), ("write", a, 480 * (free + 1), b"a"))
+    b.stores("write", a, 480, b"bc")
+    b.stores("write", a, 0, b"")
+    b.stores("resize", a, 480 * (free + 9))
+    b.no(17, ("write", a, 480 * (free + 1) - 1, b"ab"))
+    b.reads(a, 478, 5, b"\0\0bc\x09")
+    b.stores("resize", a, 480 * free)
+    b.stores("write", a, 0, b"a")
+    b.no(17, ("write", a, 480 * free, b"a"))
+
+
+def torn(b):
+    """Damaged: a file that is longer or shorter than its size, by which rule 6 fails."""
+    root = b.fresh()
+    b.call("write", b.ok(b.create(root, "a")), 0, b"abcdefghij")
+    b.close((1, 2))
+    b.record(3, "size", 4)
+    b.fails(6)
+    a = b.ok(b.find(root, "a"))
+    b.reads(a, 0, 100, b"abcd")
+    b.write(a, 0, b"AB")
+    b.fails(6)
+    b.stores("write", a, 5, b"F")
+    b.reads(a, 0, 100, b"ABcdeF")
+    b.close(a)
+    b.record(3, "size", 20)
+    a = b.ok(b.find(root, "a"))
+    b.reads(a, 0, 100, b"ABcdeF" + bytes(14))
+    b.write(a, 15, b"")
+    b.fails(6)
+    b.stores("write", a, 20, b"")
+    b.close(a)
+    b.record(3, "size", 2 ** 64 - 1)
+    a = b.ok(b.find(root, "a"))
+    b.reads(a, 2 ** 64 - 5, 8192, bytes(4))
+    b.reads(a, 4, 3, b"eF\0")
+    b.write(a, 19, b"")
+    b.fails(6)
+    b.stores("resize", a, 6)
+    b.reads(a, 0, 100, b"ABcdeF")
+
+
+def no_contents(b):
+    """19 where the file is not there, after 22; 21 for type 0, before both. (A type above 4: last_stamp.)"""
+    root = b.fresh()
+    a = b.ok(b.create(root, "a"))
+    b.lost((1, b.at.table.row_of(3).rec.file))
+    b.no(19, *takes_contents(a), *takes_contents(a, LIMIT - 1, b"a"), ("read", a, 2 ** 64 - 1, 8))
+    b.no(22, *takes_contents(a, 2 ** 64 - 1, b"a")[1:])
+    root = b.fresh()
+    b.close(b.ok(b.create(root, "a")))
+    b.record(3, "type", 0)
+    a = b.ok(b.find(root, "a"))
+    b.no(21, *takes_contents(a), *takes_contents(a, 2 ** 64 - 1, b"a"))
+
+
 def carried(b):
     """The premise of demand 3 is needed: a passed pair, and one folder moved to another folder, after which rule 8 fails."""
     root = b.fresh(32)
@@ -280,13 +475,15 @@ def carried(b):
 
 def made():
     b = Script()
-    for part in (bad_arena, damaged, bad_table, bad_handle, bad_name, by_call, taken, links, table_full, last_stamp, no_space, stuck, carried):
+    for part in (bad_arena, damaged, bad_table, bad_handle, bad_name, by_call, taken, links, table_full, last_stamp, no_space, stuck,
+                 contents, held_on, limits, device_full, torn, no_contents, carried):
         part(b)
     b.fresh()
     b.check()
     b.ok()
     text = "".join(line + "\n" for line in b.lines)
     assert list(model.lines(bytes(b.data))) == b.lines
+    assert BYTES + len(b.data) <= MOST, len(b.data)
     return bytes(b.data), text.encode()
 
 

@@ -1,7 +1,8 @@
 #!/usr/bin/env python3
-"""An independent model of document 01's calls, for tests: a call script in, the lines a right port prints out.
+"""An independent model of document 01's calls and of document 02's orders up to 1, for tests: a call script in, the lines a right port
+prints out.
 
-Written from document 01 and the readings of it in docs/DECISIONS.md, on top of arena_model.py; it shares nothing with crates/. A call
+Written from the documents and the readings of them in docs/DECISIONS.md, on top of arena_model.py; it shares nothing with crates/. A call
 works on a copy of the arena and the table, and raises Refused at the first thing that can't be done; the copy is kept only if nothing
 was raised.
     replay_model.py < SCRIPT
@@ -10,7 +11,7 @@ import functools
 import struct
 import sys
 
-from arena_model import BLOCK, META, PAYLOAD, Arena, Refused, legal, number_at, sound, sum_of
+from arena_model import BLOCK, LIMIT, META, PAYLOAD, Arena, Refused, legal, number_at, sound, sum_of
 
 SLOT = 264
 RECORD = 112
@@ -220,9 +221,7 @@ class Files(Arena):
     def free(self):
         return sorted(self.blocks.free)
 
-    def read(self, file, pos, n):
-        if pos + n > self.length(file):
-            raise Refused(19)
+    def span(self, file, pos, n):
         first = pos // PAYLOAD
         run = b"".join(self.payload(file, q) for q in range(first, (pos + n - 1) // PAYLOAD + 1))
         return run[pos - first * PAYLOAD:][:n]
@@ -603,6 +602,44 @@ def list_slots(s, h, at, room):
     return out
 
 
+# contents: document 02's order 1
+
+def contents(row):
+    """The file of a node that has bytes of its own; links are not looked at."""
+    need(not is_folder(row.rec) and row.rec.type, 21)
+    return 1, row.rec.file
+
+
+def read_bytes(s, h, at, room):
+    row = s.handle(h)
+    file, size = contents(row), row.rec.size
+    s.files.length(file)
+    return s.files.span(file, at, min(size, at + room) - min(size, at))
+
+
+def set_size(s, row, size):
+    s.files.cut((1, row.rec.file), size)
+    row.rec.size, row.dirty = size, 1
+
+
+def do_write(s, h, at, data):
+    row = s.handle(h)
+    file, end = contents(row), at + len(data)
+    need(end <= LIMIT, 22)
+    s.files.put(file, at, data)
+    if end > row.rec.size:
+        set_size(s, row, end)
+    return ()
+
+
+def do_resize(s, h, size):
+    row = s.handle(h)
+    contents(row)
+    need(size <= LIMIT, 22)
+    set_size(s, row, size)
+    return ()
+
+
 # ---------------------------------------------------------------- the checker
 
 def verdict(model):
@@ -629,6 +666,7 @@ class Checker:
         self.bits()
         self.records()
         self.slots = {id: self.folder(id) for id in self.folders()}
+        self.sizes()
         self.link_counts()
         for id in self.folders():
             if self.recs[id].links:
@@ -682,6 +720,10 @@ class Checker:
         need(len({name for _, name, _ in slots[2:]}) == len(slots) - 2, 6)
         return slots
 
+    def sizes(self):
+        for r in self.recs.values():
+            need(r.type == FOLDER or self.files.length((1, r.file)) == r.size, 6)
+
     def link_counts(self):
         self.named = {id: [] for id in self.nodes}
         for folder, slots in self.slots.items():
@@ -710,11 +752,16 @@ class Checker:
 
 # ---------------------------------------------------------------- scripts
 
-NAMES = ("format", "open", "root", "find", "create", "link", "unlink", "move", "metadata", "set", "entry", "list", "sync", "close", "check")
+NAMES = ("format", "open", "root", "find", "create", "link", "unlink", "move", "metadata", "set", "entry", "list", "sync", "close", "check",
+         "read", "write", "resize")
+BYTES = dict(zip(NAMES, (*range(16, 31), *range(32, 35))))
+NAMED = {byte: name for name, byte in BYTES.items()}
 DOES = {"root": do_root, "find": do_find, "create": do_create, "link": do_link, "unlink": do_unlink, "move": do_move,
-        "metadata": do_metadata, "set": do_set, "sync": do_sync, "close": do_close}
+        "metadata": do_metadata, "set": do_set, "sync": do_sync, "close": do_close, "write": do_write, "resize": do_resize}
+OUTPUTS = {"entry": entry_slots, "list": list_slots, "read": read_bytes}
 SHAPES = {"format": "tf", "open": "", "root": "", "find": "hn", "create": "hn42tf", "link": "hnh", "unlink": "hn", "move": "hnhn",
-          "metadata": "h", "set": "h288ttt", "entry": "h8o", "list": "h8o", "sync": "", "close": "h", "check": ""}
+          "metadata": "h", "set": "h288ttt", "entry": "h8o", "list": "h8o", "sync": "", "close": "h", "check": "",
+          "read": "h8o", "write": "h8w", "resize": "h8"}
 
 
 class BadScript(Exception):
@@ -746,6 +793,8 @@ class Script:
             return self.number(4), self.number(8)
         if shape == "n":
             return self.bytes(self.number(2, 1024))
+        if shape == "w":
+            return self.bytes(self.number(2, OUTPUT))
         if shape == "t":
             return struct.unpack("<2q", self.bytes(16))
         return self.bytes(16)
@@ -764,8 +813,8 @@ class Script:
                 yield "poke", (self.number(4), self.number(1))
             elif byte == 4:
                 yield "table", (self.bytes(TABLE_BYTES),)
-            elif 16 <= byte <= 30:
-                name = NAMES[byte - 16]
+            elif byte in NAMED:
+                name = NAMED[byte]
                 yield name, tuple(self.item(shape) for shape in SHAPES[name])
             else:
                 raise BadScript
@@ -832,7 +881,7 @@ class Model:
         try:
             if name in ("format", "open"):
                 getattr(self, name)(*args)
-            elif name in ("entry", "list"):
+            elif name in OUTPUTS:
                 out, values, middle = self.output(name, *args)
                 if isinstance(out, int):
                     raise Refused(out)
@@ -854,14 +903,14 @@ class Model:
 
     def output(self, name, h, at, room):
         try:
-            slots = (entry_slots if name == "entry" else list_slots)(self.enter(), h, at, room)
-            out, count = slots, len(slots) // SLOT
+            out = written = OUTPUTS[name](self.enter(), h, at, room)
         except Refused as refusal:
-            slots, out, count = b"", refusal.reason, 0
-        middle = f" o {sum_of(slots.ljust(OUTPUT, bytes([238])))}"
-        if name == "list":
-            return out, (count,), f"{middle} p {at + count}"
-        return out, (), middle
+            out, written = refusal.reason, b""
+        middle = f" o {sum_of(written.ljust(OUTPUT, bytes([238])))}"
+        if name == "entry":
+            return out, (), middle
+        count = len(written) // (SLOT if name == "list" else 1)
+        return out, (count,), f"{middle} p {at + count}" if name == "list" else middle
 
     def format(self, time, file):
         size = len(self.arena_bytes())

@@ -1,4 +1,4 @@
--- Document 01's reasons, by their numbers.
+-- The reasons of documents 01 and 02, by their numbers.
 use Prim.Native.Nat.{ℕ}
 
 abbrev pub badArena : ℕ
@@ -60,3 +60,10 @@ stuck = 19
 
 abbrev pub outFull : ℕ
 outFull = 20
+
+-- order 1
+abbrev pub notFile : ℕ
+notFile = 21
+
+abbrev pub fileTooBig : ℕ
+fileTooBig = 22

@@ -1,6 +1,6 @@
 -- Questions: what an answer's number says of the outcome, and one question after another.
 use mathlib.Core.Path.{_≡_, refl, sym, _∙_, ap}
-use mathlib.Core.Bool.{Bool, true, false, _&&_}
+use mathlib.Core.Bool.{Bool, true, false, not, _&&_}
 use mathlib.Core.List.{List}
 use Prim.Native.Nat.{ℕ, zero, suc, _<_, _≤_, _*_}
 use native.Mathlib.Omega.{arith}
@@ -14,6 +14,7 @@ use Rattle.base.specs.declared.Found.the-variants.{At, Nothing}
 use Rattle.base.proofs.Bools.{bool-cases}
 use Rattle.base.proofs.Outs.{ok-bind, bind-assoc, above-zero, went-is, went-has, went-not, went-weaken}
 use Rattle.base.proofs.Searches.{at-found}
+use Rattle.structs.specs.Types.{isFolder, isType}
 use Rattle.structs.specs.declared.DiskINode.{DiskINode}
 use Rattle.utf8.specs.Names.{earlyReason}
 use Rattle.utf8.specs.declared.NameVerdict.{NameVerdict}
@@ -29,6 +30,7 @@ use Rattle.sound.specs.Chain.{Chains, firsts, nexts}
 use Rattle.sound.proofs.Chains.{length-firsts, length-nexts}
 use Rattle.sefs.specs.Ask.{admitArena, admit, byHandle, orBadHandle, known, folder, notRemoved, liveFolder}
 use Rattle.sefs.specs.Read.{readable}
+use Rattle.sefs.specs.Contents.{hasContents}
 use Rattle.chains.specs.Led.{Led}
 use Rattle.mem.specs.Mem.{tableIn, Whole}
 use Rattle.calls.specs.Asked.{Blank, Admitted, byTwo}
@@ -111,6 +113,20 @@ module _ (r : DiskINode) where
   pub readable-next : leb (r .kind) 4 ≡ true → answer (folder r) ≡ answer (readable r)
   unfolding readable
   readable-next e = rw e
+
+-- a type above 4, and then 21
+pub asks-contents : (r : DiskINode) → Asks (hasContents r)
+unfolding hasContents
+asks-contents r = asks-then (asks-ensure (leb (r .kind) 4) 19 (omega arith)) (λ _. asks-ensure (isType (r .kind) && not (isFolder (r .kind))) 21 (omega arith))
+
+module _ (r : DiskINode) where
+  pub contents-stop : leb (r .kind) 4 ≡ false → 19 ≡ answer (hasContents r)
+  unfolding hasContents
+  contents-stop e = rw e
+
+  pub contents-next : {n : ℕ} → leb (r .kind) 4 ≡ true → n ≡ answer (ensure (isType (r .kind) && not (isFolder (r .kind))) 21) → n ≡ answer (hasContents r)
+  unfolding hasContents
+  contents-next e q = q ∙ sym (ap (λ (b : Bool). answer (bind (ensure b 19) (λ _. ensure (isType (r .kind) && not (isFolder (r .kind))) 21))) e)
 
 -- a name is bad by reason 5, or by none
 pub early : (v : NameVerdict) → earlyReason v ≡ answer (ensure (eqb (earlyReason v) 0) 5)

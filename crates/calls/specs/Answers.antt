@@ -20,6 +20,8 @@ use Rattle.calls.specs.declared.Told.{Told}
 use Rattle.calls.specs.declared.Told.the-variants as tolds
 use Rattle.calls.specs.declared.Listed.{Listed}
 use Rattle.calls.specs.declared.Listed.the-variants as listeds
+use Rattle.calls.specs.declared.Taken.{Taken}
+use Rattle.calls.specs.declared.Taken.the-variants as takens
 use Rattle.calls.specs.declared.Reply.{Reply}
 use Rattle.calls.specs.declared.HeldReply.{HeldReply}
 use Rattle.calls.specs.declared.Handed.{Handed}
@@ -68,6 +70,16 @@ listedOf (refused n) = listeds.Refused n
 abbrev pub listedNumber : Listed → ℕ
 listedNumber (listeds.Slots n) = 0
 listedNumber (listeds.Refused n) = n
+
+-- ---- read: as many bytes as were written
+
+abbrev pub takenOf : Out (List ℕ) → Taken
+takenOf (done l) = takens.Bytes (length l)
+takenOf (refused n) = takens.Refused n
+
+abbrev pub takenNumber : Taken → ℕ
+takenNumber (takens.Bytes n) = 0
+takenNumber (takens.Refused n) = n
 
 -- ---- an output
 

@@ -10,6 +10,7 @@ ghost use Rattle.table.specs.Table.{addHold};
 ghost use Rattle.sefs.specs.Ask.{admit, byHandle, goodName, notLong, notSpecial, liveFolder, notRemoved};
 ghost use Rattle.sefs.specs.Ask.{known as knownType, folder as isFolder};
 ghost use Rattle.sefs.specs.Read.{readable as readableAs};
+ghost use Rattle.sefs.specs.Contents.{hasContents};
 ghost use Rattle.mem.specs.Mem.{tableIn, Whole, memorySize};
 ghost use Rattle.calls.specs.Answers.{doneWith, refusedWith, notGiven, notHanded, addedAs, afterOf, givenOf};
 ghost use Rattle.calls.specs.Asked.{byTwo};
@@ -43,6 +44,12 @@ pub enum Told {
 // The slots that were written, or the reason.
 pub enum Listed {
     Slots(usize),
+    Refused(u8),
+}
+
+// The bytes that were written, or the reason.
+pub enum Taken {
+    Bytes(usize),
     Refused(u8),
 }
 
@@ -226,6 +233,19 @@ pub fn readable(rec: DiskINode) -> u8
         return 19;
     }
     folder(rec)
+}
+
+// What read, write and resize ask of a node: a type above 4 sticks before 21; type 0 is 21.
+pub fn has_contents(rec: DiskINode) -> u8
+    ensures { λ r. ⌜ r ≡ answer (hasContents rec) ⌝ }
+{
+    if rec.kind > 4 {
+        return 19;
+    }
+    if is_type(rec.kind) & (rec.kind != 2) {
+        return 0;
+    }
+    21
 }
 
 // A count as a place: its bound is known here.

@@ -9,7 +9,8 @@ use Rattle.arena.specs.Blocks.{blocks, legal}
 use Rattle.arena.specs.Fields.{File}
 use Rattle.sound.specs.Sound.{sound}
 use Rattle.sound.specs.Chain.{Chains}
-use Rattle.files.specs.Read.{there, lengthOf}
+use Rattle.arena.specs.Places.{headOf, dataOf}
+use Rattle.files.specs.Read.{there, lengthOf, present}
 
 -- a sound arena, and the chains that lead to its blocks
 pub record Led (a first next : List ℕ) : Type 0 where
@@ -23,3 +24,11 @@ pub record Led (a first next : List ℕ) : Type 0 where
 -- a file's end: one more than its length, or 0 where it is not there
 abbrev pub endOf : List ℕ → File → ℕ
 endOf a f = pick (there a f) (suc (lengthOf a f)) 0
+
+-- one more than the number of a file's head, or 0 where the file is not there
+abbrev pub headAt : List ℕ → File → ℕ
+headAt a f = pick (there a f) (suc (headOf a f)) 0
+
+-- one more than the number of the block that is block q of a file, or 0 where it is not there
+abbrev pub blockAt : List ℕ → File → ℕ → ℕ
+blockAt a f q = pick (present a f q) (suc (dataOf a f q)) 0

@@ -9,13 +9,36 @@ ghost use Rattle.base.specs.Out.{Went};
 ghost use Rattle.base.specs.Parts.{tab};
 ghost use Rattle.arena.specs.Fields.{file};
 ghost use Rattle.files.specs.Read.{there, byteAt, readFile};
-ghost use Rattle.chains.specs.Led.{Led, endOf};
+ghost use Rattle.chains.specs.Led.{Led, endOf, headAt, blockAt};
 use base::clear;
 use base::copy;
 use base::index;
 use base::least;
 use le::u32_at;
 use sound::chain::find;
+
+// One more than the number of the file's head, or 0 where the file is not there.
+pub fn head_at(arena: &[u8], first: &[u16], next: &[u16], which: u8, name: &[u8; 16]) -> usize
+    requires { ⌜ Led (now arena) (now first) (now next) ⌝ }
+    ensures { λ r. ⌜ r ≡ headAt (now (arena .entry)) (file which (now (name .entry))) ⌝ }
+{
+    find(arena, first, next, true, which, name, 0)
+}
+
+// The same of the file's data block of that number.
+pub fn block_at(
+    arena: &[u8],
+    first: &[u16],
+    next: &[u16],
+    which: u8,
+    name: &[u8; 16],
+    number: u32,
+) -> usize
+    requires { ⌜ Led (now arena) (now first) (now next) ⌝ }
+    ensures { λ r. ⌜ (r ≡ blockAt (now (arena .entry)) (file which (now (name .entry))) number) × (r ≤ 4096) ⌝ }
+{
+    find(arena, first, next, false, which, name, number)
+}
 
 // One more than the file's length, or 0 where the file is not there.
 pub fn length_of(arena: &[u8], first: &[u16], next: &[u16], which: u8, name: &[u8; 16]) -> usize
@@ -61,7 +84,7 @@ fn read_part(
     copy(out, &arena[s..e]);
 }
 
-// A run of at most 480 bytes that lies below the length.
+// A run of bytes, block by block.
 pub fn read_run(
     arena: &[u8],
     first: &[u16],
@@ -72,17 +95,21 @@ pub fn read_run(
     out: &mut [u8],
 )
     requires { ⌜ Led (now arena) (now first) (now next) ⌝ }
-    requires { ⌜ (pos < 2061584301600) × (length (now out) ≤ 480) ⌝ }
+    requires { ⌜ pos + length (now out) ≤ 2061584302080 ⌝ }
     ensures { λ _. ⌜ now (out .exit) ≡ tab (byteAt (now (arena .entry)) (file which (now (name .entry)))) pos (length (now (out .entry))) ⌝ }
 {
-    let m = least(480 - pos % 480, out.len());
-    read_part(arena, first, next, which, name, pos, &mut out[0..m]);
-    if m < out.len() {
-        read_part(arena, first, next, which, name, pos + m, &mut out[m..]);
+    let total = out.len();
+    let mut got: usize = 0;
+    while got < total {
+        let p = pos + got;
+        let m = least(480 - p % 480, total - got);
+        let e = got + m;
+        read_part(arena, first, next, which, name, p, &mut out[got..e]);
+        got = e;
     }
 }
 
-// The bytes of the file from pos on, as many as out takes, at most 480; 19 where the file is missing or shorter. Its end is known: who
+// The bytes of the file from pos on, as many as out takes; 19 where the file is missing or shorter. Its end is known: who
 // reads a file more than once asks for it once.
 pub fn read_below(
     arena: &[u8],
@@ -95,7 +122,7 @@ pub fn read_below(
     out: &mut [u8],
 ) -> u8
     requires { ⌜ Led (now arena) (now first) (now next) ⌝ }
-    requires { ⌜ (end ≡ endOf (now arena) (file which (now name))) × ((end ≤ 4294967296) × (length (now out) ≤ 480)) ⌝ }
+    requires { ⌜ (end ≡ endOf (now arena) (file which (now name))) × (end ≤ 4294967296) ⌝ }
     ensures { λ r. ⌜ Went (readFile (now (arena .entry)) (file which (now (name .entry))) pos (length (now (out .entry)))) (now (out .exit)) (length (now (out .exit)) ≡ length (now (out .entry))) r ⌝ }
 {
     if end <= pos {
@@ -118,7 +145,6 @@ pub fn read(
     out: &mut [u8],
 ) -> u8
     requires { ⌜ Led (now arena) (now first) (now next) ⌝ }
-    requires { ⌜ length (now out) ≤ 480 ⌝ }
     ensures { λ r. ⌜ Went (readFile (now (arena .entry)) (file which (now (name .entry))) pos (length (now (out .entry)))) (now (out .exit)) (length (now (out .exit)) ≡ length (now (out .entry))) r ⌝ }
 {
     let end = length_of(arena, first, next, which, name);

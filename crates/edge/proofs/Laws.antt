@@ -26,7 +26,9 @@ use Rattle.calls.specs.declared.Told.{Told}
 use Rattle.calls.specs.declared.Told.the-variants as tolds
 use Rattle.calls.specs.declared.Listed.{Listed}
 use Rattle.calls.specs.declared.Listed.the-variants as listeds
-use Rattle.calls.specs.Answers.{answerOf, answerNumber, gotOf, gotNumber, heldTable, toldOf, toldNumber, listedNumber, laid}
+use Rattle.calls.specs.declared.Taken.{Taken}
+use Rattle.calls.specs.declared.Taken.the-variants as takens
+use Rattle.calls.specs.Answers.{answerOf, answerNumber, gotOf, gotNumber, heldTable, toldOf, toldNumber, listedNumber, takenOf, takenNumber, laid, Lays}
 use Rattle.steps.specs.Ends.{Returned}
 use Rattle.calls_create.specs.Held.{ReturnedHeld}
 use Rattle.calls_create.specs.declared.New.{New}
@@ -35,7 +37,7 @@ use Rattle.calls_list.specs.Place.{movedAs}
 use Rattle.fsck.specs.declared.Verdict.{Verdict}
 use Rattle.fsck.specs.declared.Verdict.the-variants.{Pass}
 use Rattle.edge.specs.Words.{timeOf, newOf, handleWords, metadataWords, counted}
-use Rattle.edge.specs.Edge.{sized, Leaves, Makes, Holds, Sets, Tells, Shows, Lists, Counts, isDone, tableBy, heldTableBy, heldWordsBy, toldWordsBy, movedWordsBy}
+use Rattle.edge.specs.Edge.{sized, Leaves, Makes, Holds, Sets, Tells, Shows, Lists, Takes, Counts, isDone, tableBy, heldTableBy, heldWordsBy, toldWordsBy, movedWordsBy, takenWordsBy}
 
 -- ---- a slice of a fixed size
 
@@ -74,6 +76,9 @@ module _ (w : List ℕ) where
   pub moved-slots : {v : List ℕ} {x : Listed} {n next : ℕ} → x ≡ listeds.Slots n → v ≡ next ∷ [] → (0 ≡ listedNumber x) × (v ≡ movedWordsBy w x next)
   moved-slots e q = (rw e, q ∙ rw e)
 
+  pub taken-bytes : {v : List ℕ} {x : Taken} {n : ℕ} → x ≡ takens.Bytes n → v ≡ n ∷ [] → (0 ≡ takenNumber x) × (v ≡ takenWordsBy w x)
+  taken-bytes e q = (rw e, q ∙ rw e)
+
   pub counts-pass : {v : List ℕ} {x : Verdict} {a b c : ℕ} → x ≡ Pass a b c → v ≡ a ∷ b ∷ c ∷ [] → Counts (counted x) w v 0
   counts-pass e q = record { number = rw e; words = q ∙ rw e }
 
@@ -99,6 +104,9 @@ shows-not e = record { number = rw e; output = rw e }
 
 pub lists-not : {o : Out (List ℕ)} {n : ℕ} {p w : List ℕ} → o ≡ refused n → Lists o p p w w n
 lists-not e = record { number = rw e; output = rw e; words = rw e }
+
+pub takes-not : {o : Out (List ℕ)} {n : ℕ} {p w : List ℕ} → o ≡ refused n → Takes o p p w w n
+takes-not e = record { number = rw e; output = rw e; words = rw e }
 
 pub counts-not : {o : Out (List ℕ)} {n : ℕ} {w : List ℕ} → o ≡ refused n → Counts o w w n
 counts-not e = record { number = rw e; words = rw e }
@@ -131,6 +139,10 @@ shows e G E = rw e (record { number = E ∙ rw (G .0); output = G .1 })
 pub lists : {o p : Out (List ℕ)} {x y w v : List ℕ} {n : ℕ} {r : Moved} → p ≡ o → (r ≡ movedAs (getD w 0 0) o) × (y ≡ laid x o) → (n ≡ listedNumber (r .answer)) × (v ≡ movedWordsBy w (r .answer) (r .next)) → Lists p x y w v n
 lists {o = done l} e G E = rw e (record { number = E .0 ∙ rw (G .0); output = G .1; words = E .1 ∙ rw (G .0) })
 lists {o = refused m} e G E = rw e (record { number = E .0 ∙ rw (G .0); output = G .1; words = E .1 ∙ rw (G .0) })
+
+pub takes : {o p : Out (List ℕ)} {x y w v : List ℕ} {n : ℕ} {r : Taken} → p ≡ o → Lays takenOf o x y r → (n ≡ takenNumber r) × (v ≡ takenWordsBy w r) → Takes p x y w v n
+takes {o = done l} e G E = rw e (record { number = E .0 ∙ rw (G .0); output = G .1; words = E .1 ∙ rw (G .0) })
+takes {o = refused m} e G E = rw e (record { number = E .0 ∙ rw (G .0); output = G .1; words = E .1 ∙ rw (G .0) })
 
 pub counts : {o p : Out (List ℕ)} {w v : List ℕ} {n : ℕ} → p ≡ o → Counts o w v n → Counts p w v n
 counts e C = rw e C

@@ -7,7 +7,7 @@ use Rattle.table.specs.declared.Table.{Table}
 use Rattle.table.specs.declared.Added.{Added}
 use Rattle.sefs.specs.declared.Metadata.{Metadata}
 use Rattle.sefs.specs.Create.{After, Given}
-use Rattle.edge.specs.Edge.{Leaves, Makes, Holds, Sets, Tells, Shows, Lists, Counts}
+use Rattle.edge.specs.Edge.{Leaves, Makes, Holds, Sets, Tells, Shows, Lists, Takes, Counts}
 
 module _ {n m : ℕ} where
   pub leaves-one : {o : Out After} {a b c t u v : List ℕ} → Leaves o a b t u n → Leaves o a c t v m → (n ≡ m) × ((b ≡ c) × (u ≡ v))
@@ -30,6 +30,9 @@ module _ {n m : ℕ} where
 
   pub lists-one : {o : Out (List ℕ)} {t u v w x y : List ℕ} → Lists o t u w x n → Lists o t v w y m → (n ≡ m) × ((u ≡ v) × (x ≡ y))
   lists-one p q = (p .number ∙ sym (q .number), (p .output ∙ sym (q .output), p .words ∙ sym (q .words)))
+
+  pub takes-one : {o : Out (List ℕ)} {t u v w x y : List ℕ} → Takes o t u w x n → Takes o t v w y m → (n ≡ m) × ((u ≡ v) × (x ≡ y))
+  takes-one p q = (p .number ∙ sym (q .number), (p .output ∙ sym (q .output), p .words ∙ sym (q .words)))
 
   pub counts-one : {o : Out (List ℕ)} {w x y : List ℕ} → Counts o w x n → Counts o w y m → (n ≡ m) × (x ≡ y)
   counts-one p q = (p .number ∙ sym (q .number), p .words ∙ sym (q .words))

@@ -20,7 +20,9 @@ use Rattle.calls.specs.declared.Told.{Told}
 use Rattle.calls.specs.declared.Told.the-variants as tolds
 use Rattle.calls.specs.declared.Listed.{Listed}
 use Rattle.calls.specs.declared.Listed.the-variants as listeds
-use Rattle.calls.specs.Answers.{answerOf, answerNumber, gotOf, gotNumber, toldOf, toldNumber, listedOf, listedNumber, laid}
+use Rattle.calls.specs.declared.Taken.{Taken}
+use Rattle.calls.specs.declared.Taken.the-variants as takens
+use Rattle.calls.specs.Answers.{answerOf, answerNumber, gotOf, gotNumber, toldOf, toldNumber, listedOf, listedNumber, takenOf, takenNumber, laid}
 use Rattle.steps.specs.Ends.{arenaAfter}
 use Rattle.calls_create.specs.Held.{arenaHeld}
 use Rattle.edge.specs.Words.{handleWords, metadataWords}
@@ -37,7 +39,7 @@ lent f l (refused n) = l
 -- ---- a call is sent to the outcome o by its definition and returns n. An arena that it may change was a and is b; the table's bytes were
 -- t and are u; words for a result were w and are v
 
--- sync, close, link, unlink, move, format
+-- sync, close, link, unlink, move, write, resize, format
 pub record Leaves (o : Out After) (a b t u : List ℕ) (n : ℕ) : Type 0 where
   pub number : n ≡ answerNumber (answerOf o)
   pub arena : b ≡ arenaAfter a o
@@ -77,6 +79,12 @@ pub record Lists (o : Out (List ℕ)) (p q w v : List ℕ) (n : ℕ) : Type 0 wh
   pub output : q ≡ laid p o
   pub words : v ≡ lent (λ l. (getD w 0 0 + length l / 264) ∷ []) w o
 
+-- read: the output likewise; the word is how many bytes were written
+pub record Takes (o : Out (List ℕ)) (p q w v : List ℕ) (n : ℕ) : Type 0 where
+  pub number : n ≡ takenNumber (takenOf o)
+  pub output : q ≡ laid p o
+  pub words : v ≡ lent (λ l. length l ∷ []) w o
+
 -- check: a number above 0 is the rule that fails
 pub record Counts (o : Out (List ℕ)) (w v : List ℕ) (n : ℕ) : Type 0 where
   pub number : n ≡ answer o
@@ -106,3 +114,7 @@ toldWordsBy w (tolds.Refused n) = w
 abbrev pub movedWordsBy : List ℕ → Listed → ℕ → List ℕ
 movedWordsBy w (listeds.Slots n) next = next ∷ []
 movedWordsBy w (listeds.Refused n) next = w
+
+abbrev pub takenWordsBy : List ℕ → Taken → List ℕ
+takenWordsBy w (takens.Bytes n) = n ∷ []
+takenWordsBy w (takens.Refused n) = w

@@ -3,9 +3,9 @@ ghost use mathlib.Core.Path.{_≡_};
 ghost use lib.ListN.{length};
 ghost use Rattle.base.specs.Search.{pick};
 ghost use Rattle.table_bytes.specs.Layout.{tableBytes};
-ghost use Rattle.calls.specs.Answers.{answerNumber, gotNumber, toldNumber, listedNumber};
+ghost use Rattle.calls.specs.Answers.{answerNumber, gotNumber, toldNumber, listedNumber, takenNumber};
 ghost use Rattle.edge.specs.Words.{counted};
-ghost use Rattle.edge.specs.Edge.{isDone, tableBy, heldTableBy, heldWordsBy, toldWordsBy, movedWordsBy, Counts};
+ghost use Rattle.edge.specs.Edge.{isDone, tableBy, heldTableBy, heldWordsBy, toldWordsBy, movedWordsBy, takenWordsBy, Counts};
 use crate::results::put_counts;
 use crate::results::put_handle;
 use crate::results::put_metadata;
@@ -15,6 +15,7 @@ use calls::Got;
 use calls::HeldReply;
 use calls::Listed;
 use calls::Reply;
+use calls::Taken;
 use calls::Told;
 use calls_list::Moved;
 use fsck::Verdict;
@@ -116,6 +117,19 @@ pub fn end_moved(out: &mut [u64], m: Moved) -> u32
             0
         }
         Listed::Refused(n) => n as u32,
+    }
+}
+
+pub fn end_taken(out: &mut [u64], t: Taken) -> u32
+    requires { ⌜ length (now out) ≡ 1 ⌝ }
+    ensures { λ r. ⌜ (r ≡ takenNumber t) × (now (out .exit) ≡ takenWordsBy (now (out .entry)) t) ⌝ }
+{
+    match t {
+        Taken::Bytes(n) => {
+            put_next(out, n as u64);
+            0
+        }
+        Taken::Refused(n) => n as u32,
     }
 }
 

@@ -7,6 +7,7 @@ pub mod results;
 ghost use lib.ListN.{length, getD};
 ghost use Rattle.table_bytes.specs.Layout.{tableOf};
 ghost use Rattle.sefs.specs.Close.{callSync, callClose};
+ghost use Rattle.sefs.specs.Contents.{callRead, callWrite, callResize};
 ghost use Rattle.sefs.specs.Create.{callFormat, callCreate, callLink};
 ghost use Rattle.sefs.specs.Move.{callMove};
 ghost use Rattle.sefs.specs.Open.{callOpen, callRoot, callFind};
@@ -15,7 +16,7 @@ ghost use Rattle.sefs.specs.Unlink.{callUnlink};
 ghost use Rattle.calls_format.specs.Format.{formatted};
 ghost use Rattle.fsck.specs.Verdicts.{verdictOf};
 ghost use Rattle.edge.specs.Words.{handleOf, timeOf, counted};
-ghost use Rattle.edge.specs.Edge.{sized, Leaves, Makes, Holds, Sets, Tells, Shows, Lists, Counts};
+ghost use Rattle.edge.specs.Edge.{sized, Leaves, Makes, Holds, Sets, Tells, Shows, Lists, Takes, Counts};
 use args::file_of;
 use args::handle;
 use args::new_node;
@@ -32,12 +33,16 @@ use calls_metadata::metadata;
 use calls_metadata::set_metadata;
 use calls_move::move_;
 use calls_open::open;
+use calls_read::read;
+use calls_resize::resize;
 use calls_sync::sync;
 use calls_unlink::unlink;
+use calls_write::write;
 use ends::end_after;
 use ends::end_fresh;
 use ends::end_given;
 use ends::end_moved;
+use ends::end_taken;
 use ends::end_told;
 use ends::end_verdict;
 use ends::number;
@@ -56,6 +61,8 @@ const METADATA_WORDS: usize = 14;
 const COUNTS_WORDS: usize = 3;
 
 const NEXT_WORDS: usize = 1;
+
+const READ_WORDS: usize = 1;
 
 const WRONG_SIZE: u32 = 255;
 
@@ -324,6 +331,72 @@ pub extern "C" fn dz_set_metadata(
     let ctime = time(csec, cnsec);
     let t = read_table(&table[..]);
     let a = set_metadata(arena, t, h, mode, uid, gid, atime, mtime, ctime);
+    end_after(table, a)
+}
+
+// ---- contents
+
+// The word is how many bytes were written.
+#[no_mangle]
+pub extern "C" fn dz_read(
+    arena: &[u8],
+    table: &[u8],
+    hold: u32,
+    stamp: u64,
+    place: u64,
+    out: &mut [u8],
+    count: &mut [u64],
+) -> u32
+    ensures { λ r. ⌜ Takes (sized 4370 (now (table .entry)) (sized 1 (now (count .entry)) (callRead (now (arena .entry)) (tableOf (now (table .entry))) (handleOf hold stamp) place (length (now (out .entry)))))) (now (out .entry)) (now (out .exit)) (now (count .entry)) (now (count .exit)) r ⌝ }
+{
+    if table.len() != TABLE {
+        return WRONG_SIZE;
+    }
+    if count.len() != READ_WORDS {
+        return WRONG_SIZE;
+    }
+    let t = read(arena, read_table(table), handle(hold, stamp), place, out);
+    end_taken(count, t)
+}
+
+#[no_mangle]
+pub extern "C" fn dz_write(
+    arena: &mut [u8],
+    table: &mut [u8],
+    hold: u32,
+    stamp: u64,
+    place: u64,
+    src: &[u8],
+) -> u32
+    ensures { λ r. ⌜ Leaves (sized 4370 (now (table .entry)) (callWrite (now (arena .entry)) (tableOf (now (table .entry))) (handleOf hold stamp) place (now (src .entry)))) (now (arena .entry)) (now (arena .exit)) (now (table .entry)) (now (table .exit)) r ⌝ }
+{
+    if table.len() != TABLE {
+        return WRONG_SIZE;
+    }
+    let a = write(
+        arena,
+        read_table(&table[..]),
+        handle(hold, stamp),
+        place,
+        src,
+    );
+    end_after(table, a)
+}
+
+#[no_mangle]
+pub extern "C" fn dz_resize(
+    arena: &mut [u8],
+    table: &mut [u8],
+    hold: u32,
+    stamp: u64,
+    n: u64,
+) -> u32
+    ensures { λ r. ⌜ Leaves (sized 4370 (now (table .entry)) (callResize (now (arena .entry)) (tableOf (now (table .entry))) (handleOf hold stamp) n)) (now (arena .entry)) (now (arena .exit)) (now (table .entry)) (now (table .exit)) r ⌝ }
+{
+    if table.len() != TABLE {
+        return WRONG_SIZE;
+    }
+    let a = resize(arena, read_table(&table[..]), handle(hold, stamp), n);
     end_after(table, a)
 }
 

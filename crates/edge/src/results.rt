@@ -26,6 +26,7 @@ pub fn put_counts(out: &mut [u64], nodes: u32, unused: u32, free: u32)
     out[2] = free as u64;
 }
 
+// Of listing, the slot that comes next; of read, how many bytes.
 pub fn put_next(out: &mut [u64], next: u64)
     requires { ⌜ length (now out) ≡ 1 ⌝ }
     ensures { λ _. ⌜ now (out .exit) ≡ next ∷ [] ⌝ }

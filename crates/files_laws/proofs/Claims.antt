@@ -2,8 +2,9 @@
 use mathlib.Core.Path.{_≡_, sym, ap, _∙_, subst}
 use mathlib.Core.Bool.{Bool, true, false, not}
 use mathlib.Core.List.{List}
-use mathlib.Core.Logic.{inl, inr, _≢_}
+use mathlib.Core.Logic.{⊎-elim, inl, inr, _≢_}
 use Prim.Native.Nat.{ℕ, _+_, _≤_, _<_}
+use native.Mathlib.Decide.{ℕ-discrete}
 use native.Mathlib.Omega.{arith}
 use lib.ListN.{length, getD}
 use Rattle.base.proofs.Finds.{countTo-some}
@@ -12,6 +13,7 @@ use Rattle.base.specs.Count.{bit}
 use Rattle.base.specs.Parts.{paste}
 use Rattle.base.proofs.Counts.{countTo-none}
 use Rattle.base.proofs.Bools.{true-false}
+use Rattle.base.proofs.Numbers.{lt-or-le}
 use Rattle.le.specs.Le.{Bytes}
 use Rattle.arena.specs.Blocks.{blk, putBlk, blocks}
 use Rattle.arena.specs.Fields.{File, tagOf, isFree, isHead, isData, seal, fresh}
@@ -21,7 +23,7 @@ use Rattle.arena.proofs.Fields.{head-not, data-is, data-not, free-is, free-not,
 use Rattle.arena.proofs.Fresh.{length-fresh, fresh-tag, fresh-rest, fresh-bytes, fresh-data}
 use Rattle.arena.proofs.Places.{free-first, count-putBlk}
 use Rattle.files.specs.Read.{there, present}
-use Rattle.files_laws.proofs.Views.{alike-own, byteIn, AlikeHead, AlikeData, present-of, present-not, data-at, byte-here, byte-none, there-same, length-same, present-same, byte-same}
+use Rattle.files_laws.proofs.Views.{alike-own, byteIn, AlikeHead, AlikeData, present-of, present-not, data-at, byte-here, byte-none, heads-same, datas-same, there-same, length-same, present-same, byte-same}
 use Rattle.files_laws.proofs.Shapes.{shaped-fresh, length-written, written-24, written-in, written-out, written-bytes, written-sound}
 use Rattle.files_laws.proofs.Steps.{put-each, put-others, put-tidy, name-size, name-bytes, name-which, name-good}
 use Rattle.files_laws.proofs.Writes.{Wrote}
@@ -34,6 +36,10 @@ none-free a g = countTo-none (λ k. isFree (blk a k)) (blocks a) (λ k l. free-f
 pub some-free : (a : List ℕ) → freeOf a < blocks a → 0 < freeCount a
 unfolding freeCount
 some-free a l = countTo-some (λ k. isFree (blk a k)) (blocks a) (freeOf a) l (free-first a .hit l)
+
+-- the lowest free block lies above blocks in use
+free-above : (a : List ℕ) (n : ℕ) → n ≤ blocks a → ((j : ℕ) → j < n → isFree (blk a j) ≡ false) → n ≤ freeOf a
+free-above a n l used = ⊎-elim (λ h. absurd (true-false (free-first a .hit (omega arith)) (used (freeOf a) h))) (λ g. g) (lt-or-le (freeOf a) n)
 
 module _ (a : List ℕ) (room : freeOf a < blocks a) where
   pub tag-free : tagOf (blk a (freeOf a)) ≡ 0
@@ -146,8 +152,22 @@ module _ (a : List ℕ) (f : File) (q off : ℕ) (src : List ℕ) (was : there a
         ∙ fresh-rest 2 f q (name-size a f was) (24 + i) (omega arith) (λ _. omega arith) ∙ sym (byte-none a f q gone i);
     apart = λ r i ne l. byte-same a c blocks-made f r (λ j _. data-made r ne j) i l;
     others = put-others a k new room size-made f (inr (data-is f q new hit-made .of)) (inl (tag-free a room));
+    head = heads-same a c blocks-made f (λ j _. head-made j .head);
+    place = λ r ne. datas-same a c blocks-made f r (λ j _. data-made r ne j .block);
+    used = used-more;
   }
     where
+      used-at : (j : ℕ) → j < k + 1 → isFree (blk c j) ≡ false
+      used-at j l = elim (ℕ-discrete j k) [
+        | yes e ↦ ap (λ (i : ℕ). isFree (blk c i)) e ∙ ap isFree (blk-putBlk-same a k new room size-made) ∙ free-not new (λ e. absurd (omega (arith, tag-made)))
+        | no e ↦ ap isFree (blk-putBlk-other a k new room size-made j e) ∙ free-first a .before j (omega arith)
+      ]
+
+      used-more : freeOf a + bit (not (present a f q)) ≤ freeOf c
+      used-more =
+          let z : bit (not (present a f q)) ≡ 1 = ap (λ (t : Bool). bit (not t)) gone in
+          omega (arith, free-above c (k + 1) (omega (arith, blocks-made, room)) used-at)
+
       bytes-fresh : Bytes a → Bytes blank
       bytes-fresh h = fresh-bytes 2 f q (name-size a f was) (omega arith) (name-which a f was h) (name-bytes a f was h)
 

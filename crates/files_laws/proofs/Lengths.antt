@@ -11,14 +11,14 @@ use Rattle.base.proofs.Bools.{true-false}
 use Rattle.le.specs.Le.{Bytes, lePut}
 use Rattle.arena.specs.Blocks.{blk, putBlk, blocks}
 use Rattle.arena.specs.Fields.{File, tagOf, numberOf, fileOf, isFree, isHead, isData, seal}
-use Rattle.arena.specs.Places.{headOf, freeCount}
+use Rattle.arena.specs.Places.{freeOf, headOf, dataOf, freeCount}
 use Rattle.arena.proofs.Blocks.{length-blk, blk-bytes, length-putBlk, blocks-putBlk, blk-putBlk-same, putBlk-bytes}
 use Rattle.arena.proofs.Fields.{head-is, head-own, head-one, data-not, free-not}
-use Rattle.arena.proofs.Places.{test-putBlk, head-putBlk, count-putBlk}
+use Rattle.arena.proofs.Places.{test-putBlk, lowest-putBlk, head-putBlk, count-putBlk}
 use Rattle.files.specs.Read.{there, lengthOf, present}
 use Rattle.files.specs.Store.{longest, setLength, isPast}
 use Rattle.files_laws.specs.Laws.{Kept, pastCount}
-use Rattle.files_laws.proofs.Views.{alike-own, byteIn, AlikeData, there-at, there-hit, length-here, there-same, present-same, byte-same}
+use Rattle.files_laws.proofs.Views.{alike-own, byteIn, AlikeData, there-at, there-hit, length-here, datas-same, there-same, present-same, byte-same}
 use Rattle.files_laws.proofs.Parts.{Tidy}
 use Rattle.files_laws.proofs.Shapes.{shaped-of, length-head, head-out, head-number, head-file, head-bytes, head-sound}
 use Rattle.files_laws.proofs.Steps.{put-each, put-others, put-count, put-tidy-same}
@@ -34,6 +34,10 @@ pub record Lengthened (a a′ : List ℕ) (f : File) (len : ℕ) : Type 0 where
   pub byte : (q i : ℕ) → i < 480 → byteIn a′ f q i ≡ byteIn a f q i
   pub past : (n : ℕ) → pastCount a′ f n ≡ pastCount a f n
   pub others : (g : File) → f ≢ g → Kept a a′ g
+  -- all blocks stay in their places
+  pub head : headOf a′ f ≡ headOf a f
+  pub place : (q : ℕ) → dataOf a′ f q ≡ dataOf a f q
+  pub used : freeOf a′ ≡ freeOf a
 
 -- a block that is no data block lies past nothing
 pub past-not : (f : File) (n : ℕ) (b : List ℕ) → tagOf b ≢ 2 → isPast f n b ≡ false
@@ -129,6 +133,10 @@ module _ (a : List ℕ) (f : File) (len : ℕ) (was : there a f ≡ true) (range
       put-count a k new in-a size-new (isPast f n)
       (past-not f n new (λ e. absurd (omega (arith, tag-new))) ∙ sym (past-not f n old (λ e. absurd (omega (arith, tag-old)))))
 
+  used-same : freeOf c ≡ freeOf a
+  unfolding freeOf
+  used-same = lowest-putBlk a k new in-a size-new isFree free-same
+
   pub lengthened : Lengthened a (setLength a f len) f len
   lengthened =
       rw is (record {
@@ -142,6 +150,9 @@ module _ (a : List ℕ) (f : File) (len : ℕ) (was : there a f ≡ true) (range
         byte = λ q i l. byte-same a c n-blocks f q (λ j _. datas q j) i l;
         past = past-same;
         others = put-others a k new in-a size-new f (inr file-new) (inr file-old);
+        head = head-putBlk a k new in-a size-new f (heads f);
+        place = λ q. datas-same a c n-blocks f q (λ j _. datas q j .block);
+        used = used-same;
       })
     where
       count-same : freeCount c ≡ freeCount a

@@ -12,3 +12,5 @@ pub mod Cut
 pub mod Drop
 pub mod Reading
 pub mod Bounds
+pub mod Grown
+pub mod Many

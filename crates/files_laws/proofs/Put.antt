@@ -5,11 +5,12 @@ use mathlib.Core.List.{List}
 use mathlib.Core.Logic.{⊎-elim, _≢_}
 use Prim.Native.Nat.{ℕ, zero, suc, _+_, _*_, _-_, _/_, _%_, _≤_, _<_, max}
 use native.Mathlib.Nat.{le-refl}
+use native.Mathlib.Numerals.{add-one}
 use native.Mathlib.Decide.{ℕ-discrete}
 use native.Mathlib.Omega.{arith}
 use lib.ListN.{length, getD}
 use lib.Dec.{ltb, leb}
-use borrow.Author.Tests.{lt-ltb, le-ltb, ltb-true, ltb-false, lt-leb, leb-true, leb-false}
+use borrow.Author.Tests.{lt-ltb, le-ltb, ltb-true, ltb-false, le-leb, lt-leb, leb-true, leb-false}
 use Rattle.base.proofs.Sames.{or-no}
 use Rattle.base.proofs.Finds.{countTo-suc, countTo-first}
 use Rattle.base.proofs.Parts.{part-all}
@@ -23,7 +24,7 @@ use Rattle.base.proofs.Outs.{ok-bind, ok-weaken, ok-done, ok-does, ok-test}
 use Rattle.le.specs.Le.{Bytes}
 use Rattle.arena.specs.Blocks.{blocks}
 use Rattle.arena.specs.Fields.{File}
-use Rattle.arena.specs.Places.{freeOf, freeCount}
+use Rattle.arena.specs.Places.{freeOf, headOf, dataOf, freeCount}
 use Rattle.sound.specs.Sound.{sound}
 use Rattle.files.specs.Read.{there, lengthOf, present, byteAt}
 use Rattle.files.specs.Store.{longest, claim, writeBlk, raise, lo, hi, putBlock, putTo, touched, putFile}
@@ -107,24 +108,30 @@ touched-byte pos (suc n) p g l = omega arith
 
 -- ---- the first i blocks
 
+-- block j of those that are touched is absent
+abbrev pub absent : List ℕ → File → ℕ → ℕ → Bool
+absent a f pos j = not (present a f (pos / 480 + j))
+
+-- src is being written from pos on, and the first i blocks are done
+pub record Upto (a : List ℕ) (f : File) (pos : ℕ) (src : List ℕ) (i : ℕ) (d : List ℕ) : Type 0 where
+  pub size : length d ≡ length a
+  pub bytes : Bytes a → Bytes src → Bytes d
+  pub tidy : Bytes a → Bytes src → Tidy a → Tidy d
+  pub free : freeCount d + countTo (absent a f pos) i ≡ freeCount a
+  pub exists : there d f ≡ true
+  pub long : lengthOf d f ≡ max (lengthOf a f) (pos + length src)
+  pub here : (j : ℕ) → j < i → present d f (pos / 480 + j) ≡ true
+  pub rest : (q : ℕ) → (pos / 480 ≤ q → pos / 480 + i ≤ q) → present d f q ≡ present a f q
+  pub inside : (p : ℕ) → pos ≤ p → p < pos + length src → p / 480 < pos / 480 + i → byteAt d f p ≡ getD src (p - pos) 0
+  pub outside : (p : ℕ) → (pos ≤ p → pos + length src ≤ p) → byteAt d f p ≡ byteAt a f p
+  pub others : (g : File) → f ≢ g → Kept a d g
+  -- the head and the other blocks stay in their places, and what lies below the lowest free block stays in use
+  pub head : headOf d f ≡ headOf a f
+  pub place : (q : ℕ) → (pos / 480 ≤ q → pos / 480 + i ≤ q) → dataOf d f q ≡ dataOf a f q
+  pub used : freeOf a ≤ freeOf d
+
 module _ (a : List ℕ) (f : File) (pos : ℕ) (src : List ℕ) (was : there a f ≡ true) (range : pos + length src ≤ longest) where
-  abbrev absent : ℕ → Bool
-  absent j = not (present a f (pos / 480 + j))
-
-  record Upto (i : ℕ) (d : List ℕ) : Type 0 where
-    size : length d ≡ length a
-    bytes : Bytes a → Bytes src → Bytes d
-    tidy : Bytes a → Bytes src → Tidy a → Tidy d
-    free : freeCount d + countTo absent i ≡ freeCount a
-    exists : there d f ≡ true
-    long : lengthOf d f ≡ max (lengthOf a f) (pos + length src)
-    here : (j : ℕ) → j < i → present d f (pos / 480 + j) ≡ true
-    rest : (q : ℕ) → (pos / 480 ≤ q → pos / 480 + i ≤ q) → present d f q ≡ present a f q
-    inside : (p : ℕ) → pos ≤ p → p < pos + length src → p / 480 < pos / 480 + i → byteAt d f p ≡ getD src (p - pos) 0
-    outside : (p : ℕ) → (pos ≤ p → pos + length src ≤ p) → byteAt d f p ≡ byteAt a f p
-    others : (g : File) → f ≢ g → Kept a d g
-
-  start : Upto 0 (raise a f (pos + length src))
+  start : Upto a f pos src 0 (raise a f (pos + length src))
   unfolding raise countTo sumTo
   start =
       ⊎-elim
@@ -141,10 +148,13 @@ module _ (a : List ℕ) (f : File) (pos : ℕ) (src : List ℕ) (was : there a f
         inside = λ p x y z. absurd (omega arith);
         outside = λ p h. refl;
         others = λ h n. kept-refl a h;
+        head = refl;
+        place = λ q h. refl;
+        used = omega arith;
       }))
       (lt-or-le (lengthOf a f) (pos + length src))
     where
-      up : {d : List ℕ} → lengthOf a f < pos + length src → Lengthened a d f (pos + length src) → Upto 0 d
+      up : {d : List ℕ} → lengthOf a f < pos + length src → Lengthened a d f (pos + length src) → Upto a f pos src 0 d
       up {d} l L = record {
         size = L .size;
         bytes = λ h s. L .bytes h;
@@ -157,6 +167,9 @@ module _ (a : List ℕ) (f : File) (pos : ℕ) (src : List ℕ) (was : there a f
         inside = λ p x y z. absurd (omega arith);
         outside = λ p h. byte-in d f p ∙ L .byte (p / 480) (p % 480) (omega arith) ∙ sym (byte-in a f p);
         others = L .others;
+        head = L .head;
+        place = λ q h. L .place q;
+        used = omega (arith, L .used);
       }
 
   -- one block more
@@ -173,12 +186,12 @@ module _ (a : List ℕ) (f : File) (pos : ℕ) (src : List ℕ) (was : there a f
     small : pos / 480 + i < 4294967296
     small = omega (arith, S .start, S .some, S .to)
 
-    more : (d d′ : List ℕ) → Upto i d → Wrote d d′ f (pos / 480 + i) (l - 480 * (pos / 480 + i)) (part src (l - pos) (h - pos)) → Upto (suc i) d′
+    more : (d d′ : List ℕ) → Upto a f pos src i d → Wrote d d′ f (pos / 480 + i) (l - 480 * (pos / 480 + i)) (part src (l - pos) (h - pos)) → Upto a f pos src (suc i) d′
     more d d′ U W = record {
       size = W .size ∙ U .size;
       bytes = λ x s. W .bytes (U .bytes x s) (bytes-s s);
       tidy = λ x s T. W .tidy (U .bytes x s) (bytes-s s) (U .tidy x s T);
-      free = omega (arith, W .free, U .free, countTo-suc absent i, ap (λ (t : Bool). bit (not t)) (U .rest (pos / 480 + i) (λ _. omega arith)));
+      free = omega (arith, W .free, U .free, countTo-suc (absent a f pos) i, ap (λ (t : Bool). bit (not t)) (U .rest (pos / 480 + i) (λ _. omega arith)));
       exists = W .exists ∙ U .exists;
       long = W .long ∙ U .long;
       here = λ j m. elim (ℕ-discrete j i) [
@@ -195,6 +208,9 @@ module _ (a : List ℕ) (f : File) (pos : ℕ) (src : List ℕ) (was : there a f
         | no e ↦ byte-in d′ f p ∙ W .apart (p / 480) (p % 480) e (omega arith) ∙ sym (byte-in d f p) ∙ U .outside p x
       ];
       others = λ g n. kept-next (U .others g n) (W .others g n);
+      head = W .head ∙ U .head;
+      place = λ q x. W .place q (λ e. absurd (omega (arith, x (omega arith)))) ∙ U .place q (λ g. omega (arith, x g));
+      used = omega (arith, W .used, U .used);
     }
       where
         bytes-s : Bytes src → Bytes (part src (l - pos) (h - pos))
@@ -216,9 +232,9 @@ module _ (a : List ℕ) (f : File) (pos : ℕ) (src : List ℕ) (was : there a f
             (λ g. let y : l ≤ p = omega (arith, S .start) in let z : pos + length src ≤ p = x (omega (arith, S .from)) in omega (arith, length-s, S .start, S .some, S .to)))
 
   R : ℕ → Type 0
-  R r = (r ≡ 17) × (freeCount a < countTo absent (touched pos (length src)))
+  R r = (r ≡ 17) × (freeCount a < countTo (absent a f pos) (touched pos (length src)))
 
-  to-law : (i : ℕ) → i ≤ touched pos (length src) → Ok (Upto i) R (putTo a f pos src i)
+  to-law : (i : ℕ) → i ≤ touched pos (length src) → Ok (Upto a f pos src i) R (putTo a f pos src i)
   unfolding putTo putBlock R
   to-law zero l = went start
   to-law (suc i) l =
@@ -230,18 +246,18 @@ module _ (a : List ℕ) (f : File) (pos : ℕ) (src : List ℕ) (was : there a f
       (write-law d f (pos / 480 + i) (lo pos (pos / 480 + i) - 480 * (pos / 480 + i)) (part src (lo pos (pos / 480 + i) - pos) (hi pos (length src) (pos / 480 + i) - pos)) (U .exists)
       (fits i (lo pos (pos / 480 + i)) (hi pos (length src) (pos / 480 + i)) S) (small i (lo pos (pos / 480 + i)) (hi pos (length src) (pos / 480 + i)) S)))
     where
-      short : (j : ℕ) (d : List ℕ) → suc j ≤ touched pos (length src) → Upto j d → present d f (pos / 480 + j) ≡ false → freeCount d ≡ 0 → freeCount a < countTo absent (touched pos (length src))
+      short : (j : ℕ) (d : List ℕ) → suc j ≤ touched pos (length src) → Upto a f pos src j d → present d f (pos / 480 + j) ≡ false → freeCount d ≡ 0 → freeCount a < countTo (absent a f pos) (touched pos (length src))
       short j d m U e z =
           omega (
             arith,
             U .free,
-            countTo-suc absent j,
+            countTo-suc (absent a f pos) j,
             ap (λ (t : Bool). bit (not t)) (sym (U .rest (pos / 480 + j) (λ _. omega arith)) ∙ e),
-            countTo-first absent (suc j) (touched pos (length src)) m,
+            countTo-first (absent a f pos) (suc j) (touched pos (length src)) m,
           )
 
   -- all of them
-  whole : (d : List ℕ) → Upto (touched pos (length src)) d → Put a f pos src d
+  whole : (d : List ℕ) → Upto a f pos src (touched pos (length src)) d → Put a f pos src d
   unfolding lacking
   whole d U = record {
     was = was;
@@ -283,6 +299,53 @@ module _ (a : List ℕ) (f : File) (pos : ℕ) (src : List ℕ) (was : there a f
           (λ y. let u = sound-inside a ok f .under q y in omega arith)
           (λ y. let l : lo pos q < hi pos (length src) q = ltb-true (lo pos q) (hi pos (length src) q) y in omega arith)
           (or-cases (present a f q) (touches pos (length src) q) e)
+
+  -- ---- for code that writes block by block
+
+  -- what is left after the first i blocks
+  pub put-upto : (i : ℕ) (d : List ℕ) → i ≤ touched pos (length src) → putTo a f pos src i ≡ done d → Upto a f pos src i d
+  put-upto i d l e = ok-done (subst (Ok (Upto a f pos src i) R) e (to-law i l))
+
+  -- one block more
+  pub put-next : (i : ℕ) (d d′ : List ℕ) → i < touched pos (length src) → putTo a f pos src i ≡ done d → putBlock d f pos src (pos / 480 + i) ≡ done d′
+      → Wrote d d′ f (pos / 480 + i) (lo pos (pos / 480 + i) - 480 * (pos / 480 + i)) (part src (lo pos (pos / 480 + i) - pos) (hi pos (length src) (pos / 480 + i) - pos))
+  unfolding putBlock
+  put-next i d d′ l e e′ =
+      let S = span pos (length src) i l in
+      let b = lo pos (pos / 480 + i) in
+      let t = hi pos (length src) (pos / 480 + i) in
+      ok-done (subst (Ok _ _) e′ (write-law d f (pos / 480 + i) _ _ (put-upto i d (omega arith) e .exists) (fits i b t S) (small i b t S)))
+
+  -- where the free blocks are enough for all, one that is absent finds a free one
+  pub put-finds : (i : ℕ) (d : List ℕ) → lacking a f pos (length src) ≤ freeCount a → i < touched pos (length src) → Upto a f pos src i d → present d f (pos / 480 + i) ≡ false
+      → freeOf d < blocks d
+  unfolding lacking
+  put-finds i d room l U e =
+      ⊎-elim
+      (λ h. h)
+      (λ g.
+      absurd (omega (
+        arith,
+        none-free d g,
+        U .free,
+        countTo-suc (absent a f pos) i,
+        ap (λ (t : Bool). bit (not t)) (sym (U .rest (pos / 480 + i) (λ _. omega arith)) ∙ e),
+        countTo-first (absent a f pos) (suc i) (touched pos (length src)) (omega arith),
+      )))
+      (lt-or-le (freeOf d) (blocks d))
+
+  pub put-all : putFile a f pos src ≡ putTo a f pos src (touched pos (length src))
+  unfolding putFile
+  put-all = rw (was, le-leb (pos + length src) longest range)
+
+-- block by block: the length first, then each of the touched blocks
+pub put-starts : (a : List ℕ) (f : File) (pos : ℕ) (src : List ℕ) → putTo a f pos src 0 ≡ done (raise a f (pos + length src))
+unfolding putTo
+put-starts a f pos src = refl
+
+pub put-more : (a : List ℕ) (f : File) (pos : ℕ) (src : List ℕ) (i : ℕ) (d : List ℕ) → putTo a f pos src i ≡ done d → putTo a f pos src (i + 1) ≡ putBlock d f pos src (pos / 480 + i)
+unfolding putTo
+put-more a f pos src i d e = rw (add-one, e)
 
 module _ (a : List ℕ) (f : File) (pos : ℕ) (src : List ℕ) where
   -- put does what it says, or it is refused for one of three reasons

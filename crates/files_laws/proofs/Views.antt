@@ -114,7 +114,7 @@ alike-own g b = record { head = record { head = refl; number = λ _. refl }; blo
 
 module _ (a a′ : List ℕ) (size : blocks a′ ≡ blocks a) (g : File) where
   -- the heads
-  heads-same : ((k : ℕ) → k < blocks a → isHead g (blk a′ k) ≡ isHead g (blk a k)) → headOf a′ g ≡ headOf a g
+  pub heads-same : ((k : ℕ) → k < blocks a → isHead g (blk a′ k) ≡ isHead g (blk a k)) → headOf a′ g ≡ headOf a g
   unfolding headOf
   heads-same h = ap (lowest (λ k. isHead g (blk a′ k))) size ∙ lowest-cong (λ k. isHead g (blk a′ k)) (λ k. isHead g (blk a k)) (blocks a) h
 
@@ -132,7 +132,7 @@ module _ (a a′ : List ℕ) (size : blocks a′ ≡ blocks a) (g : File) where
       (bool-cases (there a g))
 
   module _ (q : ℕ) where
-    datas-same : ((k : ℕ) → k < blocks a → isData g q (blk a′ k) ≡ isData g q (blk a k)) → dataOf a′ g q ≡ dataOf a g q
+    pub datas-same : ((k : ℕ) → k < blocks a → isData g q (blk a′ k) ≡ isData g q (blk a k)) → dataOf a′ g q ≡ dataOf a g q
     unfolding dataOf
     datas-same h = ap (lowest (λ k. isData g q (blk a′ k))) size ∙ lowest-cong (λ k. isData g q (blk a′ k)) (λ k. isData g q (blk a k)) (blocks a) h
 

@@ -10,14 +10,14 @@ use Rattle.base.specs.Count.{bit}
 use Rattle.base.specs.Parts.{paste}
 use Rattle.le.specs.Le.{Bytes}
 use Rattle.arena.specs.Blocks.{blk, putBlk, blocks}
-use Rattle.arena.specs.Fields.{File, tagOf, fileOf, isHead, isData, seal}
-use Rattle.arena.specs.Places.{dataOf, freeCount}
+use Rattle.arena.specs.Fields.{File, tagOf, fileOf, isFree, isHead, isData, seal}
+use Rattle.arena.specs.Places.{freeOf, headOf, dataOf, freeCount}
 use Rattle.arena.proofs.Blocks.{length-blk, blk-bytes, length-putBlk, blocks-putBlk, blk-putBlk-same, putBlk-bytes}
 use Rattle.arena.proofs.Fields.{data-is, number-cong, file-cong, free-cong, head-cong, data-cong}
-use Rattle.arena.proofs.Places.{data-first, test-putBlk, count-putBlk}
+use Rattle.arena.proofs.Places.{data-first, test-putBlk, lowest-putBlk, count-putBlk}
 use Rattle.files.specs.Read.{there, lengthOf, present}
 use Rattle.files_laws.specs.Laws.{Kept}
-use Rattle.files_laws.proofs.Views.{alike-own, byteIn, AlikeHead, AlikeData, present-at, present-hit, data-at, byte-here, there-same, length-same, present-same, byte-same}
+use Rattle.files_laws.proofs.Views.{alike-own, byteIn, AlikeHead, AlikeData, present-at, present-hit, data-at, byte-here, heads-same, datas-same, there-same, length-same, present-same, byte-same}
 use Rattle.files_laws.proofs.Parts.{Tidy}
 use Rattle.files_laws.proofs.Shapes.{shaped-of, length-written, written-24, written-in, written-out, written-bytes, written-sound}
 use Rattle.files_laws.proofs.Steps.{put-each, put-others, put-tidy-same}
@@ -36,6 +36,10 @@ pub record Wrote (a a′ : List ℕ) (f : File) (q off : ℕ) (src : List ℕ) :
   pub outside : (i : ℕ) → i < 480 → (off ≤ i → off + length src ≤ i) → byteIn a′ f q i ≡ byteIn a f q i
   pub apart : (r i : ℕ) → r ≢ q → i < 480 → byteIn a′ f r i ≡ byteIn a f r i
   pub others : (g : File) → f ≢ g → Kept a a′ g
+  -- where things are: the head and the other blocks stay in their places, and what lies below the lowest free block stays in use
+  pub head : headOf a′ f ≡ headOf a f
+  pub place : (r : ℕ) → r ≢ q → dataOf a′ f r ≡ dataOf a f r
+  pub used : freeOf a + bit (not (present a f q)) ≤ freeOf a′
 
 -- in the block that is there
 module _ (a : List ℕ) (f : File) (q off : ℕ) (src : List ℕ) (was : present a f q ≡ true) (fits : off + length src ≤ 480) where
@@ -111,6 +115,13 @@ module _ (a : List ℕ) (f : File) (q off : ℕ) (src : List ℕ) (was : present
       ∙ ap (λ (j : ℕ). getD (blk c j) (24 + i) 0) place-new
       ∙ ap (λ (b : List ℕ). getD b (24 + i) 0) (blk-putBlk-same a k new put-at size-new)
 
+  used-same : freeOf c ≡ freeOf a
+  unfolding freeOf
+  used-same = lowest-putBlk a k new put-at size-new isFree (free-cong new old size-new size-was same-24)
+
+  none-new : bit (not (present a f q)) ≡ 0
+  none-new = ap (λ (t : Bool). bit (not t)) was
+
   pub wrote-there : Wrote a (putBlk a (dataOf a f q) (seal (paste (blk a (dataOf a f q)) (24 + off) src))) f q off src
   wrote-there = record {
     size = length-putBlk a k new put-at size-new;
@@ -129,9 +140,10 @@ module _ (a : List ℕ) (f : File) (q off : ℕ) (src : List ℕ) (was : present
     outside = λ i l h. byte-new i ∙ written-out old off src size-was fits i l h ∙ sym (byte-here a f q was i);
     apart = λ r i ne l. byte-same a c blocks-new f r (λ j _. apart-each r ne j) i l;
     others = put-others a k new put-at size-new f (inr (file-cong new old size-new size-was same-24 ∙ file-was)) (inr file-was);
+    head = heads-same a c blocks-new f (λ j _. head-each j .head);
+    place = λ r _. datas-same a c blocks-new f r (λ j _. data-each r j);
+    used = omega (arith, used-same, none-new);
   }
     where
       count-same : freeCount c + bit (not (present a f q)) ≡ freeCount a
-      count-same =
-          let z : bit (not (present a f q)) ≡ 0 = ap (λ (t : Bool). bit (not t)) was in
-          omega (arith, count-putBlk a k new put-at size-new, ap bit (free-cong new old size-new size-was same-24))
+      count-same = omega (arith, none-new, count-putBlk a k new put-at size-new, ap bit (free-cong new old size-new size-was same-24))

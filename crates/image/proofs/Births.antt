@@ -1,7 +1,7 @@
 -- An image with a node more, and a slot for it at the end of a folder: superblock and maps say so, its file and its row are there, links have
 -- risen. An image that was fair stays so. Rules 6 to 8 come by two steps of the tree: the node is born, unnamed, and then it is named.
 use mathlib.Core.Path.{_≡_, refl, sym, ap, _∙_, subst}
-use mathlib.Core.Bool.{true, false, not, _&&_}
+use mathlib.Core.Bool.{Bool, true, false, not, _&&_}
 use mathlib.Core.List.{List}
 use mathlib.Core.Logic.{_≢_, ⊎-elim}
 use Prim.Native.Nat.{ℕ, _+_, _*_, _%_, _≤_, _<_}
@@ -58,13 +58,14 @@ slot-file b r s q k = slot-kept b b r s q (kept-same b (nodeFile s)) k
 
 -- ---- a tree with a node more
 
-abbrev withNode : Tree → ℕ → ℕ → ℕ → ℕ → ℕ → (ℕ → DiskEntry) → Tree
-withNode v n c kind blocks long slots = record {
+abbrev withNode : Tree → ℕ → ℕ → ℕ → ℕ → ℕ → ℕ → (ℕ → DiskEntry) → Tree
+withNode v n c kind blocks size long slots = record {
   ids = n;
   node = upd (v .node) c true;
   kind = upd (v .kind) c kind;
   links = upd (v .links) c 0;
   blocks = upd (v .blocks) c blocks;
+  size = upd (v .size) c size;
   long = upd (v .long) c long;
   slot = upd (v .slot) c slots;
   opened = upd (v .opened) c true;
@@ -75,8 +76,8 @@ module _ (a b : List ℕ) (t u : Table) (M : Midway none a t) (i : ℕ) (ui : Us
     (c : ℕ) (free : freeRow t ≡ At c) (id : ℕ) (m : Meta) (K : Taken (storedMeta a) m id)
     (r s : DiskINode) (R : Rowed a t c i id r s u)
     (name : List ℕ) (N : NewName a (recOf a t (rowAt t i .id)) name)
-    (least : 1 ≤ r .kind) (most : r .kind ≤ 4) (two : isFolder (r .kind) ≡ true → r .blocks ≡ 2)
-    (same-kind : s .kind ≡ rowAt t i .rec .kind) (same-file : s .file ≡ rowAt t i .rec .file) (more : s .blocks ≡ rowAt t i .rec .blocks + 1)
+    (least : 1 ≤ r .kind) (most : r .kind ≤ 4) (two : isFolder (r .kind) ≡ true → r .blocks ≡ 2) (small : r .size ≡ 0)
+    (same-kind : s .kind ≡ rowAt t i .rec .kind) (same-file : s .file ≡ rowAt t i .rec .file) (same-size : s .size ≡ rowAt t i .rec .size) (more : s .blocks ≡ rowAt t i .rec .blocks + 1)
     (child-links : r .nlinks ≡ 1 + bit (isFolder (r .kind))) (own-links : s .nlinks ≡ rowAt t i .rec .nlinks + bit (isFolder (r .kind)))
     (absent : there a (file 1 (r .file)) ≡ false)
     (B : Bred a m (r .file) (r .kind) id (rowAt t i .id) (rowAt t i .rec) (entry id name (r .kind)) b) where
@@ -145,6 +146,9 @@ module _ (a b : List ℕ) (t u : Table) (M : Midway none a t) (i : ℕ) (ui : Us
   old-file : (k : ℕ) → isNode a k ≡ true → recOf b u k .file ≡ recOf a t k .file
   old-file = field-old (λ x. x .file) (dir-rec .file ∙ same-file)
 
+  old-size : (k : ℕ) → isNode a k ≡ true → recOf b u k .size ≡ recOf a t k .size
+  old-size = field-old (λ x. x .size) (dir-rec .size ∙ same-size)
+
   file-d : recOf b u d .file ≡ ri .file
   file-d = dir-rec .file ∙ same-file
 
@@ -164,9 +168,9 @@ module _ (a b : List ℕ) (t u : Table) (M : Midway none a t) (i : ℕ) (ui : Us
   v = treeOf a t
 
   abbrev w : Tree
-  w = withNode (treeOf a t) (idsIn b) id (r .kind) (r .blocks) (lengthOf b (file 1 (r .file))) (slotIn b r)
+  w = withNode (treeOf a t) (idsIn b) id (r .kind) (r .blocks) (r .size) (lengthOf b (file 1 (r .file))) (slotIn b r)
 
-  w-kind : isFolder (w .kind id) ≡ true → isFolder (r .kind) ≡ true
+  w-kind : {x : Bool} → isFolder (w .kind id) ≡ x → isFolder (r .kind) ≡ x
   w-kind f = ap isFolder (sym (upd-same (v .kind) id (r .kind))) ∙ f
 
   w-slot : (k : ℕ) → w .slot id k ≡ slotIn b r k
@@ -186,13 +190,15 @@ module _ (a b : List ℕ) (t u : Table) (M : Midway none a t) (i : ℕ) (ui : Us
     kind = λ k n. upd-other (v .kind) id (r .kind) k (other k n);
     links = λ k n. upd-other (v .links) id 0 k (other k n);
     blocks = λ k n. upd-other (v .blocks) id (r .blocks) k (other k n);
-    long = λ k f. upd-other (v .long) id (lengthOf b (file 1 (r .file))) k (other k (folder-is v k f));
+    size = λ k n. upd-other (v .size) id (r .size) k (other k n);
+    long = λ k n. upd-other (v .long) id (lengthOf b (file 1 (r .file))) k (other k n);
     slots = λ k f j l. ap (λ (g : ℕ → DiskEntry). g j) (upd-other (v .slot) id (slotIn b r) k (other k (folder-is v k f)));
     opened = λ k n o. upd-other (v .opened) id true k (other k n) ∙ o;
     none = upd-same (v .links) id 0;
     held = upd-same (v .opened) id true;
     two = λ f. upd-same (v .blocks) id (r .blocks) ∙ two (w-kind f);
-    size = λ f. upd-same (v .long) id (lengthOf b (file 1 (r .file))) ∙ B .young .size (w-kind f);
+    empty = λ f. upd-same (v .long) id (lengthOf b (file 1 (r .file))) ∙ B .young .empty (w-kind f) ∙ sym small ∙ sym (upd-same (v .size) id (r .size));
+    filled = λ f. upd-same (v .long) id (lengthOf b (file 1 (r .file))) ∙ B .young .size (w-kind f);
     dot = λ f. ap (λ (x : DiskEntry). nameOf (x .name)) (w-slot 0 ∙ B .young .dot (w-kind f) r refl) ∙ dot-name;
     own = λ f. ap (λ (x : DiskEntry). x .id) (w-slot 0 ∙ B .young .dot (w-kind f) r refl);
     dot-kind = λ f. ap (λ (x : DiskEntry). x .kind) (w-slot 0 ∙ B .young .dot (w-kind f) r refl);
@@ -258,10 +264,14 @@ module _ (a b : List ℕ) (t u : Table) (M : Midway none a t) (i : ℕ) (ui : Us
         (λ (q : k ≡ id). subst (λ (x : ℕ). recOf b u x .blocks ≡ w .blocks x) (sym q) (new-rec .blocks ∙ sym (upd-same (v .blocks) id (r .blocks))))
         (λ q. ap (λ (x : DiskINode). x .blocks) (same-rec k (old k (folder-is w k f) q) z) ∙ sym (upd-other (v .blocks) id (r .blocks) k q))
         (eq-cases k id);
-    long = λ k f z. ⊎-elim
+    size = λ k n. ⊎-elim
+        (λ (q : k ≡ id). subst (λ (x : ℕ). recOf b u x .size ≡ w .size x) (sym q) (new-rec .size ∙ sym (upd-same (v .size) id (r .size))))
+        (λ q. old-size k (old k n q) ∙ sym (upd-other (v .size) id (r .size) k q))
+        (eq-cases k id);
+    long = λ k m z. ⊎-elim
         (λ (q : k ≡ id). subst (λ (x : ℕ). lengthOf b (nodeFile (recOf b u x)) ≡ w .long x) (sym q)
         (ap (λ (g : List ℕ). lengthOf b (file 1 g)) (new-rec .file) ∙ sym (upd-same (v .long) id (lengthOf b (file 1 (r .file))))))
-        (λ q. let n = old k (folder-is w k f) q in
+        (λ q. let n = old k m q in
         ap (λ (g : List ℕ). lengthOf b (file 1 g)) (old-file k n) ∙ kept k n z .long ∙ sym (upd-other (v .long) id (lengthOf b (file 1 (r .file))) k q))
         (eq-cases k id);
     more = dir-rec .blocks ∙ more ∙ ap (λ (x : ℕ). x + 1) (sym blocks-d);

@@ -85,7 +85,7 @@ module _ (a : List ℕ) (t : Table) (M : Midway none a t) (i : ℕ) (ui : Used t
         meta = S .meta;
         rows = child-set a t M c i id free ui some r s (x .table) (S .rows) (withLinks (recAt x c) (recAt x c .nlinks + 1)) (withLinks r (r .nlinks + 1))
             (links-fit (recAt x c) (recAt x c .nlinks + 1) (S .rows .fits .rows c (used-child a t M c i id free ui some r s (x .table) (S .rows) .below) .rec) (omega (arith, L .nlinks)))
-            (record { kind = L .kind; nlinks = ap (λ (n : ℕ). n + 1) (L .nlinks); blocks = L .blocks; file = L .file });
+            (record { kind = L .kind; nlinks = ap (λ (n : ℕ). n + 1) (L .nlinks); blocks = L .blocks; size = L .size; file = L .file });
         ground = S .ground;
         files = S .files;
       }))
@@ -100,7 +100,7 @@ module _ (a : List ℕ) (t : Table) (M : Midway none a t) (i : ℕ) (ui : Used t
         meta = S .meta;
         rows = own-set a t M c i id free ui some r s (x .table) (S .rows) (withLinks (recAt x i) (recAt x i .nlinks + 1)) (withLinks s (s .nlinks + 1))
             (links-fit (recAt x i) (recAt x i .nlinks + 1) (S .rows .fits .rows i (ui .below) .rec) (omega (arith, L .nlinks)))
-            (record { kind = L .kind; nlinks = ap (λ (n : ℕ). n + 1) (L .nlinks); blocks = L .blocks; file = L .file });
+            (record { kind = L .kind; nlinks = ap (λ (n : ℕ). n + 1) (L .nlinks); blocks = L .blocks; size = L .size; file = L .file });
         ground = S .ground;
         files = S .files;
       }))
@@ -125,8 +125,8 @@ module _ (a : List ℕ) (t : Table) (M : Midway none a t) (i : ℕ) (ui : Used t
   -- ---- a folder's two slots
 
   begun-stage : (r s : DiskINode) (x : Fs) → Stage a t c i id m r s (Bare a (r .file)) x
-      → (y : Fs) → Begun x c (idAt x i) y → Stage a t c i id m (withBlocks r 2) s (Raised a (r .file) (r .kind) id d) y
-  begun-stage r s x S y B =
+      → isFolder (r .kind) ≡ true → (y : Fs) → Begun x c (idAt x i) y → Stage a t c i id m (withBlocks r 2) s (Raised a (r .file) (r .kind) id d) y
+  begun-stage r s x S dir y B =
       let L : Laid (x .arena) (r .file) id d (B .arena) =
       subst (λ (f : List ℕ). Laid (x .arena) f id d (B .arena)) (S .rows .child-like .file)
       (subst (λ (k : ℕ). Laid (x .arena) (recAt x c .file) k d (B .arena)) (S .rows .child)
@@ -137,11 +137,11 @@ module _ (a : List ℕ) (t : Table) (M : Midway none a t) (i : ℕ) (ui : Used t
         meta = S .meta;
         rows = child-set a t M c i id free ui some r s (x .table) (S .rows) (withBlocks (recAt x c) 2) (withBlocks r 2)
             (blocks-fit (recAt x c) 2 (S .rows .fits .rows c (used-child a t M c i id free ui some r s (x .table) (S .rows) .below) .rec) (omega arith))
-            (record { kind = l .kind; nlinks = l .nlinks; blocks = refl; file = l .file });
+            (record { kind = l .kind; nlinks = l .nlinks; blocks = refl; size = l .size; file = l .file });
         ground = ground-kept a (131072 * m .super .groups) (x .arena) (B .arena) (S .ground) (L .size) (L .bytes (S .ground .bytes)) (L .keeps (S .ground .bytes) (S .ground .sound))
             (L .others metaFile (λ q. node-other (r .file) (sym q)));
         files = record {
-          young = record { exists = L .exists; size = λ z. L .long; dot = λ z. L .dot; dots = λ z. L .dots };
+          young = record { exists = L .exists; empty = λ z. absurd (true-false dir z); size = λ z. L .long; dot = λ z. L .dot; dots = λ z. L .dots };
           others = λ g n. kept-then a (x .arena) (B .arena) (file 1 g) (S .files .others g n) (L .others (file 1 g) (file-apart (r .file) g (λ q. n (sym q))));
         };
       })
@@ -157,7 +157,7 @@ module _ (a : List ℕ) (t : Table) (M : Midway none a t) (i : ℕ) (ui : Used t
       go : (b : Bool) → isFolder (r .kind) ≡ b
           → Ok (Stage a t c i id m (withBlocks r (2 * bit b)) s (Raised a (r .file) (r .kind) id (rowAt t i .id))) (λ n. n ≡ 17) (pick b (direntInit x c (idAt x i)) (done x))
       go true e =
-          ok-weaken (begun-stage r s x S) (λ n q. q)
+          ok-weaken (begun-stage r s x S e) (λ n q. q)
           (init-law x c (idAt x i)
           (omega (arith, used-child a t M c i id free ui some r s (x .table) (S .rows) .below, S .rows .fits .rows-34))
           (S .rows .fits .rows c (used-child a t M c i id free ui some r s (x .table) (S .rows) .below) .id)
@@ -169,7 +169,7 @@ module _ (a : List ℕ) (t : Table) (M : Midway none a t) (i : ℕ) (ui : Used t
         rows = subst (λ (n : ℕ). Rowed a t c i id (withBlocks r n) s (x .table)) nil (S .rows);
         ground = S .ground;
         files = record {
-          young = record { exists = S .files .exists; size = λ z. absurd (true-false z e); dot = λ z. absurd (true-false z e); dots = λ z. absurd (true-false z e) };
+          young = record { exists = S .files .exists; empty = λ z. S .files .empty; size = λ z. absurd (true-false z e); dot = λ z. absurd (true-false z e); dots = λ z. absurd (true-false z e) };
           others = S .files .others;
         };
       })
@@ -203,7 +203,7 @@ module _ (a : List ℕ) (t : Table) (M : Midway none a t) (i : ℕ) (ui : Used t
         meta = S .meta;
         rows = own-set a t M c i id free ui some r ri (x .table) (S .rows) (withBlocks (recAt x i) (recAt x i .blocks + 1)) (withBlocks ri (ri .blocks + 1))
             (blocks-fit (recAt x i) (recAt x i .blocks + 1) (S .rows .fits .rows i (ui .below) .rec) (omega (arith, l .blocks, put-small (x .arena) (ri .file) (ri .blocks) e fits exists b P)))
-            (record { kind = l .kind; nlinks = l .nlinks; blocks = ap (λ (n : ℕ). n + 1) (l .blocks); file = l .file });
+            (record { kind = l .kind; nlinks = l .nlinks; blocks = ap (λ (n : ℕ). n + 1) (l .blocks); size = l .size; file = l .file });
         ground = ground-kept a (131072 * m .super .groups) (x .arena) b (S .ground) (P .size) (P .bytes (S .ground .bytes) src) (P .keeps (S .ground .bytes) src (S .ground .sound))
             (put-meta (x .arena) (ri .file) (ri .blocks) e fits exists b P);
         files = record {

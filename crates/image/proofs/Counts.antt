@@ -28,6 +28,7 @@ pub record Counts (own : ℕ → Type 0) (a : List ℕ) (t : Table) (B L : ℕ �
   pub opens : (x : ℕ) → isOpen u x ≡ isOpen t x
   pub kinds : (x : ℕ) → recOf a u x .kind ≡ recOf a t x .kind
   pub files : (x : ℕ) → recOf a u x .file ≡ recOf a t x .file
+  pub sizes : (x : ℕ) → recOf a u x .size ≡ recOf a t x .size
   pub blocks : (x : ℕ) → recOf a u x .blocks ≡ B x
   pub links : (x : ℕ) → recOf a u x .nlinks ≡ L x
 
@@ -40,6 +41,7 @@ counts-none a t M = record {
   opens = λ x. refl;
   kinds = λ x. refl;
   files = λ x. refl;
+  sizes = λ x. refl;
   blocks = λ x. refl;
   links = λ x. refl;
 }
@@ -52,7 +54,7 @@ module _ {own : ℕ → Type 0} (a : List ℕ) (t : Table) (B L : ℕ → ℕ) (
   pub counts-rec : recOf a u (rowAt t i .id) ≡ rowAt u i .rec
   counts-rec = ap (recOf a u) (sym (S .ids i)) ∙ mid-rec a u (S .formed) i counts-used
 
-  module _ (r : DiskINode) (F : RecordFits r) (kind : r .kind ≡ rowAt u i .rec .kind) (file : r .file ≡ rowAt u i .rec .file) (C D : ℕ → ℕ)
+  module _ (r : DiskINode) (F : RecordFits r) (kind : r .kind ≡ rowAt u i .rec .kind) (file : r .file ≡ rowAt u i .rec .file) (size : r .size ≡ rowAt u i .rec .size) (C D : ℕ → ℕ)
       (b-here : C (rowAt t i .id) ≡ r .blocks) (b-else : (x : ℕ) → x ≢ rowAt t i .id → C x ≡ B x)
       (l-here : D (rowAt t i .id) ≡ r .nlinks) (l-else : (x : ℕ) → x ≢ rowAt t i .id → D x ≡ L x) where
     abbrev w : Table
@@ -75,6 +77,7 @@ module _ {own : ℕ → Type 0} (a : List ℕ) (t : Table) (B L : ℕ → ℕ) (
       opens = λ x. reset-open u (S .formed) i counts-used r x ∙ S .opens x;
       kinds = split (λ x y. y .kind ≡ recOf a t x .kind) (kind ∙ ap (λ (y : DiskINode). y .kind) (sym counts-rec) ∙ S .kinds (rowAt t i .id)) (λ x d. S .kinds x);
       files = split (λ x y. y .file ≡ recOf a t x .file) (file ∙ ap (λ (y : DiskINode). y .file) (sym counts-rec) ∙ S .files (rowAt t i .id)) (λ x d. S .files x);
+      sizes = split (λ x y. y .size ≡ recOf a t x .size) (size ∙ ap (λ (y : DiskINode). y .size) (sym counts-rec) ∙ S .sizes (rowAt t i .id)) (λ x d. S .sizes x);
       blocks = split (λ x y. y .blocks ≡ C x) (sym b-here) (λ x d. S .blocks x ∙ sym (b-else x d));
       links = split (λ x y. y .nlinks ≡ D x) (sym l-here) (λ x d. S .links x ∙ sym (l-else x d));
     }
@@ -85,10 +88,10 @@ module _ {own : ℕ → Type 0} (a : List ℕ) (t : Table) (B L : ℕ → ℕ) (
 
   pub counts-blocks : (n : ℕ) → n < 4294967296 → Counts own a t (at (rowAt t i .id) n B) L (takeRow u i (rowAt u i .id) (withBlocks (rowAt u i .rec) n) true)
   counts-blocks n l =
-      counts-set (withBlocks (rowAt u i .rec) n) (blocks-fit (rowAt u i .rec) n (S .fits .rows i (used .below) .rec) l) refl refl (at (rowAt t i .id) n B) L
+      counts-set (withBlocks (rowAt u i .rec) n) (blocks-fit (rowAt u i .rec) n (S .fits .rows i (used .below) .rec) l) refl refl refl (at (rowAt t i .id) n B) L
       (at-here (rowAt t i .id) n B) (at-else (rowAt t i .id) n B) (sym (counts-row .1)) (λ x d. refl)
 
   pub counts-links : (n : ℕ) → n < 65536 → Counts own a t B (at (rowAt t i .id) n L) (takeRow u i (rowAt u i .id) (withLinks (rowAt u i .rec) n) true)
   counts-links n l =
-      counts-set (withLinks (rowAt u i .rec) n) (links-fit (rowAt u i .rec) n (S .fits .rows i (used .below) .rec) l) refl refl B (at (rowAt t i .id) n L)
+      counts-set (withLinks (rowAt u i .rec) n) (links-fit (rowAt u i .rec) n (S .fits .rows i (used .below) .rec) l) refl refl refl B (at (rowAt t i .id) n L)
       (sym (counts-row .0)) (λ x d. refl) (at-here (rowAt t i .id) n L) (at-else (rowAt t i .id) n L)

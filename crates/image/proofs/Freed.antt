@@ -281,6 +281,9 @@ module _ (a b : List ℕ) (t w : Table) (A : Fair a t) (id : ℕ) (n : isNode a 
           later = λ j x y. let z : j < recOf a t k .blocks = omega (arith, e) in rw (s j) (later (slotIn a (recOf a t k) j) (slot-other k j g x z) (F .later j x z));
           distinct = λ i j x y z. rw (s i, s j) (F .distinct i j x y (omega (arith, e)));
         };
+    size = λ k m f.
+        let r = rec k m in
+        ap (λ (x : DiskINode). lengthOf b (nodeFile x)) r ∙ kept k (was k m) (not-id k m) .long ∙ A .rule6 .size k (was k m) (sym (folder-same k (not-id k m)) ∙ f) ∙ ap (λ (x : DiskINode). x .size) (sym r);
   }
 
   -- ---- links and climbing

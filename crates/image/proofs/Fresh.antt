@@ -223,7 +223,7 @@ module _ (n : ℕ) (time : Timespec) (name b : List ℕ) (fine : legal b ≡ tru
     rule3 = three;
     rule4 = four;
     rule5 = five;
-    rule6 = record { folder = of-folders (Folder b t) folder };
+    rule6 = record { folder = of-folders (Folder b t) folder; size = λ id e f. absurd (true-false (of-nodes (λ (k : ℕ). isFolderAt b t k ≡ true) root-folder id e) f) };
     rule7 = seven;
     rule8 = eight;
   }

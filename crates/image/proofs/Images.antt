@@ -42,10 +42,11 @@ pub record Like (r s : DiskINode) : Type 0 where
   pub kind : r .kind ≡ s .kind
   pub nlinks : r .nlinks ≡ s .nlinks
   pub blocks : r .blocks ≡ s .blocks
+  pub size : r .size ≡ s .size
   pub file : r .file ≡ s .file
 
 pub like-same : {r s : DiskINode} → r ≡ s → Like r s
-like-same e = record { kind = ap (λ (x : DiskINode). x .kind) e; nlinks = ap (λ (x : DiskINode). x .nlinks) e; blocks = ap (λ (x : DiskINode). x .blocks) e; file = ap (λ (x : DiskINode). x .file) e }
+like-same e = record { kind = ap (λ (x : DiskINode). x .kind) e; nlinks = ap (λ (x : DiskINode). x .nlinks) e; blocks = ap (λ (x : DiskINode). x .blocks) e; size = ap (λ (x : DiskINode). x .size) e; file = ap (λ (x : DiskINode). x .file) e }
 
 -- arena b has the superblock, the maps and the node files of arena a
 pub record Alike (a b : List ℕ) : Type 0 where
@@ -213,6 +214,9 @@ module _ (a b : List ℕ) (t u : Table) (same : Alike a b) (like : (id : ℕ) �
           later = λ k l m. rw (s k) (later-like (slotIn a (recOf a t id) k) (F .later k l (omega (arith, L .blocks))));
           distinct = λ j k l m n. rw (s j, s k) (F .distinct j k l m (omega (arith, L .blocks)));
         };
+    size = λ id n f.
+        let L = like id (was id n) in
+        same .files (recOf b u id .file) .long ∙ ap (λ (x : List ℕ). lengthOf a (file 1 x)) (L .file) ∙ R .size id (was id n) (sym (folder-like id) ∙ f) ∙ sym (L .size);
   }
 
   module _ (opens : (id : ℕ) → isNode a id ≡ true → recOf a t id .nlinks ≡ 0 → isOpen t id ≡ true → isOpen u id ≡ true) where

@@ -1,6 +1,6 @@
 -- What an arena has of a node that is made: its own file, and its folder's with a slot more.
 use mathlib.Core.Path.{_≡_, refl, sym, _∙_, subst}
-use mathlib.Core.Bool.{true}
+use mathlib.Core.Bool.{true, false}
 use mathlib.Core.List.{List, [], _∷_}
 use mathlib.Core.Logic.{_≢_}
 use Prim.Native.Nat.{ℕ, _+_, _*_, _<_}
@@ -19,9 +19,10 @@ use Rattle.rules.specs.Image.{storedSuper, storedMaps, isNode, storedBytes, slo
 use Rattle.rules.specs.Rules.{Rule1}
 use Rattle.image.proofs.Appends.{slot-kept}
 
--- the new node's file: a folder's has its two slots
+-- the new node's file: empty, or a folder's with its two slots
 pub record Young (f : List ℕ) (kind id up : ℕ) (b : List ℕ) : Type 0 where
   pub exists : there b (file 1 f) ≡ true
+  pub empty : isFolder kind ≡ false → lengthOf b (file 1 f) ≡ 0
   pub size : isFolder kind ≡ true → lengthOf b (file 1 f) ≡ 528
   pub dot : isFolder kind ≡ true → (r : DiskINode) → r .file ≡ f → slotIn b r 0 ≡ entry id (46 ∷ []) typeDir
   pub dots : isFolder kind ≡ true → (r : DiskINode) → r .file ≡ f → slotIn b r 1 ≡ entry up (46 ∷ 46 ∷ []) typeDir
@@ -37,6 +38,7 @@ pub record Housed (a : List ℕ) (s : DiskINode) (e : DiskEntry) (b : List ℕ) 
 pub young-kept : (f : List ℕ) (kind id up : ℕ) (b c : List ℕ) → Young f kind id up b → Kept b c (file 1 f) → Young f kind id up c
 young-kept f kind id up b c Y K = record {
   exists = K .exists ∙ Y .exists;
+  empty = λ z. K .long ∙ Y .empty z;
   size = λ z. K .long ∙ Y .size z;
   dot = λ z r q. slot-kept b c r r refl (subst (λ (g : List ℕ). Kept b c (file 1 g)) (sym q) K) 0 ∙ Y .dot z r q;
   dots = λ z r q. slot-kept b c r r refl (subst (λ (g : List ℕ). Kept b c (file 1 g)) (sym q) K) 1 ∙ Y .dots z r q;

@@ -83,6 +83,7 @@ module _ (a : List ℕ) (f : List ℕ) (n : ℕ) (e : DiskEntry) (F : EntryFits 
         kind = λ i. recs i x .kind;
         links = λ i. recs i x .nlinks;
         blocks = λ i. recs i x .blocks;
+        size = λ i. recs i x .size;
         long = λ i. long i x;
         slot = λ i k. slotIn b (recOf b t i) k;
         opened = isOpen t;

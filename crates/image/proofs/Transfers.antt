@@ -85,6 +85,9 @@ module _ (s : Fs) (i j : ℕ) (old : Slot) (name : List ℕ) (r : Replaced) (M :
   files : (x : ℕ) → recOf b u x .file ≡ recOf a t x .file
   files x = ap (λ (y : DiskINode). y .file) (rec-b x) ∙ S .files x
 
+  sizes : (x : ℕ) → recOf b u x .size ≡ recOf a t x .size
+  sizes x = ap (λ (y : DiskINode). y .size) (rec-b x) ∙ S .sizes x
+
   blocks : (x : ℕ) → recOf b u x .blocks ≡ B x
   blocks x = ap (λ (y : DiskINode). y .blocks) (rec-b x) ∙ S .blocks x
 
@@ -125,12 +128,12 @@ module _ (s : Fs) (i j : ℕ) (old : Slot) (name : List ℕ) (r : Replaced) (M :
           (λ z. C .to-still (recOf b u g) (recOf a t g) (files g ∙ file-g) file-g m (within m (omega (arith, at-here g l (treeOf a t .blocks))) z) z ∙ sym (onto-other (treeOf a t) g k l e (at c n L) g m z))
           (eq-cases m k)
 
-  long-else : (x : ℕ) → folderAt (treeOf a t) x ≡ true → x ≢ f → lengthOf b (nodeFile (recOf b u x)) ≡ v .long x
+  long-else : (x : ℕ) → isNode a x ≡ true → x ≢ f → lengthOf b (nodeFile (recOf b u x)) ≡ v .long x
   long-else x h d =
       ⊎-elim
       (λ (q : x ≡ g). subst (λ (z : ℕ). lengthOf b (nodeFile (recOf b u z)) ≡ v .long z) (sym q)
       (ap (λ (y : List ℕ). lengthOf b (file 1 y)) (files g ∙ file-g) ∙ C .to-long ∙ sym (at-here g (264 * l) (treeOf a t .long))))
-      (λ z. ap (λ (y : List ℕ). lengthOf b (file 1 y)) (files x) ∙ kept x (folder-is (treeOf a t) x h) d z .long ∙ sym (at-else g (264 * l) (treeOf a t .long) x z))
+      (λ z. ap (λ (y : List ℕ). lengthOf b (file 1 y)) (files x) ∙ kept x h d z .long ∙ sym (at-else g (264 * l) (treeOf a t .long) x z))
       (eq-cases x g)
 
   blocks-else : (x : ℕ) → x ≢ f → recOf b u x .blocks ≡ v .blocks x
@@ -158,6 +161,7 @@ module _ (s : Fs) (i j : ℕ) (old : Slot) (name : List ℕ) (r : Replaced) (M :
     opened = λ x m o. S .opens x ∙ o;
     slots = λ x h d m y. slot-else x h d m y;
     blocks = λ x h d. blocks-else x d;
+    size = λ x h. sizes x;
     long = λ x h d. long-else x h d;
     still = λ m y d. C .from-still (recOf b u f) (recOf a t f) (files f ∙ file-f) file-f m (omega (arith, own-blocks)) d ∙ sym (own-slot m);
     moved = λ y. C .from-moved (recOf b u f) (recOf a t f) (files f ∙ file-f) file-f (omega (arith, own-blocks)) ∙ sym (own-slot (v .blocks f - 1) ∙ ap (λ (m : ℕ). slotIn a (recOf a t f) (m - 1)) own-blocks);

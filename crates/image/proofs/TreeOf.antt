@@ -43,6 +43,7 @@ module _ (a : List ℕ) (t : Table) where
       later = λ k x y. let e = F .later k x y in record { ended = e .ended; some = e .some; no-dot = e .no-dot; no-dots = e .no-dots; node = e .node; kind = e .kind };
       distinct = F .distinct;
     };
+    sized = S .size;
     other = λ i n f. L .other i n f ∙ named-tree i;
     unnamed = L .unnamed;
     either = λ i f. ⊎-elim
@@ -80,6 +81,7 @@ module _ (a : List ℕ) (t : Table) where
         later = λ k x y. let e = F .later k x y in record { ended = e .ended; some = e .some; no-dot = e .no-dot; no-dots = e .no-dots; node = e .node; kind = e .kind };
         distinct = F .distinct;
       };
+      size = I .sized;
     }
 
     pub tidy-seven : Rule7 a t

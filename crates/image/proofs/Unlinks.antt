@@ -54,10 +54,12 @@ pub record Less (own : ℕ → Type 0) (a : List ℕ) (t : Table) (i c n p q : �
   pub else : (x : ℕ) → x ≢ rowAt t i .id → x ≢ rowAt t c .id → recOf a u x ≡ recOf a t x
   pub i-kind : rowAt u i .rec .kind ≡ rowAt t i .rec .kind
   pub i-file : rowAt u i .rec .file ≡ rowAt t i .rec .file
+  pub i-size : rowAt u i .rec .size ≡ rowAt t i .rec .size
   pub i-blocks : rowAt u i .rec .blocks ≡ n
   pub i-links : rowAt u i .rec .nlinks + p ≡ rowAt t i .rec .nlinks
   pub c-kind : rowAt u c .rec .kind ≡ rowAt t c .rec .kind
   pub c-file : rowAt u c .rec .file ≡ rowAt t c .rec .file
+  pub c-size : rowAt u c .rec .size ≡ rowAt t c .rec .size
   pub c-blocks : rowAt u c .rec .blocks ≡ rowAt t c .rec .blocks
   pub c-links : rowAt u c .rec .nlinks + q ≡ rowAt t c .rec .nlinks
 
@@ -79,10 +81,12 @@ module _ {own : ℕ → Type 0} (a : List ℕ) (t : Table) (i c : ℕ) (ui : Use
         else = λ x d k. reset-other t O i ui (withBlocks (rowAt t i .rec) n) a x d;
         i-kind = ap (λ (x : Row). x .rec .kind) h;
         i-file = ap (λ (x : Row). x .rec .file) h;
+        i-size = ap (λ (x : Row). x .rec .size) h;
         i-blocks = ap (λ (x : Row). x .rec .blocks) h;
         i-links = omega (arith, ap (λ (x : Row). x .rec .nlinks) h);
         c-kind = ap (λ (x : Row). x .rec .kind) o;
         c-file = ap (λ (x : Row). x .rec .file) o;
+        c-size = ap (λ (x : Row). x .rec .size) o;
         c-blocks = ap (λ (x : Row). x .rec .blocks) o;
         c-links = omega (arith, ap (λ (x : Row). x .rec .nlinks) o);
       }
@@ -103,10 +107,12 @@ module _ {own : ℕ → Type 0} (a : List ℕ) (t : Table) (i c : ℕ) (ui : Use
           else = λ x d k. reset-other u (S .formed) c w (withLinks (rowAt u c .rec) (rowAt u c .rec .nlinks - 1)) a x (λ z. k (z ∙ S .ids c)) ∙ S .else x d k;
           i-kind = ap (λ (x : Row). x .rec .kind) o ∙ S .i-kind;
           i-file = ap (λ (x : Row). x .rec .file) o ∙ S .i-file;
+          i-size = ap (λ (x : Row). x .rec .size) o ∙ S .i-size;
           i-blocks = ap (λ (x : Row). x .rec .blocks) o ∙ S .i-blocks;
           i-links = ap (λ (x : Row). x .rec .nlinks + p) o ∙ S .i-links;
           c-kind = ap (λ (x : Row). x .rec .kind) h ∙ S .c-kind;
           c-file = ap (λ (x : Row). x .rec .file) h ∙ S .c-file;
+          c-size = ap (λ (x : Row). x .rec .size) h ∙ S .c-size;
           c-blocks = ap (λ (x : Row). x .rec .blocks) h ∙ S .c-blocks;
           c-links = omega (arith, ap (λ (x : Row). x .rec .nlinks) h, S .c-links);
         }
@@ -126,10 +132,12 @@ module _ {own : ℕ → Type 0} (a : List ℕ) (t : Table) (i c : ℕ) (ui : Use
           else = λ x d k. reset-other u (S .formed) i w (withLinks (rowAt u i .rec) (rowAt u i .rec .nlinks - 1)) a x (λ z. d (z ∙ S .ids i)) ∙ S .else x d k;
           i-kind = ap (λ (x : Row). x .rec .kind) h ∙ S .i-kind;
           i-file = ap (λ (x : Row). x .rec .file) h ∙ S .i-file;
+          i-size = ap (λ (x : Row). x .rec .size) h ∙ S .i-size;
           i-blocks = ap (λ (x : Row). x .rec .blocks) h ∙ S .i-blocks;
           i-links = omega (arith, ap (λ (x : Row). x .rec .nlinks) h, S .i-links);
           c-kind = ap (λ (x : Row). x .rec .kind) o ∙ S .c-kind;
           c-file = ap (λ (x : Row). x .rec .file) o ∙ S .c-file;
+          c-size = ap (λ (x : Row). x .rec .size) o ∙ S .c-size;
           c-blocks = ap (λ (x : Row). x .rec .blocks) o ∙ S .c-blocks;
           c-links = ap (λ (x : Row). x .rec .nlinks + q) o ∙ S .c-links;
         }
@@ -201,6 +209,9 @@ module _ {own : ℕ → Type 0} (a : List ℕ) (t : Table) (O : Formed own t) (y
   files : (x : ℕ) → recOf b u x .file ≡ recOf a t x .file
   files = field-all (λ r. r .file) (S .i-file) (S .c-file)
 
+  sizes : (x : ℕ) → recOf b u x .size ≡ recOf a t x .size
+  sizes = field-all (λ r. r .size) (S .i-size) (S .c-size)
+
   kept : (x : ℕ) → isNode a x ≡ true → x ≢ d → Kept a b (nodeFile (recOf a t x))
   kept x n m = B .others (nodeFile (recOf a t x)) (file-apart (ri .file) (recOf a t x .file) (λ q. m (distinct x n (sym q))))
 
@@ -227,7 +238,8 @@ module _ {own : ℕ → Type 0} (a : List ℕ) (t : Table) (O : Formed own t) (y
     opened = λ x n o. S .opens x ∙ o;
     slots = λ x f n j l. slot-kept a b (recOf b u x) (recOf a t x) (files x) (kept x (folder-is (treeOf a t) x f) n) j;
     blocks = λ x f n. field-else (λ r. r .blocks) (S .c-blocks) x n;
-    long = λ x f n. ap (λ (g : List ℕ). lengthOf b (file 1 g)) (files x) ∙ kept x (folder-is (treeOf a t) x f) n .long;
+    size = λ x m. sizes x;
+    long = λ x m n. ap (λ (g : List ℕ). lengthOf b (file 1 g)) (files x) ∙ kept x m n .long;
     still = λ j l n. gone-still a (ri .file) (ri .blocks - 1) pl below y so is-there b B (recOf b u d) (recOf a t d) file-new file-old j (omega (arith, blocks-i)) n;
     moved = λ l. gone-moved a (ri .file) (ri .blocks - 1) pl below y so is-there b B (recOf b u d) (recOf a t d) file-new file-old (omega (arith, blocks-i))
         ∙ ap (slotIn a (recOf a t d)) (let z : ri .blocks - 1 ≡ recOf a t d .blocks - 1 = omega (arith, blocks-i) in z);

@@ -54,6 +54,7 @@ treeOf a t = record {
   kind = λ i. recOf a t i .kind;
   links = λ i. recOf a t i .nlinks;
   blocks = λ i. recOf a t i .blocks;
+  size = λ i. recOf a t i .size;
   long = λ i. lengthOf a (nodeFile (recOf a t i));
   slot = λ i k. slotIn a (recOf a t i) k;
   opened = isOpen t;

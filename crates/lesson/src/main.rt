@@ -1,6 +1,7 @@
 // The lesson of the course: document 01's examples, run on the calls. Each scene is a function, and each line that it prints says what was
 // done and what came out.
 use base::copy;
+use calls::HeldReply;
 use calls_close::close;
 use calls_find::find;
 use calls_link::link;
@@ -9,6 +10,8 @@ use calls_unlink::unlink;
 use lesson_lib::image;
 use lesson_lib::lines::create_line;
 use lesson_lib::lines::handle_line;
+use lesson_lib::lines::outline_line;
+use lesson_lib::lines::save_line;
 use lesson_lib::lines::slot_line;
 use lesson_lib::say;
 use lesson_lib::say::text;
@@ -102,16 +105,38 @@ fn hold_line(before: &[u8], h: Handle) {
 }
 
 // Ann and Ben have a glyph open; Ben removes it and makes another.
-fn removed(arena: &mut [u8; 8192], t: Table, root: Handle, ann: Handle) -> Table {
+fn removed(arena: &mut [u8; 8192], t: Table, root: Handle, ann: Handle) -> HeldReply {
     let u = unlink(arena, t, root, b"a");
     let a = u.answer;
     let t = u.table;
     say::answer(b"  Ben unlinks a: ", a);
     handle_line(arena, t, ann, b"; Ann's a is ");
     text(b".\n");
-    let g = create_line(arena, t, root, b"b", FILE, 3);
-    text(b"  A number stays taken while a handle is open, so Ann's points are not in b.\n");
-    let t = g.table;
+    create_line(arena, t, root, b"b", FILE, 3)
+}
+
+// Ann saves in the a that she has open, Ben in his new b.
+fn saved(arena: &mut [u8; 8192], t: Table, ann: Handle, ben: Handle) -> Table {
+    text(
+        b"  A number stays taken while a handle is open, so b has another, and a file of its own.\n",
+    );
+    let t = save_line(
+        arena,
+        t,
+        ann,
+        b"  Ann saves her curve: ",
+        b"M0 0 C1 9 4 9 5 0",
+    );
+    let t = save_line(
+        arena,
+        t,
+        ben,
+        b"  Ben saves his corner: ",
+        b"M0 0 L5 0 L5 7",
+    );
+    outline_line(arena, t, ann, b"  Ann's a reads ");
+    outline_line(arena, t, ben, b"; Ben's b reads ");
+    text(b".\n");
     t
 }
 
@@ -149,7 +174,10 @@ fn support_call(arena: &mut [u8; 8192]) {
     hold_line(b".\n  One node, two handles: Ann has hold ", ann);
     hold_line(b"; Ben has hold ", ben);
     text(b".\n");
-    let t = removed(arena, t, root, ann);
+    let g = removed(arena, t, root, ann);
+    let a = g.answer;
+    let t = g.table;
+    let t = saved(arena, t, ann, handle(a));
     let t = closed(arena, t, ann, ben);
     create_line(arena, t, root, b"c", FILE, 4);
 }

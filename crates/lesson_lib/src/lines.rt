@@ -9,6 +9,8 @@ use calls::HeldReply;
 use calls::Told;
 use calls_entry::get_entry;
 use calls_metadata::metadata;
+use calls_read::read;
+use calls_write::write;
 use table::Handle;
 use table::Table;
 use utf8::first_zero;
@@ -79,10 +81,28 @@ pub fn create_line(
     g
 }
 
-// A stored name, up to its zero.
+// A stored name, or what was read, up to its zero.
 fn stored(name: &[u8]) {
     let n = first_zero(name);
     text(&name[..n]);
+}
+
+// An outline goes into a node's own bytes.
+pub fn save_line(arena: &mut [u8], t: Table, h: Handle, before: &[u8], outline: &[u8]) -> Table {
+    let w = write(arena, t, h, 0, outline);
+    let a = w.answer;
+    let u = w.table;
+    say::answer(before, a);
+    text(b".\n");
+    u
+}
+
+// What a node's own bytes say, after a text.
+pub fn outline_line(arena: &[u8], t: Table, h: Handle, before: &[u8]) {
+    let mut out = [0u8; 64];
+    read(arena, t, h, 0, &mut out);
+    text(before);
+    stored(&out);
 }
 
 // The name in a slot of the root, after a text.

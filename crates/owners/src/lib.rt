@@ -2,7 +2,7 @@
 // 1, 2 and 3 can't come (`owned`, crates/promised), and nothing tests for them. The owner keeps the chains of all blocks beside the arena: a
 // call that changes the arena makes them again.
 mod changes;
-mod ends;
+pub mod ends;
 
 ghost use mathlib.Core.Path.{_≡_};
 ghost use lib.ListN.{length, getD};

@@ -17,22 +17,24 @@ use Rattle.sefs.specs.Create.{After, Given, callFormat, callCreate, callLink}
 use Rattle.sefs.specs.Unlink.{callUnlink}
 use Rattle.sefs.specs.Move.{callMove}
 use Rattle.sefs.specs.Read.{callMetadata, callSet, callEntry, callListing}
+use Rattle.sefs.specs.Contents.{callRead, callWrite, callResize}
 use Rattle.sefs.specs.Close.{callSync, callClose}
 use Rattle.le.specs.Le.{Bytes}
 use Rattle.structs.specs.Fits.{TimeFits}
-use Rattle.calls.specs.Answers.{answerOf, answerNumber, gotNumber, toldOf, toldNumber, listedOf, listedNumber, Lays, Replies}
+use Rattle.calls.specs.Answers.{answerOf, answerNumber, gotNumber, toldOf, toldNumber, listedOf, listedNumber, takenOf, takenNumber, Lays, Replies}
 use Rattle.calls.specs.declared.Reply as answered
 use Rattle.calls.specs.declared.HeldReply as handed
 use Rattle.calls.specs.declared.Answer.{Answer}
 use Rattle.calls.specs.declared.Answer.the-variants as answers
 use Rattle.calls.specs.declared.Told.{Told}
 use Rattle.calls.specs.declared.Listed.{Listed}
+use Rattle.calls.specs.declared.Taken.{Taken}
 use Rattle.steps.specs.Ends.{Returned}
 use Rattle.calls_create.specs.Held.{ReturnedHeld}
 use Rattle.calls_format.specs.Format.{formatted}
 use Rattle.calls_find.specs.Finds.{Gives}
 use Rattle.sequences.specs.Pairs.{Pair, pair, Passed}
-use Rattle.sequences.specs.Calls.{Call, root, find, create, link, unlink, move, metadata, setMetadata, getEntry, listing, sync, close, Fits, HandleFits, NewFits, SetFits, does, reasonOf, next, carries}
+use Rattle.sequences.specs.Calls.{Call, root, find, create, link, unlink, move, metadata, setMetadata, getEntry, listing, read, write, resize, sync, close, Fits, HandleFits, NewFits, SetFits, does, reasonOf, next, carries}
 use Rattle.sequences.specs.Promises.{Keeps, Well, Fresh}
 use Rattle.sequences.proofs.Sequences.{keeps}
 use Rattle.sequences.proofs.Fresh.{fresh}
@@ -117,6 +119,10 @@ listed-number : (o : Out (List ℕ)) → listedNumber (listedOf o) ≡ answer o
 listed-number (done x) = refl
 listed-number (refused n) = refl
 
+taken-number : (o : Out (List ℕ)) → takenNumber (takenOf o) ≡ answer o
+taken-number (done x) = refl
+taken-number (refused n) = refl
+
 -- ---- one law a call
 
 module _ (p : Pair) (y : Passed p) where
@@ -184,6 +190,22 @@ module _ (p : Pair) (y : Passed p) where
           subst (Stays (p .arena) (p .table)) (sym (ap listedNumber (e .0) ∙ listed-number (callListing (p .arena) (p .table) h k (length out))))
           (by-none (listing h k (length out)) p (callListing (p .arena) (p .table) h k (length out)) (held (listing h k (length out)) (H, K, R) refl) refl)
 
+      pub read-keeps : (r : Taken) → Lays takenOf (callRead (p .arena) (p .table) h k (length out)) out now r → Stays (p .arena) (p .table) (takenNumber r)
+      unfolding does
+      read-keeps r e =
+          subst (Stays (p .arena) (p .table)) (sym (ap takenNumber (e .0) ∙ taken-number (callRead (p .arena) (p .table) h k (length out))))
+          (by-none (read h k (length out)) p (callRead (p .arena) (p .table) h k (length out)) (held (read h k (length out)) (H, K, R) refl) refl)
+
+    pub write-keeps : (place : ℕ) → place < 2 ^ 64 → (src : List ℕ) → Bytes src → (b : List ℕ) (r : answered.Reply)
+        → Returned (p .table) (callWrite (p .arena) (p .table) h place src) (p .arena) b r → Stays b (r .table) (answerNumber (r .answer))
+    unfolding does
+    write-keeps place P src S = by-return (write h place src) p (callWrite (p .arena) (p .table) h place src) (held (write h place src) (H, P, S) refl) refl
+
+    pub resize-keeps : (n : ℕ) → n < 2 ^ 64 → (b : List ℕ) (r : answered.Reply)
+        → Returned (p .table) (callResize (p .arena) (p .table) h n) (p .arena) b r → Stays b (r .table) (answerNumber (r .answer))
+    unfolding does
+    resize-keeps n N = by-return (resize h n) p (callResize (p .arena) (p .table) h n) (held (resize h n) (H, N) refl) refl
+
     pub close-keeps : (b : List ℕ) (r : answered.Reply) → Returned (p .table) (callClose (p .arena) (p .table) h) (p .arena) b r → Stays b (r .table) (answerNumber (r .answer))
     unfolding does
     close-keeps = by-return (close h) p (callClose (p .arena) (p .table) h) (held (close h) H refl) refl
@@ -192,7 +214,7 @@ module _ (p : Pair) (y : Passed p) where
   unfolding does
   sync-keeps = by-return sync p (callSync (p .arena) (p .table)) (held sync tt refl) refl
 
-isDone : Answer → Bool
+unfoldable pub isDone : Answer → Bool
 isDone answers.Done = true
 isDone (answers.Refused n) = false
 

@@ -1,4 +1,5 @@
 pub mod Calls
+pub mod Contents
 pub mod Checks
 pub mod Ones
 pub mod Owners

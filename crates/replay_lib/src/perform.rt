@@ -10,8 +10,10 @@ use crate::writes::call_create;
 use crate::writes::call_format;
 use crate::writes::call_link;
 use crate::writes::call_move;
+use crate::writes::call_resize;
 use crate::writes::call_sync;
 use crate::writes::call_unlink;
+use crate::writes::call_write;
 use replay_reads::do_read;
 use script::desk::arena_len;
 use script::desk::do_quiet;
@@ -19,7 +21,7 @@ use script::lines::put_name;
 use script::lines::put_sums;
 use script::shape::size_at;
 
-// Those of writes.rt: 16, 20 to 23, 28, 29. The others leave the arena as it is.
+// Those of writes.rt: 16, 20 to 23, 28, 29, 33, 34. The others leave the arena as it is.
 fn do_call(
     script: &[u8],
     at: usize,
@@ -40,6 +42,8 @@ fn do_call(
         23 => call_move(script, at, desk, arena, text, w),
         28 => call_sync(desk, arena, text, w),
         29 => call_close(script, at, desk, arena, text, w),
+        33 => call_write(script, at, desk, arena, text, w),
+        34 => call_resize(script, at, desk, arena, text, w),
         _ => do_read(script, at, desk, &arena[..], text, w),
     }
 }

@@ -8,6 +8,7 @@ use calls::Reply;
 use calls_create::New;
 use le::u16_at;
 use le::u32_at;
+use le::u64_at;
 use script::args::file_at;
 use script::args::handle_at;
 use script::args::name_end;
@@ -59,6 +60,53 @@ pub fn call_close(
 {
     let h = handle_at(script, at + 1);
     let a = calls_close::close(arena, read_table(&desk[..]), h);
+    put_after(desk, text, w, a)
+}
+
+// ---- write, resize
+
+fn write(script: &[u8], at: usize, desk: &[u8], arena: &mut [u8]) -> Reply
+    requires { ⌜ at + named1 (now script) at 21 ≤ length (now script) ⌝ }
+    requires { ⌜ length (now desk) ≡ 4387 ⌝ }
+{
+    let h = handle_at(script, at + 1);
+    let place = u64_at(script, at + 13);
+    let s = at + 23;
+    let e = name_end(script, at + 21);
+    calls_write::write(arena, read_table(desk), h, place, &script[s..e])
+}
+
+pub fn call_write(
+    script: &[u8],
+    at: usize,
+    desk: &mut [u8],
+    arena: &mut [u8],
+    text: &mut [u8],
+    w: usize,
+) -> usize
+    requires { ⌜ at + named1 (now script) at 21 ≤ length (now script) ⌝ }
+    requires { ⌜ (length (now desk) ≡ 4387) × (w + 400 ≤ length (now text)) ⌝ }
+    ensures { λ r. ⌜ r ≤ w + 400 ⌝ }
+{
+    let a = write(script, at, &desk[..], arena);
+    put_after(desk, text, w, a)
+}
+
+pub fn call_resize(
+    script: &[u8],
+    at: usize,
+    desk: &mut [u8],
+    arena: &mut [u8],
+    text: &mut [u8],
+    w: usize,
+) -> usize
+    requires { ⌜ at + 21 ≤ length (now script) ⌝ }
+    requires { ⌜ (length (now desk) ≡ 4387) × (w + 400 ≤ length (now text)) ⌝ }
+    ensures { λ r. ⌜ r ≤ w + 400 ⌝ }
+{
+    let h = handle_at(script, at + 1);
+    let n = u64_at(script, at + 13);
+    let a = calls_resize::resize(arena, read_table(&desk[..]), h, n);
     put_after(desk, text, w, a)
 }
 

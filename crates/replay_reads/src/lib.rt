@@ -22,6 +22,7 @@ use script::lines::put_given;
 use script::lines::put_listed;
 use script::lines::put_output;
 use script::lines::put_pass;
+use script::lines::put_taken;
 use script::lines::put_told;
 use script::text::put_value;
 use script::text::put_word;
@@ -139,7 +140,7 @@ fn call_set(
     put_after(desk, text, w, a)
 }
 
-// ---- get entry, listing: the output has 8,192 bytes, all 238, of which the call is lent the first
+// ---- get entry, read, listing: the output has 8,192 bytes, all 238, of which the call is lent the first
 
 fn put_238(out: &mut [u8]) {
     let n = out.len();
@@ -169,7 +170,46 @@ fn put_entry(
     put_answer(text, w, a)
 }
 
-fn entry_words(
+fn put_read(
+    script: &[u8],
+    at: usize,
+    desk: &[u8],
+    arena: &[u8],
+    out: &mut [u8],
+    text: &mut [u8],
+    w: usize,
+) -> usize
+    requires { ⌜ at + 23 ≤ length (now script) ⌝ }
+    requires { ⌜ (length (now desk) ≡ 4387) × (w + 24 ≤ length (now text)) ⌝ }
+    ensures { λ r. ⌜ r ≤ w + 24 ⌝ }
+{
+    let h = handle_at(script, at + 1);
+    let place = u64_at(script, at + 13);
+    let t = calls_read::read(arena, read_table(desk), h, place, out);
+    put_taken(text, w, t)
+}
+
+// By the command's byte: 26, 32.
+fn put_shown(
+    script: &[u8],
+    at: usize,
+    desk: &[u8],
+    arena: &[u8],
+    out: &mut [u8],
+    text: &mut [u8],
+    w: usize,
+) -> usize
+    requires { ⌜ at + 23 ≤ length (now script) ⌝ }
+    requires { ⌜ (length (now desk) ≡ 4387) × (w + 24 ≤ length (now text)) ⌝ }
+    ensures { λ r. ⌜ r ≤ w + 24 ⌝ }
+{
+    if script[at] == 26 {
+        return put_entry(script, at, desk, arena, out, text, w);
+    }
+    put_read(script, at, desk, arena, out, text, w)
+}
+
+fn shown_words(
     script: &[u8],
     at: usize,
     desk: &[u8],
@@ -184,11 +224,11 @@ fn entry_words(
 {
     put_238(out);
     let n = index16(u16_at(script, at + 21));
-    let u = put_entry(script, at, desk, arena, &mut out[..n], text, w);
+    let u = put_shown(script, at, desk, arena, &mut out[..n], text, w);
     put_output(text, u, &out[..])
 }
 
-fn call_entry(
+fn call_shown(
     script: &[u8],
     at: usize,
     desk: &[u8],
@@ -201,7 +241,7 @@ fn call_entry(
     ensures { λ r. ⌜ r ≤ w + 400 ⌝ }
 {
     let mut out = [0u8; 8192];
-    entry_words(script, at, desk, arena, &mut out, text, w)
+    shown_words(script, at, desk, arena, &mut out, text, w)
 }
 
 fn put_list(text: &mut [u8], w: usize, m: Moved, out: &[u8]) -> usize
@@ -258,7 +298,7 @@ fn call_list(
     list_words(script, at, desk, arena, &mut out, text, w)
 }
 
-// ---- the command by its byte: 17 to 19, 24 to 27, 30
+// ---- the command by its byte: 17 to 19, 24 to 27, 30, 32
 
 pub fn do_read(
     script: &[u8],
@@ -278,8 +318,9 @@ pub fn do_read(
         19 => call_find(script, at, desk, arena, text, w),
         24 => call_metadata(script, at, &desk[..], arena, text, w),
         25 => call_set(script, at, desk, arena, text, w),
-        26 => call_entry(script, at, &desk[..], arena, text, w),
+        26 => call_shown(script, at, &desk[..], arena, text, w),
         27 => call_list(script, at, &desk[..], arena, text, w),
+        32 => call_shown(script, at, &desk[..], arena, text, w),
         _ => call_check(&desk[..], arena, text, w),
     }
 }

@@ -9,9 +9,11 @@ use lib.Dec.{T}
 use lib.ListN.{length}
 use Rattle.base.specs.Decides.{Decides}
 use Rattle.base.specs.Search.{pick}
-use Rattle.base.proofs.Bools.{and-parts}
+use Rattle.base.proofs.Bools.{and-both, and-parts, true-false}
+use Rattle.base.proofs.Sames.{test-fails}
 use Rattle.base.proofs.Tests.{decides-true, decides-iff, decides-eqb, decides-leb, decides-and, decides-not, decides-if, decides-all, decides-same}
 use Rattle.structs.specs.Constants.{typeDir}
+use Rattle.structs.specs.Types.{isFolder}
 use Rattle.structs.specs.declared.DiskINode.{DiskINode}
 use Rattle.structs.specs.declared.DiskEntry.{DiskEntry}
 use Rattle.utf8.specs.Utf8.{utf8}
@@ -25,8 +27,8 @@ use Rattle.sefs.specs.Nodes.{nodeFile}
 use Rattle.sefs.specs.Slots.{isEnded}
 use Rattle.rules.specs.Image.{idsIn, isNode, recOf, isFolderAt, slotIn, laterSlot, laterSlots}
 use Rattle.rules.specs.Rules.{Later, Folder, Rule6}
-use Rattle.rules.specs.Tests.{test6, dotAllowed, dotsAllowed, laterAllowed, sameName, isFirst, folderAllowed}
-use Rattle.rules.proofs.General.{decides-or, decides-none}
+use Rattle.rules.specs.Tests.{test6, dotAllowed, dotsAllowed, laterAllowed, sameName, isFirst, folderAllowed, sizeAllowed, contentsAllowed}
+use Rattle.rules.proofs.General.{decides-or, decides-pick, decides-none}
 use Rattle.rules.proofs.Files.{node-below}
 
 -- a folder is a node, of type 2
@@ -147,9 +149,38 @@ decides-folder a t id =
     (decides-all (laterSlots r) (λ j. laterAllowed a t (laterSlot a r j) && isFirst a r j) (LaterAt a t r)
     (λ j l. decides-and (decides-later a t (laterSlot a r j)) (decides-first a r j)))))))
 
-pub decides-6 : (a : List ℕ) (t : Table) → Decides (test6 a t) (Rule6 a t)
-unfolding test6
-decides-6 a t =
-    decides-iff (λ p. record { folder = λ id e. p id (folder-below a t id e) e }) (λ r id l e. r .folder id e)
-    (decides-all (idsIn a) (λ id. not (isFolderAt a t id) || folderAllowed a t id (recOf a t id)) (λ id. isFolderAt a t id ≡ true → Folder a t id)
-    (λ id l. decides-if (decides-true (isFolderAt a t id)) (decides-folder a t id)))
+-- ---- any node
+
+decides-size : (a : List ℕ) (r : DiskINode) → Decides (sizeAllowed a r) (lengthOf a (nodeFile r) ≡ r .size)
+unfolding sizeAllowed
+decides-size a r = decides-eqb (lengthOf a (nodeFile r)) (r .size)
+
+module _ (a : List ℕ) (t : Table) where
+  -- what the test asks of a node
+  Asked : ℕ → Type 0
+  Asked id =
+      isNode a id ≡ true
+      → (isFolder (recOf a t id .kind) ≡ true → Folder a t id)
+      × ((isFolder (recOf a t id .kind) ≡ true → ⊥) → lengthOf a (nodeFile (recOf a t id)) ≡ recOf a t id .size)
+
+  decides-contents : (id : ℕ) → Decides (not (isNode a id) || contentsAllowed a t id (recOf a t id)) (Asked id)
+  unfolding contentsAllowed Asked
+  decides-contents id =
+      decides-if (decides-true (isNode a id))
+      (decides-pick (decides-true (isFolder (recOf a t id .kind))) (decides-folder a t id) (decides-size a (recOf a t id)))
+
+  pub decides-6 : Decides (test6 a t) (Rule6 a t)
+  unfolding test6 Asked isFolderAt
+  decides-6 =
+      decides-iff
+      (λ p.
+      let node : (id : ℕ) → Asked id = λ id e. p id (node-below a id e) e in
+      record {
+        folder = λ id e. node id (folder-node a t id e) .0 (and-parts (isNode a id) _ e .1);
+        size = λ id e n. node id e .1 (λ f. true-false (and-both e f) n);
+      })
+      (λ r id l e. (
+        λ f. r .folder id (and-both e f),
+        λ n. r .size id e (test-fails _ (λ x. n (and-parts (isNode a id) _ x .1))),
+      ))
+      (decides-all (idsIn a) (λ id. not (isNode a id) || contentsAllowed a t id (recOf a t id)) Asked (λ id l. decides-contents id))

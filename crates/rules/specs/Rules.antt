@@ -80,8 +80,10 @@ pub record Folder (a : List ℕ) (t : Table) (id : ℕ) : Type 0 where
   pub later : (k : ℕ) → 2 ≤ k → k < recOf a t id .blocks → Later a t (slotIn a (recOf a t id) k)
   pub distinct : (j k : ℕ) → 2 ≤ j → j < k → k < recOf a t id .blocks → nameOf (slotIn a (recOf a t id) j .name) ≢ nameOf (slotIn a (recOf a t id) k .name)
 
+-- and order 1: "a non-folder's file length is its size"
 pub record Rule6 (a : List ℕ) (t : Table) : Type 0 where
   pub folder : (id : ℕ) → isFolderAt a t id ≡ true → Folder a t id
+  pub size : (id : ℕ) → isNode a id ≡ true → isFolderAt a t id ≡ false → lengthOf a (nodeFile (recOf a t id)) ≡ recOf a t id .size
 
 -- 7. "A folder has 2 plus its subfolders, and is named once (root never)"
 pub record Linked (a : List ℕ) (t : Table) (id : ℕ) : Type 0 where

@@ -105,8 +105,15 @@ folderAllowed a t id r =
     && (dotAllowed id (slotIn a r 0)
     && (dotsAllowed (slotIn a r 1) && allTo (λ j. laterAllowed a t (laterSlot a r j) && isFirst a r j) (laterSlots r))))
 
+-- a non-folder
+unfoldable pub sizeAllowed : List ℕ → DiskINode → Bool
+sizeAllowed a r = eqb (lengthOf a (nodeFile r)) (r .size)
+
+unfoldable pub contentsAllowed : List ℕ → Table → ℕ → DiskINode → Bool
+contentsAllowed a t id r = pick (isFolder (r .kind)) (folderAllowed a t id r) (sizeAllowed a r)
+
 unfoldable pub test6 : List ℕ → Table → Bool
-test6 a t = allTo (λ id. not (isFolderAt a t id) || folderAllowed a t id (recOf a t id)) (idsIn a)
+test6 a t = allTo (λ id. not (isNode a id) || contentsAllowed a t id (recOf a t id)) (idsIn a)
 
 -- ---- 7
 

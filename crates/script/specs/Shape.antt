@@ -13,7 +13,7 @@ pub record Sized (s : List ℕ) (at r n : ℕ) : Type 0 where
   pub most : r ≤ n
   pub full : 0 < r → r ≡ n
 
--- n bytes, and a name after them: its length, and as many bytes
+-- n bytes, and after them a name, or what is written: its length, and as many bytes
 abbrev pub named1 : List ℕ → ℕ → ℕ → ℕ
 named1 s at n = n + (2 + leAt s (at + n) 2)
 
@@ -42,7 +42,10 @@ sizeBy c s at =
     (cond (eqb c 27) 23
     (cond (eqb c 28) 1
     (cond (eqb c 29) 13
-    (cond (eqb c 30) 1 0))))))))))))))))))
+    (cond (eqb c 30) 1
+    (cond (eqb c 32) 23
+    (cond (eqb c 33) (named1 s at 21)
+    (cond (eqb c 34) 21 0)))))))))))))))))))))
 
 abbrev pub sizeOf : List ℕ → ℕ → ℕ
 sizeOf s at = sizeBy (getD s at 0) s at
@@ -52,7 +55,7 @@ unfoldable pub arenaBy : ℕ → List ℕ → ℕ → ℕ
 arenaBy c s at = cond (eqb c 1) (leAt s (at + 1) 4) (cond (eqb c 2) (leAt s (at + 1) 4) 0)
 
 unfoldable pub outputBy : ℕ → List ℕ → ℕ → ℕ
-outputBy c s at = cond (eqb c 26) (leAt s (at + 21) 2) (cond (eqb c 27) (leAt s (at + 21) 2) 0)
+outputBy c s at = cond (eqb c 26) (leAt s (at + 21) 2) (cond (eqb c 27) (leAt s (at + 21) 2) (cond (eqb c 32) (leAt s (at + 21) 2) 0))
 
 abbrev pub arenaOf : List ℕ → ℕ → ℕ
 arenaOf s at = arenaBy (getD s at 0) s at

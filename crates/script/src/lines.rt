@@ -11,6 +11,7 @@ use calls::Got;
 use calls::HeldReply;
 use calls::Listed;
 use calls::Reply;
+use calls::Taken;
 use calls::Told;
 use sefs::Metadata;
 use structs::Timespec;
@@ -39,6 +40,9 @@ pub fn put_name(text: &mut [u8], w: usize, c: u8) -> usize
         27 => put_word(text, w, b"list"),
         28 => put_word(text, w, b"sync"),
         29 => put_word(text, w, b"close"),
+        32 => put_word(text, w, b"read"),
+        33 => put_word(text, w, b"write"),
+        34 => put_word(text, w, b"resize"),
         _ => put_word(text, w, b"check"),
     }
 }
@@ -151,9 +155,9 @@ pub fn put_told(text: &mut [u8], w: usize, t: Told) -> usize
     }
 }
 
-// ---- listing, and the output's sum
+// ---- listing, read, and the output's sum
 
-fn put_slots(text: &mut [u8], w: usize, n: usize) -> usize
+fn put_count(text: &mut [u8], w: usize, n: usize) -> usize
     requires { ⌜ w + 24 ≤ length (now text) ⌝ }
     ensures { λ r. ⌜ r ≤ w + 24 ⌝ }
 {
@@ -166,8 +170,18 @@ pub fn put_listed(text: &mut [u8], w: usize, l: Listed) -> usize
     ensures { λ r. ⌜ r ≤ w + 24 ⌝ }
 {
     match l {
-        Listed::Slots(n) => put_slots(text, w, n),
+        Listed::Slots(n) => put_count(text, w, n),
         Listed::Refused(r) => put_no(text, w, r),
+    }
+}
+
+pub fn put_taken(text: &mut [u8], w: usize, t: Taken) -> usize
+    requires { ⌜ w + 24 ≤ length (now text) ⌝ }
+    ensures { λ r. ⌜ r ≤ w + 24 ⌝ }
+{
+    match t {
+        Taken::Bytes(n) => put_count(text, w, n),
+        Taken::Refused(r) => put_no(text, w, r),
     }
 }
 

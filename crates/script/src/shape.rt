@@ -19,20 +19,29 @@ fn whole(script: &[u8], at: usize, n: usize) -> usize
     0
 }
 
+// With bytes after the first n: their length, at most `longest`, and as many.
+fn lengthy(script: &[u8], at: usize, n: usize, longest: usize) -> usize
+    requires { ⌜ (at ≤ length (now script)) × ((n ≤ 65536) × (longest ≤ 65535)) ⌝ }
+    ensures { λ r. ⌜ Sized (now (script .entry)) at r (named1 (now (script .entry)) at n) ⌝ }
+    ensures { λ r. ⌜ r ≤ n + (2 + longest) ⌝ }
+{
+    if whole(script, at, n + 2) == 0 {
+        return 0;
+    }
+    let m = index16(u16_at(script, at + n));
+    if m > longest {
+        return 0;
+    }
+    whole(script, at, n + (2 + m))
+}
+
 // With a name after the first n bytes.
 fn named(script: &[u8], at: usize, n: usize) -> usize
     requires { ⌜ (at ≤ length (now script)) × (n ≤ 65536) ⌝ }
     ensures { λ r. ⌜ Sized (now (script .entry)) at r (named1 (now (script .entry)) at n) ⌝ }
     ensures { λ r. ⌜ r ≤ n + 1026 ⌝ }
 {
-    if whole(script, at, n + 2) == 0 {
-        return 0;
-    }
-    let m = index16(u16_at(script, at + n));
-    if m > 1024 {
-        return 0;
-    }
-    whole(script, at, n + (2 + m))
+    lengthy(script, at, n, 1024)
 }
 
 // With a name after the first n bytes and `more` bytes after it.
@@ -128,6 +137,9 @@ pub fn size_at(script: &[u8], at: usize, limit: usize) -> usize
         28 => whole(script, at, 1),
         29 => whole(script, at, 13),
         30 => whole(script, at, 1),
+        32 => with_output(script, at),
+        33 => lengthy(script, at, 21, 8192),
+        34 => whole(script, at, 21),
         _ => 0,
     }
 }

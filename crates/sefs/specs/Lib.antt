@@ -11,3 +11,4 @@ pub mod Create
 pub mod Unlink
 pub mod Move
 pub mod Close
+pub mod Contents

@@ -56,3 +56,20 @@ withBlocks r n = record {
   file = r .file;
   mac = r .mac;
 }
+
+abbrev pub withSize : DiskINode → ℕ → DiskINode
+withSize r n = record {
+  size = n;
+  kind = r .kind;
+  mode = r .mode;
+  nlinks = r .nlinks;
+  blocks = r .blocks;
+  uid = r .uid;
+  gid = r .gid;
+  pad = r .pad;
+  atime = r .atime;
+  mtime = r .mtime;
+  ctime = r .ctime;
+  file = r .file;
+  mac = r .mac;
+}

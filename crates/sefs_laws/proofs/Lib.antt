@@ -1,3 +1,4 @@
 pub mod Clear
 pub mod Rows
 pub mod Says
+pub mod Contents

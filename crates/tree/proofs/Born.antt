@@ -30,13 +30,15 @@ pub record Born (v w : Tree) (c : ℕ) : Type 0 where
   pub kind : (i : ℕ) → v .node i ≡ true → w .kind i ≡ v .kind i
   pub links : (i : ℕ) → v .node i ≡ true → w .links i ≡ v .links i
   pub blocks : (i : ℕ) → v .node i ≡ true → w .blocks i ≡ v .blocks i
-  pub long : (i : ℕ) → folderAt v i ≡ true → w .long i ≡ v .long i
+  pub size : (i : ℕ) → v .node i ≡ true → w .size i ≡ v .size i
+  pub long : (i : ℕ) → v .node i ≡ true → w .long i ≡ v .long i
   pub slots : (i : ℕ) → folderAt v i ≡ true → (k : ℕ) → k < v .blocks i → w .slot i k ≡ v .slot i k
   pub opened : (i : ℕ) → v .node i ≡ true → v .opened i ≡ true → w .opened i ≡ true
   pub none : w .links c ≡ 0
   pub held : w .opened c ≡ true
   pub two : isFolder (w .kind c) ≡ true → w .blocks c ≡ 2
-  pub size : isFolder (w .kind c) ≡ true → w .long c ≡ 528
+  pub empty : isFolder (w .kind c) ≡ false → w .long c ≡ w .size c
+  pub filled : isFolder (w .kind c) ≡ true → w .long c ≡ 528
   pub dot : isFolder (w .kind c) ≡ true → nameOf (w .slot c 0 .name) ≡ 46 ∷ []
   pub own : isFolder (w .kind c) ≡ true → w .slot c 0 .id ≡ c
   pub dot-kind : isFolder (w .kind c) ≡ true → w .slot c 0 .kind ≡ typeDir
@@ -66,6 +68,9 @@ module _ (v w : Tree) (c : ℕ) (I : Tidy v) (R : Born v w c) where
 
   dir-is : folderAt w c ≡ true → isFolder (w .kind c) ≡ true
   dir-is f = sym (ap (λ (b : Bool). b && isFolder (w .kind c)) (R .is)) ∙ f
+
+  file-is : folderAt w c ≡ false → isFolder (w .kind c) ≡ false
+  file-is f = sym (ap (λ (b : Bool). b && isFolder (w .kind c)) (R .is)) ∙ f
 
   count-same : (q : DiskEntry → Bool) (i : ℕ) → folderAt v i ≡ true → countTo (λ j. q (w .slot i (2 + j))) (w .blocks i - 2) ≡ countTo (λ j. q (v .slot i (2 + j))) (v .blocks i - 2)
   count-same q i f =
@@ -138,7 +143,7 @@ module _ (v w : Tree) (c : ℕ) (I : Tidy v) (R : Born v w c) where
       let s : (k : ℕ) → k < v .blocks i → w .slot i k ≡ v .slot i k = R .slots i f in
       record {
         blocks = omega (arith, F .blocks, b);
-        length = R .long i f ∙ F .length ∙ ap (λ (m : ℕ). 264 * m) (sym b);
+        length = R .long i (folder-is v i f) ∙ F .length ∙ ap (λ (m : ℕ). 264 * m) (sym b);
         dot = rw (s 0 (omega (arith, F .blocks))) (F .dot);
         own = rw (s 0 (omega (arith, F .blocks))) (F .own);
         dot-kind = rw (s 0 (omega (arith, F .blocks))) (F .dot-kind);
@@ -151,7 +156,7 @@ module _ (v w : Tree) (c : ℕ) (I : Tidy v) (R : Born v w c) where
   folder-new : isFolder (w .kind c) ≡ true → FolderIn w c
   folder-new f = record {
     blocks = omega (arith, R .two f);
-    length = R .size f ∙ omega (arith, R .two f);
+    length = R .filled f ∙ omega (arith, R .two f);
     dot = R .dot f;
     own = R .own f;
     dot-kind = R .dot-kind f;
@@ -192,6 +197,10 @@ module _ (v w : Tree) (c : ℕ) (I : Tidy v) (R : Born v w c) where
     folder = λ i f. ⊎-elim
         (λ (e : i ≡ c). subst (FolderIn w) (sym e) (folder-new (dir-is (ap (folderAt w) (sym e) ∙ f))))
         (λ d. folder-else i (sym (folder-same i d) ∙ f))
+        (eq-cases i c);
+    sized = λ i n f. ⊎-elim
+        (λ (e : i ≡ c). subst (λ (j : ℕ). w .long j ≡ w .size j) (sym e) (R .empty (file-is (ap (folderAt w) (sym e) ∙ f))))
+        (λ d. R .long i (was i n d) ∙ I .sized i (was i n d) (sym (folder-same i d) ∙ f) ∙ sym (R .size i (was i n d)))
         (eq-cases i c);
     other = λ i n f. ⊎-elim
         (λ (e : i ≡ c). subst (λ (j : ℕ). w .links j ≡ allNames w j) (sym e) (R .none ∙ sym unnamed ∙ sym (all-same c)))

@@ -1,4 +1,5 @@
 pub mod Born
+pub mod Contents
 pub mod Naming
 pub mod Redirects
 pub mod Renaming

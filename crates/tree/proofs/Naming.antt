@@ -28,7 +28,8 @@ pub record Names (v w : Tree) (d c : ℕ) (e : DiskEntry) : Type 0 where
   pub opened : (i : ℕ) → v .node i ≡ true → v .opened i ≡ true → w .opened i ≡ true
   pub slots : (i : ℕ) → folderAt v i ≡ true → (k : ℕ) → k < v .blocks i → w .slot i k ≡ v .slot i k
   pub blocks : (i : ℕ) → folderAt v i ≡ true → i ≢ d → w .blocks i ≡ v .blocks i
-  pub long : (i : ℕ) → folderAt v i ≡ true → i ≢ d → w .long i ≡ v .long i
+  pub size : (i : ℕ) → v .node i ≡ true → w .size i ≡ v .size i
+  pub long : (i : ℕ) → v .node i ≡ true → i ≢ d → w .long i ≡ v .long i
   pub more : w .blocks d ≡ v .blocks d + 1
   pub longer : w .long d ≡ 264 * (v .blocks d + 1)
   pub new : w .slot d (v .blocks d) ≡ e
@@ -157,7 +158,7 @@ module _ (v w : Tree) (d c : ℕ) (e : DiskEntry) (I : Tidy v) (R : Names v w d 
       let s : (k : ℕ) → k < v .blocks i → w .slot i k ≡ v .slot i k = R .slots i f in
       record {
         blocks = omega (arith, F .blocks, b);
-        length = R .long i f n ∙ F .length ∙ ap (λ (m : ℕ). 264 * m) (sym b);
+        length = R .long i (folder-is v i f) n ∙ F .length ∙ ap (λ (m : ℕ). 264 * m) (sym b);
         dot = rw (s 0 (omega (arith, F .blocks))) (F .dot);
         own = rw (s 0 (omega (arith, F .blocks))) (F .own);
         dot-kind = rw (s 0 (omega (arith, F .blocks))) (F .dot-kind);
@@ -295,6 +296,10 @@ module _ (v w : Tree) (d c : ℕ) (e : DiskEntry) (I : Tidy v) (R : Names v w d 
     below = λ i n. subst (λ (m : ℕ). i < m) (sym (R .ids)) (I .below i (sym (R .node i) ∙ n));
     two = root-lives;
     folder = λ i f. ⊎-elim (λ (q : i ≡ d). subst (FolderIn w) (sym q) folder-own) (λ n. folder-else i (back i f) n) (eq-cases i d);
+    sized = λ i n f.
+        let g : folderAt v i ≡ false = sym (folder-same i) ∙ f in
+        let m : v .node i ≡ true = sym (R .node i) ∙ n in
+        R .long i m (not-own i g) ∙ I .sized i m g ∙ sym (R .size i m);
     other = λ i n f.
         let g : folderAt v i ≡ false = sym (folder-same i) ∙ f in
         let m : v .node i ≡ true = sym (R .node i) ∙ n in

@@ -27,6 +27,7 @@ onto v f k l e L = record {
   kind = v .kind;
   links = L;
   blocks = at f l (v .blocks);
+  size = v .size;
   long = at f (264 * l) (v .long);
   slot = λ i m. pick (eqb i f && eqb m k) e (v .slot i m);
   opened = v .opened;
@@ -68,7 +69,8 @@ module _ (v : Tree) (f c : ℕ) (e : DiskEntry) (I : Tidy v) (P : May v f c e) (
             (onto-apart v f (v .blocks f) (v .blocks f + 1) e (at c (v .links c + 1) (v .links)) i m)
             (eq-cases i f);
         blocks = λ i g. at-else f (v .blocks f + 1) (v .blocks) i;
-        long = λ i g. at-else f (264 * (v .blocks f + 1)) (v .long) i;
+        size = λ i n. refl;
+        long = λ i n. at-else f (264 * (v .blocks f + 1)) (v .long) i;
         more = at-here f (v .blocks f + 1) (v .blocks);
         longer = at-here f (264 * (v .blocks f + 1)) (v .long);
         new = onto-here v f (v .blocks f) (v .blocks f + 1) e (at c (v .links c + 1) (v .links));
@@ -229,6 +231,7 @@ module _ (v : Tree) (f k d c : ℕ) (e : DiskEntry) (I : Tidy v) (P : Turns v f 
     below = I .below;
     two = record { folder = I .two .folder; links = λ z. I .two .links (sym (else 2 (not-c 2 (I .two .folder)) (not-d 2 (I .two .folder))) ∙ z) };
     folder = folder-in;
+    sized = λ i n g. at-else f (264 * v .blocks f) (v .long) i (λ q. true-false (P .folder) (ap (folderAt v) (sym q) ∙ g)) ∙ I .sized i n g;
     other = λ i n g. ⊎-elim
         (λ (q : i ≡ c). subst (λ (j : ℕ). L j ≡ allNames w j) (sym q)
         (omega (arith, more, all-names c, I .other c (P .node) (ap (folderAt v) (sym q) ∙ g), ap bit (eq-eqb c c refl), ap bit (ne-eqb d c (λ z. P .apart (sym z))))))

@@ -19,7 +19,7 @@ use Rattle.tree.proofs.Trees.{names-differ}
 
 -- the tree with other slots
 abbrev pub withSlots : Tree → (ℕ → ℕ → DiskEntry) → Tree
-withSlots v s = record { ids = v .ids; node = v .node; kind = v .kind; links = v .links; blocks = v .blocks; long = v .long; slot = s; opened = v .opened }
+withSlots v s = record { ids = v .ids; node = v .node; kind = v .kind; links = v .links; blocks = v .blocks; size = v .size; long = v .long; slot = s; opened = v .opened }
 
 -- a name that a later slot may have
 pub record Title (l : List ℕ) : Type 0 where
@@ -65,6 +65,7 @@ module _ (v : Tree) (s : ℕ → ℕ → DiskEntry) (ids : (i j : ℕ) → s i j
     below = I .below;
     two = record { folder = I .two .folder; links = I .two .links };
     folder = folders;
+    sized = I .sized;
     other = λ i n f. I .other i n f ∙ sym (all-same i);
     unnamed = I .unnamed;
     either = λ i f. ⊎-elim
@@ -198,6 +199,7 @@ unnames-slots v x s m d c k like R = record {
   opened = R .opened;
   slots = λ i f n j l. R .slots i f n j l ∙ sym (like i j (λ e. absurd (n e)));
   blocks = R .blocks;
+  size = R .size;
   long = R .long;
   still = λ j l n. R .still j l n ∙ sym (like d j (λ e. n));
   moved = λ l. R .moved l ∙ sym (like d (v .blocks d - 1) (λ e z. omega arith));

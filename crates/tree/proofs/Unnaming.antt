@@ -27,7 +27,8 @@ pub record Unnames (v w : Tree) (d c k : ℕ) : Type 0 where
   pub opened : (i : ℕ) → v .node i ≡ true → v .opened i ≡ true → w .opened i ≡ true
   pub slots : (i : ℕ) → folderAt v i ≡ true → i ≢ d → (j : ℕ) → j < v .blocks i → w .slot i j ≡ v .slot i j
   pub blocks : (i : ℕ) → folderAt v i ≡ true → i ≢ d → w .blocks i ≡ v .blocks i
-  pub long : (i : ℕ) → folderAt v i ≡ true → i ≢ d → w .long i ≡ v .long i
+  pub size : (i : ℕ) → v .node i ≡ true → w .size i ≡ v .size i
+  pub long : (i : ℕ) → v .node i ≡ true → i ≢ d → w .long i ≡ v .long i
   pub still : (j : ℕ) → j + 1 < v .blocks d → j ≢ k → w .slot d j ≡ v .slot d j
   pub moved : k + 1 < v .blocks d → w .slot d k ≡ v .slot d (v .blocks d - 1)
   pub fewer : w .blocks d + 1 ≡ v .blocks d
@@ -164,7 +165,7 @@ module _ (v w : Tree) (d c k : ℕ) (I : Tidy v) (R : Unnames v w d c k) (P : Ma
       let s : (j : ℕ) → j < v .blocks i → w .slot i j ≡ v .slot i j = R .slots i f n in
       record {
         blocks = omega (arith, G .blocks, b);
-        length = R .long i f n ∙ G .length ∙ ap (λ (m : ℕ). 264 * m) (sym b);
+        length = R .long i (folder-is v i f) n ∙ G .length ∙ ap (λ (m : ℕ). 264 * m) (sym b);
         dot = rw (s 0 (omega (arith, G .blocks))) (G .dot);
         own = rw (s 0 (omega (arith, G .blocks))) (G .own);
         dot-kind = rw (s 0 (omega (arith, G .blocks))) (G .dot-kind);
@@ -328,6 +329,10 @@ module _ (v w : Tree) (d c k : ℕ) (I : Tidy v) (R : Unnames v w d c k) (P : Ma
     below = λ i n. subst (λ (m : ℕ). i < m) (sym (R .ids)) (I .below i (sym (R .node i) ∙ n));
     two = root-lives;
     folder = λ i f. ⊎-elim (λ (q : i ≡ d). subst (FolderIn w) (sym q) folder-own) (λ n. folder-else i (back i f) n) (eq-cases i d);
+    sized = λ i n f.
+        let g : folderAt v i ≡ false = sym (folder-same i) ∙ f in
+        let m : v .node i ≡ true = sym (R .node i) ∙ n in
+        R .long i m (not-own i g) ∙ I .sized i m g ∙ sym (R .size i m);
     other = λ i n f.
         let g : folderAt v i ≡ false = sym (folder-same i) ∙ f in
         let m : v .node i ≡ true = sym (R .node i) ∙ n in

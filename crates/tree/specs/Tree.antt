@@ -18,6 +18,7 @@ pub record Tree : Type 0 where
   pub kind : ℕ → ℕ
   pub links : ℕ → ℕ
   pub blocks : ℕ → ℕ
+  pub size : ℕ → ℕ
   pub long : ℕ → ℕ
   pub slot : ℕ → ℕ → DiskEntry
   pub opened : ℕ → Bool
@@ -90,6 +91,7 @@ pub record Tidy (v : Tree) : Type 0 where
   pub below : (i : ℕ) → v .node i ≡ true → i < v .ids
   pub two : Lives v 2
   pub folder : (i : ℕ) → folderAt v i ≡ true → FolderIn v i
+  pub sized : (i : ℕ) → v .node i ≡ true → folderAt v i ≡ false → v .long i ≡ v .size i
   pub other : (i : ℕ) → v .node i ≡ true → folderAt v i ≡ false → v .links i ≡ allNames v i
   pub unnamed : (i : ℕ) → v .node i ≡ true → folderAt v i ≡ false → v .links i ≡ 0 → v .opened i ≡ true
   pub either : (i : ℕ) → folderAt v i ≡ true → LinkedIn v i ⊎ RemovedIn v i

@@ -3,6 +3,7 @@ use dzomrelig::{FileName, BLOCK, TABLE};
 
 const PAYLOAD: usize = 480;
 /// Where a record has its fields.
+pub const SIZE: usize = 0;
 pub const TYPE: usize = 8;
 pub const LINKS: usize = 14;
 pub const BLOCKS: usize = 16;

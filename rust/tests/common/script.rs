@@ -265,6 +265,22 @@ impl Replay {
                 };
                 self.line("check", verdict);
             }
+            32 => {
+                let (h, place, room) = (s.handle()?, s.u64()?, s.room()?);
+                let mut out = [238; OUT];
+                let answer = said(self.image.read_at(h, place, &mut out[..room]), |n| n.to_string());
+                self.line("read", format!("{answer} o {}", sum(&out)));
+            }
+            33 => {
+                let (h, place, length) = (s.handle()?, s.u64()?, s.room()?);
+                let answer = self.image.write_at(h, place, s.bytes(length)?);
+                self.line("write", done(answer));
+            }
+            34 => {
+                let (h, length) = (s.handle()?, s.u64()?);
+                let answer = self.image.resize(h, length);
+                self.line("resize", done(answer));
+            }
             _ => return Err(BadScript),
         }
         Ok(())

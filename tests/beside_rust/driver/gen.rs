@@ -219,7 +219,7 @@ impl Sequence {
     fn meta_field(&mut self) -> (usize, Vec<u8>) {
         let number = self.odd().to_le_bytes().to_vec();
         let record = 128 * (2 + self.dice.below(9));
-        match self.dice.below(12) {
+        match self.dice.below(13) {
             0 => (4 * self.dice.below(4), number),
             1 => (128 + self.dice.below(2), vec![self.dice.next() as u8]),
             2 | 3 => (record + 8, number),
@@ -228,6 +228,7 @@ impl Sequence {
             8 => (record + 80 + self.dice.below(16), vec![self.dice.next() as u8]),
             9 => (record + 14, vec![0, 0]),
             10 => (record + 14, vec![255, 255]),
+            11 => (record, [number, self.dice.of(&[vec![0; 4], vec![0; 4], vec![255; 4]])].concat()),
             _ => (record + self.dice.below(112), vec![self.dice.next() as u8]),
         }
     }
@@ -285,7 +286,7 @@ impl Sequence {
         if self.world.free_blocks() < 4 && self.dice.once(2) {
             return if self.dice.once(2) { self.unlink() } else { Call::Close(self.dice.of(&live)) };
         }
-        match self.dice.below(1000) {
+        match self.dice.below(1300) {
             0..=19 => Call::Root,
             20..=189 => self.find(),
             190..=399 => self.create(),
@@ -298,9 +299,10 @@ impl Sequence {
             895..=924 => self.list(),
             925..=939 => Call::Sync,
             940..=987 => Call::Close(self.any()),
-            988..=997 => Call::Check,
-            998 if !self.plan.premise => Call::Open,
-            _ => Call::Metadata(self.any()),
+            988..=995 => Call::Check,
+            996..=998 if !self.plan.premise => Call::Open,
+            996..=999 => Call::Metadata(self.any()),
+            _ => self.contents(),
         }
     }
 
@@ -436,11 +438,20 @@ impl Sequence {
         Call::Create(h, name, kind, self.dice.next() as u16, self.time(), self.file())
     }
 
-    fn link(&mut self) -> Call {
-        let h = self.folder();
+    /// A hold of a node that is no folder, if there is one.
+    fn other_kind(&mut self) -> Handle {
         let live = self.world.table.handles();
         let others: Vec<Handle> = live.iter().copied().filter(|h| !self.is_folder(*h)).collect();
-        let node = if others.is_empty() || self.dice.once(20) { self.any() } else { self.dice.of(&others) };
+        if others.is_empty() || self.dice.once(20) {
+            self.any()
+        } else {
+            self.dice.of(&others)
+        }
+    }
+
+    fn link(&mut self) -> Call {
+        let h = self.folder();
+        let node = self.other_kind();
         let name = if self.dice.once(15) { self.name(h, 3) } else { self.listed() };
         Call::Link(h, name, node)
     }
@@ -485,5 +496,68 @@ impl Sequence {
         let h = self.folder();
         let (at, room) = self.place(h);
         Call::List(h, at, room)
+    }
+
+    /// A place in a node's contents: in and around what it has, at the border of a block, and now and then far off.
+    fn offset(&mut self, h: Handle) -> u64 {
+        let size = self.world.table.row(h).map_or(0, |row| row.size());
+        if !self.plan.hurt && self.dice.once(30) {
+            return self.far();
+        }
+        let near = self.dice.below(40) as u64;
+        match self.dice.below(10) {
+            0 | 1 => 0,
+            2 | 3 => size.min(20_000),
+            4 => size.saturating_sub(near),
+            5 => size.min(20_000) + near,
+            6 | 7 => (480 * self.dice.below(12) as u64 + near % 5).saturating_sub(2),
+            8 => self.dice.below(20_000) as u64,
+            _ => self.dice.below(1000) as u64,
+        }
+    }
+
+    /// Around the longest length that a file can have, beyond it, and at the end of all numbers.
+    fn far(&mut self) -> u64 {
+        let near = self.dice.of(&[0, 0, 1, 2, 300, 480, 8192]);
+        match self.dice.below(6) {
+            0..=2 => u32::MAX as u64 - near,
+            3 => u32::MAX as u64 + 1 + near,
+            4 => self.dice.next() >> 33,
+            _ => u64::MAX - near,
+        }
+    }
+
+    /// How many bytes to read or write: up to 8,192, mostly fewer.
+    fn amount(&mut self) -> usize {
+        match self.dice.below(40) {
+            0 => 8192,
+            1 | 2 => self.dice.below(8193),
+            3..=12 => self.dice.below(600),
+            _ => self.dice.of(&[0, 0, 1, 2, 16, 100, 112, 264, 479, 480, 481, 960]),
+        }
+    }
+
+    /// A read, write or resize, mostly of a node that has contents.
+    fn contents(&mut self) -> Call {
+        if self.world.table.handles().iter().all(|h| self.is_folder(*h)) && !self.dice.once(8) {
+            return if self.dice.once(2) { self.find() } else { self.create() };
+        }
+        let h = self.other_kind();
+        let at = self.offset(h);
+        match self.dice.below(30) {
+            0..=9 => Call::Read(h, at, if self.dice.once(3) { 8192 } else { self.amount() as u16 }),
+            10..=22 => Call::Write(h, at, self.data()),
+            _ => Call::Resize(h, at),
+        }
+    }
+
+    /// A script has its limit, so late writes are short, and those of a sample shorter than a few blocks.
+    fn data(&mut self) -> Vec<u8> {
+        let most = match self.script.len() {
+            _ if self.answered => 1000,
+            0..=900_000 => 8192,
+            _ => 16,
+        };
+        (0..self.amount().min(most)).map(|_| self.dice.next() as u8).collect()
     }
 }

@@ -34,13 +34,19 @@ pub enum Call {
     Sync,
     Close(Handle),
     Check,
+    Read(Handle, u64, u16),
+    Write(Handle, u64, Vec<u8>),
+    Resize(Handle, u64),
 }
 
-pub const NAMES: [&str; 15] =
-    ["format", "open", "root", "find", "create", "link", "unlink", "move", "metadata", "set", "entry", "list", "sync", "close", "check"];
+pub const KINDS: usize = 18;
+#[rustfmt::skip]
+pub const NAMES: [&str; KINDS] =
+    ["format", "open", "root", "find", "create", "link", "unlink", "move", "metadata", "set", "entry", "list", "sync", "close", "check",
+     "read", "write", "resize"];
 
 impl Call {
-    /// The command's byte is 16 more.
+    /// Its place among the names.
     pub fn number(&self) -> usize {
         match self {
             Call::Format(..) => 0,
@@ -58,7 +64,16 @@ impl Call {
             Call::Sync => 12,
             Call::Close(_) => 13,
             Call::Check => 14,
+            Call::Read(..) => 15,
+            Call::Write(..) => 16,
+            Call::Resize(..) => 17,
         }
+    }
+
+    /// The command's byte: from 16 on, and from 32 on for what document 02 adds.
+    fn byte(&self) -> u8 {
+        let number = self.number() as u8;
+        number + if number < 15 { 16 } else { 17 }
     }
 
     pub fn name(&self) -> &'static str {
@@ -70,6 +85,7 @@ impl Call {
             Call::Find(h, _) | Call::Create(h, ..) | Call::Unlink(h, _) => vec![*h],
             Call::Link(h, _, g) | Call::Move(h, _, g, _) => vec![*h, *g],
             Call::Metadata(h) | Call::Set(h, ..) | Call::Entry(h, ..) | Call::List(h, ..) | Call::Close(h) => vec![*h],
+            Call::Read(h, ..) | Call::Write(h, ..) | Call::Resize(h, _) => vec![*h],
             _ => vec![],
         }
     }
@@ -83,7 +99,7 @@ impl Call {
     }
 
     pub fn write(&self, out: &mut Vec<u8>) {
-        out.push(self.number() as u8 + 16);
+        out.push(self.byte());
         match self {
             Call::Format(time, file) => {
                 put_time(out, time);
@@ -120,10 +136,19 @@ impl Call {
                 out.extend(gid.to_le_bytes());
                 times.iter().for_each(|t| put_time(out, t));
             }
-            Call::Entry(h, at, room) | Call::List(h, at, room) => {
+            Call::Entry(h, at, room) | Call::List(h, at, room) | Call::Read(h, at, room) => {
                 put_handle(out, h);
                 out.extend(at.to_le_bytes());
                 out.extend(room.to_le_bytes());
+            }
+            Call::Write(h, at, data) => {
+                put_handle(out, h);
+                out.extend(at.to_le_bytes());
+                put_name(out, data);
+            }
+            Call::Resize(h, length) => {
+                put_handle(out, h);
+                out.extend(length.to_le_bytes());
             }
             Call::Open | Call::Root | Call::Sync | Call::Check => (),
         }
@@ -222,6 +247,9 @@ impl Script<'_> {
             28 => Call::Sync,
             29 => Call::Close(self.handle()?),
             30 => Call::Check,
+            32 => Call::Read(self.handle()?, self.u64()?, self.room()?),
+            33 => Call::Write(self.handle()?, self.u64()?, self.data()?),
+            34 => Call::Resize(self.handle()?, self.u64()?),
             _ => return None,
         })
     }
@@ -266,6 +294,11 @@ impl Script<'_> {
 
     fn name(&mut self) -> Option<Vec<u8>> {
         let n = self.u16().filter(|n| *n <= 1024)?;
+        self.bytes(n as usize).map(|b| b.to_vec())
+    }
+
+    fn data(&mut self) -> Option<Vec<u8>> {
+        let n = self.room()?;
         self.bytes(n as usize).map(|b| b.to_vec())
     }
 

@@ -33,6 +33,10 @@ impl Row {
         self.u32(0)
     }
 
+    pub fn size(&self) -> u64 {
+        u64::from_le_bytes(self.0[5..13].try_into().unwrap())
+    }
+
     pub fn kind(&self) -> u32 {
         self.u32(5 + 8)
     }

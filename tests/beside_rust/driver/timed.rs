@@ -1,9 +1,10 @@
 //! `driver timed ROUNDS < SCRIPT`: the nanoseconds that the Rust takes for each kind of call of a script, the least of so many rounds. Its
 //! device keeps files as plain bytes in memory, and a hold is an `Arc` at the lowest free place: nothing is compared here.
-use crate::script::{Call, Command, Handle, Next, Script, NAMES};
+//! `driver contents FILES ROUNDS`: the same of reads and writes of three sizes, beside so many files.
+use crate::script::{Call, Command, Handle, Next, Script, KINDS, NAMES};
 use crate::world::{feed, kind_of, metadata_of, text, Lister, FED};
 use rcore_fs::dev::{DevError, DevResult};
-use rcore_fs::vfs::{FileSystem, INode, Result};
+use rcore_fs::vfs::{FileSystem, INode, Result, Timespec};
 use rcore_fs_sefs::dev::{File, SefsMac, Storage};
 use rcore_fs_sefs::SEFS;
 use std::collections::HashMap;
@@ -120,17 +121,20 @@ impl Image {
             Call::List(h, next, room) => self.node(h).iterate_entries(*next as usize, &mut Lister::new(*room as usize)).map(|_| ()),
             Call::Sync => self.fs.as_ref().unwrap().sync(),
             Call::Close(h) => Ok(self.holds[h.hold as usize] = None),
+            Call::Read(h, at, room) => self.node(h).read_at(*at as usize, &mut vec![0; *room as usize]).map(|_| ()),
+            Call::Write(h, at, data) => self.node(h).write_at(*at as usize, data).map(|_| ()),
+            Call::Resize(h, length) => self.node(h).resize(*length as usize),
             Call::Check => panic!("the Rust has no checker"),
         }
     }
 }
 
 pub fn timed(out: &mut impl Write, bytes: &[u8], rounds: u64) -> std::io::Result<()> {
-    let mut best = [f64::INFINITY; 15];
-    let mut counts = [0u32; 15];
+    let mut best = [f64::INFINITY; KINDS];
+    let mut counts = [0u32; KINDS];
     for _ in 0..rounds {
-        let (mut script, mut image, mut spent) = (Script(bytes), Image::default(), [0f64; 15]);
-        counts = [0; 15];
+        let (mut script, mut image, mut spent) = (Script(bytes), Image::default(), [0f64; KINDS]);
+        counts = [0; KINDS];
         while let Next::Do(command) = script.next() {
             let Command::Call(call) = command else { continue };
             let from = Instant::now();
@@ -138,12 +142,58 @@ pub fn timed(out: &mut impl Write, bytes: &[u8], rounds: u64) -> std::io::Result
             spent[call.number()] += from.elapsed().as_nanos() as f64;
             counts[call.number()] += 1;
         }
-        for k in 0..15 {
+        for k in 0..KINDS {
             best[k] = best[k].min(spent[k] / counts[k] as f64);
         }
     }
-    for k in (0..15).filter(|k| counts[*k] > 0) {
+    for k in (0..KINDS).filter(|k| counts[*k] > 0) {
         writeln!(out, "{} {} {:.0}", NAMES[k], counts[k], best[k])?;
+    }
+    Ok(())
+}
+
+const LONGEST: usize = 100_000;
+const PLACE: usize = 100;
+const TIMES: u32 = 20;
+
+/// The nanoseconds of one call, `before` not counted; the least of so many rounds.
+fn least(rounds: u64, before: impl Fn(), act: impl Fn()) -> f64 {
+    let mut best = f64::INFINITY;
+    for _ in 0..rounds {
+        let mut spent = 0;
+        for _ in 0..TIMES {
+            before();
+            let from = Instant::now();
+            act();
+            spent += from.elapsed().as_nanos();
+        }
+        best = best.min(spent as f64 / TIMES as f64);
+    }
+    best
+}
+
+pub fn contents(out: &mut impl Write, files: u64, rounds: u64) -> std::io::Result<()> {
+    let mut image = Image::default();
+    let time = Timespec { sec: 0, nsec: 0 };
+    let root = Handle { hold: 0, stamp: 1 };
+    let create = |name: String, file: u64| Call::Create(root, name.into_bytes(), 1, 420, time, (file as u128).to_le_bytes());
+    image.perform(&Call::Format(time, [255; 16])).unwrap();
+    image.perform(&Call::Root).unwrap();
+    for k in 0..files {
+        image.perform(&create(format!("glyph{k}"), k)).unwrap();
+        image.perform(&Call::Close(Handle { hold: 1, stamp: 2 })).unwrap();
+    }
+    image.perform(&create("outline".to_string(), files)).unwrap();
+    let node = image.holds[1].clone().unwrap();
+    let data: Vec<u8> = (0..LONGEST).map(|i| (i * 7 + 1) as u8).collect();
+    let copy = std::cell::RefCell::new(vec![0; LONGEST]);
+    for size in [480, 8192, LONGEST] {
+        let write = || assert_eq!(node.write_at(PLACE, &data[..size]).unwrap(), size);
+        node.write_at(PLACE, &data).unwrap();
+        let read = || assert_eq!(node.read_at(PLACE, &mut copy.borrow_mut()[..size]).unwrap(), size);
+        writeln!(out, "read{size} {TIMES} {:.0}", least(rounds, || (), read))?;
+        writeln!(out, "write{size} {TIMES} {:.0}", least(rounds, || (), write))?;
+        writeln!(out, "new{size} {TIMES} {:.0}", least(rounds, || node.resize(0).unwrap(), write))?;
     }
     Ok(())
 }

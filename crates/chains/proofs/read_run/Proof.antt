@@ -1,81 +1,92 @@
--- `chains::read_run`: one part, or two.
+-- `chains::read_run`: the first `got` bytes are the file's.
+use mathlib.Core.Path.{_≡_, ap, _∙_}
+use Prim.Native.Nat.{_+_, _-_, _≤_}
 use native.Mathlib.Omega.{arith}
+use lib.ListN.{length}
+use Rattle.base.proofs.Parts.{run-more, run-all}
+use Rattle.base.specs.Parts.{part, tab}
+use Rattle.base.proofs.Lists.{Stored, stored-none, length-part}
 use Rattle.arena.specs.Fields.{file}
-use Rattle.chains.proofs.Files.{run-one, run-two}
-use borrow.Author.Needs.{needs}
+use Rattle.files.specs.Read.{byteAt}
 use Rattle.chains.proofs.read_run.Statement.{statement}
 use Rattle.chains.proofs.read_run.Tie as tie
 
-sub-least : tie.Need-sub-least
-sub-least c = search needs
+abbrev Inv-loop : tie.InvT-loop
+Inv-loop arena first next which name pos out₀ total got₀ out got = (got ≤ total) × Stored (length out₀) (λ j. byteAt arena (file which name) (pos + j)) out got
 
-least-requires : tie.Need-least-requires
-least-requires c κs = search needs
+abbrev μ-loop : tie.MeasureT-loop
+μ-loop arena first next which name pos out₀ total got₀ out got = total - got
 
-sub-read-part : tie.Need-sub-read-part
-sub-read-part c = search needs
+loop-holds : tie.Need-loop-holds Inv-loop μ-loop
+loop-holds c = (omega arith, stored-none _ _)
 
-part-read-part-start : tie.Need-part-read-part-start
-part-read-part-start c = search needs
+add-p : tie.Need-add-p Inv-loop μ-loop
+add-p c = omega arith
 
-part-read-part-end : tie.Need-part-read-part-end
-part-read-part-end c = search needs
+sub-least : tie.Need-sub-least Inv-loop μ-loop
+sub-least c = omega arith
 
-read-part-requires : tie.Need-read-part-requires
-read-part-requires c κs = search needs
+sub-least-2 : tie.Need-sub-least-2 Inv-loop μ-loop
+sub-least-2 c = omega arith
 
-add-read-part : tie.Need-add-read-part
-add-read-part c = search needs
+least-requires : tie.Need-least-requires Inv-loop μ-loop
+least-requires c κs = tt
 
-sub-read-part-2 : tie.Need-sub-read-part-2
-sub-read-part-2 c = search needs
+add-e : tie.Need-add-e Inv-loop μ-loop
+add-e c = omega arith
 
-part-read-part-start-2 : tie.Need-part-read-part-start-2
-part-read-part-start-2 c = search needs
+sub-read-part : tie.Need-sub-read-part Inv-loop μ-loop
+sub-read-part c = omega arith
 
-part-read-part-end-2 : tie.Need-part-read-part-end-2
-part-read-part-end-2 c = search needs
+part-read-part-start : tie.Need-part-read-part-start Inv-loop μ-loop
+part-read-part-start c = omega arith
 
-read-part-requires-2 : tie.Need-read-part-requires-2
-read-part-requires-2 c κs = search needs
+part-read-part-end : tie.Need-part-read-part-end Inv-loop μ-loop
+part-read-part-end c = omega (arith, c .before .before .loop .inv .1 .size)
 
-same-length : tie.Need-same-length
-same-length c = search needs
+read-part-requires : tie.Need-read-part-requires Inv-loop μ-loop
+read-part-requires c κs =
+    let l = c .before .before .before in
+    let s = l .before .before .before .before .before in
+    let g = l .loop .got in
+    (s .pre .0, (omega arith, omega (arith, length-part (l .loop .out) g (g + c .before .least .result) (omega arith) (omega (arith, l .loop .inv .1 .size)))))
 
-returns : tie.Need-returns
-returns c =
-    let q = c .before .before in
-    let p = c .before .before .before .before .before .before .before in
-    let m = c .before .before .before .before .before .before .before .before .before in
-    let s = c .before .before .before .before .before .before .before .before .before .before .before .before .before .before in
-    run-two (s .args .arena .now) (file (s .args .which) (s .args .name .now)) (s .args .pos) (s .args .out .now) (m .least .result) _ _ (omega (arith, m .least .ensures)) (p .read-part .ensures) (q .read-part2 .ensures)
+loop-less : tie.Need-loop-less Inv-loop μ-loop
+loop-less c = omega arith
 
-same-length-2 : tie.Need-same-length-2
-same-length-2 c = search needs
+loop-again : tie.Need-loop-again Inv-loop μ-loop
+loop-again c =
+    let l = c .before .before .before .before .before .before in
+    let s = l .before .before .before .before .before in
+    let g = l .loop .got in
+    let m = c .before .before .before .before .least .result in
+    let f = byteAt (s .args .arena .now) (file (s .args .which) (s .args .name .now)) in
+    let n : length (part (l .loop .out) g (g + m)) ≡ m = length-part (l .loop .out) g (g + m) (omega arith) (omega (arith, l .loop .inv .1 .size)) ∙ omega arith in
+    (omega arith, run-more _ f (s .args .pos) _ _ g m (omega arith) (_∙_ {b = tab f (s .args .pos + g) (length (part (l .loop .out) g (g + m)))} (c .before .before .read-part .ensures) (ap (tab f (s .args .pos + g)) n)) (l .loop .inv .1))
 
-returns-2 : tie.Need-returns-2
-returns-2 c =
-    let p = c .before .before .before in
-    let m = c .before .before .before .before .before in
-    let s = c .before .before .before .before .before .before .before .before .before .before in
-    run-one (s .args .arena .now) (file (s .args .which) (s .args .name .now)) (s .args .pos) (s .args .out .now) (m .least .result) _ (omega (arith, m .least .ensures, c .if1 .left)) (p .read-part .ensures)
+same-length : tie.Need-same-length Inv-loop μ-loop
+same-length c = c .before .loop .inv .1 .size
+
+returns : tie.Need-returns Inv-loop μ-loop
+returns c = run-all _ _ _ _ _ (omega arith) (c .before .loop .inv .1)
 
 pub read-run-spec : {M : Type 1} → statement M
 read-run-spec =
     tie.close
     (tie.spec
+    Inv-loop
+    μ-loop
+    loop-holds
+    add-p
     sub-least
+    sub-least-2
     least-requires
+    add-e
     sub-read-part
     part-read-part-start
     part-read-part-end
     read-part-requires
-    add-read-part
-    sub-read-part-2
-    part-read-part-start-2
-    part-read-part-end-2
-    read-part-requires-2
+    loop-less
+    loop-again
     same-length
-    returns
-    same-length-2
-    returns-2)
+    returns)

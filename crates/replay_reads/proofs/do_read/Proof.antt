@@ -32,9 +32,9 @@ call-set-requires c κs =
     let s = c .before .before .before .before .before .before .before .before in
     (bytes-there 25 (s .args .script .now) (s .args .at) (c .before .before .match .keys5) (s .pre .0), s .pre .1)
 
-call-entry-requires : tie.Need-call-entry-requires
+call-shown-requires : tie.Need-call-shown-requires
 unfolding sizeBy outputBy
-call-entry-requires c κs =
+call-shown-requires c κs =
     let s = c .before .before .before .before .before .before .before .before in
     ((bytes-there 26 (s .args .script .now) (s .args .at) (c .before .before .match .keys6) (s .pre .0), output-there 26 (s .args .script .now) (s .args .at) (c .before .before .match .keys6) (s .pre .0)), s .pre .1)
 
@@ -43,6 +43,12 @@ unfolding sizeBy outputBy
 call-list-requires c κs =
     let s = c .before .before .before .before .before .before .before .before in
     ((bytes-there 27 (s .args .script .now) (s .args .at) (c .before .before .match .keys7) (s .pre .0), output-there 27 (s .args .script .now) (s .args .at) (c .before .before .match .keys7) (s .pre .0)), s .pre .1)
+
+call-shown-requires-2 : tie.Need-call-shown-requires-2
+unfolding sizeBy outputBy
+call-shown-requires-2 c κs =
+    let s = c .before .before .before .before .before .before .before .before in
+    ((bytes-there 32 (s .args .script .now) (s .args .at) (c .before .before .match .keys8) (s .pre .0), output-there 32 (s .args .script .now) (s .args .at) (c .before .before .match .keys8) (s .pre .0)), s .pre .1)
 
 call-check-requires : tie.Need-call-check-requires
 call-check-requires c κs = search needs
@@ -119,6 +125,15 @@ same-length-16 c = search needs
 returns-8 : tie.Need-returns-8
 returns-8 c = search needs
 
+same-length-17 : tie.Need-same-length-17
+same-length-17 c = search needs
+
+same-length-18 : tie.Need-same-length-18
+same-length-18 c = search needs
+
+returns-9 : tie.Need-returns-9
+returns-9 c = search needs
+
 pub do-read-spec : {M : Type 1} → statement M
 do-read-spec =
     tie.close
@@ -129,8 +144,9 @@ do-read-spec =
     call-find-requires
     call-metadata-requires
     call-set-requires
-    call-entry-requires
+    call-shown-requires
     call-list-requires
+    call-shown-requires-2
     call-check-requires
     same-length
     same-length-2
@@ -155,4 +171,7 @@ do-read-spec =
     returns-7
     same-length-15
     same-length-16
-    returns-8)
+    returns-8
+    same-length-17
+    same-length-18
+    returns-9)

@@ -47,6 +47,18 @@ call-close-requires c κs =
     let s = c .before .before .before .before .before .before .before .before .before in
     (bytes-there 29 (s .args .script .now) (s .args .at) (c .before .before .before .match .keys7) (s .pre .0), s .pre .1)
 
+call-write-requires : tie.Need-call-write-requires
+unfolding sizeBy
+call-write-requires c κs =
+    let s = c .before .before .before .before .before .before .before .before .before in
+    (bytes-there 33 (s .args .script .now) (s .args .at) (c .before .before .before .match .keys8) (s .pre .0), s .pre .1)
+
+call-resize-requires : tie.Need-call-resize-requires
+unfolding sizeBy
+call-resize-requires c κs =
+    let s = c .before .before .before .before .before .before .before .before .before in
+    (bytes-there 34 (s .args .script .now) (s .args .at) (c .before .before .before .match .keys9) (s .pre .0), s .pre .1)
+
 do-read-requires : tie.Need-do-read-requires
 do-read-requires c κs = search needs
 
@@ -146,6 +158,30 @@ same-length-24 c = search needs
 returns-8 : tie.Need-returns-8
 returns-8 c = search needs
 
+same-length-25 : tie.Need-same-length-25
+same-length-25 c = search needs
+
+same-length-26 : tie.Need-same-length-26
+same-length-26 c = search needs
+
+same-length-27 : tie.Need-same-length-27
+same-length-27 c = search needs
+
+returns-9 : tie.Need-returns-9
+returns-9 c = search needs
+
+same-length-28 : tie.Need-same-length-28
+same-length-28 c = search needs
+
+same-length-29 : tie.Need-same-length-29
+same-length-29 c = search needs
+
+same-length-30 : tie.Need-same-length-30
+same-length-30 c = search needs
+
+returns-10 : tie.Need-returns-10
+returns-10 c = search needs
+
 pub do-call-spec : {M : Type 1} → statement M
 do-call-spec =
     tie.close
@@ -158,6 +194,8 @@ do-call-spec =
     call-move-requires
     call-sync-requires
     call-close-requires
+    call-write-requires
+    call-resize-requires
     do-read-requires
     same-length
     same-length-2
@@ -190,4 +228,12 @@ do-call-spec =
     same-length-22
     same-length-23
     same-length-24
-    returns-8)
+    returns-8
+    same-length-25
+    same-length-26
+    same-length-27
+    returns-9
+    same-length-28
+    same-length-29
+    same-length-30
+    returns-10)

@@ -67,6 +67,15 @@ whole-requires-9 c κs = search needs
 whole-requires-10 : tie.Need-whole-requires-10
 whole-requires-10 c κs = search needs
 
+with-output-requires-3 : tie.Need-with-output-requires-3
+with-output-requires-3 c κs = search needs
+
+lengthy-requires : tie.Need-lengthy-requires
+lengthy-requires c κs = search needs
+
+whole-requires-11 : tie.Need-whole-requires-11
+whole-requires-11 c κs = search needs
+
 returns : tie.Need-returns
 unfolding sizeBy arenaBy outputBy
 returns c = answers 1 _ _ (c .before .match .keys1) _ _ (c .arena-bytes .ensures .0, λ h. (c .arena-bytes .ensures .1 h, omega arith))
@@ -144,7 +153,19 @@ unfolding sizeBy arenaBy outputBy
 returns-19 c = plain 30 _ _ (c .before .match .keys19) _ _ refl refl (c .whole10 .ensures)
 
 returns-20 : tie.Need-returns-20
-returns-20 c = search needs
+unfolding sizeBy arenaBy outputBy
+returns-20 c = answers 32 _ _ (c .before .match .keys20) _ _ (c .with-output3 .ensures .0, λ h. (omega arith, c .with-output3 .ensures .1 h))
+
+returns-21 : tie.Need-returns-21
+unfolding sizeBy arenaBy outputBy
+returns-21 c = plain 33 _ _ (c .before .match .keys21) _ _ refl refl (c .lengthy .ensures .0)
+
+returns-22 : tie.Need-returns-22
+unfolding sizeBy arenaBy outputBy
+returns-22 c = plain 34 _ _ (c .before .match .keys22) _ _ refl refl (c .whole11 .ensures)
+
+returns-23 : tie.Need-returns-23
+returns-23 c = search needs
 
 pub size-at-spec : {M : Type 1} → statement M
 size-at-spec =
@@ -170,6 +191,9 @@ size-at-spec =
     whole-requires-8
     whole-requires-9
     whole-requires-10
+    with-output-requires-3
+    lengthy-requires
+    whole-requires-11
     returns
     returns-2
     returns-3
@@ -189,4 +213,7 @@ size-at-spec =
     returns-17
     returns-18
     returns-19
-    returns-20)
+    returns-20
+    returns-21
+    returns-22
+    returns-23)

@@ -1,10 +1,10 @@
--- `entry_words`: the part that is lent has the length that the script says.
+-- `shown_words`: the part that is lent has the length that the script says.
 use mathlib.Core.Path.{sym}
 use lib.Seq.{length-take-le}
 use native.Mathlib.Omega.{arith}
 use borrow.Author.Needs.{needs}
-use Rattle.replay_reads.proofs.entry_words.Statement.{statement}
-use Rattle.replay_reads.proofs.entry_words.Tie as tie
+use Rattle.replay_reads.proofs.shown_words.Statement.{statement}
+use Rattle.replay_reads.proofs.shown_words.Tie as tie
 
 put-238-requires : tie.Need-put-238-requires
 put-238-requires c κs = search needs
@@ -18,14 +18,14 @@ u16-at-requires c κs = search needs
 index16-requires : tie.Need-index16-requires
 index16-requires c κs = search needs
 
-slice-relend-prefix-put-entry : tie.Need-slice-relend-prefix-put-entry
-slice-relend-prefix-put-entry c = search needs
+slice-relend-prefix-put-shown : tie.Need-slice-relend-prefix-put-shown
+slice-relend-prefix-put-shown c = search needs
 
-slice-aggregate-put-entry : tie.Need-slice-aggregate-put-entry
-slice-aggregate-put-entry c = sym (length-take-le (c .before .index16 .result) (c .before .before .before .before .before .put-238 .last .0) (omega (arith, c .before .before .before .before .before .put-238 .kept .0)))
+slice-aggregate-put-shown : tie.Need-slice-aggregate-put-shown
+slice-aggregate-put-shown c = sym (length-take-le (c .before .index16 .result) (c .before .before .before .before .before .put-238 .last .0) (omega (arith, c .before .before .before .before .before .put-238 .kept .0)))
 
-put-entry-requires : tie.Need-put-entry-requires
-put-entry-requires c κs = search needs
+put-shown-requires : tie.Need-put-shown-requires
+put-shown-requires c κs = search needs
 
 put-output-requires : tie.Need-put-output-requires
 put-output-requires c κs = search needs
@@ -39,17 +39,17 @@ same-length-2 c = search needs
 returns : tie.Need-returns
 returns c = search needs
 
-pub entry-words-spec : {M : Type 1} → statement M
-entry-words-spec =
+pub shown-words-spec : {M : Type 1} → statement M
+shown-words-spec =
     tie.close
     (tie.spec
     put-238-requires
     add-u16-at
     u16-at-requires
     index16-requires
-    slice-relend-prefix-put-entry
-    slice-aggregate-put-entry
-    put-entry-requires
+    slice-relend-prefix-put-shown
+    slice-aggregate-put-shown
+    put-shown-requires
     put-output-requires
     same-length
     same-length-2

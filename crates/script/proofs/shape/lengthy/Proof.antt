@@ -1,8 +1,8 @@
--- `named`: its length is read where it is there.
+-- `lengthy`: the length is read where it is there.
 use native.Mathlib.Omega.{arith}
 use borrow.Author.Needs.{needs}
-use Rattle.script.proofs.shape.named.Statement.{statement}
-use Rattle.script.proofs.shape.named.Tie as tie
+use Rattle.script.proofs.shape.lengthy.Statement.{statement}
+use Rattle.script.proofs.shape.lengthy.Tie as tie
 
 add-whole : tie.Need-add-whole
 add-whole c = search needs
@@ -37,8 +37,8 @@ whole-requires-2 c κs = search needs
 returns-3 : tie.Need-returns-3
 returns-3 c = (record { there = c .whole2 .ensures .there; most = omega (arith, c .whole2 .ensures .most); full = λ h. omega (arith, c .whole2 .ensures .full h) }, omega (arith, c .whole2 .ensures .most))
 
-pub named-spec : {M : Type 1} → statement M
-named-spec =
+pub lengthy-spec : {M : Type 1} → statement M
+lengthy-spec =
     tie.close
     (tie.spec
     add-whole

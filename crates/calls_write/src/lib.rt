@@ -1,0 +1,272 @@
+// The call write: the bytes go into the node's file, and where their end is above the size, length and size become it. It is decided by
+// counting before any store: where each touched block is stands in a plan, and the absent ones are counted against the free ones. Then each
+// block is written once, on the arena itself.
+ghost use mathlib.Core.Path.{_≡_};
+ghost use mathlib.Core.Bool.{true};
+ghost use mathlib.Core.List.{List};
+ghost use Prim.Native.Nat.{ℕ, _+_, _*_, _-_, _/_, _<_, _≤_};
+ghost use lib.ListN.{length};
+ghost use Rattle.base.specs.Out.{done};
+ghost use Rattle.arena.specs.Blocks.{blocks};
+ghost use Rattle.arena.specs.Fields.{file};
+ghost use Rattle.arena.specs.Places.{freeOf, headOf};
+ghost use Rattle.table.specs.Table.{rowAt};
+ghost use Rattle.files.specs.Read.{there};
+ghost use Rattle.files.specs.Store.{putBlock, putFile};
+ghost use Rattle.files.specs.Store.{touched as touchedBy};
+ghost use Rattle.sefs.specs.Nodes.{nodeFile};
+ghost use Rattle.sefs.specs.Ask.{start};
+ghost use Rattle.sefs.specs.Contents.{writeSteps, callWrite};
+ghost use Rattle.chains.specs.Led.{Led, blockAt};
+ghost use Rattle.mem.specs.Mem.{tableIn, Whole};
+ghost use Rattle.calls.specs.Asked.{Admitted};
+ghost use Rattle.steps.specs.Ends.{Rest, ending, Ended, Returned};
+ghost use Rattle.calls_resize.specs.Resize.{Reached};
+ghost use Rattle.calls_write.specs.Write.{absentTo, Places, Planned, Decided};
+use arena::free_count;
+use base::byte;
+use base::index16;
+use base::least;
+use base::most;
+use base::one;
+use calls::Reply;
+use calls::led::admit;
+use calls::settle;
+use calls_resize::Sizing;
+use calls_resize::not_sized;
+use calls_resize::reach_file;
+use calls_resize::set_size;
+use chains::block_at;
+use inplace::edit;
+use inplace::next_free;
+use inplace::raise;
+use inplace::write_new;
+use mem::MEMORY;
+use mem::put_table;
+use mem::rec_at;
+use structs::DiskINode;
+use table::Handle;
+use table::Table;
+
+// ---- before any store
+
+// How many blocks n bytes from pos on touch.
+fn touched(pos: usize, n: usize) -> usize
+    requires { ⌜ pos + n ≤ 4294967295 ⌝ }
+    ensures { λ r. ⌜ r ≡ touchedBy pos n ⌝ }
+{
+    if n == 0 {
+        return 0;
+    }
+    (pos + n - 1) / 480 + 1 - pos / 480
+}
+
+// The plan for k blocks from the one at pos on, and how many of them are absent.
+fn plan_blocks(
+    arena: &[u8],
+    first: &[u16],
+    next: &[u16],
+    name: &[u8; 16],
+    pos: usize,
+    k: usize,
+    plan: &mut [u16],
+) -> usize
+    requires { ⌜ Led (now arena) (now first) (now next) ⌝ }
+    requires { ⌜ (k ≤ length (now plan)) × (pos / 480 + k ≤ 4294967296) ⌝ }
+    ensures { λ r. ⌜ r ≡ absentTo (now (arena .entry)) (file 1 (now (name .entry))) pos k ⌝ }
+    ensures { λ _. ⌜ Places (now (arena .entry)) (file 1 (now (name .entry))) pos (now (plan .exit)) k ⌝ }
+{
+    let q = pos / 480;
+    let mut lacking: usize = 0;
+    let mut i: usize = 0;
+    while i < k {
+        let c = block_at(arena, first, next, 1, name, (q + i) as u32);
+        plan[i] = c as u16;
+        lacking = lacking + byte(one(c == 0));
+        i = i + 1;
+    }
+    lacking
+}
+
+// 17 where the absent blocks are more than the free ones. More blocks than there are need no search.
+fn decide(
+    arena: &[u8],
+    first: &[u16],
+    next: &[u16],
+    rec: DiskINode,
+    pos: usize,
+    n: usize,
+    plan: &mut [u16],
+) -> u8
+    requires { ⌜ Led (now arena) (now first) (now next) ⌝ }
+    requires { ⌜ (length (now plan) ≡ 4096) × ((pos + n ≤ 4294967295) × (there (now arena) (nodeFile rec) ≡ true)) ⌝ }
+    ensures { λ r. ⌜ Decided (now (arena .entry)) (nodeFile rec) pos n (now (plan .exit)) r ⌝ }
+{
+    let k = touched(pos, n);
+    if k > arena.len() / 512 {
+        return 17;
+    }
+    let name = rec.file;
+    let lacking = plan_blocks(arena, first, next, &name, pos, k, plan);
+    if lacking > free_count(arena) {
+        return 17;
+    }
+    0
+}
+
+// What follows the tests of arena and table, by the chains that they left: nothing refuses the call after it.
+pub fn write_led(
+    arena: &[u8],
+    first: &[u16],
+    next: &[u16],
+    mem: &[u8],
+    h: Handle,
+    place: u64,
+    n: usize,
+    plan: &mut [u16],
+) -> Sizing
+    requires { ⌜ Admitted (now arena) (now first) (now next) (now mem) ⌝ }
+    requires { ⌜ length (now plan) ≡ 4096 ⌝ }
+    ensures { λ r. ⌜ ((src : List ℕ) → length src ≡ n → Rest (callWrite (now (arena .entry)) (tableIn (now (mem .entry))) h place src) (ending (writeSteps (start (now (arena .entry)) (tableIn (now (mem .entry)))) (r .row) place src)) (Reached (now (arena .entry)) (tableIn (now (mem .entry))) (r .row) (r .head) (place + n) × Planned (now (arena .entry)) (nodeFile (rowAt (tableIn (now (mem .entry))) (r .row) .rec)) place n (now (plan .exit))) (r .reason)) ⌝ }
+{
+    let s = reach_file(arena, first, next, mem, h, place, n as u64);
+    if s.reason != 0 {
+        return s;
+    }
+    let rec = rec_at(mem, s.row);
+    let r = decide(arena, first, next, rec, place as usize, n, plan);
+    if r != 0 {
+        return not_sized(r);
+    }
+    s
+}
+
+// ---- the stores
+
+// The bytes of src that fall into block q of the file: `found` is one more than the number of that block, or 0, and then the lowest free
+// block becomes it. No block below the answer is free.
+fn put_block(
+    arena: &mut [u8],
+    name: &[u8; 16],
+    pos: usize,
+    src: &[u8],
+    q: usize,
+    found: usize,
+    from: usize,
+) -> usize
+    requires { ⌜ (pos + length (now src) ≤ 4294967295) × ((pos ≤ 480 * q + 480) × (480 * q ≤ pos + length (now src))) ⌝ }
+    requires { ⌜ (found ≡ blockAt (now arena) (file 1 (now name)) q) × ((from ≤ freeOf (now arena)) × (found ≡ 0 → freeOf (now arena) < blocks (now arena))) ⌝ }
+    ensures { λ r. ⌜ (putBlock (now (arena .entry)) (file 1 (now (name .entry))) pos (now (src .entry)) q ≡ done (now (arena .exit))) × (r ≤ freeOf (now (arena .entry))) ⌝ }
+{
+    let lo = most(pos, 480 * q);
+    let hi = least(pos + src.len(), 480 * q + 480);
+    let s = lo - pos;
+    let e = hi - pos;
+    if found > 0 {
+        edit(arena, found - 1, lo - 480 * q, &src[s..e]);
+        return from;
+    }
+    let k = next_free(&arena[..], from);
+    write_new(arena, k, 1, name, q as u32, lo - 480 * q, &src[s..e]);
+    k
+}
+
+// All of src, by the plan, into the file whose head is block k: the length first, then the blocks in rising order.
+fn put_blocks(arena: &mut [u8], k: usize, name: &[u8; 16], pos: usize, src: &[u8], plan: &[u16])
+    requires { ⌜ (pos + length (now src) ≤ 4294967295) × ((there (now arena) (file 1 (now name)) ≡ true) × (k ≡ headOf (now arena) (file 1 (now name)))) ⌝ }
+    requires { ⌜ Planned (now arena) (file 1 (now name)) pos (length (now src)) (now plan) ⌝ }
+    ensures { λ _. ⌜ putFile (now (arena .entry)) (file 1 (now (name .entry))) pos (now (src .entry)) ≡ done (now (arena .exit)) ⌝ }
+{
+    let n = touched(pos, src.len());
+    raise(arena, k, (pos + src.len()) as u32);
+    let q = pos / 480;
+    let mut from: usize = 0;
+    let mut i: usize = 0;
+    while i < n {
+        from = put_block(arena, name, pos, src, q + i, index16(plan[i]), from);
+        i = i + 1;
+    }
+}
+
+// The node of row i, whose file's head is block k. Where the end is not above the size, the record stays.
+pub fn write_row(
+    arena: &mut [u8],
+    mem: &mut [u8],
+    i: usize,
+    k: usize,
+    pos: usize,
+    src: &[u8],
+    plan: &[u16],
+)
+    requires { ⌜ Whole (now mem) × (Reached (now arena) (tableIn (now mem)) i k (pos + length (now src)) × Planned (now arena) (nodeFile (rowAt (tableIn (now mem)) i .rec)) pos (length (now src)) (now plan)) ⌝ }
+    ensures { λ _. ⌜ Ended (ending (writeSteps (start (now (arena .entry)) (tableIn (now (mem .entry)))) i pos (now (src .entry)))) (now (arena .entry)) (now (arena .exit)) (tableIn (now (mem .exit))) 0 ⌝ }
+{
+    let rec = rec_at(&mem[..], i);
+    let name = rec.file;
+    put_blocks(arena, k, &name, pos, src, plan);
+    let end = pos + src.len();
+    if end as u64 <= rec.size {
+        return;
+    }
+    set_size(arena, mem, i, k, end);
+}
+
+// ---- the call
+
+// The frame of the chains is left before the stores.
+fn write_asked(
+    arena: &[u8],
+    mem: &[u8],
+    h: Handle,
+    place: u64,
+    n: usize,
+    plan: &mut [u16],
+) -> Sizing
+    requires { ⌜ Whole (now mem) × (length (now plan) ≡ 4096) ⌝ }
+    ensures { λ r. ⌜ ((src : List ℕ) → length src ≡ n → Rest (callWrite (now (arena .entry)) (tableIn (now (mem .entry))) h place src) (ending (writeSteps (start (now (arena .entry)) (tableIn (now (mem .entry)))) (r .row) place src)) (Reached (now (arena .entry)) (tableIn (now (mem .entry))) (r .row) (r .head) (place + n) × Planned (now (arena .entry)) (nodeFile (rowAt (tableIn (now (mem .entry))) (r .row) .rec)) place n (now (plan .exit))) (r .reason)) ⌝ }
+{
+    let mut chains = [0u16; 8192];
+    let r = admit(arena, &mut chains, mem);
+    if r != 0 {
+        return not_sized(r);
+    }
+    let c = &chains[..];
+    write_led(arena, &c[..4096], &c[4096..8192], mem, h, place, n, plan)
+}
+
+fn write_in(
+    arena: &mut [u8],
+    mem: &mut [u8],
+    h: Handle,
+    place: u64,
+    src: &[u8],
+    plan: &mut [u16],
+) -> u8
+    requires { ⌜ Whole (now mem) × (length (now plan) ≡ 4096) ⌝ }
+    ensures { λ r. ⌜ Ended (callWrite (now (arena .entry)) (tableIn (now (mem .entry))) h place (now (src .entry))) (now (arena .entry)) (now (arena .exit)) (tableIn (now (mem .exit))) r ⌝ }
+{
+    let s = write_asked(&arena[..], &mem[..], h, place, src.len(), plan);
+    if s.reason != 0 {
+        return s.reason;
+    }
+    write_row(arena, mem, s.row, s.head, place as usize, src, &plan[..]);
+    0
+}
+
+// The call on the table in memory.
+fn write_on(arena: &mut [u8], mem: &mut [u8], h: Handle, place: u64, src: &[u8]) -> u8
+    requires { ⌜ Whole (now mem) ⌝ }
+    ensures { λ r. ⌜ Ended (callWrite (now (arena .entry)) (tableIn (now (mem .entry))) h place (now (src .entry))) (now (arena .entry)) (now (arena .exit)) (tableIn (now (mem .exit))) r ⌝ }
+{
+    let mut plan = [0u16; 4096];
+    write_in(arena, mem, h, place, src, &mut plan)
+}
+
+pub fn write(arena: &mut [u8], t: Table, h: Handle, place: u64, src: &[u8]) -> Reply
+    ensures { λ r. ⌜ Returned t (callWrite (now (arena .entry)) t h place (now (src .entry))) (now (arena .entry)) (now (arena .exit)) r ⌝ }
+{
+    let mut mem = [0u8; MEMORY];
+    put_table(&mut mem, t);
+    let r = write_on(arena, &mut mem, h, place, src);
+    settle(t, &mem, r)
+}

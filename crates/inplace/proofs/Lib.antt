@@ -1,0 +1,2 @@
+pub mod Clears
+pub mod Searches

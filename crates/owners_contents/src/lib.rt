@@ -1,0 +1,167 @@
+// The calls of an owner on a file's own bytes. Who may make them, and what is kept beside the arena, says crate `owners`.
+ghost use mathlib.Core.Path.{_≡_};
+ghost use lib.ListN.{length};
+ghost use Rattle.table_bytes.specs.Layout.{tableOf};
+ghost use Rattle.sefs.specs.Contents.{callRead, callWrite, callResize};
+ghost use Rattle.mem.specs.Mem.{tableIn};
+ghost use Rattle.steps.specs.Ends.{Ended};
+ghost use Rattle.edge.specs.Words.{handleOf};
+ghost use Rattle.edge.specs.Edge.{sized, Leaves, Takes};
+ghost use Rattle.owners.specs.Owned.{Chained, Owned, Kept};
+use calls_read::read_led;
+use calls_resize::resize_led;
+use calls_resize::set_size;
+use calls_write::write_led;
+use calls_write::write_row;
+use edge::args::handle;
+use edge::ends::end_taken;
+use mem::MEMORY;
+use owners::ends::begin;
+use owners::ends::end_after;
+use sound::chain_all;
+use table::Handle;
+
+// As in the header.
+const READ_WORDS: usize = 1;
+
+const WRONG_SIZE: u32 = 255;
+
+// ---- read
+
+// The word is how many bytes were written.
+#[no_mangle]
+pub extern "C" fn dz_own_read(
+    arena: &[u8],
+    chains: &[u16],
+    table: &[u8],
+    hold: u32,
+    stamp: u64,
+    place: u64,
+    out: &mut [u8],
+    count: &mut [u64],
+) -> u32
+    requires { ⌜ Owned (now arena) (now chains) (now table) ⌝ }
+    ensures { λ r. ⌜ Takes (sized 1 (now (count .entry)) (callRead (now (arena .entry)) (tableOf (now (table .entry))) (handleOf hold stamp) place (length (now (out .entry))))) (now (out .entry)) (now (out .exit)) (now (count .entry)) (now (count .exit)) r ⌝ }
+{
+    if count.len() != READ_WORDS {
+        return WRONG_SIZE;
+    }
+    let mut mem = [0u8; MEMORY];
+    begin(&mut mem, table);
+    let t = read_led(
+        arena,
+        &chains[..4096],
+        &chains[4096..8192],
+        &mem,
+        handle(hold, stamp),
+        place,
+        out,
+    );
+    end_taken(count, t)
+}
+
+// ---- write
+
+fn write_in(
+    arena: &mut [u8],
+    chains: &mut [u16],
+    mem: &mut [u8],
+    h: Handle,
+    place: u64,
+    src: &[u8],
+    plan: &mut [u16],
+) -> u8
+    requires { ⌜ Kept (now arena) (now chains) (now mem) × (length (now plan) ≡ 4096) ⌝ }
+    ensures { λ r. ⌜ Ended (callWrite (now (arena .entry)) (tableIn (now (mem .entry))) h place (now (src .entry))) (now (arena .entry)) (now (arena .exit)) (tableIn (now (mem .exit))) r ⌝ }
+    ensures { λ _. ⌜ Chained (now (arena .exit)) (now (chains .exit)) ⌝ }
+{
+    let c = &chains[..];
+    let s = write_led(
+        &arena[..],
+        &c[..4096],
+        &c[4096..8192],
+        &mem[..],
+        h,
+        place,
+        src.len(),
+        plan,
+    );
+    if s.reason != 0 {
+        return s.reason;
+    }
+    write_row(arena, mem, s.row, s.head, place as usize, src, &plan[..]);
+    chain_all(&arena[..], chains);
+    0
+}
+
+fn write_on(
+    arena: &mut [u8],
+    chains: &mut [u16],
+    mem: &mut [u8],
+    h: Handle,
+    place: u64,
+    src: &[u8],
+) -> u8
+    requires { ⌜ Kept (now arena) (now chains) (now mem) ⌝ }
+    ensures { λ r. ⌜ Ended (callWrite (now (arena .entry)) (tableIn (now (mem .entry))) h place (now (src .entry))) (now (arena .entry)) (now (arena .exit)) (tableIn (now (mem .exit))) r ⌝ }
+    ensures { λ _. ⌜ Chained (now (arena .exit)) (now (chains .exit)) ⌝ }
+{
+    let mut plan = [0u16; 4096];
+    write_in(arena, chains, mem, h, place, src, &mut plan)
+}
+
+#[no_mangle]
+pub extern "C" fn dz_own_write(
+    arena: &mut [u8],
+    chains: &mut [u16],
+    table: &mut [u8],
+    hold: u32,
+    stamp: u64,
+    place: u64,
+    src: &[u8],
+) -> u32
+    requires { ⌜ Owned (now arena) (now chains) (now table) ⌝ }
+    ensures { λ r. ⌜ Leaves (callWrite (now (arena .entry)) (tableOf (now (table .entry))) (handleOf hold stamp) place (now (src .entry))) (now (arena .entry)) (now (arena .exit)) (now (table .entry)) (now (table .exit)) r ⌝ }
+    ensures { λ _. ⌜ Chained (now (arena .exit)) (now (chains .exit)) ⌝ }
+{
+    let mut mem = [0u8; MEMORY];
+    begin(&mut mem, &table[..]);
+    let r = write_on(arena, chains, &mut mem, handle(hold, stamp), place, src);
+    end_after(table, &mem, r)
+}
+
+// ---- resize
+
+fn resize_on(arena: &mut [u8], chains: &mut [u16], mem: &mut [u8], h: Handle, n: u64) -> u8
+    requires { ⌜ Kept (now arena) (now chains) (now mem) ⌝ }
+    ensures { λ r. ⌜ Ended (callResize (now (arena .entry)) (tableIn (now (mem .entry))) h n) (now (arena .entry)) (now (arena .exit)) (tableIn (now (mem .exit))) r ⌝ }
+    ensures { λ _. ⌜ Chained (now (arena .exit)) (now (chains .exit)) ⌝ }
+{
+    let c = &chains[..];
+    let s = resize_led(&arena[..], &c[..4096], &c[4096..8192], &mem[..], h, n);
+    if s.reason != 0 {
+        return s.reason;
+    }
+    set_size(arena, mem, s.row, s.head, n as usize);
+    chain_all(&arena[..], chains);
+    0
+}
+
+#[no_mangle]
+pub extern "C" fn dz_own_resize(
+    arena: &mut [u8],
+    chains: &mut [u16],
+    table: &mut [u8],
+    hold: u32,
+    stamp: u64,
+    size: u64,
+) -> u32
+    requires { ⌜ Owned (now arena) (now chains) (now table) ⌝ }
+    ensures { λ r. ⌜ Leaves (callResize (now (arena .entry)) (tableOf (now (table .entry))) (handleOf hold stamp) size) (now (arena .entry)) (now (arena .exit)) (now (table .entry)) (now (table .exit)) r ⌝ }
+    ensures { λ _. ⌜ Chained (now (arena .exit)) (now (chains .exit)) ⌝ }
+{
+    let mut mem = [0u8; MEMORY];
+    begin(&mut mem, &table[..]);
+    let r = resize_on(arena, chains, &mut mem, handle(hold, stamp), size);
+    end_after(table, &mem, r)
+}
