@@ -32,7 +32,7 @@ use Rattle.sefs.specs.Folders.{putSlot, direntInit, direntAppend, direntRemove,
 use Rattle.sefs.specs.Create.{After, after, birth, nameFolder, named, linkSteps}
 use Rattle.sefs.specs.Close.{withNext, syncFrom}
 use Rattle.sefs.specs.Unlink.{unlinkSteps}
-use Rattle.sefs.specs.Move.{Replaced, none, node, readSlots, judge, removeReplaced, moveWithin, moveDots, moveLinks, moveBetween, moveSteps, moveOnto, replace, moveTo}
+use Rattle.sefs.specs.Move.{Replaced, none, node, readSlots, judge, removeReplaced, moveWithin, moveDots, moveLinks, moveParent, moveBetween, moveSteps, notBelow, moveOnto, replace, moveFree, moveTo}
 use Rattle.sefs_laws.proofs.Says.{says-make, says-ensure, says-read, says-slot-bytes, says-slot, says-find, says-put, says-cut, says-drop, says-store-maps}
 
 -- whatever the reason
@@ -103,6 +103,10 @@ module _ (P : Table → Type 0) where
   pub leaves-slot : (s : Fs) (i k : ℕ) (l : List ℕ) → P (s .table) → Leaves P (putSlot s i k l)
   unfolding putSlot
   leaves-slot s i k l h = ok-bind (says-put Any tt tt _ _ _ _) λ a _. went h
+
+  leaves-parent : (s : Fs) (j c : ℕ) → P (s .table) → Leaves P (moveParent s j c)
+  unfolding moveParent
+  leaves-parent s j c h = any-pick (isFolder (recAt s c .kind)) (putSlot s c 1 _) (done s) (λ _. leaves-slot s c 1 _ h) (λ _. went h)
 
   leaves-read : (s : Fs) (i n : ℕ) → P (s .table) → Leaves P (readSlots s i n)
   unfolding readSlots
@@ -273,6 +277,7 @@ module _ (P : Table → Type 0) (change : Changes P) where
           ok-bind (leaves-replaced s j r h) λ s h.
           ok-bind (leaves-node s _ h) λ o h.
           ok-bind (leaves-links (o .state) i j (o .row) h) λ s h.
+          ok-bind (leaves-parent P s j (o .row) h) λ s h.
           ok-bind (leaves-sync s i h) λ s h.
           ok-bind (leaves-sync s j h) λ s h.
           ok-bind (leaves-release s (o .row) h) λ s h. went h
@@ -287,6 +292,7 @@ module _ (P : Table → Type 0) (change : Changes P) where
       unfolding moveOnto
       leaves-onto s i j old name c d k h =
           ok-bind (leaves-judge P (moveVerdictOf (recAt s c .kind) (recAt s d .kind)) s d h) λ s h.
+          ok-bind (any (notBelow s i j c)) λ _ _.
           ok-bind (leaves-release s c h) λ s h. leaves-move-steps s i j old name (node d k) h
 
       leaves-replace : (s : Fs) (i j : ℕ) (old name : List ℕ) (k : ℕ) → P (s .table) → LeavesAfter P (replace s i j old name k)
@@ -300,6 +306,14 @@ module _ (P : Table → Type 0) (change : Changes P) where
           ok-bind (says-ensure (isType (recAt (c .state) (d .row) .kind)) 19 tt) λ _ _.
           any-pick (eqb (was .entry .id) (new .id)) (done (after s)) (moveOnto (c .state) i j old name (c .row) (d .row) k) (λ _. went h) (λ _. leaves-onto (c .state) i j old name (c .row) (d .row) k l)
 
+      leaves-move-free : (s : Fs) (i j : ℕ) (old name : List ℕ) → P (s .table) → LeavesAfter P (moveFree s i j old name)
+      unfolding moveFree
+      leaves-move-free s i j old name h =
+          any-pick (eqb (idAt s i) (idAt s j)) (moveSteps s i j old name none) _ (λ _. leaves-move-steps s i j old name none h) λ _.
+          ok-bind (says-find Any tt tt _ _ _) λ was _.
+          ok-bind (leaves-node s (was .entry .id) h) λ c g.
+          ok-bind (any (notBelow (c .state) i j (c .row))) λ _ _. leaves-move-steps (c .state) i j old name none g
+
       pub leaves-move : (s : Fs) (i j : ℕ) (old name : List ℕ) (f : Found) → P (s .table) → LeavesAfter P (moveTo s i j old name f)
       leaves-move s i j old name (At k) h = leaves-replace s i j old name k h
-      leaves-move s i j old name Nothing h = leaves-move-steps s i j old name none h
+      leaves-move s i j old name Nothing h = leaves-move-free s i j old name h
