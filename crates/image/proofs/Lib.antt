@@ -4,6 +4,7 @@ pub mod BetweenSlots
 pub mod Births
 pub mod Breeds
 pub mod Carries
+pub mod Contents
 pub mod Counts
 pub mod Drops
 pub mod Formats

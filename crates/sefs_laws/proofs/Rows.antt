@@ -1,12 +1,16 @@
--- What the steps do to the table: a row in use keeps its id and its file, a free row is taken, and a row that no live hold names is freed. So
--- whatever such changes keep, the steps keep.
-use mathlib.Core.Path.{_≡_, refl, sym, subst}
+-- What the steps do to table and arena: a row in use keeps its id and its file, a free row is taken, and a row that no live hold names is freed;
+-- the metadata file is stored into, a node's file is removed, and the file of a row that the step works on is filled. So whatever such changes
+-- keep, the steps keep.
+use mathlib.Core.Path.{_≡_, refl, ap}
 use mathlib.Core.Bool.{Bool, true, false, not, _&&_}
 use mathlib.Core.List.{List}
+use mathlib.Core.Logic.{_≢_}
 use Prim.Native.Nat.{ℕ, zero, suc, _+_, _-_}
+use native.Mathlib.Omega.{arith}
 use lib.Dec.{eqb, ltb, leb}
+use lib.ListN.{length}
 use Rattle.base.specs.Out.{Out, done, refused, bind, guard, Ok, went, said}
-use Rattle.base.proofs.Outs.{ok-bind}
+use Rattle.base.proofs.Outs.{ok-bind, ok-weaken}
 use Rattle.base.specs.Search.{pick}
 use Rattle.base.specs.declared.Found.{Found}
 use Rattle.base.specs.declared.Found.the-variants.{At, Nothing}
@@ -17,23 +21,34 @@ use Rattle.structs.specs.declared.DiskEntry.{DiskEntry}
 use Rattle.structs.specs.declared.Timespec.{Timespec}
 use Rattle.structs.specs.declared.MoveVerdict.{MoveVerdict}
 use Rattle.structs.specs.declared.MoveVerdict.the-variants.{Allowed, NotDir, IsDir, IfEmpty}
-use Rattle.arena.specs.Fields.{file}
+use Rattle.arena.specs.Fields.{File, file}
 use Rattle.files.specs.Read.{there}
+use Rattle.files.specs.Store.{putFile, cutFile, makeFile}
+use Rattle.files_laws.specs.Laws.{Kept, Put, Cut, Drop}
+use Rattle.files_laws.proofs.Put.{put-law}
+use Rattle.files_laws.proofs.Cut.{cut-law}
+use Rattle.files_laws.proofs.Drop.{drop-law}
 use Rattle.table.specs.declared.Table.{Table}
 use Rattle.table.specs.declared.Row.{Row}
 use Rattle.table.specs.Table.{rowAt, rowOf, freeRow, withRow, freeRowAt, rowUsed, nextRow}
 use Rattle.table_laws.proofs.Finds.{row-found}
 use Rattle.sefs.specs.State.{Fs, withArena}
 use Rattle.sefs.specs.Records.{newRecord, withBlocks}
-use Rattle.sefs.specs.Meta.{ids, firstBit, isUsed, Allocated, syncMeta, addGroup, takeBit, allocBlock, freeBlock}
+use Rattle.sefs.specs.Meta.{metaFile, storeMaps, ids, firstBit, isUsed, Allocated, syncMeta, addGroup, takeBit, allocBlock, freeBlock}
 use Rattle.sefs.specs.Nodes.{Opened, recAt, idAt, setRec, noRow, nodeFile, openIn, openAt, loadNode, getNode, newNode, storeRow, syncRow, freeNode, dropNode, release}
 use Rattle.sefs.specs.Slots.{Slot}
 use Rattle.sefs.specs.Folders.{putSlot, direntInit, direntAppend, direntRemove, direntNodeRemove, nlinksInc, nlinksDec, unlinkFolder}
 use Rattle.sefs.specs.Create.{After, after, birth, nameFolder, named, linkSteps}
 use Rattle.sefs.specs.Close.{withNext, syncFrom}
 use Rattle.sefs.specs.Unlink.{unlinkSteps}
+<<<<<<< HEAD
 use Rattle.sefs.specs.Move.{Replaced, none, node, readSlots, judge, removeReplaced, moveWithin, moveDots, moveLinks, moveParent, moveBetween, moveSteps, notBelow, moveOnto, replace, moveFree, moveTo}
 use Rattle.sefs_laws.proofs.Says.{says-make, says-ensure, says-read, says-slot-bytes, says-slot, says-find, says-put, says-cut, says-drop, says-store-maps}
+=======
+use Rattle.sefs.specs.Contents.{resizeSteps, writeSteps}
+use Rattle.sefs.specs.Move.{Replaced, none, node, readSlots, judge, removeReplaced, moveWithin, moveDots, moveLinks, moveBetween, moveSteps, moveOnto, replace, moveTo}
+use Rattle.sefs_laws.proofs.Says.{says-make, says-ensure, says-read, says-slot-bytes, says-slot, says-find, says-cut}
+>>>>>>> order1
 
 -- whatever the reason
 abbrev pub Any : ℕ → Type 0
@@ -51,27 +66,72 @@ pub any-pick : {A : Type 0} {Q : A → Type 0} (b : Bool) (m o : Out A) → (b �
 any-pick true m o g h = g refl
 any-pick false m o g h = h refl
 
--- P holds of the table that is left
-abbrev pub Leaves : (Table → Type 0) → Out Fs → Type 0
-Leaves P o = Ok (λ s. P (s .table)) Any o
+-- P holds of arena and table that are left
+abbrev pub Leaves : (List ℕ → Table → Type 0) → Out Fs → Type 0
+Leaves P o = Ok (λ s. P (s .arena) (s .table)) Any o
 
-abbrev pub LeavesOpen : (Table → Type 0) → Out Opened → Type 0
-LeavesOpen P o = Ok (λ x. P (x .state .table)) Any o
+abbrev pub LeavesOpen : (List ℕ → Table → Type 0) → Out Opened → Type 0
+LeavesOpen P o = Ok (λ x. P (x .state .arena) (x .state .table)) Any o
 
-abbrev pub LeavesAfter : (Table → Type 0) → Out After → Type 0
-LeavesAfter P o = Ok (λ x. P (x .table)) Any o
+abbrev pub LeavesAfter : (List ℕ → Table → Type 0) → Out After → Type 0
+LeavesAfter P o = Ok (λ x. P (x .arena) (x .table)) Any o
 
 -- a row keeps its id and its file
-abbrev pub Changes : (Table → Type 0) → Type 0
-Changes P = (t : Table) (i : ℕ) (r : Row) → r .id ≡ rowAt t i .id → r .rec .file ≡ rowAt t i .rec .file → P t → P (withRow t i r)
+abbrev pub Changes : (List ℕ → Table → Type 0) → Type 0
+Changes P = (a : List ℕ) (t : Table) (i : ℕ) (r : Row) → r .id ≡ rowAt t i .id → r .rec .file ≡ rowAt t i .rec .file → P a t → P a (withRow t i r)
 
 -- a free row is taken
-abbrev pub Takes : (Table → Type 0) → Type 0
-Takes P = (t : Table) (i : ℕ) (r : Row) → rowAt t i .id ≡ 0 → P t → P (withRow t i r)
+abbrev pub Takes : (List ℕ → Table → Type 0) → Type 0
+Takes P = (a : List ℕ) (t : Table) (i : ℕ) (r : Row) → rowAt t i .id ≡ 0 → P a t → P a (withRow t i r)
 
 -- a row that no live hold names is freed
-abbrev pub Frees : (Table → Type 0) → Type 0
-Frees P = (t : Table) (i : ℕ) → rowUsed t i ≡ false → P t → P (freeRowAt t i)
+abbrev pub Frees : (List ℕ → Table → Type 0) → Type 0
+Frees P = (a : List ℕ) (t : Table) (i : ℕ) → rowUsed t i ≡ false → P a t → P a (freeRowAt t i)
+
+-- the metadata file changes, and no node's
+abbrev pub Stores : (List ℕ → Table → Type 0) → Type 0
+Stores P = (a b : List ℕ) (t : Table) → ((g : List ℕ) → Kept a b (file 1 g)) → P a t → P b t
+
+-- a node's file is removed
+abbrev pub Drops : (List ℕ → Table → Type 0) → Type 0
+Drops P = (a b : List ℕ) (t : Table) (g : List ℕ) → Drop a (file 1 g) b → P a t → P b t
+
+-- the file of row i changes, and no other node's
+abbrev pub Fills : (List ℕ → Table → Type 0) → ℕ → Type 0
+Fills P i = (a b : List ℕ) (t : Table) → ((g : List ℕ) → rowAt t i .rec .file ≢ g → Kept a b (file 1 g)) → P a t → P b t
+
+-- a file is made
+abbrev pub Makes : (List ℕ → Table → Type 0) → List ℕ → Type 0
+Makes P name = (a : List ℕ) (t : Table) → P a t → Ok (λ b. P b t) Any (makeFile a (file 1 name))
+
+-- what is said of the table alone
+module _ (P : Table → Type 0) where
+  pub tabled-stores : Stores (λ a t. P t)
+  tabled-stores a b t k h = h
+
+  pub tabled-drops : Drops (λ a t. P t)
+  tabled-drops a b t g d h = h
+
+  pub tabled-fills : (i : ℕ) → Fills (λ a t. P t) i
+  tabled-fills i a b t k h = h
+
+  pub tabled-makes : (name : List ℕ) → Makes (λ a t. P t) name
+  tabled-makes name a t h = ok-weaken (λ b _. h) (λ n r. r) (says-make {R = Any} tt a (file 1 name))
+
+-- ---- stores
+
+put-any : (a : List ℕ) (f : File) (pos : ℕ) (src : List ℕ) → Ok (Put a f pos src) Any (putFile a f pos src)
+put-any a f pos src = ok-weaken (λ b p. p) (λ n r. tt) (put-law a f pos src)
+
+cut-any : (a : List ℕ) (f : File) (n : ℕ) → Ok (Cut a f n) Any (cutFile a f n)
+cut-any a f n = ok-weaken (λ b p. p) (λ n r. tt) (cut-law a f n)
+
+-- the metadata file is no node's
+meta-apart : (g : List ℕ) → metaFile ≢ file 1 g
+meta-apart g e = let z : _≡_ {A = ℕ} 0 1 = ap (λ (x : File). x .which) e in omega arith
+
+file-apart : (f g : List ℕ) → f ≢ g → file 1 f ≢ file 1 g
+file-apart f g d e = d (ap (λ (x : File). x .name) e)
 
 -- ---- superblock and maps: the table stays
 
@@ -86,189 +146,242 @@ same-alloc s =
     ok-bind (any (u .meta)) λ x _.
     any-guard (ltb 0 (x .super .unused)) 19 (λ _. went e)
 
-module _ (P : Table → Type 0) where
-  pub leaves-meta : (s : Fs) → P (s .table) → Leaves P (syncMeta s)
-  unfolding syncMeta
-  leaves-meta s h = ok-bind (any (s .meta)) λ m _. ok-bind (says-put Any tt tt _ _ _ _) λ a _. ok-bind (says-store-maps Any tt tt _ _ _) λ d _. went h
+module _ (P : List ℕ → Table → Type 0) (stores : Stores P) where
+  leaves-alloc : (s : Fs) → P (s .arena) (s .table) → Ok (λ (x : Allocated). P (x .state .arena) (x .state .table)) Any (allocBlock s)
+  unfolding allocBlock takeBit addGroup
+  leaves-alloc s h =
+      ok-bind (any (s .meta)) λ m _.
+      ok-bind {P = λ (u : Fs). P (u .arena) (u .table)}
+      (any-pick (ltb (firstBit m) (ids m)) (done s) (addGroup s m) (λ _. went h)
+      (λ _. any-guard (ltb (m .super .groups) 4) 17 (λ _.
+      any-guard (ltb (m .super .blocks + 1024) 4294967296 && ltb (m .super .unused + 1023) 4294967296) 19 (λ _.
+      ok-bind (cut-any (s .arena) metaFile _) λ b c. went (stores (s .arena) b (s .table) (λ g. c .others (file 1 g) (meta-apart g)) h))))) λ u k.
+      ok-bind (any (u .meta)) λ x _.
+      any-guard (ltb 0 (x .super .unused)) 19 (λ _. went k)
 
-  leaves-free-block : (s : Fs) (id : ℕ) → P (s .table) → Leaves P (freeBlock s id)
+  leaves-put : (a : List ℕ) (t : Table) (pos : ℕ) (src : List ℕ) → P a t → Ok (λ b. P b t) Any (putFile a metaFile pos src)
+  leaves-put a t pos src h = ok-weaken (λ b p. stores a b t (λ g. p .others (file 1 g) (meta-apart g)) h) (λ n r. r) (put-any a metaFile pos src)
+
+  leaves-maps : (a : List ℕ) (t : Table) (maps : List ℕ) (n : ℕ) → P a t → Ok (λ b. P b t) Any (storeMaps a maps n)
+  unfolding storeMaps
+  leaves-maps a t maps zero h = went h
+  leaves-maps a t maps (suc n) h = ok-bind (leaves-maps a t maps n h) λ b k. leaves-put b t _ _ k
+
+  pub leaves-meta : (s : Fs) → P (s .arena) (s .table) → Leaves P (syncMeta s)
+  unfolding syncMeta
+  leaves-meta s h = ok-bind (any (s .meta)) λ m _. ok-bind (leaves-put (s .arena) (s .table) _ _ h) λ a k. ok-bind (leaves-maps a (s .table) _ _ k) λ d l. went l
+
+  leaves-free-block : (s : Fs) (id : ℕ) → P (s .arena) (s .table) → Leaves P (freeBlock s id)
   unfolding freeBlock
   leaves-free-block s id h =
       ok-bind (any (s .meta)) λ m _. any-guard (isUsed m id) 19 (λ _. any-guard (ltb (m .super .unused + 1) 4294967296) 19 (λ _. went h))
 
-  leaves-free-node : (s : Fs) (i : ℕ) → P (s .table) → Leaves P (freeNode s i)
+  leaves-free-node : Drops P → (s : Fs) (i : ℕ) → P (s .arena) (s .table) → Leaves P (freeNode s i)
   unfolding freeNode
-  leaves-free-node s i h = ok-bind (leaves-free-block s _ h) λ u k. ok-bind (leaves-meta u k) λ v l. ok-bind (says-drop Any tt tt _ _) λ a _. went l
+  leaves-free-node drops s i h =
+      ok-bind (leaves-free-block s _ h) λ u k.
+      ok-bind (leaves-meta u k) λ v l.
+      ok-bind (ok-weaken (λ b d. d) (λ n r. tt) (drop-law (v .arena) (nodeFile (recAt v i)))) λ b d. went (drops (v .arena) b (v .table) (recAt v i .file) d l)
 
-  pub leaves-slot : (s : Fs) (i k : ℕ) (l : List ℕ) → P (s .table) → Leaves P (putSlot s i k l)
-  unfolding putSlot
-  leaves-slot s i k l h = ok-bind (says-put Any tt tt _ _ _ _) λ a _. went h
+-- ---- reading leaves all
 
+<<<<<<< HEAD
   leaves-parent : (s : Fs) (j c : ℕ) → P (s .table) → Leaves P (moveParent s j c)
   unfolding moveParent
   leaves-parent s j c h = any-pick (isFolder (recAt s c .kind)) (putSlot s c 1 _) (done s) (λ _. leaves-slot s c 1 _ h) (λ _. went h)
 
   leaves-read : (s : Fs) (i n : ℕ) → P (s .table) → Leaves P (readSlots s i n)
+=======
+module _ (P : List ℕ → Table → Type 0) where
+  leaves-read : (s : Fs) (i n : ℕ) → P (s .arena) (s .table) → Leaves P (readSlots s i n)
+>>>>>>> order1
   unfolding readSlots
   leaves-read s i zero h = went h
   leaves-read s i (suc n) h = ok-bind (leaves-read s i n h) λ u k. ok-bind (says-slot Any tt _ _ _) λ e _. went k
 
-  leaves-judge : (v : MoveVerdict) (s : Fs) (d : ℕ) → P (s .table) → Leaves P (judge v s d)
+  leaves-judge : (v : MoveVerdict) (s : Fs) (d : ℕ) → P (s .arena) (s .table) → Leaves P (judge v s d)
   leaves-judge Allowed s d h = went h
   leaves-judge NotDir s d h = said tt
   leaves-judge IsDir s d h = said tt
   leaves-judge IfEmpty s d h = any-guard (leb (recAt s d .blocks) 2) 13 (λ _. leaves-read s d _ h)
 
+-- ---- a row's file is filled
+
+module _ (P : List ℕ → Table → Type 0) (i : ℕ) (fills : Fills P i) where
+  leaves-filled : (s : Fs) (pos : ℕ) (src : List ℕ) → P (s .arena) (s .table) → Ok (λ b. P b (s .table)) Any (putFile (s .arena) (nodeFile (recAt s i)) pos src)
+  leaves-filled s pos src h =
+      ok-weaken (λ b p. fills (s .arena) b (s .table) (λ g n. p .others (file 1 g) (file-apart (recAt s i .file) g n)) h) (λ n r. r) (put-any (s .arena) (nodeFile (recAt s i)) pos src)
+
+  leaves-cut : (s : Fs) (n : ℕ) → P (s .arena) (s .table) → Ok (λ b. P b (s .table)) Any (cutFile (s .arena) (nodeFile (recAt s i)) n)
+  leaves-cut s n h =
+      ok-weaken (λ b p. fills (s .arena) b (s .table) (λ g d. p .others (file 1 g) (file-apart (recAt s i .file) g d)) h) (λ m r. r) (cut-any (s .arena) (nodeFile (recAt s i)) n)
+
+  leaves-slot : (s : Fs) (k : ℕ) (l : List ℕ) → P (s .arena) (s .table) → Leaves P (putSlot s i k l)
+  unfolding putSlot
+  leaves-slot s k l h = ok-bind (leaves-filled s _ _ h) λ a k. went k
+
+  module _ (change : Changes P) where
+    leaves-init : (s : Fs) (parent : ℕ) → P (s .arena) (s .table) → Leaves P (direntInit s i parent)
+    unfolding direntInit
+    leaves-init s parent h =
+        ok-bind (leaves-slot (setRec s i (withBlocks (recAt s i) 2)) 0 _ (change (s .arena) (s .table) i _ refl refl h)) λ u k. leaves-slot u 1 _ k
+
+    pub leaves-append : (s : Fs) (e : DiskEntry) → P (s .arena) (s .table) → Leaves P (direntAppend s i e)
+    unfolding direntAppend
+    leaves-append s e h = ok-bind (leaves-slot s _ _ h) λ u k. went (change (u .arena) (u .table) i _ refl refl k)
+
+    leaves-remove : (s : Fs) (k : ℕ) → P (s .arena) (s .table) → Leaves P (direntRemove s i k)
+    unfolding direntRemove
+    leaves-remove s k h =
+        any-guard (ltb 0 (recAt s i .blocks)) 19 (λ _.
+        ok-bind (says-slot-bytes Any tt _ _ _) λ l _.
+        ok-bind {P = λ (u : Fs). P (u .arena) (u .table)} (any-pick (eqb k (recAt s i .blocks - 1)) (done s) (putSlot s i k l) (λ _. went h) (λ _. leaves-slot s k l h)) λ u g.
+        ok-bind (leaves-cut u _ g) λ a m. went (change a (u .table) i _ refl refl m))
+
+    pub leaves-resize : (s : Fs) (n : ℕ) → P (s .arena) (s .table) → Leaves P (resizeSteps s i n)
+    unfolding resizeSteps
+    leaves-resize s n h = ok-bind (leaves-cut s n h) λ a k. went (change a (s .table) i _ refl refl k)
+
+    pub leaves-write : (s : Fs) (place : ℕ) (bytes : List ℕ) → P (s .arena) (s .table) → Leaves P (writeSteps s i place bytes)
+    unfolding writeSteps
+    leaves-write s place bytes h =
+        ok-bind (leaves-filled s place bytes h) λ a k.
+        any-pick (ltb (recAt s i .size) (place + length bytes)) (resizeSteps (withArena s a) i (place + length bytes)) (done (withArena s a))
+        (λ _. leaves-resize (withArena s a) (place + length bytes) k) (λ _. went k)
+
+    -- a folder is born with its two slots
+    pub leaves-birth : (s : Fs) (up kind : ℕ) → P (s .arena) (s .table) → Leaves P (birth s up i kind)
+    unfolding birth
+    leaves-birth s up kind h = any-pick (isFolder kind) (direntInit s i (idAt s up)) (done s) (λ _. leaves-init s _ h) (λ _. went h)
+
 -- ---- rows that change
 
-module _ (P : Table → Type 0) (change : Changes P) where
-  leaves-store : (s : Fs) (i : ℕ) → P (s .table) → Leaves P (storeRow s i)
-  unfolding storeRow
-  leaves-store s i h = ok-bind (says-put Any tt tt _ _ _ _) λ a _. went (change (s .table) i _ refl refl h)
-
-  pub leaves-sync : (s : Fs) (i : ℕ) → P (s .table) → Leaves P (syncRow s i)
-  unfolding syncRow
-  leaves-sync s i h = any-pick (rowAt (s .table) i .dirty) (storeRow s i) (done s) (λ _. leaves-store s i h) (λ _. went h)
-
-  pub leaves-init : (s : Fs) (i parent : ℕ) → P (s .table) → Leaves P (direntInit s i parent)
-  unfolding direntInit
-  leaves-init s i parent h =
-      ok-bind (leaves-slot P (setRec s i (withBlocks (recAt s i) 2)) i 0 _ (change (s .table) i _ refl refl h)) λ u k. leaves-slot P u i 1 _ k
-
-  pub leaves-append : (s : Fs) (i : ℕ) (e : DiskEntry) → P (s .table) → Leaves P (direntAppend s i e)
-  unfolding direntAppend
-  leaves-append s i e h = ok-bind (leaves-slot P s i _ _ h) λ u k. went (change (u .table) i _ refl refl k)
-
-  pub leaves-remove : (s : Fs) (i k : ℕ) → P (s .table) → Leaves P (direntRemove s i k)
-  unfolding direntRemove
-  leaves-remove s i k h =
-      any-guard (ltb 0 (recAt s i .blocks)) 19 (λ _.
-      ok-bind (says-slot-bytes Any tt _ _ _) λ l _.
-      ok-bind {P = λ (u : Fs). P (u .table)} (any-pick (eqb k (recAt s i .blocks - 1)) (done s) (putSlot s i k l) (λ _. went h) (λ _. leaves-slot P s i k l h)) λ u g.
-      ok-bind (says-cut Any tt tt _ _ _) λ a _. went (change (u .table) i _ refl refl g))
-
-  pub leaves-inc : (s : Fs) (i : ℕ) → P (s .table) → Leaves P (nlinksInc s i)
+module _ (P : List ℕ → Table → Type 0) (change : Changes P) where
+  pub leaves-inc : (s : Fs) (i : ℕ) → P (s .arena) (s .table) → Leaves P (nlinksInc s i)
   unfolding nlinksInc
-  leaves-inc s i h = any-guard (ltb (recAt s i .nlinks) 65535) 15 (λ _. went (change (s .table) i _ refl refl h))
+  leaves-inc s i h = any-guard (ltb (recAt s i .nlinks) 65535) 15 (λ _. went (change (s .arena) (s .table) i _ refl refl h))
 
-  pub leaves-dec : (s : Fs) (i : ℕ) → P (s .table) → Leaves P (nlinksDec s i)
+  leaves-dec : (s : Fs) (i : ℕ) → P (s .arena) (s .table) → Leaves P (nlinksDec s i)
   unfolding nlinksDec
-  leaves-dec s i h = any-guard (ltb 0 (recAt s i .nlinks)) 19 (λ _. went (change (s .table) i _ refl refl h))
+  leaves-dec s i h = any-guard (ltb 0 (recAt s i .nlinks)) 19 (λ _. went (change (s .arena) (s .table) i _ refl refl h))
 
-  pub leaves-birth : (s : Fs) (i c kind : ℕ) → P (s .table) → Leaves P (birth s i c kind)
-  unfolding birth
-  leaves-birth s i c kind h = any-pick (isFolder kind) (direntInit s c (idAt s i)) (done s) (λ _. leaves-init s c _ h) (λ _. went h)
-
-  leaves-name-folder : (s : Fs) (i c : ℕ) → P (s .table) → Leaves P (nameFolder s i c)
+  leaves-name-folder : (s : Fs) (i c : ℕ) → P (s .arena) (s .table) → Leaves P (nameFolder s i c)
   unfolding nameFolder
   leaves-name-folder s i c h = ok-bind (leaves-inc s c h) λ u k. leaves-inc u i k
 
-  pub leaves-named : (s : Fs) (i c kind : ℕ) → P (s .table) → Leaves P (named s i c kind)
+  pub leaves-named : (s : Fs) (i c kind : ℕ) → P (s .arena) (s .table) → Leaves P (named s i c kind)
   unfolding named
   leaves-named s i c kind h =
       ok-bind (leaves-inc s c h) λ u k. any-pick (isFolder kind) (nameFolder u i c) (done u) (λ _. leaves-name-folder u i c k) (λ _. went k)
 
-  pub leaves-link : (s : Fs) (i : ℕ) (name : List ℕ) (c : ℕ) → P (s .table) → LeavesAfter P (linkSteps s i name c)
-  unfolding linkSteps
-  leaves-link s i name c h =
-      ok-bind (leaves-append s i _ h) λ s h. ok-bind (leaves-inc s c h) λ s h. ok-bind (leaves-sync s c h) λ s h. ok-bind (leaves-sync s i h) λ s h. went h
-
-  leaves-next : (s : Fs) (low n : ℕ) → P (s .table) → Leaves P (syncFrom s low n)
-  unfolding syncFrom
-  leaves-next s low zero h = went h
-  leaves-next s low (suc n) h = go (nextRow (s .table) low) (λ u m k. leaves-next u m n k)
-    where
-      go : (f : Found) → ((u : Fs) (m : ℕ) → P (u .table) → Leaves P (syncFrom u m n)) → Leaves P (withNext f s (λ i. bind (syncRow s i) (λ d. syncFrom d (idAt s i) n)))
-      go (At i) rest = ok-bind (leaves-sync s i h) λ d k. rest d (idAt s i) k
-      go Nothing rest = went h
-
-  pub leaves-sync-all : (s : Fs) (low n : ℕ) → P (s .table) → Leaves P (syncFrom s low n)
-  leaves-sync-all = leaves-next
-
-  leaves-dots : (s : Fs) (i j : ℕ) → P (s .table) → Leaves P (moveDots s i j)
+  leaves-dots : (s : Fs) (i j : ℕ) → P (s .arena) (s .table) → Leaves P (moveDots s i j)
   unfolding moveDots
   leaves-dots s i j h = ok-bind (leaves-dec s i h) λ u k. leaves-inc u j k
 
-  leaves-links : (s : Fs) (i j c : ℕ) → P (s .table) → Leaves P (moveLinks s i j c)
+  leaves-links : (s : Fs) (i j c : ℕ) → P (s .arena) (s .table) → Leaves P (moveLinks s i j c)
   unfolding moveLinks
   leaves-links s i j c h =
       any-guard (leb (recAt s c .kind) 4) 19 (λ _. any-pick (isFolder (recAt s c .kind)) (moveDots s i j) (done s) (λ _. leaves-dots s i j h) (λ _. went h))
 
-  -- ---- rows that are taken
+  leaves-unlink-folder : (s : Fs) (i c : ℕ) → P (s .arena) (s .table) → Leaves P (unlinkFolder s i c)
+  unfolding unlinkFolder
+  leaves-unlink-folder s i c h = ok-bind (leaves-dec s c h) λ u k. leaves-dec u i k
 
-  module _ (take : Takes P) where
-    leaves-open : (s : Fs) (id : ℕ) (r : DiskINode) (dirty : Bool) → P (s .table) → LeavesOpen P (openIn s id r dirty (freeRow (s .table)))
-    leaves-open s id r dirty h = go (freeRow (s .table)) refl
+  -- ---- rows that are stored
+
+  module _ (stores : Stores P) where
+    leaves-store : (s : Fs) (i : ℕ) → P (s .arena) (s .table) → Leaves P (storeRow s i)
+    unfolding storeRow
+    leaves-store s i h = ok-bind (leaves-put P stores (s .arena) (s .table) _ _ h) λ a k. went (change a (s .table) i _ refl refl k)
+
+    pub leaves-sync : (s : Fs) (i : ℕ) → P (s .arena) (s .table) → Leaves P (syncRow s i)
+    unfolding syncRow
+    leaves-sync s i h = any-pick (rowAt (s .table) i .dirty) (storeRow s i) (done s) (λ _. leaves-store s i h) (λ _. went h)
+
+    pub leaves-link : (s : Fs) (i : ℕ) → Fills P i → (name : List ℕ) (c : ℕ) → P (s .arena) (s .table) → LeavesAfter P (linkSteps s i name c)
+    unfolding linkSteps
+    leaves-link s i fills name c h =
+        ok-bind (leaves-append P i fills change s _ h) λ s h. ok-bind (leaves-inc s c h) λ s h. ok-bind (leaves-sync s c h) λ s h. ok-bind (leaves-sync s i h) λ s h. went h
+
+    pub leaves-sync-all : (s : Fs) (low n : ℕ) → P (s .arena) (s .table) → Leaves P (syncFrom s low n)
+    unfolding syncFrom
+    leaves-sync-all s low zero h = went h
+    leaves-sync-all s low (suc n) h = go (nextRow (s .table) low) (λ u m k. leaves-sync-all u m n k)
       where
-        go : (f : Found) → freeRow (s .table) ≡ f → LeavesOpen P (openIn s id r dirty f)
-        go (At i) e = went (take (s .table) i _ (row-found (s .table) 0 i e .1) h)
-        go Nothing e = said tt
+        go : (f : Found) → ((u : Fs) (m : ℕ) → P (u .arena) (u .table) → Leaves P (syncFrom u m n)) → Leaves P (withNext f s (λ i. bind (syncRow s i) (λ d. syncFrom d (idAt s i) n)))
+        go (At i) rest = ok-bind (leaves-sync s i h) λ d k. rest d (idAt s i) k
+        go Nothing rest = went h
 
-    leaves-at : (s : Fs) (id : ℕ) (f : Found) → P (s .table) → LeavesOpen P (openAt s id f)
-    unfolding loadNode
-    leaves-at s id (At i) h = went h
-    leaves-at s id Nothing h =
-        ok-bind (says-read Any tt _ _ _ _) λ l _.
-        any-guard (leb (recordOf l .kind) 4) 19 (λ _. any-guard (there (s .arena) (nodeFile (recordOf l))) 19 (λ _. leaves-open s id (recordOf l) false h))
+    -- ---- rows that are taken
 
-    pub leaves-node : (s : Fs) (id : ℕ) → P (s .table) → LeavesOpen P (getNode s id)
-    unfolding getNode
-    leaves-node s id h = ok-bind (any (s .meta)) λ m _. any-guard (isUsed m id) 19 (λ _. leaves-at s id (rowOf (s .table) id) h)
+    module _ (take : Takes P) where
+      leaves-open : (s : Fs) (id : ℕ) (r : DiskINode) (dirty : Bool) → P (s .arena) (s .table) → LeavesOpen P (openIn s id r dirty (freeRow (s .table)))
+      leaves-open s id r dirty h = go (freeRow (s .table)) refl
+        where
+          go : (f : Found) → freeRow (s .table) ≡ f → LeavesOpen P (openIn s id r dirty f)
+          go (At i) e = went (take (s .arena) (s .table) i _ (row-found (s .table) 0 i e .1) h)
+          go Nothing e = said tt
 
-    pub leaves-new : (s : Fs) (kind mode : ℕ) (time : Timespec) (name : List ℕ) → P (s .table) → LeavesOpen P (newNode s kind mode time name)
-    unfolding newNode
-    leaves-new s kind mode time name h =
-        ok-bind (same-alloc s) λ x e.
-        any-guard (not (eqb (x .id) 0) && noRow (rowOf (x .state .table) (x .id))) 19 (λ _.
-        ok-bind (says-make {R = Any} tt (x .state .arena) (file 1 name)) λ a _.
-        leaves-open (withArena (x .state) a) (x .id) (newRecord kind mode time name) true (subst P (sym e) h))
+      leaves-at : (s : Fs) (id : ℕ) (f : Found) → P (s .arena) (s .table) → LeavesOpen P (openAt s id f)
+      unfolding loadNode
+      leaves-at s id (At i) h = went h
+      leaves-at s id Nothing h =
+          ok-bind (says-read Any tt _ _ _ _) λ l _.
+          any-guard (leb (recordOf l .kind) 4) 19 (λ _. any-guard (there (s .arena) (nodeFile (recordOf l))) 19 (λ _. leaves-open s id (recordOf l) false h))
 
-    -- ---- rows that are freed
+      pub leaves-node : (s : Fs) (id : ℕ) → P (s .arena) (s .table) → LeavesOpen P (getNode s id)
+      unfolding getNode
+      leaves-node s id h = ok-bind (any (s .meta)) λ m _. any-guard (isUsed m id) 19 (λ _. leaves-at s id (rowOf (s .table) id) h)
 
-    module _ (free : Frees P) where
-      -- while it is not held, it may be freed
-      drop-spare : (s : Fs) (i : ℕ) → rowUsed (s .table) i ≡ false → P (s .table) → Leaves (λ t. P t × (rowUsed t i ≡ false)) (syncRow s i)
-      unfolding syncRow storeRow rowUsed
-      drop-spare s i e h =
-          any-pick (rowAt (s .table) i .dirty) (storeRow s i) (done s) (λ _. ok-bind (says-put Any tt tt _ _ _ _) λ a _. went (change (s .table) i _ refl refl h, e)) (λ _. went (h, e))
+      pub leaves-new : (s : Fs) (kind mode : ℕ) (time : Timespec) (name : List ℕ) → Makes P name → P (s .arena) (s .table) → LeavesOpen P (newNode s kind mode time name)
+      unfolding newNode
+      leaves-new s kind mode time name makes h =
+          ok-bind (leaves-alloc P stores s h) λ x k.
+          any-guard (not (eqb (x .id) 0) && noRow (rowOf (x .state .table) (x .id))) 19 (λ _.
+          ok-bind (makes (x .state .arena) (x .state .table) k) λ a l.
+          leaves-open (withArena (x .state) a) (x .id) (newRecord kind mode time name) true l)
 
-      pub leaves-drop : (s : Fs) (i : ℕ) → rowUsed (s .table) i ≡ false → P (s .table) → Leaves P (dropNode s i)
-      unfolding dropNode
-      leaves-drop s i e h =
-          ok-bind (drop-spare s i e h) λ u k.
-          ok-bind {P = λ (v : Fs). P (v .table) × (rowUsed (v .table) i ≡ false)}
-          (any-pick (eqb (recAt u i .nlinks) 0) (freeNode u i) (done u) (λ _. leaves-free-node (λ t. P t × (rowUsed t i ≡ false)) u i k) (λ _. went k)) λ v l.
-          went (free (v .table) i (l .1) (l .0))
+      -- ---- rows that are freed
 
-      pub leaves-release : (s : Fs) (i : ℕ) → P (s .table) → Leaves P (release s i)
-      unfolding release
-      leaves-release s i h = any-pick (rowUsed (s .table) i) (done s) (dropNode s i) (λ _. went h) (λ e. leaves-drop s i e h)
+      module _ (free : Frees P) (drops : Drops P) where
+        -- while it is not held, it may be freed
+        drop-spare : (s : Fs) (i : ℕ) → rowUsed (s .table) i ≡ false → P (s .arena) (s .table) → Leaves (λ a t. P a t × (rowUsed t i ≡ false)) (syncRow s i)
+        unfolding syncRow storeRow rowUsed
+        drop-spare s i e h =
+            any-pick (rowAt (s .table) i .dirty) (storeRow s i) (done s)
+            (λ _. ok-bind (leaves-put P stores (s .arena) (s .table) _ _ h) λ a k. went (change a (s .table) i _ refl refl k, e)) (λ _. went (h, e))
 
-      leaves-unlink-folder : (s : Fs) (i c : ℕ) → P (s .table) → Leaves P (unlinkFolder s i c)
-      unfolding unlinkFolder
-      leaves-unlink-folder s i c h = ok-bind (leaves-dec s c h) λ u k. leaves-dec u i k
+        pub leaves-drop : (s : Fs) (i : ℕ) → rowUsed (s .table) i ≡ false → P (s .arena) (s .table) → Leaves P (dropNode s i)
+        unfolding dropNode
+        leaves-drop s i e h =
+            ok-bind (drop-spare s i e h) λ u k.
+            ok-bind {P = λ (v : Fs). P (v .arena) (v .table) × (rowUsed (v .table) i ≡ false)}
+            (any-pick (eqb (recAt u i .nlinks) 0) (freeNode u i) (done u)
+            (λ _. leaves-free-node (λ a t. P a t × (rowUsed t i ≡ false)) (λ a b t k h. (stores a b t k (h .0), h .1)) (λ a b t g d h. (drops a b t g d (h .0), h .1)) u i k)
+            (λ _. went k)) λ v l.
+            went (free (v .arena) (v .table) i (l .1) (l .0))
 
-      leaves-node-remove : (s : Fs) (i c k : ℕ) → P (s .table) → Leaves P (direntNodeRemove s i c k)
-      unfolding direntNodeRemove
-      leaves-node-remove s i c k h =
-          ok-bind (leaves-remove s i k h) λ u g.
-          ok-bind (leaves-dec u c g) λ v l.
-          ok-bind {P = λ (w : Fs). P (w .table)} (any-pick (isFolder (recAt v c .kind)) (unlinkFolder v i c) (done v) (λ _. leaves-unlink-folder v i c l) (λ _. went l)) λ w m.
-          leaves-release w c m
+        leaves-release : (s : Fs) (i : ℕ) → P (s .arena) (s .table) → Leaves P (release s i)
+        unfolding release
+        leaves-release s i h = any-pick (rowUsed (s .table) i) (done s) (dropNode s i) (λ _. went h) (λ e. leaves-drop s i e h)
 
-      pub leaves-unlink : (s : Fs) (i c k : ℕ) → P (s .table) → LeavesAfter P (unlinkSteps s i c k)
-      unfolding unlinkSteps
-      leaves-unlink s i c k h = ok-bind (leaves-node-remove s i c k h) λ u g. ok-bind (leaves-sync u i g) λ v l. went l
+        leaves-node-remove : (s : Fs) (i : ℕ) → Fills P i → (c k : ℕ) → P (s .arena) (s .table) → Leaves P (direntNodeRemove s i c k)
+        unfolding direntNodeRemove
+        leaves-node-remove s i fills c k h =
+            ok-bind (leaves-remove P i fills change s k h) λ u g.
+            ok-bind (leaves-dec u c g) λ v l.
+            ok-bind {P = λ (w : Fs). P (w .arena) (w .table)} (any-pick (isFolder (recAt v c .kind)) (unlinkFolder v i c) (done v) (λ _. leaves-unlink-folder v i c l) (λ _. went l)) λ w m.
+            leaves-release w c m
 
-      leaves-replaced : (s : Fs) (j : ℕ) (r : Replaced) → P (s .table) → Leaves P (removeReplaced s j r)
-      leaves-replaced s j none h = went h
-      leaves-replaced s j (node d k) h = leaves-node-remove s j d k h
+        pub leaves-unlink : (s : Fs) (i : ℕ) → Fills P i → (c k : ℕ) → P (s .arena) (s .table) → LeavesAfter P (unlinkSteps s i c k)
+        unfolding unlinkSteps
+        leaves-unlink s i fills c k h = ok-bind (leaves-node-remove s i fills c k h) λ u g. ok-bind (leaves-sync u i g) λ v l. went l
 
-      leaves-within : (s : Fs) (i : ℕ) (old : Slot) (name : List ℕ) (r : Replaced) → P (s .table) → LeavesAfter P (moveWithin s i old name r)
-      unfolding moveWithin
-      leaves-within s i old name r h =
-          ok-bind (leaves-slot P s i _ _ h) λ s h. ok-bind (leaves-replaced s i r h) λ s h. ok-bind (leaves-sync s i h) λ s h. went h
+        leaves-replaced : (s : Fs) (j : ℕ) → Fills P j → (r : Replaced) → P (s .arena) (s .table) → Leaves P (removeReplaced s j r)
+        leaves-replaced s j fills none h = went h
+        leaves-replaced s j fills (node d k) h = leaves-node-remove s j fills d k h
 
+<<<<<<< HEAD
       leaves-between : (s : Fs) (i j : ℕ) (old : Slot) (name : List ℕ) (r : Replaced) → P (s .table) → LeavesAfter P (moveBetween s i j old name r)
       unfolding moveBetween
       leaves-between s i j old name r h =
@@ -281,31 +394,44 @@ module _ (P : Table → Type 0) (change : Changes P) where
           ok-bind (leaves-sync s i h) λ s h.
           ok-bind (leaves-sync s j h) λ s h.
           ok-bind (leaves-release s (o .row) h) λ s h. went h
+=======
+        -- ---- a move, whose two folders are rows i and j
+>>>>>>> order1
 
-      leaves-move-steps : (s : Fs) (i j : ℕ) (old name : List ℕ) (r : Replaced) → P (s .table) → LeavesAfter P (moveSteps s i j old name r)
-      unfolding moveSteps
-      leaves-move-steps s i j old name r h =
-          ok-bind (says-find Any tt tt _ _ _) λ e _.
-          any-pick (eqb (idAt s i) (idAt s j)) (moveWithin s i e name r) (moveBetween s i j e name r) (λ _. leaves-within s i e name r h) (λ _. leaves-between s i j e name r h)
+        module _ (i j : ℕ) (fills-i : Fills P i) (fills-j : Fills P j) where
+          leaves-within : (s : Fs) (old : Slot) (name : List ℕ) (r : Replaced) → P (s .arena) (s .table) → LeavesAfter P (moveWithin s i old name r)
+          unfolding moveWithin
+          leaves-within s old name r h =
+              ok-bind (leaves-slot P i fills-i s _ _ h) λ s h. ok-bind (leaves-replaced s i fills-i r h) λ s h. ok-bind (leaves-sync s i h) λ s h. went h
 
+<<<<<<< HEAD
       leaves-onto : (s : Fs) (i j : ℕ) (old name : List ℕ) (c d k : ℕ) → P (s .table) → LeavesAfter P (moveOnto s i j old name c d k)
       unfolding moveOnto
       leaves-onto s i j old name c d k h =
           ok-bind (leaves-judge P (moveVerdictOf (recAt s c .kind) (recAt s d .kind)) s d h) λ s h.
           ok-bind (any (notBelow s i j c)) λ _ _.
           ok-bind (leaves-release s c h) λ s h. leaves-move-steps s i j old name (node d k) h
+=======
+          leaves-between : (s : Fs) (old : Slot) (name : List ℕ) (r : Replaced) → P (s .arena) (s .table) → LeavesAfter P (moveBetween s i j old name r)
+          unfolding moveBetween
+          leaves-between s old name r h =
+              ok-bind (leaves-append P j fills-j change s _ h) λ s h.
+              ok-bind (leaves-remove P i fills-i change s _ h) λ s h.
+              ok-bind (leaves-replaced s j fills-j r h) λ s h.
+              ok-bind (leaves-node s _ h) λ o h.
+              ok-bind (leaves-links (o .state) i j (o .row) h) λ s h.
+              ok-bind (leaves-sync s i h) λ s h.
+              ok-bind (leaves-sync s j h) λ s h.
+              ok-bind (leaves-release s (o .row) h) λ s h. went h
+>>>>>>> order1
 
-      leaves-replace : (s : Fs) (i j : ℕ) (old name : List ℕ) (k : ℕ) → P (s .table) → LeavesAfter P (replace s i j old name k)
-      unfolding replace
-      leaves-replace s i j old name k h =
-          ok-bind (says-slot Any tt _ _ _) λ new _.
-          ok-bind (says-find Any tt tt _ _ _) λ was _.
-          ok-bind (leaves-node s (new .id) h) λ d g.
-          ok-bind (leaves-node (d .state) (was .entry .id) g) λ c l.
-          ok-bind (says-ensure (isType (recAt (c .state) (c .row) .kind)) 19 tt) λ _ _.
-          ok-bind (says-ensure (isType (recAt (c .state) (d .row) .kind)) 19 tt) λ _ _.
-          any-pick (eqb (was .entry .id) (new .id)) (done (after s)) (moveOnto (c .state) i j old name (c .row) (d .row) k) (λ _. went h) (λ _. leaves-onto (c .state) i j old name (c .row) (d .row) k l)
+          leaves-move-steps : (s : Fs) (old name : List ℕ) (r : Replaced) → P (s .arena) (s .table) → LeavesAfter P (moveSteps s i j old name r)
+          unfolding moveSteps
+          leaves-move-steps s old name r h =
+              ok-bind (says-find Any tt tt _ _ _) λ e _.
+              any-pick (eqb (idAt s i) (idAt s j)) (moveWithin s i e name r) (moveBetween s i j e name r) (λ _. leaves-within s e name r h) (λ _. leaves-between s e name r h)
 
+<<<<<<< HEAD
       leaves-move-free : (s : Fs) (i j : ℕ) (old name : List ℕ) → P (s .table) → LeavesAfter P (moveFree s i j old name)
       unfolding moveFree
       leaves-move-free s i j old name h =
@@ -317,3 +443,25 @@ module _ (P : Table → Type 0) (change : Changes P) where
       pub leaves-move : (s : Fs) (i j : ℕ) (old name : List ℕ) (f : Found) → P (s .table) → LeavesAfter P (moveTo s i j old name f)
       leaves-move s i j old name (At k) h = leaves-replace s i j old name k h
       leaves-move s i j old name Nothing h = leaves-move-free s i j old name h
+=======
+          leaves-onto : (s : Fs) (old name : List ℕ) (c d k : ℕ) → P (s .arena) (s .table) → LeavesAfter P (moveOnto s i j old name c d k)
+          unfolding moveOnto
+          leaves-onto s old name c d k h =
+              ok-bind (leaves-judge P (moveVerdictOf (recAt s c .kind) (recAt s d .kind)) s d h) λ s h.
+              ok-bind (leaves-release s c h) λ s h. leaves-move-steps s old name (node d k) h
+
+          leaves-replace : (s : Fs) (old name : List ℕ) (k : ℕ) → P (s .arena) (s .table) → LeavesAfter P (replace s i j old name k)
+          unfolding replace
+          leaves-replace s old name k h =
+              ok-bind (says-slot Any tt _ _ _) λ new _.
+              ok-bind (says-find Any tt tt _ _ _) λ was _.
+              ok-bind (leaves-node s (new .id) h) λ d g.
+              ok-bind (leaves-node (d .state) (was .entry .id) g) λ c l.
+              ok-bind (says-ensure (isType (recAt (c .state) (c .row) .kind)) 19 tt) λ _ _.
+              ok-bind (says-ensure (isType (recAt (c .state) (d .row) .kind)) 19 tt) λ _ _.
+              any-pick (eqb (was .entry .id) (new .id)) (done (after s)) (moveOnto (c .state) i j old name (c .row) (d .row) k) (λ _. went h) (λ _. leaves-onto (c .state) old name (c .row) (d .row) k l)
+
+          pub leaves-move : (s : Fs) (old name : List ℕ) (f : Found) → P (s .arena) (s .table) → LeavesAfter P (moveTo s i j old name f)
+          leaves-move s old name (At k) h = leaves-replace s old name k h
+          leaves-move s old name Nothing h = leaves-move-steps s old name none h
+>>>>>>> order1

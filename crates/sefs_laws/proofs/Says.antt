@@ -1,9 +1,11 @@
 -- Which reasons a step can give: R holds of each. A step that only reads needs R of 19; one that stores, of 17 too.
 use mathlib.Core.Bool.{Bool, true, false, not, _&&_}
 use mathlib.Core.List.{List}
-use Prim.Native.Nat.{ℕ, zero, suc, _+_, _-_}
+use Prim.Native.Nat.{ℕ, zero, suc, _+_, _-_, _≤_}
+use native.Mathlib.Omega.{arith}
 use lib.Dec.{eqb, ltb, leb}
 use lib.ListN.{length}
+use borrow.Author.Tests.{leb-true}
 use Rattle.structs.specs.Layout.{superOf, recordOf, entryOf}
 use Rattle.structs.specs.Types.{isFolder, isType}
 use Rattle.utf8.specs.Names.{storedName, isNamed}
@@ -24,7 +26,7 @@ use Rattle.arena.specs.Blocks.{legal, blocks}
 use Rattle.arena.specs.Places.{freeOf}
 use Rattle.sound.specs.Sound.{sound}
 use Rattle.files.specs.Read.{there, readFile}
-use Rattle.files.specs.Store.{putFile, cutFile, makeFile, claim, dropFile}
+use Rattle.files.specs.Store.{longest, putFile, cutFile, makeFile, claim, dropFile}
 use Rattle.files_laws.specs.Laws.{PutRefused, CutRefused, DropRefused, ReadRefused}
 use Rattle.files_laws.proofs.Put.{put-law}
 use Rattle.files_laws.proofs.Cut.{cut-law}
@@ -36,6 +38,7 @@ use Rattle.sefs.specs.Meta.{ids, firstBit, isUsed, Allocated, loadMaps, loadMet
 use Rattle.sefs.specs.Nodes.{Opened, setRec, nodeFile, recAt, noRow, openIn, openAt, loadNode, getNode, newNode, storeRow, syncRow, freeNode, dropNode, release}
 use Rattle.sefs.specs.Slots.{isEnded, slotBytes, slotAt, lookTo, lookup, orNotFound, findSlot}
 use Rattle.sefs.specs.Folders.{putSlot, direntInit, direntAppend, direntRemove, direntNodeRemove, nlinksInc, nlinksDec, unlinkFolder}
+use Rattle.sefs.specs.Contents.{hasContents, notTooBig, readBytes, resizeSteps, writeSteps}
 use Rattle.sefs.specs.Ask.{admitArena, admit, orBadHandle, byHandle, liveFolder, orExists}
 use mathlib.Core.Path.{refl, _≡_, sym, subst}
 use Rattle.files_laws.specs.Laws as laws
@@ -316,6 +319,39 @@ module _ (R : ℕ → Type 0) (space : R 17) (stuck : R 19) where
 pub goes-inc : {R : ℕ → Type 0} → R 15 → (s : Fs) (i : ℕ) → Sane R s → Goes R (nlinksInc s i)
 unfolding nlinksInc
 goes-inc many s i h = goes-guard (ltb (recAt s i .nlinks) 65535) 15 many (went h)
+
+-- ---- a file's own bytes
+
+pub says-contents : {R : ℕ → Type 0} → R 19 → R 21 → (r : DiskINode) → Says R (hasContents r)
+unfolding hasContents
+says-contents stuck none r = says-then (says-ensure (leb (r .kind) 4) 19 stuck) λ _. says-ensure (isType (r .kind) && not (isFolder (r .kind))) 21 none
+
+pub says-bytes : {R : ℕ → Type 0} → R 19 → (a : List ℕ) (f : File) (place n : ℕ) → Says R (readBytes a f place n)
+unfolding readBytes
+says-bytes stuck a f place n = says-guard (there a f) 19 stuck says-done
+
+-- an end that is in range, or 22
+pub says-end : {R : ℕ → Type 0} → R 22 → (end : ℕ) → Ok (λ _. end ≤ longest) R (notTooBig end)
+says-end {R} big end = go (leb end longest) refl
+  where
+    go : (b : Bool) → leb end longest ≡ b → Ok (λ _. end ≤ longest) R (ensure b 22)
+    go true e = went (leb-true end longest e)
+    go false e = said big
+
+-- in range a length needs no block
+pub says-resize : {R : ℕ → Type 0} → R 19 → (s : Fs) (i n : ℕ) → n ≤ longest → Says R (resizeSteps s i n)
+unfolding resizeSteps
+says-resize {R} stuck s i n l = says-then (ok-weaken (λ a _. tt) (λ r e. why e) (cut-law (s .arena) (nodeFile (recAt s i)) n)) λ a. says-done
+  where
+    why : {r : ℕ} → CutRefused (s .arena) (nodeFile (recAt s i)) n r → R r
+    why (laws.missing _) = stuck
+    why (laws.far _ g) = absurd (omega arith)
+
+pub says-write : {R : ℕ → Type 0} → R 17 → R 19 → (s : Fs) (i place : ℕ) (bytes : List ℕ) → place + length bytes ≤ longest → Says R (writeSteps s i place bytes)
+unfolding writeSteps
+says-write {R} space stuck s i place bytes l =
+    says-then (says-put R space stuck _ _ _ _) λ a.
+    says-pick (ltb (recAt s i .size) (place + length bytes)) (resizeSteps (withArena s a) i (place + length bytes)) (done (withArena s a)) (says-resize stuck (withArena s a) i (place + length bytes) l) says-done
 
 -- ---- what every call asks first
 

@@ -224,7 +224,7 @@ module _ (a : List ℕ) (t : Table) (M : Midway none a t) (i : ℕ) (ui : Used t
 
       bred-mid : (b : List ℕ) → MetaPut (x .arena) m b → Midway (also none c) b (x .table)
       bred-mid b P = record {
-        fair = bred-fair a b t (x .table) M i ui dir lives c (Q .free) id m (Q .taken) rc rd (S .rows) name N least most (λ f. omega (arith, ap bit f)) refl refl refl refl refl absent (bred b P);
+        fair = bred-fair a b t (x .table) M i ui dir lives c (Q .free) id m (Q .taken) rc rd (S .rows) name N least most (λ f. omega (arith, ap bit f)) refl refl refl refl refl refl refl absent (bred b P);
         formed = S .rows .formed;
         bytes = P .within .bytes;
         fits = S .rows .fits;

@@ -1,4 +1,5 @@
 pub mod Born
+pub mod Contents
 pub mod Moves
 pub mod Naming
 pub mod Redirects

@@ -12,6 +12,7 @@ use Rattle.base.proofs.Counts.{sumTo-cong, countTo-cong}
 use Rattle.structs.specs.Types.{isFolder}
 use Rattle.structs.specs.declared.DiskEntry.{DiskEntry}
 use Rattle.tree.specs.Tree.{Tree, folderAt, namesOf, allNames, subsOf, parent, up, LaterIn, FolderIn, LinkedIn, RemovedIn, Lives, NamedBy, Tidy}
+use Rattle.tree.specs.Moves.{turned}
 use Rattle.tree.proofs.Trees.{pick-like, folder-is, none-removed, parent-lives}
 use Rattle.tree.proofs.Ways.{slot-counts, names-part}
 
@@ -25,9 +26,22 @@ pub record Stays (gone : ℕ → Bool) (v w : Tree) : Type 0 where
   pub size : (i : ℕ) → w .node i ≡ true → w .size i ≡ v .size i
   pub long : (i : ℕ) → w .node i ≡ true → w .long i ≡ v .long i
   pub slot : (i : ℕ) → folderAt w i ≡ true → (k : ℕ) → k < v .blocks i → w .slot i k ≡ v .slot i k
-  pub opened : (i : ℕ) → w .node i ≡ true → v .links i ≡ 0 → v .opened i ≡ true → w .opened i ≡ true
 
-module _ (gone : ℕ → Bool) (v w : Tree) (I : Tidy v) (loose : (i : ℕ) → gone i ≡ true → v .node i ≡ true → v .links i ≡ 0) (R : Stays gone v w) where
+-- the same as they will be
+pub stays-turned : (c f g : ℕ) (e : DiskEntry) {gone : ℕ → Bool} {v w : Tree} → Stays gone v w → Stays gone (turned c f g e v) (turned c f g e w)
+stays-turned c f g e R = record {
+  ids = R .ids;
+  node = R .node;
+  kind = R .kind;
+  links = λ i n x. pick (eqb i f) (R .links i n x - 1) (pick (eqb i g) (R .links i n x + 1) (R .links i n x));
+  blocks = R .blocks;
+  size = R .size;
+  long = R .long;
+  slot = λ i h k l x. pick (eqb i c && eqb k 1) e (R .slot i h k l x);
+}
+
+module _ (gone : ℕ → Bool) (v w : Tree) (I : Tidy v) (loose : (i : ℕ) → gone i ≡ true → v .node i ≡ true → v .links i ≡ 0) (R : Stays gone v w)
+    (opens : (i : ℕ) → w .node i ≡ true → v .links i ≡ 0 → v .opened i ≡ true → w .opened i ≡ true) where
   was : (i : ℕ) → w .node i ≡ true → v .node i ≡ true
   was i n = and-parts (v .node i) (not (gone i)) (sym (R .node i) ∙ n) .0
 
@@ -151,12 +165,12 @@ module _ (gone : ℕ → Bool) (v w : Tree) (I : Tidy v) (loose : (i : ℕ) → 
     other = λ i n f. R .links i n ∙ I .other i (was i n) (sym (folder-same i (not-gone i n)) ∙ f) ∙ sym (all-names i);
     unnamed = λ i n f z.
         let e : v .links i ≡ 0 = sym (R .links i n) ∙ z in
-        R .opened i n e (I .unnamed i (was i n) (sym (folder-same i (not-gone i n)) ∙ f) e);
+        opens i n e (I .unnamed i (was i n) (sym (folder-same i (not-gone i n)) ∙ f) e);
     either = λ i f.
         let n = folder-is w i f in
         ⊎-elim
         (λ (L : LinkedIn v i). inl (record { links = R .links i n ∙ L .links ∙ ap (λ (z : ℕ). 2 + z) (sym (subs-same i f)); root = λ z. all-names i ∙ L .root z; once = λ z. all-names i ∙ L .once z }))
-        (λ (L : RemovedIn v i). inr (record { apart = L .apart; opened = R .opened i n (L .links) (L .opened); links = R .links i n ∙ L .links; unnamed = all-names i ∙ L .unnamed; slots = R .blocks i n ∙ L .slots }))
+        (λ (L : RemovedIn v i). inr (record { apart = L .apart; opened = opens i n (L .links) (L .opened); links = R .links i n ∙ L .links; unnamed = all-names i ∙ L .unnamed; slots = R .blocks i n ∙ L .slots }))
         (I .either i (back i f));
     root = parent-same 2 (I .two) ∙ I .root;
     parents = λ i l n. let o = lived i l in ap (folderAt w) (parent-same i o) ∙ live (parent v i) (parent-lives v I i o) .folder;

@@ -1,11 +1,12 @@
 -- A folder goes to another folder, without bytes: order 2, "`..` must name the new parent" and "a folder can't go into itself or below". Then a
 -- tidy tree stays so.
 use mathlib.Core.Path.{_≡_}
-use mathlib.Core.Bool.{Bool, true, false}
+use mathlib.Core.Bool.{Bool, true, false, _&&_}
 use mathlib.Core.List.{[], _∷_}
 use mathlib.Core.Logic.{_≢_}
 use Prim.Native.Nat.{ℕ, _+_, _*_, _-_, _≤_, _<_}
 use lib.Dec.{eqb}
+use Rattle.base.specs.Search.{pick}
 use Rattle.structs.specs.Constants.{typeDir}
 use Rattle.structs.specs.Types.{isFolder}
 use Rattle.structs.specs.declared.DiskEntry.{DiskEntry}
@@ -93,3 +94,19 @@ pub record MayMove (v : Tree) (f p g k c : ℕ) (o : Spot) (e : DiskEntry) : Typ
 
 unfoldable pub MovesTidy : Type 0
 MovesTidy = (v w : Tree) (f p g k c : ℕ) (o : Spot) (e : DiskEntry) → Tidy v → MayMove v f p g k c o e → Moves v w f p g k c o e → Tidy w
+
+-- ---- between the slots' move and the end, a tree as it will be: folder c, which goes from folder f to folder g, has e for its `..`, and they have
+-- their links
+
+abbrev pub turned : ℕ → ℕ → ℕ → DiskEntry → Tree → Tree
+turned c f g e v = record {
+  ids = v .ids;
+  node = v .node;
+  kind = v .kind;
+  links = λ i. pick (eqb i f) (v .links i - 1) (pick (eqb i g) (v .links i + 1) (v .links i));
+  blocks = v .blocks;
+  size = v .size;
+  long = v .long;
+  slot = λ i k. pick (eqb i c && eqb k 1) e (v .slot i k);
+  opened = v .opened;
+}
