@@ -10,7 +10,7 @@ use native.Mathlib.Omega.{arith}
 use lib.Dec.{eqb, ltb, leb}
 use lib.ListN.{length}
 use Rattle.base.specs.Out.{Out, done, refused, bind, guard, Ok, went, said}
-use Rattle.base.proofs.Outs.{ok-bind, ok-weaken}
+use Rattle.base.proofs.Outs.{ok-bind, ok-weaken, ok-done}
 use Rattle.base.specs.Search.{pick}
 use Rattle.base.specs.declared.Found.{Found}
 use Rattle.base.specs.declared.Found.the-variants.{At, Nothing}
@@ -65,6 +65,11 @@ any-guard false n h = said tt
 pub any-pick : {A : Type 0} {Q : A → Type 0} (b : Bool) (m o : Out A) → (b ≡ true → Ok Q Any m) → (b ≡ false → Ok Q Any o) → Ok Q Any (pick b m o)
 any-pick true m o g h = g refl
 any-pick false m o g h = h refl
+
+-- two things that are known of an outcome
+pub ok-both : {A : Type 0} {P Q : A → Type 0} {m : Out A} → Ok P Any m → Ok Q Any m → Ok (λ x. P x × Q x) Any m
+ok-both (went p) h = went (p, ok-done h)
+ok-both (said r) h = said tt
 
 -- P holds of arena and table that are left
 abbrev pub Leaves : (List ℕ → Table → Type 0) → Out Fs → Type 0
@@ -205,6 +210,27 @@ module _ (P : List ℕ → Table → Type 0) where
   leaves-judge IsDir s d h = said tt
   leaves-judge IfEmpty s d h = any-guard (leb (recAt s d .blocks) 2) 13 (λ _. leaves-read s d _ h)
 
+-- ---- a node is opened: a row is taken
+
+module _ (P : List ℕ → Table → Type 0) (take : Takes P) where
+  leaves-open : (s : Fs) (id : ℕ) (r : DiskINode) (dirty : Bool) → P (s .arena) (s .table) → LeavesOpen P (openIn s id r dirty (freeRow (s .table)))
+  leaves-open s id r dirty h = go (freeRow (s .table)) refl
+    where
+      go : (f : Found) → freeRow (s .table) ≡ f → LeavesOpen P (openIn s id r dirty f)
+      go (At i) e = went (take (s .arena) (s .table) i _ (row-found (s .table) 0 i e .1) h)
+      go Nothing e = said tt
+
+  leaves-at : (s : Fs) (id : ℕ) (f : Found) → P (s .arena) (s .table) → LeavesOpen P (openAt s id f)
+  unfolding loadNode
+  leaves-at s id (At i) h = went h
+  leaves-at s id Nothing h =
+      ok-bind (says-read Any tt _ _ _ _) λ l _.
+      any-guard (leb (recordOf l .kind) 4) 19 (λ _. any-guard (there (s .arena) (nodeFile (recordOf l))) 19 (λ _. leaves-open s id (recordOf l) false h))
+
+  pub leaves-node : (s : Fs) (id : ℕ) → P (s .arena) (s .table) → LeavesOpen P (getNode s id)
+  unfolding getNode
+  leaves-node s id h = ok-bind (any (s .meta)) λ m _. any-guard (isUsed m id) 19 (λ _. leaves-at s id (rowOf (s .table) id) h)
+
 -- ---- a row's file is filled
 
 module _ (P : List ℕ → Table → Type 0) (i : ℕ) (fills : Fills P i) where
@@ -312,34 +338,16 @@ module _ (P : List ℕ → Table → Type 0) (change : Changes P) where
         go (At i) rest = ok-bind (leaves-sync s i h) λ d k. rest d (idAt s i) k
         go Nothing rest = went h
 
-    -- ---- rows that are taken
+    -- ---- a node is made
 
     module _ (take : Takes P) where
-      leaves-open : (s : Fs) (id : ℕ) (r : DiskINode) (dirty : Bool) → P (s .arena) (s .table) → LeavesOpen P (openIn s id r dirty (freeRow (s .table)))
-      leaves-open s id r dirty h = go (freeRow (s .table)) refl
-        where
-          go : (f : Found) → freeRow (s .table) ≡ f → LeavesOpen P (openIn s id r dirty f)
-          go (At i) e = went (take (s .arena) (s .table) i _ (row-found (s .table) 0 i e .1) h)
-          go Nothing e = said tt
-
-      leaves-at : (s : Fs) (id : ℕ) (f : Found) → P (s .arena) (s .table) → LeavesOpen P (openAt s id f)
-      unfolding loadNode
-      leaves-at s id (At i) h = went h
-      leaves-at s id Nothing h =
-          ok-bind (says-read Any tt _ _ _ _) λ l _.
-          any-guard (leb (recordOf l .kind) 4) 19 (λ _. any-guard (there (s .arena) (nodeFile (recordOf l))) 19 (λ _. leaves-open s id (recordOf l) false h))
-
-      pub leaves-node : (s : Fs) (id : ℕ) → P (s .arena) (s .table) → LeavesOpen P (getNode s id)
-      unfolding getNode
-      leaves-node s id h = ok-bind (any (s .meta)) λ m _. any-guard (isUsed m id) 19 (λ _. leaves-at s id (rowOf (s .table) id) h)
-
       pub leaves-new : (s : Fs) (kind mode : ℕ) (time : Timespec) (name : List ℕ) → Makes P name → P (s .arena) (s .table) → LeavesOpen P (newNode s kind mode time name)
       unfolding newNode
       leaves-new s kind mode time name makes h =
           ok-bind (leaves-alloc P stores s h) λ x k.
           any-guard (not (eqb (x .id) 0) && noRow (rowOf (x .state .table) (x .id))) 19 (λ _.
           ok-bind (makes (x .state .arena) (x .state .table) k) λ a l.
-          leaves-open (withArena (x .state) a) (x .id) (newRecord kind mode time name) true l)
+          leaves-open P take (withArena (x .state) a) (x .id) (newRecord kind mode time name) true l)
 
       -- ---- rows that are freed
 
@@ -418,7 +426,7 @@ module _ (P : List ℕ → Table → Type 0) (change : Changes P) where
               ok-bind (leaves-append P j fills-j change s _ h) λ s h.
               ok-bind (leaves-remove P i fills-i change s _ h) λ s h.
               ok-bind (leaves-replaced s j fills-j r h) λ s h.
-              ok-bind (leaves-node s _ h) λ o h.
+              ok-bind (leaves-node P take s _ h) λ o h.
               ok-bind (leaves-links (o .state) i j (o .row) h) λ s h.
               ok-bind (leaves-sync s i h) λ s h.
               ok-bind (leaves-sync s j h) λ s h.
@@ -455,8 +463,8 @@ module _ (P : List ℕ → Table → Type 0) (change : Changes P) where
           leaves-replace s old name k h =
               ok-bind (says-slot Any tt _ _ _) λ new _.
               ok-bind (says-find Any tt tt _ _ _) λ was _.
-              ok-bind (leaves-node s (new .id) h) λ d g.
-              ok-bind (leaves-node (d .state) (was .entry .id) g) λ c l.
+              ok-bind (leaves-node P take s (new .id) h) λ d g.
+              ok-bind (leaves-node P take (d .state) (was .entry .id) g) λ c l.
               ok-bind (says-ensure (isType (recAt (c .state) (c .row) .kind)) 19 tt) λ _ _.
               ok-bind (says-ensure (isType (recAt (c .state) (d .row) .kind)) 19 tt) λ _ _.
               any-pick (eqb (was .entry .id) (new .id)) (done (after s)) (moveOnto (c .state) i j old name (c .row) (d .row) k) (λ _. went h) (λ _. leaves-onto (c .state) old name (c .row) (d .row) k l)

@@ -50,7 +50,7 @@ use Rattle.sequences.proofs.Passing.{allowed, well, midway-passed, pass
 use Rattle.sefs_laws.proofs.Says.{says-is, ensure-asks}
 use Rattle.image.specs.Midway.{Used, Fair, storedMeta, Midway}
 use Rattle.image.proofs.Handles.{admitted, handle-law}
-use Rattle.sefs_laws.proofs.Rows.{leaves-sync}
+use Rattle.sefs_laws.proofs.Rows.{tabled-stores, leaves-sync}
 use Rattle.image.proofs.Holds.{hold-mid}
 use Rattle.image.proofs.Nodes.{there-meta, meta-is, node-some}
 use Rattle.image.proofs.Metas.{length-mapsTo, bytes-mapsTo, kept-same, kept-then, Within, MetaPut, MetaFits, sync-meta-law}
@@ -231,7 +231,7 @@ module _ (a : List ℕ) (t : Table) (M : Midway none a t) (i : ℕ) (ui : Used t
       }
 
       keeps-can : (y : Fs) (j : ℕ) → canHold (y .table) ≡ true → Ok (λ (z : Fs). canHold (z .table) ≡ true) (λ n. Unit) (syncRow y j)
-      keeps-can y j h = leaves-sync (λ u. canHold u ≡ true) (λ u k r p q g. can-row u k r ∙ g) y j h
+      keeps-can y j h = leaves-sync (λ a u. canHold u ≡ true) (λ a u k r p q g. can-row u k r ∙ g) (tabled-stores (λ u. canHold u ≡ true)) y j h
 
       last : (y : Fs) → y .table ≡ x .table → MetaPut (x .arena) m (y .arena)
           → Ok (λ (g : Given). Passed (pair (g .arena) (g .table))) (λ r. r ≡ 17) (bind (syncRow y c) (λ z. bind (syncRow z i) (λ w. done (given w (addHold (w .table) c)))))

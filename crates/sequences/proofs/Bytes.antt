@@ -1,0 +1,250 @@
+-- The bytes of an open node's file: a call stores into the metadata file, into the files of folders that it has handles on, into a new node's, and
+-- into the file of the node that it writes or resizes; and it removes files. A node that is open has its file afterwards, so what was removed was
+-- another's.
+use mathlib.Core.Path.{_≡_, refl, sym, ap, _∙_, subst}
+use mathlib.Core.Bool.{true, false}
+use mathlib.Core.List.{List}
+use mathlib.Core.Logic.{_≢_, ⊎-elim}
+use Prim.Native.Nat.{ℕ}
+use native.Mathlib.Omega.{arith}
+use Rattle.base.specs.Out.{Out, kept, Ok, went, said}
+use Rattle.base.proofs.Outs.{ok-bind, ok-weaken}
+use Rattle.base.proofs.Bools.{true-false}
+use Rattle.structs.specs.Types.{isFolder}
+use Rattle.structs.specs.declared.DiskINode.{DiskINode}
+use Rattle.structs.specs.declared.Timespec.{Timespec}
+use Rattle.arena.specs.Fields.{File, file}
+use Rattle.files.specs.Read.{there}
+use Rattle.files_laws.specs.Laws.{Named, Kept, Drop}
+use Rattle.files_laws.proofs.Parts.{file-cases}
+use Rattle.files_laws.proofs.Make.{make-law}
+use Rattle.table.specs.declared.Table.{Table}
+use Rattle.table.specs.declared.Row.{Row}
+use Rattle.table.specs.declared.Handle.{Handle}
+use Rattle.table.specs.Table.{rowAt, withRow, rowUsed}
+use Rattle.table_laws.specs.Rules.{Live}
+use Rattle.table_laws.proofs.Rules.{of-holder}
+use Rattle.table_laws.proofs.Handles.{live-means, live-used}
+use Rattle.sefs.specs.Nodes.{idAt}
+use Rattle.sefs.specs.Folders.{entry}
+use Rattle.sefs.specs.Ask.{start}
+use Rattle.sefs.specs.Open.{callRoot, callFind}
+use Rattle.sefs.specs.Create.{Given, createSteps}
+use Rattle.sefs.specs.Read.{callSet, callMetadata, callEntry, callListing}
+use Rattle.sefs.specs.Contents.{callRead}
+use Rattle.rules.specs.Image.{isNode, recOf}
+use Rattle.rules.specs.Rules.{Allowed}
+use Rattle.sefs_laws.proofs.Rows.{Any, any, ok-both, Changes, Takes, Frees, Stores, Drops, Fills, Makes, leaves-meta, leaves-sync, leaves-append, leaves-birth, leaves-named, leaves-new}
+use Rattle.image.specs.Midway.{Used}
+use Rattle.image.proofs.Handles.{formed, row-rec, row-node}
+use Rattle.image.proofs.Metas.{kept-same, kept-then}
+use Rattle.image.proofs.Appends.{file-apart}
+use Rattle.sequences.specs.Pairs.{Pair, Passed}
+use Rattle.sequences.specs.Calls.{Call, root, find, create, link, unlink, move, metadata, setMetadata, getEntry, listing, read, write, resize, sync, close, check, NewFits, Fits, does, next}
+use Rattle.sequences.specs.Promises.{On, SameFile, Through, writes, resizes}
+use Rattle.sequences.proofs.Passing.{allowed}
+use Rattle.sequences.proofs.Tables.{FillsFolders, keeps-create, keeps-link, keeps-unlink, keeps-move, keeps-write, keeps-resize, keeps-sync, keeps-close}
+use Rattle.sequences.proofs.Corner.{at-put, Has, new-law, on-used, on-there}
+
+-- a new file's name
+new-named : (kind mode : ℕ) (time : Timespec) (uuid : List ℕ) → NewFits kind mode time uuid → Named (file 1 uuid)
+new-named kind mode time uuid F = record { kind = omega arith; size = F .file; bytes = F .bytes; zero = λ d. absurd (d refl) }
+
+-- where file f is there, it is as it was in arena o
+abbrev Stays : List ℕ → List ℕ → List ℕ → Type 0
+Stays o f a = there a (file 1 f) ≡ true → Kept o a (file 1 f)
+
+-- row i of table t is in use, a live hold names it, and its file is that of row i in table o
+record Firm (o t : Table) (i : ℕ) : Type 0 where
+  used : rowUsed t i ≡ true
+  some : rowAt t i .id ≢ 0
+  same : rowAt t i .rec .file ≡ rowAt o i .rec .file
+
+-- the file as it was in arena o, and rows with handles firm since table v
+record Calm (o : List ℕ) (v : Table) (f a : List ℕ) (t : Table) : Type 0 where
+  stays : Stays o f a
+  firm : (i : ℕ) → Firm v v i → Firm v t i
+
+-- ---- what the steps keep
+
+module _ (o : List ℕ) (v : Table) (f : List ℕ) where
+  stays-kept : (a b : List ℕ) → Kept a b (file 1 f) → Stays o f a → Stays o f b
+  stays-kept a b k s e = kept-then o a b (file 1 f) (s (sym (k .exists) ∙ e)) k
+
+  stays-drop : (a b g : List ℕ) → Drop a (file 1 g) b → Stays o f a → Stays o f b
+  stays-drop a b g d s =
+      ⊎-elim
+      (λ (q : file 1 g ≡ file 1 f). λ e. absurd (true-false e (subst (λ (x : File). there b x ≡ false) q (d .gone))))
+      (λ n. stays-kept a b (d .others (file 1 f) n) s)
+      (file-cases (file 1 g) (file 1 f))
+
+  calm-start : Calm o v f o v
+  calm-start = record { stays = λ e. kept-same o (file 1 f); firm = λ i x. x }
+
+  calm-changes : Changes (Calm o v f)
+  unfolding rowUsed
+  calm-changes a t i r e q c = record {
+    stays = c .stays;
+    firm = λ j h. let x = c .firm j h in record {
+      used = x .used;
+      some = at-put (λ (y : Row). y .id ≢ 0) t i r j (λ z w. x .some (ap (λ (k : ℕ). rowAt t k .id) z ∙ sym e ∙ w)) (x .some);
+      same = at-put (λ (y : Row). y .rec .file ≡ rowAt v j .rec .file) t i r j (λ z. q ∙ ap (λ (k : ℕ). rowAt t k .rec .file) (sym z) ∙ x .same) (x .same);
+    };
+  }
+
+  -- a firm row is not free, and not unheld
+  calm-else : (a : List ℕ) (t : Table) (i : ℕ) (r : Row) → ((j : ℕ) → Firm v t j → j ≡ i → ⊥) → Calm o v f a t → Calm o v f a (withRow t i r)
+  unfolding rowUsed
+  calm-else a t i r n c = record {
+    stays = c .stays;
+    firm = λ j h. let x = c .firm j h in record {
+      used = x .used;
+      some = at-put (λ (y : Row). y .id ≢ 0) t i r j (λ z. absurd (n j x z)) (x .some);
+      same = at-put (λ (y : Row). y .rec .file ≡ rowAt v j .rec .file) t i r j (λ z. absurd (n j x z)) (x .same);
+    };
+  }
+
+  calm-takes : Takes (Calm o v f)
+  calm-takes a t i r e = calm-else a t i r (λ j x z. x .some (ap (λ (k : ℕ). rowAt t k .id) z ∙ e))
+
+  calm-frees : Frees (Calm o v f)
+  calm-frees a t i e = calm-else a t i _ (λ j x z. true-false (ap (rowUsed t) (sym z) ∙ x .used) e)
+
+  calm-stores : Stores (Calm o v f)
+  calm-stores a b t k c = record { stays = stays-kept a b (k f) (c .stays); firm = c .firm }
+
+  calm-drops : Drops (Calm o v f)
+  calm-drops a b t g d c = record { stays = stays-drop a b g d (c .stays); firm = c .firm }
+
+  calm-fills : (i : ℕ) → Firm v v i → rowAt v i .rec .file ≢ f → Fills (Calm o v f) i
+  calm-fills i h n a b t k c = record { stays = stays-kept a b (k f (λ q. n (sym (c .firm i h .same) ∙ q))) (c .stays); firm = c .firm }
+
+  calm-makes : (uuid : List ℕ) → Named (file 1 uuid) → uuid ≢ f → Makes (Calm o v f) uuid
+  calm-makes uuid N n a t c = ok-weaken (λ b m. record { stays = stays-kept a b (m .others (file 1 f) (file-apart uuid f n)) (c .stays); firm = c .firm }) (λ r q. tt) (make-law a (file 1 uuid) N)
+
+  -- ---- and a row whose node is new
+
+  module _ (c m : ℕ) (uuid : List ℕ) (n : uuid ≢ f) where
+    abbrev Making : List ℕ → Table → Type 0
+    Making a t = Calm o v f a t × Has c m uuid (rowAt t c)
+
+    making-changes : Changes Making
+    making-changes a t i r e q k = (
+      calm-changes a t i r e q (k .0),
+      at-put (Has c m uuid) t i r c
+          (λ z. record { id = e ∙ ap (λ (j : ℕ). rowAt t j .id) (sym z) ∙ k .1 .id; file = q ∙ ap (λ (j : ℕ). rowAt t j .rec .file) (sym z) ∙ k .1 .file })
+          (k .1),
+    )
+
+    making-stores : Stores Making
+    making-stores a b t k h = (calm-stores a b t k (h .0), h .1)
+
+    making-fills : (i : ℕ) → Firm v v i → rowAt v i .rec .file ≢ f → Fills Making i
+    making-fills i h d a b t k x = (calm-fills i h d a b t k (x .0), x .1)
+
+    making-own : Fills Making c
+    making-own a b t k x = (record { stays = stays-kept a b (k f (λ q. n (sym (x .1 .file) ∙ q))) (x .0 .stays); firm = x .0 .firm }, x .1)
+
+-- ---- the calls
+
+module _ (p : Pair) (y : Passed p) (h : Handle) (n : ℕ) (f : List ℕ) (on : On (p .table) h n f) (no-dir : isFolder (recOf (p .arena) (p .table) n .kind) ≡ false) where
+  abbrev a : List ℕ
+  a = p .arena
+
+  abbrev t : Table
+  t = p .table
+
+  abbrev C : List ℕ → Table → Type 0
+  C = Calm (p .arena) (p .table) f
+
+  A : Allowed a t
+  A = allowed p y
+
+  row-n : Used t (on .row)
+  row-n = on-used a t A h n f on
+
+  node-n : isNode a n ≡ true
+  node-n = ap (isNode a) (sym (on .node)) ∙ row-node a t A (on .row) row-n
+
+  file-n : recOf a t n .file ≡ f
+  file-n = ap (λ (k : ℕ). recOf a t k .file) (sym (on .node)) ∙ ap (λ (r : DiskINode). r .file) (row-rec a t A (on .row) row-n) ∙ on .file
+
+  used : (g : Handle) (i : ℕ) → Live t g i → Used t i
+  used g i l = record { below = l .is-row; node = live-used t g i (formed a t A) l }
+
+  firm : (g : Handle) (i : ℕ) → Live t g i → Firm t t i
+  firm g i l = record {
+    used = of-holder t i (record { hold = g .hold; is-hold = l .is-hold; live = λ z. l .given (sym (l .stamp) ∙ z); names = l .names });
+    some = used g i l .node;
+    same = refl;
+  }
+
+  -- another node has another file
+  off : (g : Handle) (i : ℕ) → Live t g i → rowAt t i .id ≢ n → rowAt t i .rec .file ≢ f
+  off g i l d q =
+      let u = used g i l in
+      d (A .rule5 .distinct (rowAt t i .id) n (row-node a t A i u) node-n (ap (λ (r : DiskINode). r .file) (row-rec a t A i u) ∙ q ∙ sym file-n))
+
+  folder-off : (g : Handle) (i : ℕ) → Live t g i → isFolder (rowAt t i .rec .kind) ≡ true → rowAt t i .rec .file ≢ f
+  folder-off g i l dir = off g i l (λ q.
+      true-false (ap (λ (r : DiskINode). isFolder (r .kind)) (row-rec a t A i (used g i l)) ∙ dir) (ap (λ (k : ℕ). isFolder (recOf a t k .kind)) q ∙ no-dir))
+
+  folders : FillsFolders (Calm (p .arena) (p .table) f) (p .table)
+  folders g i l dir = calm-fills a t f i (firm g i l) (folder-off g i l dir)
+
+  create-steps : (g : Handle) (i : ℕ) → Live (p .table) g i → isFolder (rowAt (p .table) i .rec .kind) ≡ true → (name : List ℕ) (kind mode : ℕ) (time : Timespec) (uuid : List ℕ) → Named (file 1 uuid) → there (p .arena) (file 1 uuid) ≡ false
+      → Ok (λ (x : Given). Stays (p .arena) f (x .arena)) Any (createSteps (start (p .arena) (p .table)) i name kind mode time uuid)
+  unfolding createSteps
+  create-steps g i l dir name kind mode time uuid N none =
+      ok-bind (ok-both (new-law (start a t) kind mode time uuid (formed a t A .rows-34)) (leaves-new C (calm-changes a t f) (calm-stores a t f) (calm-takes a t f) (start a t) kind mode time uuid (calm-makes a t f uuid N other) (calm-start a t f))) λ x k.
+      let c : ℕ = x .row in
+      let m : ℕ = k .0 .id in
+      let M : List ℕ → Table → Type 0 = Making a t f (x .row) (k .0 .id) uuid other in
+      let ch : Changes (Making a t f (x .row) (k .0 .id) uuid other) = making-changes a t f (x .row) (k .0 .id) uuid other in
+      let st : Stores (Making a t f (x .row) (k .0 .id) uuid other) = making-stores a t f (x .row) (k .0 .id) uuid other in
+      ok-bind (leaves-birth M c (making-own a t f (x .row) (k .0 .id) uuid other) ch (x .state) i kind (k .1, k .0 .has)) λ s q.
+      ok-bind (leaves-append M i (making-fills a t f (x .row) (k .0 .id) uuid other i (firm g i l) (folder-off g i l dir)) ch s (entry (idAt s c) name kind) q) λ s q.
+      ok-bind (leaves-named M ch s i c kind q) λ s q.
+      ok-bind (leaves-meta M st s q) λ s q.
+      ok-bind (leaves-sync M ch st s c q) λ s q.
+      ok-bind (leaves-sync M ch st s i q) λ s q. went (q .0 .stays)
+    where
+      other : uuid ≢ f
+      other e = true-false (ap (λ (x : List ℕ). there (p .arena) (file 1 x)) e ∙ on-there (p .arena) (p .table) (allowed p y) h n f on) none
+
+  calls : (c : Call) → Fits c → (Through n (p .table) c → ⊥) → Ok (λ (q : Pair). Stays (p .arena) f (q .arena)) Any (does c p)
+  unfolding does
+  calls root F z = ok-bind (any (callRoot a t)) λ x _. went (λ e. kept-same a (file 1 f))
+  calls (find g name) F z = ok-bind (any (callFind a t g name)) λ x _. went (λ e. kept-same a (file 1 f))
+  calls (create g name kind mode time uuid) F z =
+      ok-bind (keeps-create (λ b u. Stays a f b) a t g name kind mode time uuid (λ i l dir none. create-steps g i l dir name kind mode time uuid (new-named kind mode time uuid (F .2)) none)) λ x k. went k
+  calls (link g name child) F z =
+      ok-bind (keeps-link C (calm-stores a t f) (calm-drops a t f) (calm-changes a t f) (calm-takes a t f) (calm-frees a t f) a t folders g name child (calm-start a t f)) λ x k. went (k .stays)
+  calls (unlink g name) F z =
+      ok-bind (keeps-unlink C (calm-stores a t f) (calm-drops a t f) (calm-changes a t f) (calm-takes a t f) (calm-frees a t f) a t folders g name (calm-start a t f)) λ x k. went (k .stays)
+  calls (move g old target name) F z =
+      ok-bind (keeps-move C (calm-stores a t f) (calm-drops a t f) (calm-changes a t f) (calm-takes a t f) (calm-frees a t f) a t folders g old target name (calm-start a t f)) λ x k. went (k .stays)
+  calls (metadata g) F z = ok-bind (any (callMetadata a t g)) λ x _. went (λ e. kept-same a (file 1 f))
+  calls (setMetadata g mode uid gid at mt ct) F z = ok-bind (any (callSet a t g mode uid gid at mt ct)) λ x _. went (λ e. kept-same a (file 1 f))
+  calls (getEntry g k room) F z = ok-bind (any (callEntry a t g k room)) λ x _. went (λ e. kept-same a (file 1 f))
+  calls (listing g m room) F z = ok-bind (any (callListing a t g m room)) λ x _. went (λ e. kept-same a (file 1 f))
+  calls (read g place room) F z = ok-bind (any (callRead a t g place room)) λ x _. went (λ e. kept-same a (file 1 f))
+  calls (write g place bytes) F z =
+      ok-bind (keeps-write C (calm-stores a t f) (calm-drops a t f) (calm-changes a t f) (calm-takes a t f) (calm-frees a t f) a t g place bytes
+      (λ i l. calm-fills a t f i (firm g i l) (off g i l (λ q. z (writes (live-means t g i .1 l) q)))) (calm-start a t f)) λ x k. went (k .stays)
+  calls (resize g m) F z =
+      ok-bind (keeps-resize C (calm-stores a t f) (calm-drops a t f) (calm-changes a t f) (calm-takes a t f) (calm-frees a t f) a t g m
+      (λ i l. calm-fills a t f i (firm g i l) (off g i l (λ q. z (resizes (live-means t g i .1 l) q)))) (calm-start a t f)) λ x k. went (k .stays)
+  calls sync F z = ok-bind (keeps-sync C (calm-stores a t f) (calm-drops a t f) (calm-changes a t f) (calm-takes a t f) (calm-frees a t f) a t (calm-start a t f)) λ x k. went (k .stays)
+  -- the closed hold's row is firm no more
+  calls (close g) F z =
+      ok-bind (keeps-close (λ b u. Stays a f b) (λ b c u k. stays-kept a t f b c (k f)) (λ b c u g d. stays-drop a t f b c g d) (λ b u i r e q k. k) (λ b u i r e k. k) (λ b u i e k. k) a t g
+      (λ i l e. kept-same a (file 1 f))) λ x k. went k
+  calls check F z = went (λ e. kept-same a (file 1 f))
+
+  pub same-file : (c : Call) → Fits c → (Through n (p .table) c → ⊥) → there (next c p .arena) (file 1 f) ≡ true → SameFile f (p .arena) (next c p .arena)
+  same-file c F z = by-outcome (calls c F z)
+    where
+      by-outcome : {o : Out Pair} → Ok (λ (q : Pair). Stays (p .arena) f (q .arena)) Any o → there (kept p o .arena) (file 1 f) ≡ true → SameFile f (p .arena) (kept p o .arena)
+      by-outcome (went s) e = let k = s e in record { long = k .long; bytes = k .byte }
+      by-outcome (said r) e = record { long = refl; bytes = λ k. refl }
