@@ -41,14 +41,9 @@ use Rattle.sefs.specs.Folders.{putSlot, direntInit, direntAppend, direntRemove,
 use Rattle.sefs.specs.Create.{After, after, birth, nameFolder, named, linkSteps}
 use Rattle.sefs.specs.Close.{withNext, syncFrom}
 use Rattle.sefs.specs.Unlink.{unlinkSteps}
-<<<<<<< HEAD
-use Rattle.sefs.specs.Move.{Replaced, none, node, readSlots, judge, removeReplaced, moveWithin, moveDots, moveLinks, moveParent, moveBetween, moveSteps, notBelow, moveOnto, replace, moveFree, moveTo}
-use Rattle.sefs_laws.proofs.Says.{says-make, says-ensure, says-read, says-slot-bytes, says-slot, says-find, says-put, says-cut, says-drop, says-store-maps}
-=======
 use Rattle.sefs.specs.Contents.{resizeSteps, writeSteps}
 use Rattle.sefs.specs.Move.{Replaced, none, node, readSlots, judge, removeReplaced, moveWithin, moveDots, moveLinks, moveBetween, moveSteps, moveOnto, replace, moveTo}
 use Rattle.sefs_laws.proofs.Says.{says-make, says-ensure, says-read, says-slot-bytes, says-slot, says-find, says-cut}
->>>>>>> order1
 
 -- whatever the reason
 abbrev pub Any : ℕ → Type 0
@@ -190,16 +185,8 @@ module _ (P : List ℕ → Table → Type 0) (stores : Stores P) where
 
 -- ---- reading leaves all
 
-<<<<<<< HEAD
-  leaves-parent : (s : Fs) (j c : ℕ) → P (s .table) → Leaves P (moveParent s j c)
-  unfolding moveParent
-  leaves-parent s j c h = any-pick (isFolder (recAt s c .kind)) (putSlot s c 1 _) (done s) (λ _. leaves-slot s c 1 _ h) (λ _. went h)
-
-  leaves-read : (s : Fs) (i n : ℕ) → P (s .table) → Leaves P (readSlots s i n)
-=======
 module _ (P : List ℕ → Table → Type 0) where
   leaves-read : (s : Fs) (i n : ℕ) → P (s .arena) (s .table) → Leaves P (readSlots s i n)
->>>>>>> order1
   unfolding readSlots
   leaves-read s i zero h = went h
   leaves-read s i (suc n) h = ok-bind (leaves-read s i n h) λ u k. ok-bind (says-slot Any tt _ _ _) λ e _. went k
@@ -389,22 +376,7 @@ module _ (P : List ℕ → Table → Type 0) (change : Changes P) where
         leaves-replaced s j fills none h = went h
         leaves-replaced s j fills (node d k) h = leaves-node-remove s j fills d k h
 
-<<<<<<< HEAD
-      leaves-between : (s : Fs) (i j : ℕ) (old : Slot) (name : List ℕ) (r : Replaced) → P (s .table) → LeavesAfter P (moveBetween s i j old name r)
-      unfolding moveBetween
-      leaves-between s i j old name r h =
-          ok-bind (leaves-append s j _ h) λ s h.
-          ok-bind (leaves-remove s i _ h) λ s h.
-          ok-bind (leaves-replaced s j r h) λ s h.
-          ok-bind (leaves-node s _ h) λ o h.
-          ok-bind (leaves-links (o .state) i j (o .row) h) λ s h.
-          ok-bind (leaves-parent P s j (o .row) h) λ s h.
-          ok-bind (leaves-sync s i h) λ s h.
-          ok-bind (leaves-sync s j h) λ s h.
-          ok-bind (leaves-release s (o .row) h) λ s h. went h
-=======
         -- ---- a move, whose two folders are rows i and j
->>>>>>> order1
 
         module _ (i j : ℕ) (fills-i : Fills P i) (fills-j : Fills P j) where
           leaves-within : (s : Fs) (old : Slot) (name : List ℕ) (r : Replaced) → P (s .arena) (s .table) → LeavesAfter P (moveWithin s i old name r)
@@ -412,14 +384,6 @@ module _ (P : List ℕ → Table → Type 0) (change : Changes P) where
           leaves-within s old name r h =
               ok-bind (leaves-slot P i fills-i s _ _ h) λ s h. ok-bind (leaves-replaced s i fills-i r h) λ s h. ok-bind (leaves-sync s i h) λ s h. went h
 
-<<<<<<< HEAD
-      leaves-onto : (s : Fs) (i j : ℕ) (old name : List ℕ) (c d k : ℕ) → P (s .table) → LeavesAfter P (moveOnto s i j old name c d k)
-      unfolding moveOnto
-      leaves-onto s i j old name c d k h =
-          ok-bind (leaves-judge P (moveVerdictOf (recAt s c .kind) (recAt s d .kind)) s d h) λ s h.
-          ok-bind (any (notBelow s i j c)) λ _ _.
-          ok-bind (leaves-release s c h) λ s h. leaves-move-steps s i j old name (node d k) h
-=======
           leaves-between : (s : Fs) (old : Slot) (name : List ℕ) (r : Replaced) → P (s .arena) (s .table) → LeavesAfter P (moveBetween s i j old name r)
           unfolding moveBetween
           leaves-between s old name r h =
@@ -431,7 +395,6 @@ module _ (P : List ℕ → Table → Type 0) (change : Changes P) where
               ok-bind (leaves-sync s i h) λ s h.
               ok-bind (leaves-sync s j h) λ s h.
               ok-bind (leaves-release s (o .row) h) λ s h. went h
->>>>>>> order1
 
           leaves-move-steps : (s : Fs) (old name : List ℕ) (r : Replaced) → P (s .arena) (s .table) → LeavesAfter P (moveSteps s i j old name r)
           unfolding moveSteps
@@ -439,19 +402,6 @@ module _ (P : List ℕ → Table → Type 0) (change : Changes P) where
               ok-bind (says-find Any tt tt _ _ _) λ e _.
               any-pick (eqb (idAt s i) (idAt s j)) (moveWithin s i e name r) (moveBetween s i j e name r) (λ _. leaves-within s e name r h) (λ _. leaves-between s e name r h)
 
-<<<<<<< HEAD
-      leaves-move-free : (s : Fs) (i j : ℕ) (old name : List ℕ) → P (s .table) → LeavesAfter P (moveFree s i j old name)
-      unfolding moveFree
-      leaves-move-free s i j old name h =
-          any-pick (eqb (idAt s i) (idAt s j)) (moveSteps s i j old name none) _ (λ _. leaves-move-steps s i j old name none h) λ _.
-          ok-bind (says-find Any tt tt _ _ _) λ was _.
-          ok-bind (leaves-node s (was .entry .id) h) λ c g.
-          ok-bind (any (notBelow (c .state) i j (c .row))) λ _ _. leaves-move-steps (c .state) i j old name none g
-
-      pub leaves-move : (s : Fs) (i j : ℕ) (old name : List ℕ) (f : Found) → P (s .table) → LeavesAfter P (moveTo s i j old name f)
-      leaves-move s i j old name (At k) h = leaves-replace s i j old name k h
-      leaves-move s i j old name Nothing h = leaves-move-free s i j old name h
-=======
           leaves-onto : (s : Fs) (old name : List ℕ) (c d k : ℕ) → P (s .arena) (s .table) → LeavesAfter P (moveOnto s i j old name c d k)
           unfolding moveOnto
           leaves-onto s old name c d k h =
@@ -472,4 +422,3 @@ module _ (P : List ℕ → Table → Type 0) (change : Changes P) where
           pub leaves-move : (s : Fs) (old name : List ℕ) (f : Found) → P (s .arena) (s .table) → LeavesAfter P (moveTo s i j old name f)
           leaves-move s old name (At k) h = leaves-replace s old name k h
           leaves-move s old name Nothing h = leaves-move-steps s old name none h
->>>>>>> order1
