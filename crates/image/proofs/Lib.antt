@@ -13,8 +13,6 @@ pub mod Fresh
 pub mod Grown
 pub mod Handles
 pub mod Hits
-pub mod Holding
-pub mod HoldingSteps
 pub mod Holds
 pub mod Images
 pub mod Inits
@@ -41,5 +39,6 @@ pub mod Stores
 pub mod Takes
 pub mod Transfers
 pub mod TreeOf
+pub mod Turning
 pub mod Unlinks
 pub mod Zeros

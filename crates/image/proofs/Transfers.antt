@@ -21,7 +21,7 @@ use Rattle.sefs.specs.Nodes.{nodeFile, recAt, idAt}
 use Rattle.sefs.specs.Slots.{Slot}
 use Rattle.sefs.specs.Move.{Replaced, renamed}
 use Rattle.rules.specs.Image.{isNode, recOf, slotIn}
-use Rattle.image.specs.Midway.{Fair, treeOf, Midway}
+use Rattle.image.specs.Midway.{Fair, treeOf, plain, Midway}
 use Rattle.tree.specs.Tree.{Tree, Tidy, folderAt}
 use Rattle.tree.proofs.Trees.{folder-is, at, at-here, at-else}
 use Rattle.tree.proofs.Unnaming.{Unnames, MayGo, unnames-tidy}
@@ -184,7 +184,7 @@ module _ (s : Fs) (i j : ℕ) (old : Slot) (name : List ℕ) (r : Replaced) (M :
 
   pub transferred : Midway (owns r) b u
   transferred = record {
-    fair = fair-by-tree a b t u A
+    fair = fair-by-tree plain a b t u A
         (record { length = legal-same a b (C .size) ∙ A .rule1 .length; sound = C .sound })
         (C .meta) (C .exists) (S .ids) (S .clean) (λ x m. kinds x) (λ x m. files x)
         (unnames-tidy v (treeOf b u) f c (old .place) I tree may);

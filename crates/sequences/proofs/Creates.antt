@@ -148,7 +148,7 @@ module _ (a : List ℕ) (t : Table) (M : Midway none a t) (i : ℕ) (ui : Used t
 
   long : lengthOf a (file 1 (ri .file)) ≡ 264 * ri .blocks
   unfolding isFolderAt
-  long = subst (λ (r : DiskINode). lengthOf a (nodeFile r) ≡ 264 * r .blocks) rec-d (A .rule6 .folder d (and-both node-d (ap (λ (r : DiskINode). isFolder (r .kind)) rec-d ∙ dir)) .length)
+  long = subst (λ (r : DiskINode). lengthOf a (nodeFile r) ≡ 264 * r .blocks) rec-d (tidy-six a t (A .tidy) .folder d (and-both node-d (ap (λ (r : DiskINode). isFolder (r .kind)) rec-d ∙ dir)) .length)
 
   apart : ri .file ≢ uuid
   apart q = true-false (ap (λ (f : List ℕ). there a (file 1 f)) (sym q) ∙ was) absent

@@ -37,14 +37,14 @@ use Rattle.sefs.specs.Create.{After, after}
 use Rattle.sefs.specs.Move.{Replaced, none, node, renamed, removeReplaced, moveWithin}
 use Rattle.rules.specs.Image.{run, isNode, recOf, isOpen, slotIn, named}
 use Rattle.sequences.specs.Pairs.{pair, Passed}
-use Rattle.image.specs.Midway.{Used, storedMeta, Fair, treeOf, Midway}
+use Rattle.image.specs.Midway.{Used, storedMeta, Fair, treeOf, plain, Midway}
 use Rattle.tree.specs.Tree.{Tree, Tidy, folderAt}
 use Rattle.tree.proofs.Trees.{folder-is, names-differ}
 use Rattle.tree.proofs.Unnaming.{Unnames, MayGo, unnames-tidy}
 use Rattle.sequences.proofs.Passing.{midway-passed}
 use Rattle.image.proofs.Stores.{sync-mid}
 use Rattle.image.proofs.Drops.{mid-rec, super-kept, maps-kept, stored-kept}
-use Rattle.image.proofs.Resets.{recs-kept, nodes-kept, fair-tidy, fair-by-tree, row-open}
+use Rattle.image.proofs.Resets.{recs-kept, nodes-kept, fair-by-tree, row-open}
 use Rattle.image.proofs.Appends.{entry-bytes, put-meta, put-there, slot-new}
 use Rattle.image.proofs.Removes.{Gone}
 use Rattle.image.proofs.Unlinks.{Less, gone-tree, unnamed-mid, removes}
@@ -185,11 +185,11 @@ module _ (s : Fs) (i : ℕ) (old : Slot) (name : List ℕ) (r : Replaced) (H : M
     -- where no other has the name, that is all
     pub renamed-mid : ((j : ℕ) → 2 ≤ j → j < recAt s i .blocks → nameOf (slotIn (s .arena) (recAt s i) j .name) ≢ nameOf (nameBytes name)) → Midway (owns r) b (s .table)
     renamed-mid fresh = record {
-      fair = fair-by-tree a b t t A
+      fair = fair-by-tree plain a b t t A
           (record { length = legal-same a b (P .size) ∙ A .rule1 .length; sound = sounds })
           K there-same (λ j. refl) (A .rule4 .clean) (λ x n. ap (λ (z : DiskINode). z .kind) (recs x)) (λ x n. ap (λ (z : DiskINode). z .file) (recs x))
           (subst Tidy (sym (tree-slots a (ri .file) pl e fits is-there room b P t))
-          (retitled-tidy (treeOf a t) here d pl (ri .blocks) (fair-tidy a t A) tree-d
+          (retitled-tidy (treeOf a t) here d pl (ri .blocks) (A .tidy) tree-d
           (retitles here (ri .blocks) (omega (arith, H .inside, H .later)) (λ z. omega (arith, H .inside)) (λ x j n. refl) refl refl (λ l. absurd (omega (arith, blocks-d))) (λ j x y n. fresh j x y))));
       formed = H .mid .formed;
       bytes = bytes;
@@ -248,7 +248,7 @@ module _ (s : Fs) (i : ℕ) (old : Slot) (name : List ℕ) (c k : ℕ) (H : Movi
 
   distinct : (j : ℕ) → 2 ≤ j → j < recAt s i .blocks → j ≢ k → nameOf (slotIn (s .arena) (recAt s i) j .name) ≢ nameOf (nameBytes name)
   distinct j x y n z =
-      names-differ (treeOf (s .arena) (s .table)) (idAt s i) (fair-tidy (s .arena) (s .table) (H .mid .fair) .folder (idAt s i) (tree-d s i old name (node c k) H)) j k n x (R .later)
+      names-differ (treeOf (s .arena) (s .table)) (idAt s i) (H .mid .fair .tidy .folder (idAt s i) (tree-d s i old name (node c k) H)) j k n x (R .later)
       (omega (arith, blocks-d s i old name (node c k) H)) inside
       (ap (λ (e : DiskEntry). nameOf (e .name)) (slots-d j) ∙ z ∙ moves-name s i i old name (node c k) H ∙ sym (R .named) ∙ ap (λ (e : DiskEntry). nameOf (e .name)) (sym (slots-d k)))
 
@@ -278,7 +278,7 @@ module _ (s : Fs) (i : ℕ) (old : Slot) (name : List ℕ) (c k : ℕ) (H : Movi
         (eq-cases x (idAt s i))
 
     tidy : Tidy (withSlots (treeOf (s .arena) (s .table)) slots)
-    tidy = retitled-tidy (treeOf (s .arena) (s .table)) slots (idAt s i) (old .place) k (fair-tidy (s .arena) (s .table) (H .mid .fair)) (tree-d s i old name (node c k) H)
+    tidy = retitled-tidy (treeOf (s .arena) (s .table)) slots (idAt s i) (old .place) k (H .mid .fair .tidy) (tree-d s i old name (node c k) H)
         (retitles s i old name (node c k) H b P slots k (R .later) places like
         (ap (λ (z : DiskEntry). z .id) slot-k) (ap (λ (z : DiskEntry). z .kind) slot-k) (λ l. ap (λ (z : DiskEntry). z .name) slot-k) distinct)
 

@@ -23,6 +23,42 @@ use Rattle.tree.proofs.Naming.{none-subs}
 use Rattle.tree.proofs.Unnaming.{count-swap}
 use Rattle.tree.proofs.Ways.{slot-counts, names-part, one-parent, not-own}
 
+-- ---- the folder that goes
+
+module _ (v : Tree) (f p g k c : ℕ) (o : Spot) (e : DiskEntry) (I : Tidy v) (P : MayMove v f p g k c o e) where
+  record Goes (d : ℕ) : Type 0 where
+    node : v .node d ≡ true
+    folder : folderAt v d ≡ true
+    two : v .blocks d ≡ 2
+    not-f : d ≢ f
+    not-g : d ≢ g
+    not-c : d ≢ c
+    opened : v .opened d ≡ true
+
+  gone : (d : ℕ) → goes o d ≡ true → Goes d
+  gone d q = go o (P .takes) q
+    where
+      go : (o : Spot) → Takes v g k c o → goes o d ≡ true → Goes d
+      go end t q = absurd (true-false q refl)
+      go (over x) t q =
+          let z : x ≡ d = eqb-true x d q in
+          let L = I .folder g (P .target .folder) .later k (t .later) (t .inside) in
+          let n : v .node d ≡ true = ap (v .node) (sym z ∙ sym (t .names)) ∙ L .node in
+          let h : folderAt v d ≡ true = λ y. n y && (ap (λ (m : ℕ). isFolder (v .kind m)) (sym z) ∙ t .folder) y in
+          let two : v .blocks d ≡ 2 = omega (arith, I .folder d h .blocks, t .small, ap (v .blocks) z) in
+          record {
+            node = n;
+            folder = h;
+            two = two;
+            not-f = λ y. omega (arith, two, ap (v .blocks) y, P .later, P .inside);
+            not-g = λ y. omega (arith, two, ap (v .blocks) y, t .later, t .inside);
+            not-c = λ y. t .apart (z ∙ y);
+            opened = ap (v .opened) (sym z) ∙ t .opened;
+          }
+
+  pub gone-apart : (d : ℕ) → goes o d ≡ true → (d ≢ f) × (d ≢ g)
+  gone-apart d q = let D = gone d q in (D .not-f, D .not-g)
+
 module _ (v w : Tree) (f p g k c : ℕ) (o : Spot) (e : DiskEntry) (I : Tidy v) (P : MayMove v f p g k c o e) (R : Moves v w f p g k c o e) where
   F : FolderIn v f
   F = I .folder f (P .source .folder)
@@ -78,46 +114,14 @@ module _ (v w : Tree) (f p g k c : ℕ) (o : Spot) (e : DiskEntry) (I : Tidy v) 
   k-inside : k < w .blocks g
   k-inside = place (P .takes) .1
 
-  -- ---- the folder that goes
-
-  record Goes (d : ℕ) : Type 0 where
-    node : v .node d ≡ true
-    folder : folderAt v d ≡ true
-    two : v .blocks d ≡ 2
-    not-f : d ≢ f
-    not-g : d ≢ g
-    not-c : d ≢ c
-    opened : v .opened d ≡ true
-
-  gone : (d : ℕ) → goes o d ≡ true → Goes d
-  gone d q = go o (P .takes) q
-    where
-      go : (o : Spot) → Takes v g k c o → goes o d ≡ true → Goes d
-      go end t q = absurd (true-false q refl)
-      go (over x) t q =
-          let z : x ≡ d = eqb-true x d q in
-          let L = G .later k (t .later) (t .inside) in
-          let n : v .node d ≡ true = ap (v .node) (sym z ∙ sym (t .names)) ∙ L .node in
-          let h : folderAt v d ≡ true = λ y. n y && (ap (λ (m : ℕ). isFolder (v .kind m)) (sym z) ∙ t .folder) y in
-          let two : v .blocks d ≡ 2 = omega (arith, I .folder d h .blocks, t .small, ap (v .blocks) z) in
-          record {
-            node = n;
-            folder = h;
-            two = two;
-            not-f = λ y. omega (arith, two, ap (v .blocks) y, P .later, P .inside);
-            not-g = λ y. omega (arith, two, ap (v .blocks) y, t .later, t .inside);
-            not-c = λ y. t .apart (z ∙ y);
-            opened = ap (v .opened) (sym z) ∙ t .opened;
-          }
-
   stays-c : goes o c ≡ false
-  stays-c = ⊎-elim (λ (q : goes o c ≡ true). absurd (gone c q .not-c refl)) (λ q. q) (bool-cases (goes o c))
+  stays-c = ⊎-elim (λ (q : goes o c ≡ true). absurd (gone v f p g k c o e I P c q .not-c refl)) (λ q. q) (bool-cases (goes o c))
 
   stays-f : goes o f ≡ false
-  stays-f = ⊎-elim (λ (q : goes o f ≡ true). absurd (gone f q .not-f refl)) (λ q. q) (bool-cases (goes o f))
+  stays-f = ⊎-elim (λ (q : goes o f ≡ true). absurd (gone v f p g k c o e I P f q .not-f refl)) (λ q. q) (bool-cases (goes o f))
 
   stays-g : goes o g ≡ false
-  stays-g = ⊎-elim (λ (q : goes o g ≡ true). absurd (gone g q .not-g refl)) (λ q. q) (bool-cases (goes o g))
+  stays-g = ⊎-elim (λ (q : goes o g ≡ true). absurd (gone v f p g k c o e I P g q .not-g refl)) (λ q. q) (bool-cases (goes o g))
 
   -- ---- the moved folder is another than the two
 
@@ -414,7 +418,7 @@ module _ (v w : Tree) (f p g k c : ℕ) (o : Spot) (e : DiskEntry) (I : Tidy v) 
 
   removed : (i : ℕ) → goes o i ≡ true → RemovedIn w i
   removed i q =
-      let D = gone i q in
+      let D = gone v f p g k c o e I P i q in
       let n = all-names i in
       let b = ap bit q in
       let L : LinkedIn v i = ⊎-elim (λ x. x) (λ (x : RemovedIn v i). absurd (omega (arith, x .unnamed, n, b))) (I .either i (D .folder)) in
@@ -535,7 +539,7 @@ module _ (v w : Tree) (f p g k c : ℕ) (o : Spot) (e : DiskEntry) (I : Tidy v) 
   file-not i x h y q = true-false (ap (folderAt v) q ∙ y) h
 
   file-stays : (i : ℕ) → folderAt v i ≡ false → goes o i ≡ false
-  file-stays i h = ⊎-elim (λ (q : goes o i ≡ true). absurd (true-false (gone i q .folder) h)) (λ q. q) (bool-cases (goes o i))
+  file-stays i h = ⊎-elim (λ (q : goes o i ≡ true). absurd (true-false (gone v f p g k c o e I P i q .folder) h)) (λ q. q) (bool-cases (goes o i))
 
   tidy : Tidy w
   tidy = record {

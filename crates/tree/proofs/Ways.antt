@@ -14,7 +14,7 @@ use Rattle.base.proofs.Counts.{sumTo-part, sumTo-change, pigeon}
 use Rattle.base.proofs.Finds.{eq-cases, countTo-some}
 use Rattle.base.proofs.Numbers.{lt-or-le}
 use Rattle.base.proofs.Searches.{lowest-first, lowest-hit, lowest-at-most}
-use Rattle.tree.specs.Tree.{Tree, folderAt, namesOf, allNames, parent, up, Lives, Tidy}
+use Rattle.tree.specs.Tree.{Tree, folderAt, namesOf, allNames, parent, up, LinkedIn, RemovedIn, Lives, Tidy}
 use Rattle.tree.proofs.Trees.{at, at-here, at-else, folder-is, lives-linked, parent-lives}
 
 -- a later slot that names x counts
@@ -61,6 +61,17 @@ module _ (v : Tree) (I : Tidy v) where
   -- only node 2 is its own parent
   pub not-own : (i : ℕ) → Lives v i → i ≢ 2 → parent v i ≢ i
   not-own i l n e = let c = I .climbs i l in n (sym (up-stays i e (c .0)) ∙ c .1)
+
+  -- no folder names itself
+  pub not-itself : (d k : ℕ) → folderAt v d ≡ true → 2 ≤ k → k < v .blocks d → v .slot d k .id ≢ d
+  not-itself d k f x y e =
+      let s = slot-counts v d k d x y e in
+      let l : Lives v d = record {
+        folder = f;
+        links = λ z. ⊎-elim (λ (L : LinkedIn v d). omega (arith, L .links)) (λ (L : RemovedIn v d). omega (arith, L .unnamed, s, names-part d d f)) (I .either d f);
+      } in
+      let o = one-parent d l d k f x y e in
+      not-own d l (o .0) (sym (o .1))
 
   up-suc : (i n : ℕ) → up v i (suc n) ≡ parent v (up v i n)
   unfolding up
