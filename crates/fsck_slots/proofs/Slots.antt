@@ -1,5 +1,5 @@
 -- Rule 6's tests, part by part as the code goes through them.
-use mathlib.Core.Path.{_≡_, sym, ap, ap₂, _∙_}
+use mathlib.Core.Path.{_≡_, refl, sym, ap, ap₂, _∙_}
 use mathlib.Core.Bool.{Bool, true, false, not, _&&_, _||_}
 use mathlib.Core.List.{List}
 use mathlib.Core.Logic.{_⊎_, inl, inr, ⊎-elim}
@@ -26,8 +26,8 @@ use Rattle.files.specs.Read.{there, lengthOf}
 use Rattle.files_laws.proofs.Views.{length-none}
 use Rattle.sefs.specs.Nodes.{nodeFile}
 use Rattle.sefs.specs.Slots.{isEnded}
-use Rattle.rules.specs.Image.{run, idsIn, isNode, recOf, isFolderAt, slotIn, laterSlot, laterSlots}
-use Rattle.rules.specs.Tests.{dotAllowed, dotsAllowed, laterAllowed, sameName, isFirst, folderAllowed, test6}
+use Rattle.rules.specs.Image.{run, idsIn, isNode, recOf, slotIn, laterSlot, laterSlots}
+use Rattle.rules.specs.Tests.{dotAllowed, dotsAllowed, laterAllowed, sameName, isFirst, folderAllowed, sizeAllowed, contentsAllowed, test6}
 use Rattle.fsck_slots.specs.Slots.{plainName, namesNode, bears, slotAllowed, startAllowed, idAllowed}
 use Rattle.fsck_slots.proofs.Names.{slot-is, slot-later}
 
@@ -190,22 +190,34 @@ module _ (a : List ℕ) (t : Table) (id : ℕ) (r : DiskINode) where
       folder-rest v e q =
           q ∙ ap (λ (x : ℕ). allTo (slotAllowed a t r) (x - 2)) i-is ∙ sym (rest-is ∙ ap (λ (b : Bool). b && allTo (slotAllowed a t r) (laterSlots r)) e)
 
+-- ---- another node
+
+-- a file that is not there has length 0
+pub size-is : (a : List ℕ) (r : DiskINode) (n m : ℕ) (v : Bool) → n ≡ pick (there a (nodeFile r)) (suc (lengthOf a (nodeFile r))) 0 → m ≡ n - 1 → v ≡ eqb m (r .size) → v ≡ sizeAllowed a r
+unfolding sizeAllowed
+size-is a r n m v n-is m-is v-is = v-is ∙ ap (λ (k : ℕ). eqb k (r .size)) (m-is ∙ go (there a (nodeFile r)) refl)
+  where
+    go : (b : Bool) → there a (nodeFile r) ≡ b → n - 1 ≡ lengthOf a (nodeFile r)
+    go true e = let z : n ≡ suc (lengthOf a (nodeFile r)) = n-is ∙ ap (λ (x : Bool). pick x (suc (lengthOf a (nodeFile r))) 0) e in omega arith
+    go false e = let z : n ≡ 0 = n-is ∙ ap (λ (x : Bool). pick x (suc (lengthOf a (nodeFile r))) 0) e in omega (arith, length-none a (nodeFile r) e)
+
 -- ---- an id, and all of them
 
 module _ (a : List ℕ) (t : Table) (id : ℕ) where
   pub id-not : false ≡ isNode a id → true ≡ idAllowed a t id
-  unfolding idAllowed isFolderAt
+  unfolding idAllowed
   id-not n = sym (rw (sym n))
 
-  pub id-other : (r : DiskINode) → true ≡ isNode a id → r ≡ recOf a t id → (r .kind ≡ 2 → ⊥) → true ≡ idAllowed a t id
-  unfolding idAllowed isFolderAt
-  id-other r n e k = sym (rw (sym n, ne-eqb (recOf a t id .kind) 2 (λ z. k (ap (λ (x : DiskINode). x .kind) e ∙ z))))
+  pub id-other : (r : DiskINode) (v : Bool) → true ≡ isNode a id → r ≡ recOf a t id → (r .kind ≡ 2 → ⊥) → v ≡ sizeAllowed a r → v ≡ idAllowed a t id
+  unfolding idAllowed contentsAllowed
+  id-other r v n e k q =
+      q ∙ ap (sizeAllowed a) e ∙ sym (rw (sym n, ne-eqb (recOf a t id .kind) 2 (λ z. k (ap (λ (x : DiskINode). x .kind) e ∙ z))))
 
   pub id-folder : (r : DiskINode) (v : Bool) → true ≡ isNode a id → r ≡ recOf a t id → r .kind ≡ 2 → v ≡ folderAllowed a t id r → v ≡ idAllowed a t id
-  unfolding idAllowed isFolderAt
+  unfolding idAllowed contentsAllowed
   id-folder r v n e k q =
       q ∙ ap (folderAllowed a t id) e ∙ sym (rw (sym n, eq-eqb (recOf a t id .kind) 2 (sym (ap (λ (x : DiskINode). x .kind) e) ∙ k)))
 
 pub six-is : (a : List ℕ) (t : Table) (n : ℕ) → n ≡ idsIn a → allTo (idAllowed a t) n ≡ test6 a t
 unfolding test6 idAllowed
-six-is a t n e = ap (allTo (λ id. not (isFolderAt a t id) || folderAllowed a t id (recOf a t id))) e
+six-is a t n e = ap (allTo (λ id. not (isNode a id) || contentsAllowed a t id (recOf a t id))) e

@@ -9,8 +9,8 @@ use Rattle.structs.specs.declared.DiskEntry.{DiskEntry}
 use Rattle.utf8.specs.Names.{nameOf, isSpecial, storedName}
 use Rattle.table.specs.declared.Table.{Table}
 use Rattle.sefs.specs.Slots.{isEnded}
-use Rattle.rules.specs.Image.{isNode, recOf, isFolderAt, slotIn, laterSlot}
-use Rattle.rules.specs.Tests.{dotAllowed, dotsAllowed, laterAllowed, isFirst, folderAllowed}
+use Rattle.rules.specs.Image.{isNode, recOf, slotIn, laterSlot}
+use Rattle.rules.specs.Tests.{dotAllowed, dotsAllowed, laterAllowed, isFirst, contentsAllowed}
 
 -- a later slot's name by itself
 unfoldable pub plainName : DiskEntry → Bool
@@ -32,6 +32,6 @@ slotAllowed a t r j = laterAllowed a t (laterSlot a r j) && isFirst a r j
 unfoldable pub startAllowed : List ℕ → DiskINode → ℕ → Bool
 startAllowed a r id = dotAllowed id (slotIn a r 0) && dotsAllowed (slotIn a r 1)
 
--- id, if it is a folder's
+-- id, if it is a node's
 unfoldable pub idAllowed : List ℕ → Table → ℕ → Bool
-idAllowed a t id = not (isFolderAt a t id) || folderAllowed a t id (recOf a t id)
+idAllowed a t id = not (isNode a id) || contentsAllowed a t id (recOf a t id)

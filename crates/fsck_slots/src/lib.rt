@@ -1,7 +1,7 @@
-// Rule 6: folders and their slots.
+// Rule 6: folders and their slots, and the sizes of other nodes.
 ghost use mathlib.Core.Path.{_≡_};
 ghost use mathlib.Core.Bool.{true, _||_};
-ghost use Prim.Native.Nat.{_+_, _<_};
+ghost use Prim.Native.Nat.{_+_, _-_, _<_};
 ghost use lib.Dec.{eqb, ltb, leb};
 ghost use lib.ListN.{length, getD, set};
 ghost use Rattle.base.specs.Count.{allTo};
@@ -11,7 +11,7 @@ ghost use Rattle.structs.specs.Layout.{entryOf};
 ghost use Rattle.utf8.specs.Names.{nameOf};
 ghost use Rattle.mem.specs.Mem.{tableIn};
 ghost use Rattle.rules.specs.Image.{slotIn};
-ghost use Rattle.rules.specs.Tests.{dotAllowed, dotsAllowed, folderAllowed, test6};
+ghost use Rattle.rules.specs.Tests.{dotAllowed, dotsAllowed, folderAllowed, sizeAllowed, test6};
 ghost use Rattle.chains.specs.Led.{Led};
 ghost use Rattle.fsck_read.specs.Loaded.{Loaded, Of};
 ghost use Rattle.fsck_slots.specs.Hash.{hashName, Hashed};
@@ -302,6 +302,26 @@ fn folder_ok(
     later_slots(arena, first, next, mem, rec, index(rec.blocks) - 2)
 }
 
+// ---- another node
+
+// A file's length by its end, which is one more, or 0 where the file is not there.
+fn length_by(end: usize) -> u64
+    ensures { λ r. ⌜ r ≡ end - 1 ⌝ }
+{
+    if end == 0 {
+        return 0;
+    }
+    (end - 1) as u64
+}
+
+fn size_ok(arena: &[u8], first: &[u16], next: &[u16], rec: DiskINode) -> bool
+    requires { ⌜ Led (now arena) (now first) (now next) ⌝ }
+    ensures { λ r. ⌜ r ≡ sizeAllowed (now (arena .entry)) rec ⌝ }
+{
+    let file = rec.file;
+    length_by(length_of(arena, first, next, 1, &file)) == rec.size
+}
+
 fn node_ok(arena: &[u8], first: &[u16], next: &[u16], mem: &[u8], id: usize) -> bool
     requires { ⌜ Led (now arena) (now first) (now next) ⌝ }
     requires { ⌜ (Loaded (now mem) × Of (now arena) (now mem)) × (id < 4096) ⌝ }
@@ -312,7 +332,7 @@ fn node_ok(arena: &[u8], first: &[u16], next: &[u16], mem: &[u8], id: usize) -> 
     }
     let rec = rec_of(arena, first, next, mem, id);
     if rec.kind != 2 {
-        return true;
+        return size_ok(arena, first, next, rec);
     }
     folder_ok(arena, first, next, mem, rec, id)
 }

@@ -7,7 +7,7 @@ use Prim.Native.Nat.{ℕ, _+_, _<_, _≤_, _^_, max}
 use native.Mathlib.Omega.{arith}
 use lib.Dec.{ltb}
 use lib.ListN.{length}
-use borrow.Author.Tests.{ltb-true, ltb-false}
+use borrow.Author.Tests.{ltb-false}
 use Rattle.base.specs.Out.{done, Ok, went}
 use Rattle.base.specs.Search.{pick}
 use Rattle.base.proofs.Outs.{ok-bind, ok-weaken}
@@ -34,7 +34,7 @@ use Rattle.files_laws.proofs.Cut.{cut-law}
 use Rattle.sefs.specs.Meta.{metaFile}
 use Rattle.sefs.specs.State.{Fs, withArena}
 use Rattle.sefs.specs.Records.{withSize}
-use Rattle.sefs.specs.Nodes.{nodeFile, recAt, setRec}
+use Rattle.sefs.specs.Nodes.{nodeFile, recAt}
 use Rattle.sefs.specs.Contents.{resizeSteps, writeSteps}
 use Rattle.rules.specs.Image.{isNode, recOf, isOpen, isFolderAt, slotIn}
 use Rattle.tree.specs.Tree.{Tidy, folderAt}
@@ -49,13 +49,13 @@ use Rattle.files_laws.specs.Laws as laws
 
 -- ---- the arena: file f has length n, and every other file is as it was
 
-pub record Rewritten (a : List ℕ) (f : File) (n : ℕ) (b : List ℕ) : Type 0 where
-  pub size : length b ≡ length a
-  pub bytes : Bytes b
-  pub sound : sound b ≡ true
-  pub exists : there b f ≡ true
-  pub long : lengthOf b f ≡ n
-  pub others : (g : File) → f ≢ g → Kept a b g
+record Rewritten (a : List ℕ) (f : File) (n : ℕ) (b : List ℕ) : Type 0 where
+  size : length b ≡ length a
+  bytes : Bytes b
+  sound : sound b ≡ true
+  exists : there b f ≡ true
+  long : lengthOf b f ≡ n
+  others : (g : File) → f ≢ g → Kept a b g
 
 put-rewrites : (a : List ℕ) (f : File) (place : ℕ) (src b : List ℕ) → Bytes a → Bytes src → sound a ≡ true → Put a f place src b → Rewritten a f (max (lengthOf a f) (place + length src)) b
 put-rewrites a f place src b y s fine P = record { size = P .size; bytes = P .bytes y s; sound = P .keeps y s fine; exists = P .exists; long = P .long; others = P .others }
@@ -75,15 +75,15 @@ rewritten-then a f m n b c X Y = record {
 
 -- ---- the table: the record of row i has size n, and all else is as it was
 
-pub record Sized (own : ℕ → Type 0) (a : List ℕ) (t : Table) (i n : ℕ) (u : Table) : Type 0 where
-  pub formed : Formed own u
-  pub fits : TableFits u
-  pub ids : (j : ℕ) → rowAt u j .id ≡ rowAt t j .id
-  pub clean : Cleans a u
-  pub opens : (x : ℕ) → isOpen u x ≡ isOpen t x
-  pub same : (x : ℕ) → withSize (recOf a u x) 0 ≡ withSize (recOf a t x) 0
-  pub here : recOf a u (rowAt t i .id) .size ≡ n
-  pub else : (x : ℕ) → x ≢ rowAt t i .id → recOf a u x .size ≡ recOf a t x .size
+record Sized (own : ℕ → Type 0) (a : List ℕ) (t : Table) (i n : ℕ) (u : Table) : Type 0 where
+  formed : Formed own u
+  fits : TableFits u
+  ids : (j : ℕ) → rowAt u j .id ≡ rowAt t j .id
+  clean : Cleans a u
+  opens : (x : ℕ) → isOpen u x ≡ isOpen t x
+  same : (x : ℕ) → withSize (recOf a u x) 0 ≡ withSize (recOf a t x) 0
+  here : recOf a u (rowAt t i .id) .size ≡ n
+  else : (x : ℕ) → x ≢ rowAt t i .id → recOf a u x .size ≡ recOf a t x .size
 
 size-fits : (r : DiskINode) (n : ℕ) → RecordFits r → n < 2 ^ 64 → RecordFits (withSize r n)
 size-fits r n R l = record {
@@ -213,7 +213,7 @@ module _ {own : ℕ → Type 0} (a : List ℕ) (t : Table) (M : Midway own a t) 
         (λ z. B .others (file 1 f) z .exists)
         (file-cases (nodeFile (rowAt t i .rec)) (file 1 f))
 
-    pub rewritten-mid : Midway own b u
+    rewritten-mid : Midway own b u
     rewritten-mid = record {
       fair = fair-by-tree plain a b t u A
           (record { length = legal-same a b (B .size) ∙ A .rule1 .length; sound = B .sound })

@@ -274,7 +274,7 @@ module _ (P : List ℕ → Table → Type 0) (i : ℕ) (fills : Fills P i) where
 -- ---- rows that change
 
 module _ (P : List ℕ → Table → Type 0) (change : Changes P) where
-  pub leaves-inc : (s : Fs) (i : ℕ) → P (s .arena) (s .table) → Leaves P (nlinksInc s i)
+  leaves-inc : (s : Fs) (i : ℕ) → P (s .arena) (s .table) → Leaves P (nlinksInc s i)
   unfolding nlinksInc
   leaves-inc s i h = any-guard (ltb (recAt s i .nlinks) 65535) 15 (λ _. went (change (s .arena) (s .table) i _ refl refl h))
 

@@ -177,7 +177,7 @@ unfolding makeFile claim
 says-make space a f = says-guard (ltb (freeOf a) (blocks a)) 17 space says-done
 
 module _ (R : ℕ → Type 0) (space : R 17) (stuck : R 19) where
-  pub says-put : (a : List ℕ) (f : File) (pos : ℕ) (src : List ℕ) → Says R (putFile a f pos src)
+  says-put : (a : List ℕ) (f : File) (pos : ℕ) (src : List ℕ) → Says R (putFile a f pos src)
   says-put a f pos src = ok-weaken (λ l _. tt) (λ r e. why e) (put-law a f pos src)
     where
       why : {r : ℕ} → PutRefused a f pos (length src) r → R r
@@ -192,13 +192,13 @@ module _ (R : ℕ → Type 0) (space : R 17) (stuck : R 19) where
       why (laws.missing _) = stuck
       why (laws.far _ _) = space
 
-  pub says-drop : (a : List ℕ) (f : File) → Says R (dropFile a f)
+  says-drop : (a : List ℕ) (f : File) → Says R (dropFile a f)
   says-drop a f = ok-weaken (λ l _. tt) (λ r e. why e) (drop-law a f)
     where
       why : {r : ℕ} → DropRefused a f r → R r
       why (laws.missing _) = stuck
 
-  pub says-store-maps : (a maps : List ℕ) (n : ℕ) → Says R (storeMaps a maps n)
+  says-store-maps : (a maps : List ℕ) (n : ℕ) → Says R (storeMaps a maps n)
   unfolding storeMaps
   says-store-maps a maps zero = says-done
   says-store-maps a maps (suc n) = says-then (says-store-maps a maps n) λ d. says-put _ _ _ _

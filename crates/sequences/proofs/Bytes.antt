@@ -6,7 +6,6 @@ use mathlib.Core.Bool.{true, false}
 use mathlib.Core.List.{List}
 use mathlib.Core.Logic.{_≢_, ⊎-elim}
 use Prim.Native.Nat.{ℕ}
-use native.Mathlib.Omega.{arith}
 use Rattle.base.specs.Out.{Out, kept, Ok, went, said}
 use Rattle.base.proofs.Outs.{ok-bind, ok-weaken}
 use Rattle.base.proofs.Bools.{true-false}
@@ -16,6 +15,7 @@ use Rattle.structs.specs.declared.Timespec.{Timespec}
 use Rattle.arena.specs.Fields.{File, file}
 use Rattle.files.specs.Read.{there}
 use Rattle.files_laws.specs.Laws.{Named, Kept, Drop}
+use Rattle.files_laws.proofs.Bounds.{named-node}
 use Rattle.files_laws.proofs.Parts.{file-cases}
 use Rattle.files_laws.proofs.Make.{make-law}
 use Rattle.table.specs.declared.Table.{Table}
@@ -40,15 +40,11 @@ use Rattle.image.proofs.Handles.{formed, row-rec, row-node}
 use Rattle.image.proofs.Metas.{kept-same, kept-then}
 use Rattle.image.proofs.Appends.{file-apart}
 use Rattle.sequences.specs.Pairs.{Pair, Passed}
-use Rattle.sequences.specs.Calls.{Call, root, find, create, link, unlink, move, metadata, setMetadata, getEntry, listing, read, write, resize, sync, close, check, NewFits, Fits, does, next}
+use Rattle.sequences.specs.Calls.{Call, root, find, create, link, unlink, move, metadata, setMetadata, getEntry, listing, read, write, resize, sync, close, check, Fits, does, next}
 use Rattle.sequences.specs.Promises.{On, SameFile, Through, writes, resizes}
 use Rattle.sequences.proofs.Passing.{allowed}
 use Rattle.sequences.proofs.Tables.{FillsFolders, keeps-create, keeps-link, keeps-unlink, keeps-move, keeps-write, keeps-resize, keeps-sync, keeps-close}
 use Rattle.sequences.proofs.Corner.{at-put, Has, new-law, on-used, on-there}
-
--- a new file's name
-new-named : (kind mode : ℕ) (time : Timespec) (uuid : List ℕ) → NewFits kind mode time uuid → Named (file 1 uuid)
-new-named kind mode time uuid F = record { kind = omega arith; size = F .file; bytes = F .bytes; zero = λ d. absurd (d refl) }
 
 -- where file f is there, it is as it was in arena o
 abbrev Stays : List ℕ → List ℕ → List ℕ → Type 0
@@ -217,7 +213,7 @@ module _ (p : Pair) (y : Passed p) (h : Handle) (n : ℕ) (f : List ℕ) (on : O
   calls root F z = ok-bind (any (callRoot a t)) λ x _. went (λ e. kept-same a (file 1 f))
   calls (find g name) F z = ok-bind (any (callFind a t g name)) λ x _. went (λ e. kept-same a (file 1 f))
   calls (create g name kind mode time uuid) F z =
-      ok-bind (keeps-create (λ b u. Stays a f b) a t g name kind mode time uuid (λ i l dir none. create-steps g i l dir name kind mode time uuid (new-named kind mode time uuid (F .2)) none)) λ x k. went k
+      ok-bind (keeps-create (λ b u. Stays a f b) a t g name kind mode time uuid (λ i l dir none. create-steps g i l dir name kind mode time uuid (named-node uuid (F .2 .file) (F .2 .bytes)) none)) λ x k. went k
   calls (link g name child) F z =
       ok-bind (keeps-link C (calm-stores a t f) (calm-drops a t f) (calm-changes a t f) (calm-takes a t f) (calm-frees a t f) a t folders g name child (calm-start a t f)) λ x k. went (k .stays)
   calls (unlink g name) F z =

@@ -1,6 +1,6 @@
 -- Read, write and resize: a read changes nothing; a write and a resize keep the file's length its size.
 use mathlib.Core.Path.{refl, _≡_, sym, ap, _∙_}
-use mathlib.Core.Bool.{true, false, not, _&&_}
+use mathlib.Core.Bool.{false, not, _&&_}
 use mathlib.Core.List.{List}
 use Prim.Native.Nat.{ℕ, _+_}
 use lib.ListN.{length}

@@ -18,10 +18,13 @@ returns c =
 rec-of-requires : tie.Need-rec-of-requires
 rec-of-requires c κs = search needs
 
+size-ok-requires : tie.Need-size-ok-requires
+size-ok-requires c κs = search needs
+
 returns-2 : tie.Need-returns-2
 returns-2 c =
-    let s = c .before .before .before .before .before .before .before .before .before in
-    id-other (s .args .arena .now) (tableIn (s .args .mem .now)) (s .args .id) (c .before .before .rec-of .result) (sym (not-false _ (c .before .before .before .if1 .left)) ∙ c .before .before .before .before .is-node .ensures .1 (s .args .arena .now) (s .pre .1 .0 .1)) (c .before .before .rec-of .ensures) (c .if2 .taken)
+    let s = c .before .before .before .before .before .before .before .before .before .before in
+    id-other (s .args .arena .now) (tableIn (s .args .mem .now)) (s .args .id) (c .before .before .before .rec-of .result) (c .size-ok .result) (sym (not-false _ (c .before .before .before .before .if1 .left)) ∙ c .before .before .before .before .before .is-node .ensures .1 (s .args .arena .now) (s .pre .1 .0 .1)) (c .before .before .before .rec-of .ensures) (c .before .if2 .taken) (c .size-ok .ensures)
 
 folder-ok-requires : tie.Need-folder-ok-requires
 folder-ok-requires c κs = search needs
@@ -34,4 +37,4 @@ returns-3 c =
 pub node-ok-spec : {M : Type 1} → statement M
 node-ok-spec =
     tie.close
-    (tie.spec is-node-requires returns rec-of-requires returns-2 folder-ok-requires returns-3)
+    (tie.spec is-node-requires returns rec-of-requires size-ok-requires returns-2 folder-ok-requires returns-3)
