@@ -39,12 +39,12 @@ abbrev pub linksOf : Fs → ℕ → ℕ
 linksOf s x = recOf (s .arena) (s .table) x .nlinks
 
 -- after both steps
-pub record Carrying (s : Fs) (i j : ℕ) (old : Slot) (name : List ℕ) (r : Replaced) (x : Fs) : Type 0 where
+pub record Carrying (own : ℕ → Type 0) (s : Fs) (i j : ℕ) (old : Slot) (name : List ℕ) (r : Replaced) (x : Fs) : Type 0 where
   pub files : Carried (s .arena) (recAt s i .file) (recAt s i .blocks - 1) (old .place) (recAt s j .file) (recAt s j .blocks) (recAt s j .blocks) (recAt s j .blocks + 1) (renamed (old .entry) name) (x .arena)
-  pub rows : Counts (owns r) (s .arena) (s .table) (at (idAt s i) (recAt s i .blocks - 1) (at (idAt s j) (recAt s j .blocks + 1) (slotsOf s))) (linksOf s) (x .table)
+  pub rows : Counts (owns own r) (s .arena) (s .table) (at (idAt s i) (recAt s i .blocks - 1) (at (idAt s j) (recAt s j .blocks + 1) (slotsOf s))) (linksOf s) (x .table)
   pub meta : x .meta ≡ s .meta
 
-module _ (s : Fs) (i j : ℕ) (old : Slot) (name : List ℕ) (r : Replaced) (M : Moving s i j old name r) (apart : idAt s i ≢ idAt s j) where
+module _ {own : ℕ → Type 0} (s : Fs) (i j : ℕ) (old : Slot) (name : List ℕ) (r : Replaced) (M : Moving own s i j old name r) (apart : idAt s i ≢ idAt s j) where
   abbrev e : DiskEntry
   e = renamed (old .entry) name
 
@@ -75,24 +75,24 @@ module _ (s : Fs) (i j : ℕ) (old : Slot) (name : List ℕ) (r : Replaced) (M :
         (subst (λ (x : DiskEntry). x .kind ≤ 4) (sym (slot-kept (s .arena) b (recAt s i) (recAt s i) refl B (recAt s i .blocks - 1)))
         (live-kind s (M .mid) i (M .from) (recAt s i .blocks - 1) (omega (arith, M .later, M .inside)) (omega (arith, M .inside))))
 
-    first : Counts (owns r) (s .arena) (s .table) (at (idAt s j) (recAt s j .blocks + 1) (slotsOf s)) (linksOf s) (x1 .table)
+    first : Counts (owns own r) (s .arena) (s .table) (at (idAt s j) (recAt s j .blocks + 1) (slotsOf s)) (linksOf s) (x1 .table)
     first =
         counts-blocks (s .arena) (s .table) (slotsOf s) (linksOf s) (s .table) (counts-none (s .arena) (s .table) (M .mid)) j (M .to .used) (recAt s j .blocks + 1)
         (put-small (s .arena) (recAt s j .file) (recAt s j .blocks) e (moves-fits s i j old name r M) is-j b P)
 
-    carries : (x : Fs) → RemovedAt x1 i (old .place) x → Carrying s i j old name r x
-    carries x R = subst (Carrying s i j old name r) (sym (R .is)) (record {
+    carries : (x : Fs) → RemovedAt x1 i (old .place) x → Carrying own s i j old name r x
+    carries x R = subst (Carrying own s i j old name r) (sym (R .is)) (record {
       files = carried-slot (s .arena) (recAt s i .file) (recAt s i .blocks - 1) (old .place) (recAt s j .file) (recAt s j .blocks) e (moves-files s i j old name r M apart) (M .mid .bytes) (M .mid .fair .rule1 .sound)
           is-i is-j (moves-fits s i j old name r M) (live-long s (M .mid) j (M .to)) below b P (R .arena)
           (subst (λ (y : Row). Gone b (y .rec .file) (y .rec .blocks - 1) (old .place) (R .arena)) row-i (R .gone));
-      rows = subst (λ (y : Row). Counts (owns r) (s .arena) (s .table) (at (idAt s i) (y .rec .blocks - 1) (at (idAt s j) (recAt s j .blocks + 1) (slotsOf s))) (linksOf s)
+      rows = subst (λ (y : Row). Counts (owns own r) (s .arena) (s .table) (at (idAt s i) (y .rec .blocks - 1) (at (idAt s j) (recAt s j .blocks + 1) (slotsOf s))) (linksOf s)
           (takeRow (x1 .table) i (rowAt (x1 .table) i .id) (withBlocks (rowAt (x1 .table) i .rec) (rowAt (x1 .table) i .rec .blocks - 1)) true)) row-i
           (counts-blocks (s .arena) (s .table) (at (idAt s j) (recAt s j .blocks + 1) (slotsOf s)) (linksOf s) (x1 .table) first i (M .from .used) (rowAt (x1 .table) i .rec .blocks - 1)
           (omega (arith, first .fits .rows i (M .from .used .below) .rec .blocks)));
       meta = refl;
     })
 
-    removes : Ok (Carrying s i j old name r) (λ n. n ≡ 17) (direntRemove x1 i (old .place))
+    removes : Ok (Carrying own s i j old name r) (λ n. n ≡ 17) (direntRemove x1 i (old .place))
     removes =
         ok-weaken (λ x R. carries x R) (λ n q. q)
         (remove-law x1 i (old .place) (subst (λ (y : Row). old .place < y .rec .blocks) (sym row-i) (M .inside))
@@ -104,5 +104,5 @@ module _ (s : Fs) (i j : ℕ) (old : Slot) (name : List ℕ) (r : Replaced) (M :
         (subst (λ (y : Row). slotBytes b (y .rec) (y .rec .blocks - 1) ≡ done (run b (nodeFile (y .rec)) (264 * (y .rec .blocks - 1)) 264)) (sym row-i) last))
 
   -- the second step, after the first
-  pub carry-law : (x : Fs) → Appended s j (renamed (old .entry) name) x → Ok (Carrying s i j old name r) (λ n. n ≡ 17) (direntRemove x i (old .place))
-  carry-law x A = subst (λ (y : Fs). Ok (Carrying s i j old name r) (λ n. n ≡ 17) (direntRemove y i (old .place))) (sym (A .is)) (removes (A .arena) (A .put))
+  pub carry-law : (x : Fs) → Appended s j (renamed (old .entry) name) x → Ok (Carrying own s i j old name r) (λ n. n ≡ 17) (direntRemove x i (old .place))
+  carry-law x A = subst (λ (y : Fs). Ok (Carrying own s i j old name r) (λ n. n ≡ 17) (direntRemove y i (old .place))) (sym (A .is)) (removes (A .arena) (A .put))

@@ -105,7 +105,7 @@ module _ {own : ℕ → Type 0} (s : Fs) (M : Midway own (s .arena) (s .table)) 
 
 -- ---- the slot that moves
 
-module _ (s : Fs) (i j : ℕ) (old : Slot) (name : List ℕ) (r : Replaced) (M : Moving s i j old name r) where
+module _ {own : ℕ → Type 0} (s : Fs) (i j : ℕ) (old : Slot) (name : List ℕ) (r : Replaced) (M : Moving own s i j old name r) where
   L : Later (s .arena) (s .table) (slotIn (s .arena) (recAt s i) (old .place))
   L = live-later s (M .mid) i (M .from) (old .place) (M .later) (M .inside)
 

@@ -43,8 +43,8 @@ use Rattle.image.proofs.Turning.{turning-mid}
 use Rattle.image.proofs.BetweenSlots.{slotsOf, linksOf, Carrying}
 use Rattle.image.proofs.Settling.{movedKind, Avoids, wayBy, wayOf, Settled, may-move, rec-d, d-not-i, d-not-j, node-d, settle-node}
 
-module _ (s : Fs) (i j : ℕ) (old : Slot) (name : List ℕ) (d k : ℕ) (M : Moving s i j old name (node d k)) (apart : idAt s i ≢ idAt s j) (avoids : Avoids s j old)
-    (x : Fs) (X : Carrying s i j old name (node d k) x) where
+module _ {own : ℕ → Type 0} (s : Fs) (i j : ℕ) (old : Slot) (name : List ℕ) (d k : ℕ) (M : Moving own s i j old name (node d k)) (apart : idAt s i ≢ idAt s j) (avoids : Avoids s j old)
+    (x : Fs) (X : Carrying own s i j old name (node d k) x) where
   abbrev a : List ℕ
   a = s .arena
 
@@ -122,16 +122,16 @@ module _ (s : Fs) (i j : ℕ) (old : Slot) (name : List ℕ) (d k : ℕ) (M : Mo
     abbrev L4 : ℕ → ℕ
     L4 = at (idAt s j) (recAt y3 j .nlinks - 1) L3
 
-    S1 : Counts (owns (node d k)) a t B (linksOf s) (y1 .table)
+    S1 : Counts (owns own (node d k)) a t B (linksOf s) (y1 .table)
     S1 = counts-blocks a t slots (linksOf s) (x .table) (X .rows) j (M .to .used) (recAt x j .blocks - 1) (omega (arith, X .rows .fits .rows j (M .to .used .below) .rec .blocks))
 
-    S2 : Counts (owns (node d k)) a t B L2 (y2 .table)
+    S2 : Counts (owns own (node d k)) a t B L2 (y2 .table)
     S2 = counts-links a t B (linksOf s) (y1 .table) S1 d (M .onto .used) (recAt y1 d .nlinks - 1) (omega (arith, S1 .fits .rows d (M .onto .used .below) .rec .nlinks))
 
-    S3 : Counts (owns (node d k)) a t B L3 (y3 .table)
+    S3 : Counts (owns own (node d k)) a t B L3 (y3 .table)
     S3 = counts-links a t B L2 (y2 .table) S2 d (M .onto .used) (recAt y2 d .nlinks - 1) (omega (arith, S2 .fits .rows d (M .onto .used .below) .rec .nlinks))
 
-    S4 : Counts (owns (node d k)) a t B L4 (y4 .table)
+    S4 : Counts (owns own (node d k)) a t B L4 (y4 .table)
     S4 = counts-links a t B L3 (y3 .table) S3 j (M .to .used) (recAt y3 j .nlinks - 1) (omega (arith, S3 .fits .rows j (M .to .used .below) .rec .nlinks))
 
     at-1 : recAt y1 d .nlinks ≡ linksOf s (idAt s d)
@@ -194,9 +194,9 @@ module _ (s : Fs) (i j : ℕ) (old : Slot) (name : List ℕ) (d k : ℕ) (M : Mo
     b-else : (y : ℕ) → y ≢ idAt s i → y ≢ idAt s j → B y ≡ slotsOf s y
     b-else y n m = at-else (idAt s j) (recAt x j .blocks - 1) slots y m ∙ at-else (idAt s i) (recAt s i .blocks - 1) to-slots y n ∙ at-else (idAt s j) (recAt s j .blocks + 1) (slotsOf s) y m
 
-    file-mid : isFolder (movedKind s old) ≡ false → Amid (wayOf s i j old) (owns (node d k)) b (y2 .table)
+    file-mid : isFolder (movedKind s old) ≡ false → Amid (wayOf s i j old) (owns own (node d k)) b (y2 .table)
     file-mid no-dir =
-        subst (λ (q : Bool). Amid (wayBy q s i j old) (owns (node d k)) b (y2 .table)) (sym no-dir)
+        subst (λ (q : Bool). Amid (wayBy q s i j old) (owns own (node d k)) b (y2 .table)) (sym no-dir)
         (transferred s i j old name (node d k) M apart no-dir k (recAt s j .blocks) (λ y l n. l) b C B L2 (y2 .table) S2 b-from b-to b-else
         (else-2 (idAt s i) (λ q. d-not-i s i j old name d k M (sym q)))
         (else-2 c d-not-c)
@@ -238,23 +238,23 @@ module _ (s : Fs) (i j : ℕ) (old : Slot) (name : List ℕ) (d k : ℕ) (M : Mo
           ap L4 (sym (eqb-true (idAt s d) y q)) ∙ at-else (idAt s j) (recAt y3 j .nlinks - 1) L3 (idAt s d) (d-not-j s i j old name d k M)
           ∙ at-here (idAt s d) (recAt y2 d .nlinks - 1) L2 ∙ omega (arith, at-2, at-1, two-links)
 
-      folder-mid : Amid (wayOf s i j old) (owns (node d k)) b (y4 .table)
+      folder-mid : Amid (wayOf s i j old) (owns own (node d k)) b (y4 .table)
       folder-mid =
-          subst (λ (q : Bool). Amid (wayBy q s i j old) (owns (node d k)) b (y4 .table)) (sym dir)
+          subst (λ (q : Bool). Amid (wayBy q s i j old) (owns own (node d k)) b (y4 .table)) (sym dir)
           (turning-mid s i j old name (node d k) M apart k (recAt s j .blocks) (over (idAt s d))
           (may-move s i j old name (node d k) M apart avoids dir k (over (idAt s d)) fresh over-d)
           (λ y l n. l) (omega arith) b C B L4 (y4 .table) S4 b-from b-to b-else
           (else-4 (idAt s i) (λ q. d-not-i s i j old name d k M (sym q)) apart)
           here-4 gone-4 (λ y n q. else-4 y (λ z. eqb-false (idAt s d) y q (sym z)) n))
 
-    falls : Ok (Settled s i j old) (λ n. n ≡ 17) (bind (nlinksDec y1 d) (λ s. bind (pick (isFolder (recAt s d .kind)) (unlinkFolder s j d) (done s)) (λ s. release s d)))
+    falls : Ok (Settled own s i j old) (λ n. n ≡ 17) (bind (nlinksDec y1 d) (λ s. bind (pick (isFolder (recAt s d .kind)) (unlinkFolder s j d) (done s)) (λ s. release s d)))
     unfolding unlinkFolder
     falls = rw (dec-is y1 d (omega (arith, at-1, links-d))) (go (isFolder (recAt y2 d .kind)) refl)
       where
         i-not-d : idAt s i ≢ idAt s d
         i-not-d q = d-not-i s i j old name d k M (sym q)
 
-        go : (f : Bool) → isFolder (recAt y2 d .kind) ≡ f → Ok (Settled s i j old) (λ n. n ≡ 17) (bind (pick f (bind (nlinksDec y2 d) (λ s. nlinksDec s j)) (done y2)) (λ s. release s d))
+        go : (f : Bool) → isFolder (recAt y2 d .kind) ≡ f → Ok (Settled own s i j old) (λ n. n ≡ 17) (bind (pick f (bind (nlinksDec y2 d) (λ s. nlinksDec s j)) (done y2)) (λ s. release s d))
         go false q =
             settle-node s i j old name d k M y2 (recAt s j .blocks) C B L2 S2 (X .meta)
             (omega (arith, else-2 (idAt s i) i-not-d, links-i))
@@ -276,10 +276,10 @@ module _ (s : Fs) (i j : ℕ) (old : Slot) (name : List ℕ) (d k : ℕ) (M : Mo
       is-there : there (x .arena) (nodeFile (recAt x j)) ≡ true
       is-there = ap (λ (f : List ℕ). there (x .arena) (file 1 f)) file-x ∙ X .files .exists (recAt s j .file) ∙ live-there s (M .mid) j (M .to)
 
-  pub replace-law : Ok (Settled s i j old) (λ n. n ≡ 17) (direntNodeRemove x j d k)
+  pub replace-law : Ok (Settled own s i j old) (λ n. n ≡ 17) (direntNodeRemove x j d k)
   unfolding direntNodeRemove
   replace-law =
       ok-bind (remove-law x j k (omega (arith, blocks-x, M .onto .inside)) (X .files .bytes) (X .files .sound)
       (ap (λ (f : List ℕ). there (x .arena) (file 1 f)) file-x ∙ X .files .exists (recAt s j .file) ∙ live-there s (M .mid) j (M .to)) last) λ y R.
-      subst (λ (z : Fs). Ok (Settled s i j old) (λ n. n ≡ 17) (bind (nlinksDec z d) (λ s. bind (pick (isFolder (recAt s d .kind)) (unlinkFolder s j d) (done s)) (λ s. release s d)))) (sym (R .is))
+      subst (λ (z : Fs). Ok (Settled own s i j old) (λ n. n ≡ 17) (bind (nlinksDec z d) (λ s. bind (pick (isFolder (recAt s d .kind)) (unlinkFolder s j d) (done s)) (λ s. release s d)))) (sym (R .is))
       (falls (R .arena) (R .gone))

@@ -42,7 +42,6 @@ use Rattle.image.proofs.Carries.{Carried}
 use Rattle.image.proofs.Transfers.{transferred}
 use Rattle.image.proofs.Turning.{turning-mid}
 use Rattle.image.proofs.BetweenSlots.{slotsOf, linksOf, Carrying}
-use Rattle.table_laws.specs.Rules as rules
 
 -- the type of what moves
 abbrev pub movedKind : Fs → Slot → ℕ
@@ -59,8 +58,9 @@ wayBy dir s i j old = pick dir (turning (old .entry .id) (idAt s i) (idAt s j)) 
 abbrev pub wayOf : Fs → ℕ → ℕ → Slot → Look
 wayOf s i j old = wayBy (isFolder (movedKind s old)) s i j old
 
-pub record Settled (s : Fs) (i j : ℕ) (old : Slot) (z : Fs) : Type 0 where
-  pub mid : Amid (wayOf s i j old) rules.none (z .arena) (z .table)
+pub record Settled (own : ℕ → Type 0) (s : Fs) (i j : ℕ) (old : Slot) (z : Fs) : Type 0 where
+  pub mid : Amid (wayOf s i j old) own (z .arena) (z .table)
+  pub mine : (m : ℕ) → own m → rowAt (z .table) m .id ≡ old .entry .id
   pub meta : z .meta ≡ done (storedMeta (z .arena))
   pub from : rowAt (z .table) i .id ≡ idAt s i
   pub to : rowAt (z .table) j .id ≡ idAt s j
@@ -75,7 +75,7 @@ off-way true s i j old x n m v =
     ap (λ (b : Bool). pick b (v .links x - 1) (pick (eqb x (idAt s j)) (v .links x + 1) (v .links x))) (ne-eqb x (idAt s i) n)
     ∙ ap (λ (b : Bool). pick b (v .links x + 1) (v .links x)) (ne-eqb x (idAt s j) m)
 
-module _ (s : Fs) (i j : ℕ) (old : Slot) (name : List ℕ) (r : Replaced) (M : Moving s i j old name r) (apart : idAt s i ≢ idAt s j) (avoids : Avoids s j old) where
+module _ {own : ℕ → Type 0} (s : Fs) (i j : ℕ) (old : Slot) (name : List ℕ) (r : Replaced) (M : Moving own s i j old name r) (apart : idAt s i ≢ idAt s j) (avoids : Avoids s j old) where
   abbrev v : Tree
   v = treeOf (s .arena) (s .table)
 
@@ -111,8 +111,8 @@ module _ (s : Fs) (i j : ℕ) (old : Slot) (name : List ℕ) (r : Replaced) (M :
 
 -- ---- nothing was replaced
 
-module _ (s : Fs) (i j : ℕ) (old : Slot) (name : List ℕ) (M : Moving s i j old name none) (apart : idAt s i ≢ idAt s j) (avoids : Avoids s j old)
-    (x : Fs) (X : Carrying s i j old name none x) where
+module _ {own : ℕ → Type 0} (s : Fs) (i j : ℕ) (old : Slot) (name : List ℕ) (M : Moving own s i j old name none) (apart : idAt s i ≢ idAt s j) (avoids : Avoids s j old)
+    (x : Fs) (X : Carrying own s i j old name none x) where
   abbrev c : ℕ
   c = old .entry .id
 
@@ -162,7 +162,7 @@ module _ (s : Fs) (i j : ℕ) (old : Slot) (name : List ℕ) (M : Moving s i j o
   b-else : (y : ℕ) → y ≢ idAt s i → y ≢ idAt s j → slots y ≡ slotsOf s y
   b-else y d n = at-else (idAt s i) (recAt s i .blocks - 1) to-slots y d ∙ at-else (idAt s j) (recAt s j .blocks + 1) (slotsOf s) y n
 
-  mid-by : (dir : Bool) → isFolder (movedKind s old) ≡ dir → Amid (wayBy dir s i j old) rules.none (x .arena) (x .table)
+  mid-by : (dir : Bool) → isFolder (movedKind s old) ≡ dir → Amid (wayBy dir s i j old) own (x .arena) (x .table)
   mid-by false q =
       transferred s i j old name none M apart q (recAt s j .blocks) (recAt s j .blocks + 1) within (x .arena) (X .files) slots (linksOf s) (x .table) (X .rows)
       b-from b-to b-else refl refl (tidy q)
@@ -175,9 +175,10 @@ module _ (s : Fs) (i j : ℕ) (old : Slot) (name : List ℕ) (M : Moving s i j o
   rec-x : (y : ℕ) → recOf (x .arena) (x .table) y ≡ recOf (s .arena) (x .table) y
   rec-x = recs-kept (s .arena) (x .arena) (x .table) (X .files .meta)
 
-  pub settle-none : Settled s i j old x
+  pub settle-none : Settled own s i j old x
   settle-none = record {
     mid = mid-by (isFolder (movedKind s old)) refl;
+    mine = λ m o. X .rows .ids m ∙ M .mine m o .1;
     meta = X .meta ∙ M .meta ∙ λ y. done (record { super = sym (super-kept (s .arena) (x .arena) (X .files .meta)) y; maps = sym (maps-kept (s .arena) (x .arena) (X .files .meta)) y });
     from = X .rows .ids i;
     to = X .rows .ids j;
@@ -194,7 +195,7 @@ module _ (s : Fs) (i j : ℕ) (old : Slot) (name : List ℕ) (M : Moving s i j o
 
 -- ---- the replaced node is let go
 
-module _ (s : Fs) (i j : ℕ) (old : Slot) (name : List ℕ) (d k : ℕ) (M : Moving s i j old name (node d k)) where
+module _ {own : ℕ → Type 0} (s : Fs) (i j : ℕ) (old : Slot) (name : List ℕ) (d k : ℕ) (M : Moving own s i j old name (node d k)) where
   -- it is neither folder: they have more than two slots
   blocks-apart : (x m : ℕ) → 2 ≤ m → m < recAt s x .blocks → isFolder (recAt s x .kind) ≡ true → recAt s d ≡ recAt s x → ⊥
   blocks-apart x m l h f q = omega (arith, ap (λ (y : DiskINode). y .blocks) q, M .onto .small (ap (λ (y : DiskINode). isFolder (y .kind)) q ∙ f))
@@ -213,18 +214,19 @@ module _ (s : Fs) (i j : ℕ) (old : Slot) (name : List ℕ) (d k : ℕ) (M : Mo
 
   module _ (y : Fs) (l : ℕ)
       (C : Carried (s .arena) (recAt s i .file) (recAt s i .blocks - 1) (old .place) (recAt s j .file) (recAt s j .blocks) k l (renamed (old .entry) name) (y .arena))
-      (B L : ℕ → ℕ) (S : Counts (owns (node d k)) (s .arena) (s .table) B L (y .table)) (meta : y .meta ≡ s .meta) (links : 2 ≤ L (idAt s i))
-      (fair : Amid (wayOf s i j old) (owns (node d k)) (y .arena) (y .table)) where
+      (B L : ℕ → ℕ) (S : Counts (owns own (node d k)) (s .arena) (s .table) B L (y .table)) (meta : y .meta ≡ s .meta) (links : 2 ≤ L (idAt s i))
+      (fair : Amid (wayOf s i j old) (owns own (node d k)) (y .arena) (y .table)) where
     rec-y : (x : ℕ) → recOf (y .arena) (y .table) x ≡ recOf (s .arena) (y .table) x
     rec-y = recs-kept (s .arena) (y .arena) (y .table) (C .meta)
 
-    ends : (z : Fs) → Dropped (wayOf s i j old) rules.none y d z → Settled s i j old z
+    ends : (z : Fs) → Dropped (wayOf s i j old) own y d z → Settled own s i j old z
     ends z D =
         let node-c = nodes-kept (s .arena) (y .arena) (C .meta) (old .entry .id) ∙ moves-node s i j old name (node d k) M in
         let c-still = D .others (old .entry .id) node-c (λ q. M .onto .apart (sym (S .ids d) ∙ sym q)) in
         let i-still = D .others (idAt s i) (nodes-kept (s .arena) (y .arena) (C .meta) (idAt s i) ∙ live-node s (M .mid) i (M .from)) (λ q. d-not-i (sym (q ∙ S .ids d))) in
         record {
           mid = D .mid;
+          mine = λ m o. let w = M .mine m o .1 in D .ids m (λ q. M .onto .apart (ap (λ (x : ℕ). idAt s x) (sym q) ∙ w)) ∙ S .ids m ∙ w;
           meta = D .meta;
           from = D .ids i (λ q. d-not-i (ap (λ (x : ℕ). idAt s x) (sym q))) ∙ S .ids i;
           to = D .ids j (λ q. d-not-j (ap (λ (x : ℕ). idAt s x) (sym q))) ∙ S .ids j;
@@ -233,7 +235,7 @@ module _ (s : Fs) (i j : ℕ) (old : Slot) (name : List ℕ) (d k : ℕ) (M : Mo
           links = omega (arith, ap (λ (x : DiskINode). x .nlinks) (i-still .rec ∙ rec-y (idAt s i)), S .links (idAt s i));
         }
 
-    pub settle-node : Ok (Settled s i j old) (λ n. n ≡ 17) (release y d)
+    pub settle-node : Ok (Settled own s i j old) (λ n. n ≡ 17) (release y d)
     settle-node =
         ok-weaken ends (λ n q. q)
         (release-law y d fair (counts-used (s .arena) (s .table) B L (y .table) S d (M .onto .used))

@@ -39,11 +39,11 @@ use Rattle.image.proofs.Movings.{live-rec, live-node, live-links}
 use Rattle.image.proofs.Counts.{Counts}
 use Rattle.image.proofs.Carries.{Carried}
 
-module _ (s : Fs) (i j : ℕ) (old : Slot) (name : List ℕ) (r : Replaced) (M : Moving s i j old name r) (apart : idAt s i ≢ idAt s j)
+module _ {own : ℕ → Type 0} (s : Fs) (i j : ℕ) (old : Slot) (name : List ℕ) (r : Replaced) (M : Moving own s i j old name r) (apart : idAt s i ≢ idAt s j)
     (k l : ℕ) (o : Spot) (P : MayMove (treeOf (s .arena) (s .table)) (idAt s i) (old .place) (idAt s j) k (old .entry .id) o (renamed (old .entry) name))
     (within : (x : ℕ) → x < l → x ≢ k → x < recAt s j .blocks) (more : l + lost o ≡ recAt s j .blocks + 1)
     (b : List ℕ) (C : Carried (s .arena) (recAt s i .file) (recAt s i .blocks - 1) (old .place) (recAt s j .file) (recAt s j .blocks) k l (renamed (old .entry) name) b)
-    (B L : ℕ → ℕ) (u : Table) (S : Counts (owns r) (s .arena) (s .table) B L u)
+    (B L : ℕ → ℕ) (u : Table) (S : Counts (owns own r) (s .arena) (s .table) B L u)
     (b-from : B (idAt s i) ≡ recAt s i .blocks - 1) (b-to : B (idAt s j) ≡ l)
     (b-else : (x : ℕ) → x ≢ idAt s i → x ≢ idAt s j → B x ≡ recOf (s .arena) (s .table) x .blocks)
     (l-from : L (idAt s i) ≡ recOf (s .arena) (s .table) (idAt s i) .nlinks)
@@ -182,7 +182,7 @@ module _ (s : Fs) (i j : ℕ) (old : Slot) (name : List ℕ) (r : Replaced) (M :
     none = λ x q. let z = gone-apart (treeOf a t) f (old .place) g k c o e (A .tidy) P x q in links-else x (z .0) (z .1) ∙ links x ∙ l-gone x q;
   }
 
-  pub turning-mid : Amid (turning (old .entry .id) (idAt s i) (idAt s j)) (owns r) b u
+  pub turning-mid : Amid (turning (old .entry .id) (idAt s i) (idAt s j)) (owns own r) b u
   unfolding MovesTidy
   turning-mid = record {
     fair = fair-by-tree (turning c f g) a b t u A
