@@ -191,7 +191,7 @@ module _ (P : List ℕ → Table → Type 0) where
   leaves-read s i zero h = went h
   leaves-read s i (suc n) h = ok-bind (leaves-read s i n h) λ u k. ok-bind (says-slot Any tt _ _ _) λ e _. went k
 
-  leaves-judge : (v : MoveVerdict) (s : Fs) (d : ℕ) → P (s .arena) (s .table) → Leaves P (judge v s d)
+  pub leaves-judge : (v : MoveVerdict) (s : Fs) (d : ℕ) → P (s .arena) (s .table) → Leaves P (judge v s d)
   leaves-judge Allowed s d h = went h
   leaves-judge NotDir s d h = said tt
   leaves-judge IsDir s d h = said tt
@@ -247,7 +247,7 @@ module _ (P : List ℕ → Table → Type 0) (i : ℕ) (fills : Fills P i) where
     unfolding direntAppend
     leaves-append s e h = ok-bind (leaves-slot s _ _ h) λ u k. went (change (u .arena) (u .table) i _ refl refl k)
 
-    leaves-remove : (s : Fs) (k : ℕ) → P (s .arena) (s .table) → Leaves P (direntRemove s i k)
+    pub leaves-remove : (s : Fs) (k : ℕ) → P (s .arena) (s .table) → Leaves P (direntRemove s i k)
     unfolding direntRemove
     leaves-remove s k h =
         any-guard (ltb 0 (recAt s i .blocks)) 19 (λ _.
@@ -291,7 +291,7 @@ module _ (P : List ℕ → Table → Type 0) (change : Changes P) where
   leaves-named s i c kind h =
       ok-bind (leaves-inc s c h) λ u k. any-pick (isFolder kind) (nameFolder u i c) (done u) (λ _. leaves-name-folder u i c k) (λ _. went k)
 
-  leaves-dots : (s : Fs) (i j : ℕ) → P (s .arena) (s .table) → Leaves P (moveDots s i j)
+  pub leaves-dots : (s : Fs) (i j : ℕ) → P (s .arena) (s .table) → Leaves P (moveDots s i j)
   unfolding moveDots
   leaves-dots s i j h = ok-bind (leaves-dec s i h) λ u k. leaves-inc u j k
 
@@ -360,7 +360,7 @@ module _ (P : List ℕ → Table → Type 0) (change : Changes P) where
             (λ _. went k)) λ v l.
             went (free (v .arena) (v .table) i (l .1) (l .0))
 
-        leaves-release : (s : Fs) (i : ℕ) → P (s .arena) (s .table) → Leaves P (release s i)
+        pub leaves-release : (s : Fs) (i : ℕ) → P (s .arena) (s .table) → Leaves P (release s i)
         unfolding release
         leaves-release s i h = any-pick (rowUsed (s .table) i) (done s) (dropNode s i) (λ _. went h) (λ e. leaves-drop s i e h)
 
@@ -376,18 +376,18 @@ module _ (P : List ℕ → Table → Type 0) (change : Changes P) where
         unfolding unlinkSteps
         leaves-unlink s i fills c k h = ok-bind (leaves-node-remove s i fills c k h) λ u g. ok-bind (leaves-sync u i g) λ v l. went l
 
-        leaves-replaced : (s : Fs) (j : ℕ) → Fills P j → (r : Replaced) → P (s .arena) (s .table) → Leaves P (removeReplaced s j r)
+        pub leaves-replaced : (s : Fs) (j : ℕ) → Fills P j → (r : Replaced) → P (s .arena) (s .table) → Leaves P (removeReplaced s j r)
         leaves-replaced s j fills none h = went h
         leaves-replaced s j fills (node d k) h = leaves-node-remove s j fills d k h
+
+        pub leaves-within : (s : Fs) (i : ℕ) → Fills P i → (old : Slot) (name : List ℕ) (r : Replaced) → P (s .arena) (s .table) → LeavesAfter P (moveWithin s i old name r)
+        unfolding moveWithin
+        leaves-within s i fills old name r h =
+            ok-bind (leaves-slot P i fills s _ _ h) λ s h. ok-bind (leaves-replaced s i fills r h) λ s h. ok-bind (leaves-sync s i h) λ s h. went h
 
         -- ---- a move, whose two folders are rows i and j. It fills the moved folder too
 
         module _ (i j : ℕ) (fills : (c : ℕ) → Fills P c) where
-          leaves-within : (s : Fs) (old : Slot) (name : List ℕ) (r : Replaced) → P (s .arena) (s .table) → LeavesAfter P (moveWithin s i old name r)
-          unfolding moveWithin
-          leaves-within s old name r h =
-              ok-bind (leaves-slot P i (fills i) s _ _ h) λ s h. ok-bind (leaves-replaced s i (fills i) r h) λ s h. ok-bind (leaves-sync s i h) λ s h. went h
-
           leaves-between : (s : Fs) (old : Slot) (name : List ℕ) (r : Replaced) → P (s .arena) (s .table) → LeavesAfter P (moveBetween s i j old name r)
           unfolding moveBetween
           leaves-between s old name r h =
@@ -405,7 +405,7 @@ module _ (P : List ℕ → Table → Type 0) (change : Changes P) where
           unfolding moveSteps
           leaves-move-steps s old name r h =
               ok-bind (says-find Any tt tt _ _ _) λ e _.
-              any-pick (eqb (idAt s i) (idAt s j)) (moveWithin s i e name r) (moveBetween s i j e name r) (λ _. leaves-within s e name r h) (λ _. leaves-between s e name r h)
+              any-pick (eqb (idAt s i) (idAt s j)) (moveWithin s i e name r) (moveBetween s i j e name r) (λ _. leaves-within s i (fills i) e name r h) (λ _. leaves-between s e name r h)
 
           leaves-onto : (s : Fs) (old name : List ℕ) (c d k : ℕ) → P (s .arena) (s .table) → LeavesAfter P (moveOnto s i j old name c d k)
           unfolding moveOnto

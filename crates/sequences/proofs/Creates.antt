@@ -54,6 +54,7 @@ use Rattle.sefs_laws.proofs.Rows.{tabled-stores, leaves-sync}
 use Rattle.image.proofs.Holds.{hold-mid}
 use Rattle.image.proofs.Nodes.{there-meta, meta-is, node-some}
 use Rattle.image.proofs.Metas.{length-mapsTo, bytes-mapsTo, kept-same, kept-then, Within, MetaPut, MetaFits, sync-meta-law}
+use Rattle.image.proofs.TreeOf.{tidy-six}
 use Rattle.image.proofs.Stores.{node-apart, sync-mid}
 use Rattle.image.proofs.Drops.{mid-rec}
 use Rattle.sequences.proofs.Asks.{live-folder, new-law}

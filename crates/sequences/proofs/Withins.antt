@@ -56,7 +56,7 @@ use Rattle.table_laws.specs.Rules as rows
 
 -- ---- the slot has its new name
 
-module _ (s : Fs) (i : ℕ) (old : Slot) (name : List ℕ) (r : Replaced) (H : Moving s i i old name r) where
+module _ (s : Fs) (i : ℕ) (old : Slot) (name : List ℕ) (r : Replaced) (H : Moving rows.none s i i old name r) where
   abbrev a : List ℕ
   a = s .arena
 
@@ -183,7 +183,7 @@ module _ (s : Fs) (i : ℕ) (old : Slot) (name : List ℕ) (r : Replaced) (H : M
     there-same = put-there a (ri .file) pl e fits is-there b P
 
     -- where no other has the name, that is all
-    pub renamed-mid : ((j : ℕ) → 2 ≤ j → j < recAt s i .blocks → nameOf (slotIn (s .arena) (recAt s i) j .name) ≢ nameOf (nameBytes name)) → Midway (owns r) b (s .table)
+    pub renamed-mid : ((j : ℕ) → 2 ≤ j → j < recAt s i .blocks → nameOf (slotIn (s .arena) (recAt s i) j .name) ≢ nameOf (nameBytes name)) → Midway (owns rows.none r) b (s .table)
     renamed-mid fresh = record {
       fair = fair-by-tree plain a b t t A
           (record { length = legal-same a b (P .size) ∙ A .rule1 .length; sound = sounds })
@@ -210,7 +210,7 @@ module _ (s : Fs) (i : ℕ) (old : Slot) (name : List ℕ) (r : Replaced) (H : M
 
 -- ---- with a node that is replaced
 
-module _ (s : Fs) (i : ℕ) (old : Slot) (name : List ℕ) (c k : ℕ) (H : Moving s i i old name (node c k)) where
+module _ (s : Fs) (i : ℕ) (old : Slot) (name : List ℕ) (c k : ℕ) (H : Moving rows.none s i i old name (node c k)) where
   R : Replaces s i old name c k
   R = H .onto
 
@@ -329,14 +329,14 @@ module _ (s : Fs) (i : ℕ) (old : Slot) (name : List ℕ) (c k : ℕ) (H : Movi
 stored : (s : Fs) (i : ℕ) → Midway rows.none (s .arena) (s .table) → Used (s .table) i → Ok (λ (x : After). Passed (pair (x .arena) (x .table))) Clear (bind (syncRow s i) (λ s. done (after s)))
 stored s i M u = ok-bind (ok-weaken (λ x Z. Z) clear-17 (sync-mid s M i u)) λ x Z. went (midway-passed (x .arena) (x .table) (Z .mid))
 
-pub within-law : (s : Fs) (i : ℕ) (old : Slot) (name : List ℕ) (r : Replaced) → Moving s i i old name r → Ok (λ (x : After). Passed (pair (x .arena) (x .table))) Clear (moveWithin s i old name r)
+pub within-law : (s : Fs) (i : ℕ) (old : Slot) (name : List ℕ) (r : Replaced) → Moving rows.none s i i old name r → Ok (λ (x : After). Passed (pair (x .arena) (x .table))) Clear (moveWithin s i old name r)
 unfolding moveWithin
 within-law s i old name r H =
     ok-bind (ok-weaken (λ x Q. Q) clear-17 (overwrite-law s i (old .place) (renamed (old .entry) name) (fits s i old name r H) (is-there s i old name r H))) λ x Q.
     subst (λ (y : Fs). Ok (λ (x : After). Passed (pair (x .arena) (x .table))) Clear (bind (removeReplaced y i r) (λ s. bind (syncRow s i) (λ s. done (after s))))) (sym (Q .is))
     (rest r H (Q .arena) (Q .put))
   where
-    rest : (r : Replaced) → Moving s i i old name r → (b : List ℕ) → Put (s .arena) (nodeFile (recAt s i)) (264 * old .place) (entryBytes (renamed (old .entry) name)) b
+    rest : (r : Replaced) → Moving rows.none s i i old name r → (b : List ℕ) → Put (s .arena) (nodeFile (recAt s i)) (264 * old .place) (entryBytes (renamed (old .entry) name)) b
         → Ok (λ (x : After). Passed (pair (x .arena) (x .table))) Clear (bind (removeReplaced (withArena s b) i r) (λ s. bind (syncRow s i) (λ s. done (after s))))
     rest none H b P = stored (withArena s b) i (renamed-mid s i old name none H b P (H .onto .fresh)) (H .from .used)
     rest (node c k) H b P = ok-bind (ok-weaken (λ x E. E) clear-17 (gone s i old name c k H b P)) λ x E. stored x i (E .0) (E .1)
