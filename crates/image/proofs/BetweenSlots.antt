@@ -10,7 +10,6 @@ use Rattle.base.proofs.Outs.{ok-weaken}
 use Rattle.structs.specs.Layout.{entryBytes}
 use Rattle.structs.specs.declared.DiskEntry.{DiskEntry}
 use Rattle.arena.specs.Fields.{file}
-use Rattle.table.specs.declared.Table.{Table}
 use Rattle.table.specs.declared.Row.{Row}
 use Rattle.table.specs.Table.{rowAt, takeRow}
 use Rattle.files.specs.Read.{there}

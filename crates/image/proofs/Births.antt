@@ -37,7 +37,6 @@ use Rattle.image.specs.Midway.{Used, Fair, treeOf, storedMeta, Midway}
 use Rattle.image.proofs.Images.{Like, root-node, head-there, there-head}
 use Rattle.tree.specs.Tree.{Tree, Tidy}
 use Rattle.tree.proofs.Trees.{folder-is}
-use Rattle.image.proofs.TreeOf.{tidy-six, tidy-seven, tidy-eight}
 use Rattle.tree.proofs.Naming.{Names, May, names-tidy}
 use Rattle.tree.proofs.Born.{Born, born-tidy}
 use Rattle.image.proofs.Nodes.{node-some}

@@ -111,11 +111,11 @@ mid-rec a t O i u = ap (recBy a t (rowAt t i .id)) (row-is t O i (u .below) (u .
 -- superblock and maps can be stored when an id is freed
 module _ (a : List ℕ) (y : Bytes a) (some : 1 ≤ storedSuper a .groups) (end : lengthOf a metaFile ≡ 131072 * storedSuper a .groups)
     (spare : storedSuper a .unused + 1 < 4294967296) (id : ℕ) (below : id < idsIn a) where
-  pub freed-inside : id / 8 < length (storedMaps a)
+  freed-inside : id / 8 < length (storedMaps a)
   unfolding storedMaps
   freed-inside = omega (arith, length-mapsTo a (storedSuper a .groups))
 
-  pub freed-fits : MetaFits a (record { super = oneMore (storedSuper a); maps = withBit (storedMaps a) id true })
+  freed-fits : MetaFits a (record { super = oneMore (storedSuper a); maps = withBit (storedMaps a) id true })
   unfolding storedSuper storedMaps
   freed-fits =
       let F = superOf-fits (run a metaFile 0 16) (run-bytes a metaFile 0 16 y) in
@@ -286,7 +286,7 @@ free-block-is s i M u e =
       lt-ltb (storedSuper (s .arena) .unused + 1) 4294967296 (omega (arith, M .fair .rule3 .unused, setBits-le (storedMaps (s .arena)) (idsIn (s .arena)), M .fair .rule3 .few)),
     )
 
-pub drop-file : (b : List ℕ) (f : File) → there b f ≡ true → Ok (Drop b f) (λ r. r ≡ 17) (dropFile b f)
+drop-file : (b : List ℕ) (f : File) → there b f ≡ true → Ok (Drop b f) (λ r. r ≡ 17) (dropFile b f)
 drop-file b f e = ok-weaken (λ c D. D) (λ r q. why q) (drops.drop-law b f)
   where
     why : {r : ℕ} → DropRefused b f r → r ≡ 17

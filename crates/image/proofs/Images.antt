@@ -1,7 +1,7 @@
 -- The rules in another image by the same ids: where superblock, maps and node files are as they were, each node's record keeps its type,
 -- links, slots and file, and what was open is open, an image that is allowed stays so. (Ids that are no nodes may have any record: id 0 has
 -- that of the lowest free row, or bytes of the superblock.)
-use mathlib.Core.Path.{_≡_, refl, sym, ap, _∙_, subst}
+use mathlib.Core.Path.{_≡_, refl, sym, ap, _∙_}
 use mathlib.Core.Bool.{Bool, true, false, not, _&&_}
 use mathlib.Core.List.{List}
 use mathlib.Core.Logic.{_≢_}

@@ -18,14 +18,13 @@ use Rattle.structs.specs.declared.DiskINode.{DiskINode}
 use Rattle.structs.specs.declared.DiskEntry.{DiskEntry}
 use Rattle.utf8.specs.Names.{nameOf, nameBytes}
 use Rattle.utf8.proofs.Names.{not-special}
-use Rattle.table.specs.declared.Table.{Table}
 use Rattle.table.specs.Table.{rowAt}
 use Rattle.sefs.specs.State.{Fs}
 use Rattle.sefs.specs.Nodes.{recAt, idAt, release}
 use Rattle.sefs.specs.Slots.{Slot}
 use Rattle.sefs.specs.Move.{Replaced, none, node, renamed}
 use Rattle.rules.specs.Image.{isNode, recOf, slotIn}
-use Rattle.image.specs.Midway.{storedMeta, treeOf, Look, plain, turning, Amid, Midway}
+use Rattle.image.specs.Midway.{storedMeta, treeOf, Look, plain, turning, Amid}
 use Rattle.tree.specs.Tree.{Tree, Tidy, up}
 use Rattle.tree.specs.Moves.{Spot, end, Takes, MayMove}
 use Rattle.tree.proofs.Naming.{May}
@@ -36,7 +35,7 @@ use Rattle.image.proofs.Drops.{mid-rec, super-kept, maps-kept, Dropped,
 use Rattle.image.proofs.Resets.{recs-kept, nodes-kept}
 use Rattle.image.proofs.NewNames.{NewName}
 use Rattle.image.proofs.Moving.{Moving, owns}
-use Rattle.image.proofs.Movings.{live-rec, live-node, live-lives, live-links, moves-node, moves-kind, moves-links, moves-ended, moves-name}
+use Rattle.image.proofs.Movings.{live-rec, live-node, live-lives, live-links, moves-node, moves-kind, moves-ended, moves-name}
 use Rattle.image.proofs.Counts.{Counts, counts-used}
 use Rattle.image.proofs.Carries.{Carried}
 use Rattle.image.proofs.Transfers.{transferred}
@@ -69,7 +68,7 @@ pub record Settled (own : ℕ → Type 0) (s : Fs) (i j : ℕ) (old : Slot) (z :
   pub links : 2 ≤ recOf (z .arena) (z .table) (idAt s i) .nlinks
 
 -- the links of other nodes look as they are
-pub off-way : (dir : Bool) (s : Fs) (i j : ℕ) (old : Slot) (x : ℕ) → x ≢ idAt s i → x ≢ idAt s j → Off (wayBy dir s i j old) x
+off-way : (dir : Bool) (s : Fs) (i j : ℕ) (old : Slot) (x : ℕ) → x ≢ idAt s i → x ≢ idAt s j → Off (wayBy dir s i j old) x
 off-way false s i j old x n m v = refl
 off-way true s i j old x n m v =
     ap (λ (b : Bool). pick b (v .links x - 1) (pick (eqb x (idAt s j)) (v .links x + 1) (v .links x))) (ne-eqb x (idAt s i) n)

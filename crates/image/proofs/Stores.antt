@@ -66,7 +66,7 @@ module _ (a : List ℕ) (id : ℕ) (some : id ≢ 0) (off : id % 1024 ≢ 1) (sr
   elsewhere pos m h =
       tab-cong (byteAt b metaFile) (byteAt a metaFile) pos pos m (λ i l. P .outside (pos + i) (λ g. omega (arith, long, h i l g)))
 
-  pub put-super : storedSuper b ≡ storedSuper a
+  put-super : storedSuper b ≡ storedSuper a
   unfolding storedSuper
   put-super = ap superOf (elsewhere 0 16 (λ i l g. absurd (omega (arith, above-zero id some))))
 
@@ -77,11 +77,11 @@ module _ (a : List ℕ) (id : ℕ) (some : id ≢ 0) (off : id % 1024 ≢ 1) (sr
       λ x. same-maps k x ++ elsewhere (mapAt k) 128 (λ i l g.
       ⊎-elim (λ m. absurd (off (let e : id ≡ 1024 * k + 1 = omega arith in omega arith))) (λ m. m) (lt-or-le (mapAt k + i) (128 * id + 112))) x
 
-  pub put-maps : storedMaps b ≡ storedMaps a
+  put-maps : storedMaps b ≡ storedMaps a
   unfolding storedMaps
   put-maps = ap (λ (x : SuperBlock). mapsTo b (x .groups)) put-super ∙ same-maps (storedSuper a .groups)
 
-  pub put-records : (j : ℕ) → j ≢ id → storedBytes b j ≡ storedBytes a j
+  put-records : (j : ℕ) → j ≢ id → storedBytes b j ≡ storedBytes a j
   unfolding storedBytes
   put-records j d =
       elsewhere (128 * j) 112 (λ i l g. ⊎-elim (λ m. omega arith) (λ m. absurd (d (omega arith))) (lt-or-le id j))

@@ -8,17 +8,14 @@ use native.Mathlib.Omega.{arith}
 use lib.Dec.{eqb, ltb}
 use borrow.Author.Tests.{ltb-true, eq-eqb, ne-eqb}
 use Rattle.base.specs.Out.{done, Ok, went}
-use Rattle.base.proofs.Outs.{ok-bind, ok-weaken, ok-guard}
+use Rattle.base.proofs.Outs.{ok-weaken, ok-guard}
 use Rattle.base.specs.Search.{pick}
 use Rattle.base.proofs.Bools.{and-both, and-false, true-false}
 use Rattle.base.proofs.Finds.{eq-cases}
-use Rattle.base.proofs.Sames.{decided-yes}
-use Rattle.base.proofs.Tests.{decides-leb}
 use Rattle.structs.specs.Fits.{EntryFits}
 use Rattle.structs.specs.Layout.{entryBytes}
 use Rattle.structs.specs.Types.{isFolder}
 use Rattle.structs.specs.declared.DiskINode.{DiskINode}
-use Rattle.structs.specs.declared.DiskEntry.{DiskEntry}
 use Rattle.arena.specs.Fields.{file}
 use Rattle.table.specs.declared.Table.{Table}
 use Rattle.table.specs.Table.{rowAt}
@@ -27,16 +24,16 @@ use Rattle.files.specs.Read.{there, lengthOf}
 use Rattle.files_laws.specs.Laws.{Put, Kept}
 use Rattle.files_laws.proofs.Bounds.{legal-same}
 use Rattle.sefs_laws.proofs.Clear.{Clear, clear, clear-17}
-use Rattle.sefs.specs.State.{Fs, withTable, withArena}
+use Rattle.sefs.specs.State.{Fs, withTable}
 use Rattle.sefs.specs.Meta.{metaFile}
 use Rattle.sefs.specs.Records.{withLinks}
 use Rattle.sefs.specs.Nodes.{nodeFile, recAt, idAt, setRec}
 use Rattle.sefs.specs.Folders.{dotsEntry, putSlot, nlinksInc}
-use Rattle.sefs.specs.Move.{moveDots, moveLinks, moveParent}
+use Rattle.sefs.specs.Move.{moveDots, moveParent}
 use Rattle.rules.specs.Image.{isNode, recOf, slotIn}
 use Rattle.rules.proofs.Files.{node-below}
 use Rattle.image.specs.Midway.{Used, storedMeta, treeOf, Look, plain, turning, Fairly, Amid}
-use Rattle.tree.specs.Tree.{Tree, Tidy, folderAt, FolderIn}
+use Rattle.tree.specs.Tree.{FolderIn}
 use Rattle.tree.specs.Moves.{turned}
 use Rattle.tree.proofs.Trees.{folder-is, at, at-here, at-else}
 use Rattle.tree.proofs.Stays.{Stays, stays-tidy}

@@ -1,5 +1,5 @@
 -- A folder's slot has moved from one folder to another: the image is fair as it will be, once the folder's `..` and the links follow.
-use mathlib.Core.Path.{_≡_, refl, sym, ap, _∙_, subst}
+use mathlib.Core.Path.{_≡_, refl, sym, ap, _∙_}
 use mathlib.Core.Bool.{Bool, true, false, _&&_}
 use mathlib.Core.List.{List}
 use mathlib.Core.Logic.{_≢_, ⊎-elim}
@@ -8,9 +8,8 @@ use native.Mathlib.Omega.{arith}
 use lib.Dec.{eqb}
 use borrow.Author.Tests.{eq-eqb, ne-eqb}
 use Rattle.base.specs.Search.{pick}
-use Rattle.base.proofs.Bools.{true-false, and-false, bool-cases}
+use Rattle.base.proofs.Bools.{and-false}
 use Rattle.base.proofs.Finds.{eq-cases}
-use Rattle.structs.specs.Types.{isFolder}
 use Rattle.structs.specs.declared.DiskINode.{DiskINode}
 use Rattle.structs.specs.declared.DiskEntry.{DiskEntry}
 use Rattle.arena.specs.Fields.{file}

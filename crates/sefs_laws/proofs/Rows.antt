@@ -191,7 +191,7 @@ module _ (P : List ℕ → Table → Type 0) where
   leaves-read s i zero h = went h
   leaves-read s i (suc n) h = ok-bind (leaves-read s i n h) λ u k. ok-bind (says-slot Any tt _ _ _) λ e _. went k
 
-  pub leaves-judge : (v : MoveVerdict) (s : Fs) (d : ℕ) → P (s .arena) (s .table) → Leaves P (judge v s d)
+  leaves-judge : (v : MoveVerdict) (s : Fs) (d : ℕ) → P (s .arena) (s .table) → Leaves P (judge v s d)
   leaves-judge Allowed s d h = went h
   leaves-judge NotDir s d h = said tt
   leaves-judge IsDir s d h = said tt

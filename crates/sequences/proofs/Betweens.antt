@@ -6,7 +6,7 @@ use mathlib.Core.List.{List}
 use mathlib.Core.Logic.{_≢_, inr, ⊎-elim}
 use Prim.Native.Nat.{ℕ, _≤_}
 use native.Mathlib.Omega.{arith}
-use Rattle.base.specs.Out.{Out, done, bind, Ok, went}
+use Rattle.base.specs.Out.{done, bind, Ok, went}
 use Rattle.base.proofs.Outs.{ok-bind, ok-weaken, bind-assoc}
 use Rattle.base.proofs.Sames.{decided-yes}
 use Rattle.base.proofs.Tests.{decides-leb}
@@ -18,7 +18,7 @@ use Rattle.table.specs.Table.{rowAt}
 use Rattle.table_laws.proofs.Rows.{formed-more}
 use Rattle.sefs.specs.State.{Fs, withTable}
 use Rattle.sefs.specs.Ask.{start}
-use Rattle.sefs.specs.Nodes.{Opened, opened, idAt, getNode, syncRow, release}
+use Rattle.sefs.specs.Nodes.{Opened, idAt, getNode, syncRow, release}
 use Rattle.sefs.specs.Slots.{Slot}
 use Rattle.sefs.specs.Create.{After, after}
 use Rattle.base.specs.Search.{pick}
@@ -26,7 +26,7 @@ use Rattle.sefs.specs.Move.{Replaced, none, node, removeReplaced, renamed, move
 use Rattle.rules.specs.Image.{isNode, recOf}
 use Rattle.sequences.specs.Pairs.{pair, Passed}
 use Rattle.sefs_laws.proofs.Rows.{Fills, leaves-node, leaves-append, leaves-remove, leaves-dots, leaves-sync, leaves-release, leaves-replaced}
-use Rattle.image.specs.Midway.{Used, storedMeta, plain, Amid}
+use Rattle.image.specs.Midway.{Used}
 use Rattle.image.proofs.Nodes.{meta-is}
 use Rattle.sequences.proofs.Passing.{midway-passed}
 use Rattle.sequences.proofs.Bears.{Bears, ok-and}
@@ -42,7 +42,6 @@ use Rattle.image.proofs.Replacing.{replace-law}
 use Rattle.image.proofs.Turned.{Ready, Relinked, dots-law, parent-law}
 use Rattle.files_laws.specs.Laws.{Kept}
 use Rattle.arena.specs.Fields.{file}
-use Rattle.table_laws.specs.Rules as rules
 
 -- the replaced node goes, if there is one
 replaced-law : {own : ℕ → Type 0} (s : Fs) (i j : ℕ) (old : Slot) (name : List ℕ) (r : Replaced) → Moving own s i j old name r → idAt s i ≢ idAt s j → Avoids s j old → (x : Fs) → Carrying own s i j old name r x

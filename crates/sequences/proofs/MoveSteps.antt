@@ -10,7 +10,7 @@ use lib.Dec.{eqb}
 use lib.ListN.{length}
 use borrow.Author.Tests.{ne-eqb, eqb-true, eqb-false}
 use Rattle.base.specs.Out.{Out, done, bind, Ok, went, said}
-use Rattle.base.proofs.Outs.{ok-bind, ok-weaken}
+use Rattle.base.proofs.Outs.{ok-bind}
 use Rattle.base.proofs.Bools.{true-T}
 use Rattle.base.specs.Search.{pick}
 use Rattle.le.specs.Le.{Bytes}

@@ -1,14 +1,13 @@
 -- The call of move: what it asks before its steps.
-use mathlib.Core.Path.{refl, _≡_, sym, _∙_, subst}
+use mathlib.Core.Path.{refl, _≡_, sym, subst}
 use Rattle.sefs_laws.proofs.Clear.{Clear, clear}
-use mathlib.Core.Bool.{Bool, true, false, not, _&&_}
+use mathlib.Core.Bool.{true, false, not}
 use mathlib.Core.List.{List}
-use mathlib.Core.Logic.{_≢_}
 use Prim.Native.Nat.{ℕ, _≤_, _<_}
 use lib.Dec.{eqb, leb}
 use lib.ListN.{length}
-use borrow.Author.Tests.{ne-eqb, not-true}
-use Rattle.base.specs.Out.{Out, done, bind, kept, Ok, went, said, _>>=_}
+use borrow.Author.Tests.{not-true}
+use Rattle.base.specs.Out.{Ok, went}
 use Rattle.base.proofs.Outs.{ok-bind, ok-weaken}
 use Rattle.base.proofs.Bools.{true-T}
 use Rattle.base.proofs.Finds.{search-at}
@@ -22,9 +21,9 @@ use Rattle.structs.specs.declared.DiskINode.{DiskINode}
 use Rattle.utf8.specs.Names.{GoodName, isNamed, isSpecial, nameVerdict, earlyReason}
 use Rattle.table.specs.declared.Table.{Table}
 use Rattle.table.specs.declared.Handle.{Handle}
-use Rattle.table.specs.Table.{rowAt, liveRow}
-use Rattle.sefs.specs.Slots.{Slot, lookup, findSlot}
-use Rattle.sefs.specs.Ask.{start, byHandle}
+use Rattle.table.specs.Table.{rowAt}
+use Rattle.sefs.specs.Slots.{lookup}
+use Rattle.sefs.specs.Ask.{start}
 use Rattle.sefs.specs.Create.{After}
 use Rattle.sefs.specs.Move.{moveTo, callMove}
 use Rattle.rules.specs.Image.{recOf, slotIn}
@@ -39,7 +38,7 @@ use Rattle.sequences.proofs.Tables.{FillsFolders}
 use Rattle.sefs_laws.proofs.Says.{says-ensure, says-is, ok-is, ensure-asks}
 use Rattle.sequences.proofs.Passing.{allowed, well}
 use Rattle.image.specs.Midway.{Used}
-use Rattle.image.proofs.Handles.{Reaches, admitted, handle-law, row-rec, row-folder}
+use Rattle.image.proofs.Handles.{admitted, handle-law, row-rec, row-folder}
 use Rattle.image.proofs.Lookups.{lookup-is}
 use Rattle.image.proofs.NewNames.{good-name, NewName, new-name}
 use Rattle.sequences.proofs.Asks.{live-folder}

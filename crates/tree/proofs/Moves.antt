@@ -9,7 +9,7 @@ use lib.Dec.{eqb}
 use borrow.Author.Tests.{eq-eqb, ne-eqb, eqb-true, eqb-false}
 use Rattle.base.specs.Count.{bit, sumTo, countTo}
 use Rattle.base.specs.Search.{pick}
-use Rattle.base.proofs.Bools.{bool-cases, true-false, and-parts}
+use Rattle.base.proofs.Bools.{bool-cases, true-false}
 use Rattle.base.proofs.Counts.{sumTo-change, countTo-more, countTo-cong, countTo-change}
 use Rattle.base.proofs.Finds.{eq-cases}
 use Rattle.base.proofs.Numbers.{lt-or-le}
@@ -17,9 +17,8 @@ use Rattle.structs.specs.Types.{isFolder}
 use Rattle.structs.specs.declared.DiskEntry.{DiskEntry}
 use Rattle.utf8.specs.Names.{nameOf}
 use Rattle.tree.specs.Tree.{Tree, folderAt, namesOf, allNames, subsOf, parent, up, LaterIn, FolderIn, LinkedIn, RemovedIn, Lives, NamedBy, Tidy}
-use Rattle.tree.specs.Moves.{Spot, end, over, lost, goes, Moves, Over, Takes, MayMove, MovesTidy}
+use Rattle.tree.specs.Moves.{Spot, end, over, lost, goes, Moves, Takes, MayMove, MovesTidy}
 use Rattle.tree.proofs.Trees.{at, at-here, at-else, pick-like, folder-is, names-differ, lives-linked, parent-lives, up-first}
-use Rattle.tree.proofs.Naming.{none-subs}
 use Rattle.tree.proofs.Unnaming.{count-swap}
 use Rattle.tree.proofs.Ways.{slot-counts, names-part, one-parent, not-own}
 
@@ -113,9 +112,6 @@ module _ (v w : Tree) (f p g k c : ℕ) (o : Spot) (e : DiskEntry) (I : Tidy v) 
 
   k-inside : k < w .blocks g
   k-inside = place (P .takes) .1
-
-  stays-c : goes o c ≡ false
-  stays-c = ⊎-elim (λ (q : goes o c ≡ true). absurd (gone v f p g k c o e I P c q .not-c refl)) (λ q. q) (bool-cases (goes o c))
 
   stays-f : goes o f ≡ false
   stays-f = ⊎-elim (λ (q : goes o f ≡ true). absurd (gone v f p g k c o e I P f q .not-f refl)) (λ q. q) (bool-cases (goes o f))

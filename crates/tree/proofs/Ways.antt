@@ -1,6 +1,6 @@
 -- Who names a node, and the way up: a folder with links is named by its parent alone, and the way from it to node 2 meets no folder twice, so it
 -- has fewer steps than there are ids.
-use mathlib.Core.Path.{_≡_, refl, sym, ap, _∙_, subst}
+use mathlib.Core.Path.{_≡_, refl, sym, ap, _∙_}
 use mathlib.Core.Bool.{Bool, true}
 use mathlib.Core.Logic.{_≢_, ⊎-elim}
 use Prim.Native.Nat.{ℕ, zero, suc, _+_, _-_, _≤_, _<_}
@@ -8,7 +8,6 @@ use native.Mathlib.Nat.{add-zero, add-suc}
 use native.Mathlib.Omega.{arith}
 use lib.Dec.{eqb}
 use borrow.Author.Tests.{eq-eqb, eqb-true, eqb-false}
-use Rattle.base.specs.Count.{countTo}
 use Rattle.base.specs.Search.{pick, lowest}
 use Rattle.base.proofs.Counts.{sumTo-part, sumTo-change, pigeon}
 use Rattle.base.proofs.Finds.{eq-cases, countTo-some}
