@@ -60,6 +60,9 @@ fn acceptance() {
     if let Some((scripts, lines)) = folder(&top().join("../shared/vectors-02/level-1")) {
         assert!(scripts >= 19 && lines >= 3_578);
     }
+    if let Some((scripts, lines)) = folder(&top().join("../shared/vectors-02/level-2")) {
+        assert!(scripts >= 19 && lines >= 3_611);
+    }
 }
 
 #[test]
