@@ -1,42 +1,28 @@
 -- The call link, in its parts.
-use mathlib.Core.Path.{_≡_, refl, sym, _∙_, ap, subst}
-use mathlib.Core.Bool.{Bool, true, false, not, _&&_}
+use mathlib.Core.Path.{_≡_, refl, _∙_, subst}
+use mathlib.Core.Bool.{not}
 use mathlib.Core.List.{List}
-use Prim.Native.Nat.{ℕ, _+_, _*_, _-_, _≤_, _<_}
+use Prim.Native.Nat.{ℕ, _-_, _≤_, _<_}
 use native.Mathlib.Omega.{arith}
-use lib.ListN.{length, getD, replicate}
-use lib.Dec.{eqb, ltb, leb}
-use borrow.Author.Tests.{lt-ltb, le-ltb, lt-leb, le-leb, leb-true, eq-eqb, ne-eqb}
+use lib.ListN.{length}
+use lib.Dec.{ltb}
+use borrow.Author.Tests.{lt-ltb, le-ltb, eq-eqb, ne-eqb}
 use Rattle.base.specs.Out.{Out, done, refused, bind, ensure, answer, Went, well, ill}
-use Rattle.base.specs.Search.{foundBelow}
-use Rattle.base.proofs.Outs.{went-is, went-has, went-not, went-stop, went-next, above-zero, bind-assoc}
-use Rattle.base.proofs.Searches.{found-at, found-nothing}
-use Rattle.base.proofs.Parts.{getD-zero-list}
+use Rattle.base.proofs.Outs.{went-is, went-has, went-not, went-stop, went-next}
 use Rattle.structs.specs.Types.{isFolder}
 use Rattle.structs.specs.declared.DiskINode.{DiskINode}
-use Rattle.structs.specs.declared.DiskEntry.{DiskEntry}
-use Rattle.structs.specs.Layout.{entryOf, entryBytes}
-use Rattle.structs.specs.Fits.{EntryFits}
-use Rattle.structs.proofs.Layouts.{entryOf-entryBytes}
-use Rattle.structs.proofs.Joins.{bytes-append}
-use Rattle.le.specs.Le.{Bytes}
 use Rattle.folders.proofs.States.{stepped-next}
 use Rattle.mem.specs.Mem.{tableIn, Whole}
-use Rattle.overlay.specs.View.{view}
-use Rattle.table.specs.Table.{rowAt}
-use Rattle.utf8.specs.Names.{nameVerdict, earlyReason, nameBytes}
-use Rattle.utf8.proofs.Names.{length-nameBytes}
 use Rattle.table.specs.declared.Table.{Table}
 use Rattle.table.specs.declared.Handle.{Handle}
 use Rattle.sefs.specs.State.{Fs}
 use Rattle.sefs.specs.Nodes.{recAt, idAt, syncRow}
-use Rattle.sefs.specs.Slots.{lookTo, lookup}
+use Rattle.sefs.specs.Slots.{lookup}
 use Rattle.sefs.specs.Folders.{entry, direntAppend, nlinksInc}
 use Rattle.sefs.specs.Ask.{admit, byHandle, goodName, notLong, known, liveFolder, orExists, start}
 use Rattle.sefs.specs.Create.{After, after, linkSteps, callLink}
-use Rattle.mem.specs.State.{fsOf, Ready, Still, Stepped, fsAt}
-use Rattle.chains.proofs.Lookups.{lookup-is}
-use Rattle.calls.proofs.Asks.{Asks, asks-ensure, asks-then, asks-live, asked-not, asked-done, asked-went, answer-stop, answer-next}
+use Rattle.mem.specs.State.{fsOf, Stepped, fsAt}
+use Rattle.calls.proofs.Asks.{asks-live, asked-done, asked-went}
 use Rattle.calls.specs.Asked.{byTwo}
 use Rattle.steps.specs.Ends.{Begun, Rest, on, off, ending}
 use Rattle.calls_link.specs.Link.{linkAsk, linkChild, linkMoves, linkWork, Asked}

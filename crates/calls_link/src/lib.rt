@@ -1,5 +1,4 @@
 // The call link. It asks and reads by the chains of `sound`, decides its steps on a view of the arena, and commits once nothing can refuse it any more.
-ghost use mathlib.Core.Path.{_≡_};
 ghost use Prim.Native.Nat.{_<_, _≤_};
 ghost use lib.ListN.{length};
 ghost use Rattle.base.specs.Out.{Went};

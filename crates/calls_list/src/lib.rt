@@ -3,12 +3,11 @@
 mod slots;
 
 ghost use mathlib.Core.Path.{_≡_};
-ghost use Prim.Native.Nat.{ℕ, _+_, _*_, _-_, _≤_};
+ghost use Prim.Native.Nat.{_+_, _*_, _-_, _≤_};
 ghost use lib.ListN.{length};
 ghost use Rattle.base.specs.Out.{answer};
-ghost use Rattle.sefs.specs.Nodes.{nodeFile};
 ghost use Rattle.sefs.specs.Read.{callListing, listTo};
-ghost use Rattle.chains.specs.Led.{Led, endOf};
+ghost use Rattle.chains.specs.Led.{Led};
 ghost use Rattle.mem.specs.Mem.{tableIn, Whole};
 ghost use Rattle.calls.specs.Answers.{listedOf, Laid, Lays};
 ghost use Rattle.calls.specs.Asked.{Admitted};

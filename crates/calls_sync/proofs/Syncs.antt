@@ -1,6 +1,6 @@
 -- The call sync, in its parts.
 use mathlib.Core.Path.{_≡_, refl, sym, _∙_, ap}
-use mathlib.Core.Bool.{Bool, true, false, _&&_, _||_}
+use mathlib.Core.Bool.{true, false, _&&_, _||_}
 use mathlib.Core.List.{List}
 use Prim.Native.Nat.{ℕ, zero, suc, _+_, _-_, _/_, _%_, _<_, _≤_}
 use native.Mathlib.Omega.{arith}
@@ -22,8 +22,7 @@ use Rattle.overlay.proofs.Views.{length-view}
 use Rattle.sefs.specs.State.{Fs}
 use Rattle.sefs.specs.Meta.{loadMeta}
 use Rattle.sefs.specs.Nodes.{idAt, syncRow}
-use Rattle.sefs.specs.Ask.{start, admit}
-use Rattle.sefs.specs.Create.{After}
+use Rattle.sefs.specs.Ask.{admit}
 use Rattle.sefs.specs.Close.{syncFrom, callSync}
 use Rattle.mem.specs.Mem.{tableIn, metaIn, Whole}
 use Rattle.mem.specs.State.{fsOf, Stepped, fsAt}

@@ -218,7 +218,7 @@ pub fn rename(slot: &mut [u8], name: &[u8])
     put_entry(slot, id, name, kind);
 }
 
-pub fn move_steps(
+fn move_steps(
     arena: &[u8],
     work: &mut [u8],
     mem: &mut [u8],

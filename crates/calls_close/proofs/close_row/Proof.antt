@@ -1,5 +1,4 @@
 -- `calls_close::close_row`: whether it was the row's last hold.
-use mathlib.Core.Path.{refl}
 use Rattle.steps.specs.Ends.{went}
 use Rattle.steps.proofs.Ends.{ended-is}
 use Rattle.calls_close.proofs.Closes.{steps-last, steps-kept}

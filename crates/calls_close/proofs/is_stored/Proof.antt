@@ -1,7 +1,5 @@
 -- `calls_close::is_stored`: the two tests.
 use mathlib.Core.Path.{ap}
-use mathlib.Core.Bool.{not, _&&_}
-use lib.Dec.{ltb}
 use Rattle.structs.specs.declared.DiskINode.{DiskINode}
 use borrow.Author.Needs.{needs}
 use Rattle.calls_close.proofs.is_stored.Statement.{statement}

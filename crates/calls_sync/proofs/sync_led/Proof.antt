@@ -1,5 +1,4 @@
 -- `calls_sync::sync_led`: superblock and maps.
-use Rattle.mem.specs.Mem.{tableIn}
 use Rattle.calls.proofs.Asks.{admitted}
 use Rattle.calls_sync.proofs.Syncs.{sync-goes}
 use borrow.Author.Needs.{needs}
