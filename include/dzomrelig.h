@@ -246,8 +246,8 @@ uint32_t dz_list(const uint8_t *arena, size_t arena_len, const uint8_t *table, s
  *
  * What an owner promises, at each of these calls:
  * - Nobody else writes arena, chains and table: since the check passed (dz_check gave 0), or since dz_format was done, only calls of this section did.
- * - None of them was a move of a folder to another folder that was done, and no dz_format and no dz_open came in between. (After any of these,
- *   dz_check and dz_own_chains make an owner again. After a dz_format that is done dz_own_chains alone does.)
+ * - No dz_format and no dz_open came in between. (After dz_open, dz_check and dz_own_chains make an owner again; after a dz_format that is done
+ *   dz_own_chains alone does.)
  * Who keeps that may always make the next call (theorem `keeps`, docs/PROOFS.md). A call whose promise is broken may do anything: use the calls above
  * for an arena from elsewhere. */
 
@@ -282,6 +282,12 @@ uint32_t dz_own_get_entry(const uint8_t *arena, size_t arena_len, const uint16_t
                           uint32_t hold, uint64_t stamp, uint64_t slot, uint8_t *out, size_t out_len);
 uint32_t dz_own_list(const uint8_t *arena, size_t arena_len, const uint16_t *chains, size_t chains_len, const uint8_t *table, size_t table_len,
                      uint32_t hold, uint64_t stamp, uint64_t *next, size_t words, uint8_t *out, size_t out_len);
+uint32_t dz_own_read(const uint8_t *arena, size_t arena_len, const uint16_t *chains, size_t chains_len, const uint8_t *table, size_t table_len,
+                     uint32_t hold, uint64_t stamp, uint64_t place, uint8_t *out, size_t out_len, uint64_t *count, size_t words);
+uint32_t dz_own_write(uint8_t *arena, size_t arena_len, uint16_t *chains, size_t chains_len, uint8_t *table, size_t table_len,
+                      uint32_t hold, uint64_t stamp, uint64_t place, const uint8_t *data, size_t data_len);
+uint32_t dz_own_resize(uint8_t *arena, size_t arena_len, uint16_t *chains, size_t chains_len, uint8_t *table, size_t table_len,
+                       uint32_t hold, uint64_t stamp, uint64_t length);
 
 #ifdef __cplusplus
 }

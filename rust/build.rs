@@ -1,13 +1,14 @@
 //! Finds the libraries of the proved calls and hands them to the linker, or says in one line how to make them.
 //!
-//! On x86-64 they are the archives of `rt staticlib edge` and `rt staticlib owners`, elsewhere the objects of `tests/native LIBRARY OBJECT`.
-//! DZOMRELIG_LIB and DZOMRELIG_OWNERS_LIB name other files, archives or objects. Each is put into OUT_DIR as an archive, so that crates which depend
+//! On x86-64 they are the archives of `rt staticlib LIBRARY`, elsewhere the objects of `tests/native LIBRARY OBJECT`.
+//! DZOMRELIG_LIB, DZOMRELIG_OWNERS_LIB and DZOMRELIG_CONTENTS_LIB name other files, archives or objects. Each is put into OUT_DIR as an archive, so that crates which depend
 //! on this one get it too.
 use std::path::{Path, PathBuf};
 use std::{env, fs, process};
 
 /// The crate, and the variable that names another file.
-const LIBRARIES: [(&str, &str); 2] = [("owners", "DZOMRELIG_OWNERS_LIB"), ("edge", "DZOMRELIG_LIB")];
+const LIBRARIES: [(&str, &str); 3] =
+    [("owners_contents", "DZOMRELIG_CONTENTS_LIB"), ("owners", "DZOMRELIG_OWNERS_LIB"), ("edge", "DZOMRELIG_LIB")];
 const ARCHIVE: &[u8] = b"!<arch>\n";
 const OBJECT: &[u8] = b"\x7fELF";
 
@@ -39,10 +40,19 @@ fn library(name: &str, variable: &str) -> (PathBuf, String) {
     }
 }
 
+/// The library that has a function.
+fn home(function: &str) -> &'static str {
+    match function {
+        "own_read" | "own_write" | "own_resize" => "owners_contents",
+        _ if function.starts_with("own_") => "owners",
+        _ => "edge",
+    }
+}
+
 /// The functions of a library, as `src/edge.rs` declares them.
 fn functions(name: &str) -> impl Iterator<Item = &'static str> + '_ {
     let declared = include_str!("src/edge.rs").lines().filter_map(|line| line.trim().strip_prefix("fn dz_")?.split('(').next());
-    declared.filter(move |function| function.starts_with("own_") == (name == "owners"))
+    declared.filter(move |function| home(function) == name)
 }
 
 /// A member's head and its bytes, which end at an even place.

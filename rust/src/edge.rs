@@ -7,7 +7,7 @@
 //! The calls for owners (`dz_own_`) leave the tests of arena and table out, and ask for more: that both would pass them, and that the chains are the
 //! arena's (`Owned` of crates/owners). A pair has chains where that is so, and only then are these calls made. It gets them where it was just formatted
 //! or the check passed (theorems `fresh` and `check`, docs/PROOFS.md). Each of these calls leaves a pair that passes again, and chains that are right
-//! (`keeps`; the calls' own contracts). What `keeps` leaves out takes the chains away: open, and a move of a folder to another folder.
+//! (`keeps`; the calls' own contracts). What `keeps` leaves out takes the chains away: open.
 #![allow(unsafe_code)]
 use alloc::boxed::Box;
 use alloc::vec::Vec;
@@ -64,6 +64,11 @@ extern "C" {
                         out: *mut u8, ol: usize) -> u32;
     fn dz_own_list(a: *const u8, al: usize, c: *const u16, cl: usize, t: *const u8, tl: usize, hold: u32, stamp: u64, next: *mut u64, words: usize,
                    out: *mut u8, ol: usize) -> u32;
+    fn dz_own_read(a: *const u8, al: usize, c: *const u16, cl: usize, t: *const u8, tl: usize, hold: u32, stamp: u64, place: u64,
+                   out: *mut u8, ol: usize, count: *mut u64, words: usize) -> u32;
+    fn dz_own_write(a: *mut u8, al: usize, c: *mut u16, cl: usize, t: *mut u8, tl: usize, hold: u32, stamp: u64, place: u64,
+                    data: *const u8, dl: usize) -> u32;
+    fn dz_own_resize(a: *mut u8, al: usize, c: *mut u16, cl: usize, t: *mut u8, tl: usize, hold: u32, stamp: u64, length: u64) -> u32;
 }
 
 /// The words of the chains.
@@ -251,33 +256,16 @@ impl Pair {
         })
     }
 
-    /// Whether the node of that name may be a folder that goes to another folder (`carries`, crates/sequences). The hold to look at it is not kept.
-    fn may_carry(&mut self, h: Handle, name: &[u8], to: Handle) -> bool {
-        match (self.metadata(h), self.metadata(to)) {
-            (Ok(from), Ok(to)) if from.inode == to.inode => return false,
-            _ => {}
-        }
-        let kept = self.table.clone();
-        let node = self.find(h, name).and_then(|node| self.metadata(node));
-        self.table = kept;
-        node.map_or(true, |node| node.kind == Kind::Folder)
-    }
-
     pub(crate) fn rename(&mut self, h: Handle, old: &[u8], to: Handle, new: &[u8]) -> Result<(), Reason> {
-        let carries = self.is_owned() && self.may_carry(h, old, to);
         let (a, t) = (&mut self.arena, &mut self.table);
-        let n = unsafe {
+        answer(unsafe {
             match &mut self.chains {
                 Some(c) => dz_own_move(a.as_mut_ptr(), a.len(), c.as_mut_ptr(), c.len(), t.as_mut_ptr(), t.len(), h.hold, h.stamp,
                                        old.as_ptr(), old.len(), to.hold, to.stamp, new.as_ptr(), new.len()),
                 None => dz_move(a.as_mut_ptr(), a.len(), t.as_mut_ptr(), t.len(), h.hold, h.stamp, old.as_ptr(), old.len(), to.hold, to.stamp,
                                 new.as_ptr(), new.len()),
             }
-        };
-        if carries && n == 0 {
-            self.chains = None;
-        }
-        answer(n)
+        })
     }
 
     pub(crate) fn metadata(&self, h: Handle) -> Result<Metadata, Reason> {
@@ -306,19 +294,36 @@ impl Pair {
     /// How many bytes were read.
     pub(crate) fn read(&self, h: Handle, place: u64, out: &mut [u8]) -> Result<u64, Reason> {
         let (a, t, mut w) = (&self.arena, &self.table, [0; 1]);
-        let n = unsafe { dz_read(a.as_ptr(), a.len(), t.as_ptr(), t.len(), h.hold, h.stamp, place, out.as_mut_ptr(), out.len(), w.as_mut_ptr(), w.len()) };
+        let n = unsafe {
+            match &self.chains {
+                Some(c) => dz_own_read(a.as_ptr(), a.len(), c.as_ptr(), c.len(), t.as_ptr(), t.len(), h.hold, h.stamp, place, out.as_mut_ptr(), out.len(),
+                                       w.as_mut_ptr(), w.len()),
+                None => dz_read(a.as_ptr(), a.len(), t.as_ptr(), t.len(), h.hold, h.stamp, place, out.as_mut_ptr(), out.len(), w.as_mut_ptr(), w.len()),
+            }
+        };
         let [count] = w;
         answer(n).map(|()| count)
     }
 
     pub(crate) fn write(&mut self, h: Handle, place: u64, data: &[u8]) -> Result<(), Reason> {
         let (a, t) = (&mut self.arena, &mut self.table);
-        answer(unsafe { dz_write(a.as_mut_ptr(), a.len(), t.as_mut_ptr(), t.len(), h.hold, h.stamp, place, data.as_ptr(), data.len()) })
+        answer(unsafe {
+            match &mut self.chains {
+                Some(c) => dz_own_write(a.as_mut_ptr(), a.len(), c.as_mut_ptr(), c.len(), t.as_mut_ptr(), t.len(), h.hold, h.stamp, place,
+                                        data.as_ptr(), data.len()),
+                None => dz_write(a.as_mut_ptr(), a.len(), t.as_mut_ptr(), t.len(), h.hold, h.stamp, place, data.as_ptr(), data.len()),
+            }
+        })
     }
 
     pub(crate) fn resize(&mut self, h: Handle, length: u64) -> Result<(), Reason> {
         let (a, t) = (&mut self.arena, &mut self.table);
-        answer(unsafe { dz_resize(a.as_mut_ptr(), a.len(), t.as_mut_ptr(), t.len(), h.hold, h.stamp, length) })
+        answer(unsafe {
+            match &mut self.chains {
+                Some(c) => dz_own_resize(a.as_mut_ptr(), a.len(), c.as_mut_ptr(), c.len(), t.as_mut_ptr(), t.len(), h.hold, h.stamp, length),
+                None => dz_resize(a.as_mut_ptr(), a.len(), t.as_mut_ptr(), t.len(), h.hold, h.stamp, length),
+            }
+        })
     }
 
     pub(crate) fn entry(&self, h: Handle, slot: u64, out: &mut [u8]) -> Result<(), Reason> {

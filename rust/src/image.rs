@@ -20,8 +20,7 @@ use crate::{
 /// An image that was just [formatted](Image::format) passes the checker, and so does one that was [checked](Image::checked). Only the calls here write it,
 /// and these leave an image that passes again: that is proved (`fresh` and `keeps`, docs/PROOFS.md). So its calls leave the test of the whole image out,
 /// which is nearly all of their time, and give none of the reasons that it could find ([`is_owned`](Image::is_owned)). With any other image each call
-/// makes that test first. An image that is [reopened](Image::reopen) becomes such a one, and so does one where a folder went to another folder;
-/// [`trust`](Image::trust) asks the checker again.
+/// makes that test first. An image that is [reopened](Image::reopen) becomes such a one; [`trust`](Image::trust) asks the checker again.
 ///
 /// # Reasons
 ///
