@@ -118,15 +118,15 @@ pub extern "C" fn dz_own_write(
     hold: u32,
     stamp: u64,
     place: u64,
-    data: &[u8],
+    src: &[u8],
 ) -> u32
     requires { ⌜ Owned (now arena) (now chains) (now table) ⌝ }
-    ensures { λ r. ⌜ Leaves (callWrite (now (arena .entry)) (tableOf (now (table .entry))) (handleOf hold stamp) place (now (data .entry))) (now (arena .entry)) (now (arena .exit)) (now (table .entry)) (now (table .exit)) r ⌝ }
+    ensures { λ r. ⌜ Leaves (callWrite (now (arena .entry)) (tableOf (now (table .entry))) (handleOf hold stamp) place (now (src .entry))) (now (arena .entry)) (now (arena .exit)) (now (table .entry)) (now (table .exit)) r ⌝ }
     ensures { λ _. ⌜ Chained (now (arena .exit)) (now (chains .exit)) ⌝ }
 {
     let mut mem = [0u8; MEMORY];
     begin(&mut mem, &table[..]);
-    let r = write_on(arena, chains, &mut mem, handle(hold, stamp), place, data);
+    let r = write_on(arena, chains, &mut mem, handle(hold, stamp), place, src);
     end_after(table, &mem, r)
 }
 
