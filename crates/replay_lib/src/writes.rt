@@ -65,6 +65,17 @@ pub fn call_close(
 
 // ---- write, resize
 
+fn write(script: &[u8], at: usize, desk: &[u8], arena: &mut [u8]) -> Reply
+    requires { ⌜ at + named1 (now script) at 21 ≤ length (now script) ⌝ }
+    requires { ⌜ length (now desk) ≡ 4387 ⌝ }
+{
+    let h = handle_at(script, at + 1);
+    let place = u64_at(script, at + 13);
+    let s = at + 23;
+    let e = name_end(script, at + 21);
+    calls_write::write(arena, read_table(desk), h, place, &script[s..e])
+}
+
 pub fn call_write(
     script: &[u8],
     at: usize,
@@ -77,11 +88,7 @@ pub fn call_write(
     requires { ⌜ (length (now desk) ≡ 4387) × (w + 400 ≤ length (now text)) ⌝ }
     ensures { λ r. ⌜ r ≤ w + 400 ⌝ }
 {
-    let h = handle_at(script, at + 1);
-    let place = u64_at(script, at + 13);
-    let s = at + 23;
-    let e = name_end(script, at + 21);
-    let a = calls_write::write(arena, read_table(&desk[..]), h, place, &script[s..e]);
+    let a = write(script, at, &desk[..], arena);
     put_after(desk, text, w, a)
 }
 
