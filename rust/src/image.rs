@@ -221,11 +221,11 @@ impl Image {
     /// The node `old` of a folder becomes `new` of the folder `to`, which may be the same. A node of that name is replaced; where it is the same node,
     /// nothing changes.
     ///
-    /// A folder that goes to another folder keeps its old `..`, and the checker's rule 8 fails after that.
+    /// The `..` of a folder that goes to another folder leads there from then on. A folder can't go into itself or below.
     ///
     /// Reasons: `BadHandle` (source, then target), `BadName` (old, then new), `NotDir`, `DirRemoved` (source), `IsDir` (either name `.`, `..`, empty),
     /// `NameTooLong`, `NotDir`, `DirRemoved` (target), `EntryNotFound`; where the new name is there, `NotDir` (a folder onto another kind), `IsDir`
-    /// (another kind onto a folder), `DirNotEmpty`; `TooManyLinks`; `NoDeviceSpace`, `Stuck`.
+    /// (another kind onto a folder), `DirNotEmpty`; `InvalidParam` (a folder into itself or below); `TooManyLinks`; `NoDeviceSpace`, `Stuck`.
     pub fn rename(&mut self, folder: Handle, old: impl AsRef<[u8]>, to: Handle, new: impl AsRef<[u8]>) -> Result<(), Reason> {
         self.pair.rename(folder, old.as_ref(), to, new.as_ref())
     }

@@ -68,7 +68,7 @@ fn acceptance() {
 #[test]
 fn answers_of_the_rust() {
     let (scripts, lines) = folder(&top().join("tests/beside_rust/sample")).unwrap();
-    assert!(scripts >= 5 && lines >= 8_764);
+    assert!(scripts >= 5 && lines >= 8_301);
 }
 
 #[test]
