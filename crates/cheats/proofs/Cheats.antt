@@ -31,14 +31,14 @@ use Rattle.cheats.proofs.Counts.{empty-fails, fresh-verdict, a-verdict}
 
 -- ---- what create's contract says where the definition is done, and where it is refused
 
-module _ {t : Table} {o : Out sefs.HeldReply} {a b : List ℕ} {r : HeldReply} (c : ReturnedHeld t o a b r) where
-  held-answer : (g : sefs.HeldReply) → o ≡ done g → r .answer ≡ gots.Held (g .handle)
+module _ {t : Table} {o : Out sefs.Given} {a b : List ℕ} {r : HeldReply} (c : ReturnedHeld t o a b r) where
+  held-answer : (g : sefs.Given) → o ≡ done g → r .answer ≡ gots.Held (g .handle)
   held-answer g e = ap (λ (x : HeldReply). x .answer) (c .answer ∙ ap (heldAs t) e)
 
-  held-table : (g : sefs.HeldReply) → o ≡ done g → r .table ≡ g .table
+  held-table : (g : sefs.Given) → o ≡ done g → r .table ≡ g .table
   held-table g e = ap (λ (x : HeldReply). x .table) (c .answer ∙ ap (heldAs t) e)
 
-  held-arena : (g : sefs.HeldReply) → o ≡ done g → b ≡ g .arena
+  held-arena : (g : sefs.Given) → o ≡ done g → b ≡ g .arena
   held-arena g e = c .arena ∙ ap (arenaHeld a) e
 
   held-refused : (n : ℕ) → o ≡ refused n → r .answer ≡ gots.Refused n
