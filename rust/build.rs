@@ -72,7 +72,7 @@ fn archive_of(name: &str, object: &[u8]) -> Vec<u8> {
         member("/", numbers.flat_map(u32::to_be_bytes).chain(names.iter().copied()).collect())
     };
     let place = (ARCHIVE.len() + index(0).len()) as u32;
-    [ARCHIVE.to_vec(), index(place), member(&format!("{name}.o/"), object.to_vec())].concat()
+    [ARCHIVE.to_vec(), index(place), member("calls.o/", object.to_vec())].concat()
 }
 
 fn main() {
