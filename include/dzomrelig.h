@@ -47,7 +47,7 @@ extern "C" {
 #define DZ_BAD_TABLE 3        /* the table is not well formed */
 #define DZ_BAD_HANDLE 4       /* not a live hold with that stamp */
 #define DZ_BAD_NAME 5         /* a zero byte inside, or not UTF-8 */
-#define DZ_INVALID_PARAM 6    /* a type that is not 1 to 4 */
+#define DZ_INVALID_PARAM 6    /* a type that is not 1 to 4, or a folder into itself or below */
 #define DZ_NOT_DIR 7
 #define DZ_DIR_REMOVED 8      /* the folder has no links left */
 #define DZ_IS_DIR 9
@@ -187,9 +187,11 @@ uint32_t dz_unlink(uint8_t *arena, size_t arena_len, uint8_t *table, size_t tabl
                    uint32_t hold, uint64_t stamp, const uint8_t *name, size_t name_len);
 
 /* The node `old_name` of a folder becomes `new_name` of the folder `to`. A node that has that name is replaced; the same node: nothing changes.
+ * The `..` of a folder that goes to another folder names that one. It can't go into itself or below.
  * Changes: arena, table. Reasons: BadArena, Damaged, BadTable, BadHandle (source, then target), BadName (old, then new), NotDir and DirRemoved
  * (source), IsDir (either name `.`, `..`, empty), NameTooLong, NotDir and DirRemoved (target), EntryNotFound; where the new name exists,
- * NotDir (a folder onto another type), IsDir (another type onto a folder), DirNotEmpty; then TooManyLinks; NoDeviceSpace, Stuck. */
+ * NotDir (a folder onto another type), IsDir (another type onto a folder), DirNotEmpty; InvalidParam (a folder into itself or below); then
+ * TooManyLinks; NoDeviceSpace, Stuck. */
 uint32_t dz_move(uint8_t *arena, size_t arena_len, uint8_t *table, size_t table_len,
                  uint32_t hold, uint64_t stamp, const uint8_t *old_name, size_t old_len,
                  uint32_t to_hold, uint64_t to_stamp, const uint8_t *new_name, size_t new_len);
@@ -246,8 +248,8 @@ uint32_t dz_list(const uint8_t *arena, size_t arena_len, const uint8_t *table, s
  *
  * What an owner promises, at each of these calls:
  * - Nobody else writes arena, chains and table: since the check passed (dz_check gave 0), or since dz_format was done, only calls of this section did.
- * - None of them was a move of a folder to another folder that was done, and no dz_format and no dz_open came in between. (After any of these,
- *   dz_check and dz_own_chains make an owner again. After a dz_format that is done dz_own_chains alone does.)
+ * - No dz_format and no dz_open came in between. (After dz_open, dz_check and dz_own_chains make an owner again; after a dz_format that is done
+ *   dz_own_chains alone does.)
  * Who keeps that may always make the next call (theorem `keeps`, docs/PROOFS.md). A call whose promise is broken may do anything: use the calls above
  * for an arena from elsewhere. */
 

@@ -7,7 +7,7 @@
 //! The calls for owners (`dz_own_`) leave the tests of arena and table out, and ask for more: that both would pass them, and that the chains are the
 //! arena's (`Owned` of crates/owners). A pair has chains where that is so, and only then are these calls made. It gets them where it was just formatted
 //! or the check passed (theorems `fresh` and `check`, docs/PROOFS.md). Each of these calls leaves a pair that passes again, and chains that are right
-//! (`keeps`; the calls' own contracts). What `keeps` leaves out takes the chains away: open, and a move of a folder to another folder.
+//! (`keeps`; the calls' own contracts). Open, which `keeps` leaves out, takes the chains away.
 #![allow(unsafe_code)]
 use alloc::boxed::Box;
 use alloc::vec::Vec;
@@ -256,33 +256,16 @@ impl Pair {
         })
     }
 
-    /// Whether the node of that name may be a folder that goes to another folder (`carries`, crates/sequences). The hold to look at it is not kept.
-    fn may_carry(&mut self, h: Handle, name: &[u8], to: Handle) -> bool {
-        match (self.metadata(h), self.metadata(to)) {
-            (Ok(from), Ok(to)) if from.inode == to.inode => return false,
-            _ => {}
-        }
-        let kept = self.table.clone();
-        let node = self.find(h, name).and_then(|node| self.metadata(node));
-        self.table = kept;
-        node.map_or(true, |node| node.kind == Kind::Folder)
-    }
-
     pub(crate) fn rename(&mut self, h: Handle, old: &[u8], to: Handle, new: &[u8]) -> Result<(), Reason> {
-        let carries = self.is_owned() && self.may_carry(h, old, to);
         let (a, t) = (&mut self.arena, &mut self.table);
-        let n = unsafe {
+        answer(unsafe {
             match &mut self.chains {
                 Some(c) => dz_own_move(a.as_mut_ptr(), a.len(), c.as_mut_ptr(), c.len(), t.as_mut_ptr(), t.len(), h.hold, h.stamp,
                                        old.as_ptr(), old.len(), to.hold, to.stamp, new.as_ptr(), new.len()),
                 None => dz_move(a.as_mut_ptr(), a.len(), t.as_mut_ptr(), t.len(), h.hold, h.stamp, old.as_ptr(), old.len(), to.hold, to.stamp,
                                 new.as_ptr(), new.len()),
             }
-        };
-        if carries && n == 0 {
-            self.chains = None;
-        }
-        answer(n)
+        })
     }
 
     pub(crate) fn metadata(&self, h: Handle) -> Result<Metadata, Reason> {

@@ -20,8 +20,7 @@ use crate::{
 /// An image that was just [formatted](Image::format) passes the checker, and so does one that was [checked](Image::checked). Only the calls here write it,
 /// and these leave an image that passes again: that is proved (`fresh` and `keeps`, docs/PROOFS.md). So its calls leave the test of the whole image out,
 /// which is nearly all of their time, and give none of the reasons that it could find ([`is_owned`](Image::is_owned)). With any other image each call
-/// makes that test first. An image that is [reopened](Image::reopen) becomes such a one, and so does one where a folder went to another folder;
-/// [`trust`](Image::trust) asks the checker again.
+/// makes that test first. An image that is [reopened](Image::reopen) becomes such a one; [`trust`](Image::trust) asks the checker again.
 ///
 /// # Reasons
 ///
@@ -222,11 +221,11 @@ impl Image {
     /// The node `old` of a folder becomes `new` of the folder `to`, which may be the same. A node of that name is replaced; where it is the same node,
     /// nothing changes.
     ///
-    /// A folder that goes to another folder keeps its old `..`, and the checker's rule 8 fails after that.
+    /// The `..` of a folder that goes to another folder leads there from then on. A folder can't go into itself or below.
     ///
     /// Reasons: `BadHandle` (source, then target), `BadName` (old, then new), `NotDir`, `DirRemoved` (source), `IsDir` (either name `.`, `..`, empty),
     /// `NameTooLong`, `NotDir`, `DirRemoved` (target), `EntryNotFound`; where the new name is there, `NotDir` (a folder onto another kind), `IsDir`
-    /// (another kind onto a folder), `DirNotEmpty`; `TooManyLinks`; `NoDeviceSpace`, `Stuck`.
+    /// (another kind onto a folder), `DirNotEmpty`; `InvalidParam` (a folder into itself or below); `TooManyLinks`; `NoDeviceSpace`, `Stuck`.
     pub fn rename(&mut self, folder: Handle, old: impl AsRef<[u8]>, to: Handle, new: impl AsRef<[u8]>) -> Result<(), Reason> {
         self.pair.rename(folder, old.as_ref(), to, new.as_ref())
     }

@@ -18,7 +18,7 @@ pub enum Reason {
     BadHandle,
     /// 5: a name has a zero byte inside, or is not UTF-8.
     BadName,
-    /// 6: a type that is not 1 to 4.
+    /// 6: a type that is not 1 to 4, or a folder that would go into itself or below.
     InvalidParam,
     /// 7: not a folder.
     NotDir,
@@ -63,7 +63,7 @@ const REASONS: [(Reason, &str, &str); 22] = [
     (Reason::BadTable, "BadTable", "the table of open nodes is not well formed"),
     (Reason::BadHandle, "BadHandle", "not a live hold with that stamp"),
     (Reason::BadName, "BadName", "a name has a zero byte inside, or is not UTF-8"),
-    (Reason::InvalidParam, "InvalidParam", "a type that is not 1 to 4"),
+    (Reason::InvalidParam, "InvalidParam", "a type that is not 1 to 4, or a folder into itself or below"),
     (Reason::NotDir, "NotDir", "not a folder"),
     (Reason::DirRemoved, "DirRemoved", "the folder has no links left"),
     (Reason::IsDir, "IsDir", "a folder, where none may be"),

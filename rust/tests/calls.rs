@@ -1,7 +1,7 @@
 //! Each call through the Rust types.
 mod common;
 
-use common::{create, file, fresh, names, ROOT_FILE, TIME};
+use common::{create, damage, file, fresh, names, ROOT_FILE, TIME};
 use dzomrelig::{
     Attributes, Counts, Entry, FailedRule, Handle, Image, Kind, Place, Reason, Time, Unfit, BLOCK, BLOCKS_MOST, FILE_LONGEST, HOLDS, SLOT,
     TABLE,
@@ -52,16 +52,13 @@ fn an_open_unlinked_node_is_closed_before_the_bytes_are_kept() {
 fn checked_says_what_is_wrong() {
     assert_eq!(Image::checked([0; 100]).unwrap_err(), Unfit::Refused(Reason::BadArena));
     let (mut image, root) = fresh(32);
-    let a = create(&mut image, root, "a", Kind::Folder).unwrap();
-    let b = create(&mut image, root, "b", Kind::Folder).unwrap();
-    create(&mut image, a, "c", Kind::Folder).unwrap();
-    // a folder that goes to another folder keeps its `..`: rule 8
-    image.rename(a, "c", b, "c").unwrap();
-    assert_eq!(image.check(), Err(FailedRule::Parents));
-    image.sync().unwrap();
-    let bytes = image.into_bytes();
+    image.create(root, "a", Kind::Folder, 0o755, TIME, file(1)).unwrap();
+    create(&mut image, root, "b", Kind::Folder).unwrap();
+    // slot 1 of folder a, node 3, names b, node 4
+    let mut bytes = image.into_bytes();
+    damage::write(&mut bytes, Some(file(1)), SLOT, &[4]);
     assert_eq!(Image::checked(bytes.clone()).unwrap_err(), Unfit::Fails(FailedRule::Parents));
-    assert!(Image::untrusted(bytes).is_ok());
+    assert_eq!(Image::untrusted(bytes).unwrap().check(), Err(FailedRule::Parents));
 }
 
 #[test]
@@ -153,6 +150,37 @@ fn link_unlink_rename() {
     image.close(a).unwrap();
     assert_eq!(names(&image, root), ["again"]);
     assert_eq!(image.check().unwrap().nodes, 2);
+}
+
+/// The number of the node that `..` of a folder leads to.
+fn parent(image: &mut Image, folder: Handle) -> u32 {
+    let up = image.find(folder, "..").unwrap();
+    let inode = image.metadata(up).unwrap().inode;
+    image.close(up).unwrap();
+    inode
+}
+
+#[test]
+fn a_folder_goes_to_another_folder() {
+    let (mut image, root) = fresh(64);
+    let owned = image.is_owned();
+    let sans = create(&mut image, root, "Sans", Kind::Folder).unwrap();
+    let serif = create(&mut image, root, "Serif", Kind::Folder).unwrap();
+    let bold = create(&mut image, sans, "Bold", Kind::Folder).unwrap();
+    let glyphs = create(&mut image, bold, "glyphs", Kind::Folder).unwrap();
+    assert_eq!(parent(&mut image, bold), 3);
+    image.rename(sans, "Bold", serif, "Bold").unwrap();
+    assert_eq!((parent(&mut image, bold), parent(&mut image, glyphs)), (4, 5));
+    assert_eq!([sans, serif, bold].map(|h| image.metadata(h).unwrap().links), [2, 3, 3]);
+    assert_eq!((names(&image, sans), names(&image, serif)), (vec![], vec!["Bold".into()]));
+    assert_eq!(image.check().unwrap().nodes, 5);
+    // in the place of the family that it came from, which is empty and goes
+    image.rename(serif, "Bold", root, "Sans").unwrap();
+    image.close(sans).unwrap();
+    assert_eq!(parent(&mut image, bold), 2);
+    assert_eq!(names(&image, root), ["Sans", "Serif"]);
+    assert_eq!(image.check().unwrap().nodes, 4);
+    assert_eq!(image.is_owned(), owned);
 }
 
 #[test]

@@ -57,18 +57,11 @@ fn folders_that_are_moved() {
     assert_eq!(image.rename(a, "c", b, "f"), Err(Reason::NotDir));
     assert_eq!(image.rename(a, "x", b, "x"), Err(Reason::EntryNotFound));
     assert!(image.is_owned());
-    let table = *image.table();
-    let mut copy = image.clone();
-    copy.rename(a, "c", b, "c").unwrap();
-    assert!(!copy.is_owned());
-    assert_eq!(copy.trust(), Err(FailedRule::Parents));
-    assert_eq!(image.table(), &table);
-    // a table that is full can't tell
-    while image.root().is_ok() {}
-    assert!(image.is_owned());
-    image.rename(b, "f", a, "f").unwrap();
-    assert!(!image.is_owned());
-    assert!(image.trust().is_ok() && image.is_owned());
+    // a folder to another folder keeps the trust, and rightly
+    image.rename(a, "c", b, "c").unwrap();
+    assert!(image.is_owned() && image.check().is_ok());
+    assert_eq!(image.rename(root, "b", b, "b"), Err(Reason::InvalidParam));
+    assert!(image.is_owned() && image.check().is_ok());
 }
 
 /// One call by chance on both images; both answer the same.
@@ -77,7 +70,8 @@ fn both(owned: &mut Image, tested: &mut Image, n: &mut Numbers, known: &mut Vec<
     let names = ["a", "b", "c", "folder", "sub", "", ".", "..", "\u{e4}"].map(str::as_bytes);
     let (x, y) = (names[n.below(9) as usize], names[n.below(9) as usize]);
     let (kind, number, slot) = (n.below(6) as u32, n.below(60), n.below(6));
-    let (what, mode, room) = (n.below(14), n.next() as u16, n.below(4) as usize * 300);
+    let (what, mode, room) = (n.below(18), n.next() as u16, n.below(4) as usize * 300);
+    let (place_in, long) = (n.below(3_000), n.below(2_000));
     let call = |image: &mut Image| -> (Result<Option<Handle>, Reason>, Vec<u8>) {
         let (mut out, mut place) = (vec![7; room], Place { folder: h, next: slot });
         let answer = match what {
@@ -92,6 +86,9 @@ fn both(owned: &mut Image, tested: &mut Image, n: &mut Numbers, known: &mut Vec<
             10 => image.entry_into(h, slot, &mut out).map(|()| None),
             11 => image.list(&mut place, &mut out).map(|n| Some(Handle { hold: n as u32, stamp: place.next })),
             12 => image.sync().map(|()| None),
+            13 | 14 => image.write_at(h, place_in, vec![mode as u8; long as usize]).map(|()| None),
+            15 => image.read_at(h, place_in, &mut out).map(|n| Some(Handle { hold: n as u32, stamp: 0 })),
+            16 => image.resize(h, place_in).map(|()| None),
             _ => image.close(h).map(|()| None),
         };
         (answer, out)

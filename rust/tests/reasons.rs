@@ -137,6 +137,32 @@ fn invalid_param() {
     image.create_numbered(root, "a", 4, 0, TIME, file(1)).unwrap();
 }
 
+/// A folder into itself or below, after the reasons that names and types give. Where `..` goes round the call is stuck.
+#[test]
+fn below_itself() {
+    let (mut image, root) = fresh(32);
+    let i = &mut image;
+    let a = i.create(root, "a", Kind::Folder, 0, TIME, file(1)).unwrap();
+    let b = i.create(a, "b", Kind::Folder, 0, TIME, file(2)).unwrap();
+    for (to, name) in [(a, "x"), (b, "x"), (a, "b")] {
+        no(i, Reason::InvalidParam, |i| i.rename(root, "a", to, name));
+    }
+    create(i, b, "leaf", Kind::File).unwrap();
+    no(i, Reason::EntryNotFound, |i| i.rename(root, "x", b, "y"));
+    no(i, Reason::NotDir, |i| i.rename(root, "a", b, "leaf"));
+    no(i, Reason::DirNotEmpty, |i| i.rename(root, "a", a, "b"));
+    create(i, root, "c", Kind::Folder).unwrap();
+
+    // slot 1 of a, node 3, names b, node 4
+    let mut bytes = i.bytes().to_vec();
+    damage::write(&mut bytes, Some(file(1)), SLOT, &[4]);
+    let mut round = Image::from_parts(bytes, *i.table());
+    no(&mut round, Reason::Stuck, |i| i.rename(root, "c", b, "c"));
+    no(&mut round, Reason::InvalidParam, |i| i.rename(root, "a", b, "x"));
+    round.rename(root, "c", root, "d").unwrap();
+    round.rename(b, "leaf", a, "leaf").unwrap();
+}
+
 #[test]
 fn by_call() {
     let (mut image, root) = fresh(32);

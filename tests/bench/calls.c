@@ -2,6 +2,7 @@
 // nanoseconds of one, the least of so many rounds; then the check of the image that is left, and the soundness test alone. With `own` the calls for
 // owners are made; the chains are built after the format, and are not timed.
 // calls contents BLOCKS FILES ROUNDS: the same of reads and writes on an image of so many blocks and files, and of plain copies (plain.c).
+// calls deep DEPTH ROUNDS: a folder moved to the end of a way of so many folders, and back.
 #include <stdbool.h>
 #include <stdint.h>
 #include <stdio.h>
@@ -204,8 +205,60 @@ static void contents(size_t n, int files, int rounds)
     printf("sound 1 %.0f\n", sound);
 }
 
+// ---- a folder that goes to the end of a way of so many folders, and back to the root: the climb looks at each of them, or at none
+
+static void folder(const char *name, uint32_t in_hold, uint64_t in_stamp)
+{
+    static uint64_t files;
+    uint8_t file[DZ_FILE_NAME] = {2};
+    files++;
+    memcpy(file + 8, &files, 8);
+    must(dz_own_create(ARENA, CHAINS, TABLE, in_hold, in_stamp, (in)name, strlen(name), DZ_FOLDER, 493, 0, 0, file, DZ_FILE_NAME, words, DZ_HANDLE_WORDS));
+    hold = (uint32_t)words[0], stamp = words[1];
+}
+
+static void moved(uint32_t from_hold, uint64_t from_stamp, uint32_t to_hold, uint64_t to_stamp)
+{
+    must(CALL(move, from_hold, from_stamp, (in)"x", 1, to_hold, to_stamp, (in)"x", 1));
+}
+
+static void deep(int depth, int rounds)
+{
+    len = DZ_BLOCK * DZ_BLOCKS_MOST;
+    must(dz_format(ARENA, TABLE, 0, 0, (in)"file of the root", DZ_FILE_NAME));
+    must(dz_own_chains(ARENA, CHAINS));
+    must(dz_own_root(ARENA, CHAINS, TABLE, words, DZ_HANDLE_WORDS));
+    uint32_t root = (uint32_t)words[0], at = root;
+    uint64_t root_stamp = words[1], at_stamp = root_stamp;
+    folder("x", root, root_stamp);
+    for (int i = 0; i < depth; i++) {
+        folder("d", at, at_stamp);
+        if (at != root) must(dz_own_close(ARENA, CHAINS, TABLE, at, at_stamp));
+        at = hold, at_stamp = stamp;
+    }
+    for (int way = 0; way < 2; way++) {
+        double down = 1e18, up = 1e18;
+        own = way;
+        for (int r = 0; r < rounds * TIMES; r++) {
+            double from = now();
+            moved(root, root_stamp, at, at_stamp);
+            double then = now();
+            moved(at, at_stamp, root, root_stamp);
+            double end = now();
+            if (then - from < down) down = then - from;
+            if (end - then < up) up = end - then;
+        }
+        if (!own) must(dz_own_chains(ARENA, CHAINS));
+        printf("%s-down 1 %.0f\n%s-up 1 %.0f\n", own ? "owner" : "tested", down, own ? "owner" : "tested", up);
+    }
+}
+
 int main(int n, char **args)
 {
+    if (n == 4 && !strcmp(args[1], "deep")) {
+        deep(atoi(args[2]), atoi(args[3]));
+        return 0;
+    }
     if (n == 5 && !strcmp(args[1], "contents")) {
         contents((size_t)atoi(args[2]), atoi(args[3]), atoi(args[4]));
         return 0;

@@ -146,6 +146,10 @@ def main():
     for kind in [k for k in rows if k != "sound alone"] + ["sound alone"]:
         print(f"| {kind} | " + " | ".join(rows[kind]) + " |")
     contents(host, rust)
+    way = times(subprocess.run([host, "deep", "1000", ROUNDS], check=True, capture_output=True, text=True).stdout)
+    print("a folder moved below 1,000 folders, and back to the root:")
+    for who in ("tested", "owner"):
+        print(f"    {who}: {way[who + '-down'] / 1000:.1f} and {way[who + '-up'] / 1000:.1f} µs")
     for blocks, files in ((128, 66), (4096, 2225)):
         print(f"check of {blocks:,} blocks with {files:,} files: {port(full(blocks, files))['check'] / 1000:.0f} µs")
 

@@ -1,6 +1,6 @@
 #!/usr/bin/env python3
-"""refusals.py [--write]: the last part of crates/replay/stdin, in which every reason of document 01 and of order 1 is answered, contents are
-written, read and resized, and a folder is moved to another folder, and its lines.
+"""refusals.py [--write]: the last part of crates/replay/stdin, in which every reason of document 01 and of orders 1 and 2 is answered, contents
+are written, read and resized, and folders are moved to other folders, and its lines.
 
 Each step below says the reason that the documents give, or the bytes that a read finds; the lines, sums and all, are the independent
 model's (replay_model.py), and the port is not asked. Without --write it says whether stdin and stdout end as made here (exit status 1 where not).
@@ -16,7 +16,7 @@ from scripts import FILE, FOLDER, META, SOCKET, SYMLINK, TIME, Builder, model, t
 
 GATE = HERE.parent.parent / "crates" / "replay"
 # What stands before this part: the course examples, the Rust's own lines (beside_rust/sample), and each rule of the checker broken.
-BYTES, LINES = 205_737, 5_768
+BYTES, LINES = 196_164, 5_473
 # The longest script that crates/replay takes.
 MOST = 262_144
 ROOT_FILE = bytes([200] * 16)
@@ -70,6 +70,27 @@ class Script(Builder):
     def sized(self, h, size):
         self.metadata(h)
         assert self.line.split(" ")[3] == str(size), (self.line, size)
+
+    def moves(self, *args):
+        """A move is done, and the pair passes after it."""
+        self.move(*args)
+        self.ok()
+        self.check()
+        self.ok()
+
+    def leads(self, h, id):
+        """`..` of this folder leads to that node."""
+        up = self.ok(self.find(h, ".."))
+        self.metadata(up)
+        assert self.line.split(" ")[2] == str(id), (self.line, id)
+        self.close(up)
+
+    def dots(self, id, field, value):
+        """Slot 1 of this node's file gets another value, from outside."""
+        place = {"id": 0, "type": 260}[field]
+        file = model.Record.read(self.at.files.read(META, 128 * id, model.RECORD)).file
+        self.change((1, file), 264 + place, value.to_bytes(4, "little"), f"set the {field} in slot 1 of node {id} to {value}")
+        self.at.is_sound()
 
     def lost(self, file):
         """The file gets another name."""
@@ -218,6 +239,7 @@ def links(b):
     root = b.again()
     a, c = b.find(root, "a"), b.find(root, "c")
     b.no(15, ("link", root, b"b", a), create(c, b"e", FOLDER), ("move", root, b"d", c, b"e"))
+    b.no(6, ("move", root, b"c", c, b"e"))
     b.ok(b.create(c, "e"))
 
 
@@ -255,6 +277,7 @@ def no_space(b):
     b.move(root, "a", c, "a")
     b.ok()
     b.no(17, ("move", root, b"b", c, b"b"))
+    b.no(6, ("move", root, b"c", c, b"b"))
     b.check()
     b.ok()
     root = b.fresh()
@@ -461,22 +484,99 @@ def no_contents(b):
 
 
 def carried(b):
-    """The premise of demand 3 is needed: a passed pair, and one folder moved to another folder, after which rule 8 fails."""
-    root = b.fresh(32)
+    """Order 2: a folder goes to another folder and its `..` with it; into itself or below it can't go. The pair passes all along."""
+    root = b.fresh(64)
     a = b.ok(b.create(root, "a", FOLDER))
     c = b.ok(b.create(root, "c", FOLDER))
-    b.ok(b.create(a, "d", FOLDER))
+    d = b.ok(b.create(a, "d", FOLDER))
+    e = b.ok(b.create(d, "e", FOLDER))
+    b.leads(d, 3)
+    b.moves(a, "d", c, "d")
+    b.leads(d, 4)
+    b.leads(e, 5)
+    below = (("move", c, b"d", d, b"x"), ("move", c, b"d", e, b"x"), ("move", root, b"c", c, b"x"), ("move", root, b"c", e, b"x"),
+             ("move", c, b"d", d, b"e"), ("move", root, b"c", d, b"e"))
+    b.no(6, *below)
+    for h in (a, d):
+        b.close(h)
+    b.no(6, below[1], below[3])
+    b.no(11, ("move", c, b"none", e, b"x"))
+    b.moves(root, "a", e, "a")
+    b.moves(root, "c", root, "f")
+    a, d = b.ok(b.find(e, "a")), b.ok(b.find(c, "d"))
+    b.leads(a, 6)
+    b.ok(b.create(root, "file"))
+    b.moves(root, "file", a, "file")
+    b.no(13, ("move", root, b"f", e, b"a"))
+    b.no(7, ("move", root, b"f", a, b"file"))
+    b.ok(b.create(root, "g", FOLDER))
+    b.moves(e, "a", root, "g")
+    b.leads(a, 2)
+    b.moves(d, "e", a, "e")
+    b.moves(c, "d", e, "d")
+    b.moves(a, "e", root, "e")
+    b.leads(d, 6)
+    b.unlink(root, "f")
+    b.ok()
+    b.no(8, ("move", root, b"e", c, b"x"))
     b.check()
     b.ok()
-    b.move(a, "d", c, "d")
-    b.ok()
+
+
+def no_way_up(b):
+    """Damaged: the climb from the target sticks. What is no folder, or stays in its folder, asks for no climb."""
+    def again():
+        root = b.fresh(48)
+        for name in "abcd":
+            b.close(b.ok(b.create(root, name, FOLDER)))
+        b.close(b.ok(b.create(root, "file")))
+        return root
+
+    def sticks():
+        root = b.again()
+        b.no(19, ("move", root, b"d", b.find(root, "a"), b"x"), ("move", root, b"d", b.find(root, "a"), b"d"))
+        return root
+
+    def goes(root, *args):
+        b.move(root, *args)
+        b.ok()
+
+    again()
+    b.dots(3, "id", 4)
+    b.dots(4, "id", 3)
+    root = sticks()
+    b.no(6, ("move", root, b"b", b.find(root, "a"), b"x"))
+    goes(root, "file", b.find(root, "a"), "x")
+    goes(root, "d", root, "e")
     b.fails(8)
+    for id in (3, 0, 7, 8, 4096, 2 ** 32 - 1):
+        again()
+        b.dots(3, "id", id)
+        sticks()
+    again()
+    b.dots(3, "type", 5)
+    sticks()
+    again()
+    b.dots(3, "id", 4)
+    b.record(4, "type", SYMLINK)
+    sticks()
+    again()
+    b.dots(3, "id", 4)
+    b.record(4, "file", b"m" * 16)
+    sticks()
+    root = again()
+    b.dots(6, "id", 5)
+    b.dots(6, "type", 3)
+    b.moves(root, "d", b.find(root, "a"), "d")
+    b.dots(3, "type", 1)
+    goes(root, "b", b.find(root, "a"), "b")
+    b.fails(6)
 
 
 def made():
     b = Script()
     for part in (bad_arena, damaged, bad_table, bad_handle, bad_name, by_call, taken, links, table_full, last_stamp, no_space, stuck,
-                 contents, held_on, limits, device_full, torn, no_contents, carried):
+                 contents, held_on, limits, device_full, torn, no_contents, carried, no_way_up):
         part(b)
     b.fresh()
     b.check()

@@ -1,5 +1,5 @@
 #!/usr/bin/env python3
-"""An independent model of document 01's calls and of document 02's orders up to 1, for tests: a call script in, the lines a right port
+"""An independent model of document 01's calls and of document 02's orders up to 2, for tests: a call script in, the lines a right port
 prints out.
 
 Written from the documents and the readings of them in docs/DECISIONS.md, on top of arena_model.py; it shares nothing with crates/. A call
@@ -316,6 +316,12 @@ class Step:
         self.files.length((1, rec.file))
         return self.add_row(Row(id, 0, rec))
 
+    def record(self, id):
+        """The record of a used node, its row's or the stored one."""
+        need(self.used(id) and id, 19)
+        row = self.table.row_of(id)
+        return row.rec if row else Record.read(self.files.read(META, 128 * id, RECORD))
+
     def store(self, row):
         if row.dirty:
             self.files.put(META, 128 * row.id, row.rec.bytes())
@@ -493,21 +499,36 @@ def do_unlink(s, h, name):
     return ()
 
 
-def replaced_by(s, row, old, taken):
-    """The node to be replaced, where the new name is there; None where both names are one node's."""
-    found = s.lookup(row, old)
-    need(found, 11)
+def climb(s, target, id):
+    """Order 2: 6 where the way from the target up to node 2 meets that node. It opens nothing: a record is the row's or the stored one."""
+    at, rec, climbed = target.id, target.rec, 0
+    while at not in (2, id):
+        need(rec.type == FOLDER and climbed < 4096, 19)
+        at, climbed = u32(s.slot(Row(at, 0, rec), 1), 0), climbed + 1
+        if at not in (2, id):
+            rec = s.record(at)
+    need(at != id, 6)
+
+
+def not_below(s, row, target, moved):
+    if row is not target and moved.rec.type == FOLDER:
+        climb(s, target, moved.id)
+
+
+def replaced_by(s, row, target, found, taken):
+    """The node to be replaced, where the new name is there."""
     replaced = s.open_node(u32(taken[0], 0))
     moved = s.open_node(u32(found[0], 0))
     kinds = kind_of(moved.rec) == FOLDER, kind_of(replaced.rec) == FOLDER
     if moved is replaced:
-        return None
+        raise Unchanged
     need(kinds != (True, False), 7)
     need(kinds != (False, True), 9)
     if kinds == (True, True):
         need(replaced.rec.blocks <= 2, 13)
         for k in range(replaced.rec.blocks):
             s.named_slot(replaced, k)
+    not_below(s, row, target, moved)
     s.release(moved)
     return replaced
 
@@ -520,20 +541,18 @@ def do_move(s, h, old, to, new):
     need(len(old) <= 255 and len(new) <= 255, 10)
     folder_to_change(target)
     taken = s.lookup(target, new)
-    replaced = None
-    if taken:
-        replaced = replaced_by(s, row, old, taken)
-        if replaced is None:
-            raise Unchanged
     found = s.lookup(row, old)
     need(found, 11)
     (data, k), id = found, u32(found[0], 0)
+    replaced = taken and replaced_by(s, row, target, found, taken)
     if row is target:
         s.put_slot(row, k, id, new, u32(data, 260))
         if replaced:
             s.remove_node(row, replaced, taken[1])
         s.store(row)
         return ()
+    if not taken:
+        not_below(s, row, target, s.open_node(id))
     s.append(target, id, new, u32(data, 260))
     s.remove(row, k)
     if replaced:
@@ -542,6 +561,7 @@ def do_move(s, h, old, to, new):
     if is_folder(moved.rec):
         s.links(row, -1)
         s.links(target, 1)
+        s.put_slot(moved, 1, target.id, b"..", FOLDER)
     s.store(row)
     s.store(target)
     s.release(moved)

@@ -13,7 +13,7 @@ use Rattle.base.proofs.Bools.{and-parts}
 use Rattle.structs.specs.declared.DiskINode.{DiskINode}
 use Rattle.sefs.specs.Ask.{notLong, known, liveFolder}
 use Rattle.calls.proofs.Asks.{Asks, asks-ensure, asks-live, asked-done, asked-went}
-use Rattle.move_steps.specs.Steps.{Typed}
+use Rattle.climbs.specs.Types.{Typed}
 use Rattle.calls_move.specs.Parts.{knownTwo, goodTwo, plainTwo, shortTwo, lateAsks, moveAsks}
 
 -- a question, and a second one

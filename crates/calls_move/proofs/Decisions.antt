@@ -4,7 +4,6 @@ use mathlib.Core.Bool.{true}
 use mathlib.Core.List.{List}
 use Prim.Native.Nat.{ℕ, _≤_, _<_}
 use native.Mathlib.Omega.{arith}
-use native.Mathlib.Decide.{ℕ-discrete}
 use lib.ListN.{length}
 use borrow.Author.Tests.{eq-eqb, ne-eqb}
 use Rattle.base.specs.Out.{Out, done, refused, bind, Went, well, ill}
@@ -25,17 +24,18 @@ use Rattle.sefs.specs.Ask.{admit, byHandle, start}
 use Rattle.sefs.specs.Nodes.{recAt, opened, getNode}
 use Rattle.sefs.specs.Slots.{slotAt, lookTo, lookup, findSlot}
 use Rattle.sefs.specs.Create.{After, after}
-use Rattle.sefs.specs.Move.{renamed, replace, moveTo, callMove}
+use Rattle.sefs.specs.Move.{renamed, notBelow, moveOnto, moveFree, callMove}
 use Rattle.mem.specs.Mem.{tableIn, Whole}
 use Rattle.mem.specs.State.{Stepped, fsAt}
 use Rattle.chains.proofs.Lookups.{lookup-is}
+use Rattle.climbs.specs.Types.{judgeRows}
 use Rattle.calls.specs.Asked.{byTwo}
 use Rattle.steps.specs.Ends.{Begun, Rest, on, off, ending}
 use Rattle.steps.proofs.Ends.{begun-start, rest-off, rest-as}
 use Rattle.move_steps.specs.declared.Gone.the-variants.{Free}
 use Rattle.move_steps.specs.Steps.{moveSlot, moveNamed, moveOver}
-use Rattle.move_steps.proofs.Moves.{steps-is}
-use Rattle.calls_move.specs.Parts.{Both, both, openTwo, knownTwo, replaceNode, replaceNamed, moveFound, moveAsks, moveWork, planSteps, planned, Planned, Agreed}
+use Rattle.move_steps.proofs.Moves.{steps-is, over-is}
+use Rattle.calls_move.specs.Parts.{Both, both, openTwo, knownTwo, replaceKnown, replaceNode, replaceNamed, moveFound, moveAsks, moveWork, planSteps, planned, Planned, Agreed}
 use Rattle.calls_move.proofs.Moves.{replace-is, move-is}
 
 -- ---- both nodes opened
@@ -76,30 +76,51 @@ module _ (z s : Fs) (i j : ℕ) (old name : List ℕ) (e : DiskEntry) (k d c : �
   plan-onto way q = rw (ne-eqb way 1 q)
 
 -- the moved slot takes fewer blocks than a node in another's place
-pub slot-more : {o : Out Fs} {a w u m : List ℕ} {r : ℕ} → Stepped o a w u m 45 r → Stepped o a w u m 58 r
+pub slot-more : {o : Out Fs} {a w u m : List ℕ} {r : ℕ} → Stepped o a w u m 48 r → Stepped o a w u m 61 r
 slot-more g = went-weaken (λ p. record { fine = p .fine; whole = p .whole; room = omega (arith, p .room) }) g
 
 -- ---- the new name exists
 
+-- node c in the place of node d
+module _ (a m : List ℕ) (i j : ℕ) (old name : List ℕ) (c d k : ℕ) {r : ℕ} {P : Type 0} (g : Went (judgeRows (fsAt a m) c d) (fsAt a m) P r) where
+  pub onto-judged : {e : Out After} {Q : Type 0} → (r ≡ 0 → ⊥) → Rest (moveOnto (fsAt a m) i j old name c d k) e Q r
+  unfolding moveOnto judgeRows
+  onto-judged z = rest-off z (rw (went-not g z))
+
+  pub onto-below : {R : Type 0} {q : ℕ} → r ≡ 0 → Went (notBelow (fsAt a m) i j c) tt R q → Rest (moveOnto (fsAt a m) i j old name c d k) (ending (moveOver (fsAt a m) i j old name c d k)) Unit q
+  unfolding moveOnto judgeRows
+  onto-below z (well e p) = on (rw (went-is g z, e) (over-is (fsAt a m) i j old name c d k)) tt
+  onto-below z (ill l e) = off l (rw (went-is g z, e))
+
+-- both are known: x and y are their records
+module _ (z : Fs) (a m : List ℕ) (i j : ℕ) (old name : List ℕ) (v : DiskEntry) (k new was d c : ℕ) (x y : DiskINode) (e : x ≡ rowAt (tableIn m) c .rec) (f : y ≡ rowAt (tableIn m) d .rec) {r : ℕ} {P : Type 0} (g : Went (knownTwo x y) tt P r) where
+  known-at : Went (knownTwo (rowAt (tableIn m) c .rec) (rowAt (tableIn m) d .rec)) tt P r
+  known-at = rw (e, f) at g
+
+  pub two-unknown : {e : Out After} {Q : Type 0} → (r ≡ 0 → ⊥) → Rest (replaceKnown z (fsAt a m) i j old name k new was d c) e Q r
+  unfolding replaceKnown
+  two-unknown o = rest-off o (rw (went-not known-at o))
+
+  pub two-same : r ≡ 0 → was ≡ new → Rest (replaceKnown z (fsAt a m) i j old name k new was d c) (planned z (fsAt a m) (pick (eqb was new) 0 2) i j old name v k d c) Unit 0
+  unfolding replaceKnown planned
+  two-same o l = on (rw (went-is known-at o, eq-eqb was new l)) tt
+
+  pub two-onto : {q : ℕ} → r ≡ 0 → (was ≡ new → ⊥) → Rest (moveOnto (fsAt a m) i j old name c d k) (ending (moveOver (fsAt a m) i j old name c d k)) Unit q
+      → Rest (replaceKnown z (fsAt a m) i j old name k new was d c) (planned z (fsAt a m) (pick (eqb was new) 0 2) i j old name v k d c) Unit q
+  unfolding replaceKnown planned planSteps
+  two-onto o l h = rw (went-is known-at o, ne-eqb was new l) h
+
+-- both are open
 module _ (a m n : List ℕ) (i j : ℕ) (old name : List ℕ) (k new was d c : ℕ) {r : ℕ} {P : Type 0} (g : Went (openTwo (fsAt a m) new was) (both (fsAt a n) d c) P r) where
   pub node-stop : {e : Out After} {Q : Type 0} → (r ≡ 0 → ⊥) → Rest (replaceNode (fsAt a m) i j old name k new was) e Q r
   unfolding replaceNode
   node-stop z = rest-off z (rw (went-not g z))
 
-  module _ {p : ℕ} {R : Type 0} (z : r ≡ 0) (x y : DiskINode) (e : x ≡ rowAt (tableIn n) c .rec) (f : y ≡ rowAt (tableIn n) d .rec) (h : Went (knownTwo x y) tt R p) where
-    known-at : Went (knownTwo (rowAt (tableIn n) c .rec) (rowAt (tableIn n) d .rec)) tt R p
-    known-at = rw (e, f) at h
-
-    pub node-unknown : {e : Out After} {Q : Type 0} → (p ≡ 0 → ⊥) → Rest (replaceNode (fsAt a m) i j old name k new was) e Q p
-    unfolding replaceNode
-    node-unknown o = rest-off o (rw (went-is g z, went-not known-at o))
-
-    pub node-goes : {Q : Type 0} (v : DiskEntry) (way : ℕ) → p ≡ 0 → way ≡ pick (eqb was new) 0 2 → Q → Rest (replaceNode (fsAt a m) i j old name k new was) (planned (fsAt a m) (fsAt a n) way i j old name v k d c) Q 0
-    unfolding replaceNode planned planSteps
-    node-goes v way o w q = elim (ℕ-discrete was new) [
-      | yes l ↦ on (rw (went-is g z, went-is known-at o, w, eq-eqb was new l)) q
-      | no l ↦ on (rw (went-is g z, went-is known-at o, w, ne-eqb was new l)) q
-    ]
+  pub node-goes : {Q : Type 0} {q : ℕ} (v : DiskEntry) (way : ℕ) → r ≡ 0 → way ≡ pick (eqb was new) 0 2 → Q
+      → Rest (replaceKnown (fsAt a m) (fsAt a n) i j old name k new was d c) (planned (fsAt a m) (fsAt a n) (pick (eqb was new) 0 2) i j old name v k d c) Unit q
+      → Rest (replaceNode (fsAt a m) i j old name k new was) (planned (fsAt a m) (fsAt a n) way i j old name v k d c) Q q
+  unfolding replaceNode
+  node-goes v way z w p h = rw w (rest-as (rw (went-is g z)) (λ _. p) h)
 
 -- ---- the old name is found
 
@@ -120,9 +141,42 @@ module _ (a m : List ℕ) (i j : ℕ) (old name l : List ℕ) (p r : ℕ) {P : T
   unfolding moveNamed
   free-stop z = rest-off z (rw (went-not old-at z))
 
-  pub free-next : {Q : Type 0} (v : DiskEntry) (d c : ℕ) → r ≡ 0 → v ≡ renamed (entryOf l) name → Q → Rest (ending (moveNamed (fsAt a m) i j old name Free)) (planned (fsAt a m) (fsAt a m) 1 i j old name v p d c) Q 0
+  pub free-next : {Q : Type 0} (t : Fs) (v : DiskEntry) (d c : ℕ) → r ≡ 0 → v ≡ renamed (entryOf l) name → Q → Rest (ending (moveNamed (fsAt a m) i j old name Free)) (planned t (fsAt a m) 1 i j old name v p d c) Q 0
   unfolding moveNamed planned planSteps
-  free-next v d c z q h = on (rw (went-is old-at z, q)) h
+  free-next t v d c z q h = on (rw (went-is old-at z, q)) h
+
+-- ---- the new name is free: x and y are the folders' ids
+
+module _ (a m : List ℕ) (i j : ℕ) (old name : List ℕ) (x y : ℕ) (p : x ≡ rowAt (tableIn m) i .id) (q : y ≡ rowAt (tableIn m) j .id) where
+  pub free-within : {Q : Type 0} → x ≡ y → Q → Rest (moveFree (fsAt a m) i j old name) (ending (moveNamed (fsAt a m) i j old name Free)) Q 0
+  unfolding moveFree
+  free-within e h = on (rw (eq-eqb (rowAt (tableIn m) i .id) (rowAt (tableIn m) j .id) (sym p ∙ e ∙ q)) (steps-is (fsAt a m) i j old name Free)) h
+
+  -- between two folders: the slot l of the old name
+  module _ (u : x ≡ y → ⊥) (rec : DiskINode) (e : rec ≡ rowAt (tableIn m) i .rec) (l : List ℕ) (k r : ℕ) {P : Type 0} (g : Went (findSlot a rec old) (record { place = k; entry = entryOf l }) P r) where
+    apart : rowAt (tableIn m) i .id ≡ rowAt (tableIn m) j .id → ⊥
+    apart o = u (p ∙ o ∙ sym q)
+
+    slot-at : Went (findSlot a (rowAt (tableIn m) i .rec) old) (record { place = k; entry = entryOf l }) P r
+    slot-at = rw e at g
+
+    pub free-missing : {e : Out After} {Q : Type 0} → (r ≡ 0 → ⊥) → Rest (moveFree (fsAt a m) i j old name) e Q r
+    unfolding moveFree
+    free-missing z = rest-off z (rw (ne-eqb (rowAt (tableIn m) i .id) (rowAt (tableIn m) j .id) apart, went-not slot-at z))
+
+    -- node c, which it names
+    module _ (z : r ≡ 0) (id : ℕ) (f : id ≡ leAt l 0 4) (n : List ℕ) (c : ℕ) {t : ℕ} {R : Type 0} (h : Went (getNode (fsAt a m) id) (opened (fsAt a n) c) R t) where
+      moved-at : Went (getNode (fsAt a m) (leAt l 0 4)) (opened (fsAt a n) c) R t
+      moved-at = rw f at h
+
+      pub free-unopened : {e : Out After} {Q : Type 0} → (t ≡ 0 → ⊥) → Rest (moveFree (fsAt a m) i j old name) e Q t
+      unfolding moveFree entryOf
+      free-unopened o = rest-off o (rw (ne-eqb (rowAt (tableIn m) i .id) (rowAt (tableIn m) j .id) apart, went-is slot-at z, went-not moved-at o))
+
+      pub free-below : {Q S : Type 0} {w : ℕ} → t ≡ 0 → Went (notBelow (fsAt a n) i j c) tt S w → Q → Rest (moveFree (fsAt a m) i j old name) (ending (moveNamed (fsAt a n) i j old name Free)) Q w
+      unfolding moveFree entryOf
+      free-below o (well b s) h = on (rw (ne-eqb (rowAt (tableIn m) i .id) (rowAt (tableIn m) j .id) apart, went-is slot-at z, went-is moved-at o, b) (steps-is (fsAt a n) i j old name Free)) h
+      free-below o (ill b s) h = off b (rw (ne-eqb (rowAt (tableIn m) i .id) (rowAt (tableIn m) j .id) apart, went-is slot-at z, went-is moved-at o, s))
 
 -- ---- the new name is looked for
 
@@ -143,9 +197,9 @@ module _ (a m : List ℕ) (i j : ℕ) (old name : List ℕ) {k r : ℕ} {P : Typ
       ∙ rw (subst (λ (y : DiskINode). slotAt a y k ≡ done (entryOf l)) e f, d)))
       (λ p. p) h
 
-  pub found-free : {e : Out After} {Q : Type 0} {q : ℕ} → r ≡ 0 → x .blocks ≤ k → Rest (ending (moveNamed (fsAt a m) i j old name Free)) e Q q → Rest (moveFound (fsAt a m) i j old name) e Q q
+  pub found-free : {e : Out After} {Q : Type 0} {q : ℕ} → r ≡ 0 → x .blocks ≤ k → Rest (moveFree (fsAt a m) i j old name) e Q q → Rest (moveFound (fsAt a m) i j old name) e Q q
   unfolding moveFound
-  found-free z b h = rest-as (rw (went-is look-at z, found-nothing k (x .blocks) b) (steps-is (fsAt a m) i j old name Free)) (λ p. p) h
+  found-free z b h = rest-as (rw (went-is look-at z, found-nothing k (x .blocks) b)) (λ p. p) h
 
 -- ---- the questions, then the rest
 
@@ -180,10 +234,10 @@ module _ (a first next m n : List ℕ) (h target : Handle) (old name : List ℕ)
   pub move-not : {e : Out After} {Q : Type 0} → (r ≡ 0 → ⊥) → Rest (callMove a (tableIn m) h old target name) e Q r
   move-not z = rest-off z (move-two ∙ rw (went-not g z))
 
-  pub move-rows : {y slot : List ℕ} {way x w d c q : ℕ} (e : Fs → Out After) → r ≡ 0
-      → Rest (moveWork (fsAt a n) i j old name) (e (fsAt a n)) ((length name ≤ 255) × (Planned y way x w d c × (length slot ≡ 264))) q
-      → Rest (callMove a (tableIn m) h old target name) (e (start a (tableIn m))) (Agreed a y name slot way x w d c) q
-  move-rows {y} {slot} {way} {x} {w} {d} {c} {q} e z f =
+  pub move-rows : {y slot : List ℕ} {x w d c q : ℕ} (e : Fs → Out After) → r ≡ 0
+      → Rest (moveWork (fsAt a n) i j old name) (e (fsAt a n)) ((length name ≤ 255) × (Planned y x w d c × (length slot ≡ 264))) q
+      → Rest (callMove a (tableIn m) h old target name) (e (start a (tableIn m))) (Agreed a y name slot x w d c) q
+  move-rows {y} {slot} {x} {w} {d} {c} {q} e z f =
       let b = went-has g z .0 in
-      subst (λ (t : Fs). Rest (callMove a (tableIn m) h old target name) (e t) (Agreed a y name slot way x w d c) q) (begun-start b)
+      subst (λ (t : Fs). Rest (callMove a (tableIn m) h old target name) (e t) (Agreed a y name slot x w d c) q) (begun-start b)
       (rest-as (move-two ∙ rw (went-is g z, ← begun-start b)) (λ p. record { legal = b .led .whole; plan = p .1 .0; short = p .0; long = p .1 .1 }) f)

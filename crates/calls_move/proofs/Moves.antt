@@ -1,6 +1,5 @@
 -- The call move, in its parts.
 use mathlib.Core.Path.{_≡_, refl, sym, _∙_}
-use mathlib.Core.Bool.{Bool, true, false}
 use mathlib.Core.List.{List}
 use Prim.Native.Nat.{ℕ}
 use lib.Dec.{eqb}
@@ -16,8 +15,7 @@ use Rattle.sefs.specs.Ask.{admit, byHandle, goodName, notLong, notSpecial, know
 use Rattle.sefs.specs.Create.{After, after}
 use Rattle.sefs.specs.Move.{moveOnto, replace, callMove}
 use Rattle.steps.proofs.Ends.{bind-same}
-use Rattle.calls_move.specs.Parts.{both, openTwo, knownTwo, replaceNode, replaceNamed, moveFound, goodTwo, plainTwo, shortTwo, lateAsks, moveAsks, moveWork}
-use Rattle.move_steps.proofs.Moves.{onto-is}
+use Rattle.calls_move.specs.Parts.{both, openTwo, knownTwo, replaceKnown, replaceNode, replaceNamed, moveFound, goodTwo, plainTwo, shortTwo, lateAsks, moveAsks, moveWork}
 
 -- ---- the new name exists
 
@@ -31,17 +29,12 @@ two-is {A} {B} {C} {D} (done x) f e g h k = go (f x)
     go (done y) = k x y
     go (refused n) = refl
 
-same-pick : (b : Bool) (x y z : Out After) → y ≡ z → pick b x y ≡ pick b x z
-same-pick true x y z e = refl
-same-pick false x y z e = e
-
 node-is : (s : Fs) (i j : ℕ) (old name : List ℕ) (k new was : ℕ)
     → bind (getNode s new) (λ d. bind (getNode (d .state) was) (λ c. bind (known (recAt (c .state) (c .row))) (λ _. bind (known (recAt (c .state) (d .row))) (λ _. pick (eqb was new) (done (after s)) (moveOnto (c .state) i j old name (c .row) (d .row) k))))) ≡ replaceNode s i j old name k new was
-unfolding replaceNode openTwo knownTwo
+unfolding replaceNode replaceKnown openTwo knownTwo
 node-is s i j old name k new was =
     two-is (getNode s new) (λ d. getNode (d .state) was) (λ d c. both (c .state) (d .row) (c .row)) _ _ (λ d c.
-    sym (bind-assoc (known (recAt (c .state) (c .row))) (λ _. known (recAt (c .state) (d .row))) (λ _. pick (eqb was new) (done (after s)) (moveOnto (c .state) i j old name (c .row) (d .row) k)))
-    ∙ bind-same (bind (known (recAt (c .state) (c .row))) (λ _. known (recAt (c .state) (d .row)))) _ _ (λ _. same-pick (eqb was new) _ _ _ (onto-is (c .state) i j old name (c .row) (d .row) k)))
+    sym (bind-assoc (known (recAt (c .state) (c .row))) (λ _. known (recAt (c .state) (d .row))) (λ _. pick (eqb was new) (done (after s)) (moveOnto (c .state) i j old name (c .row) (d .row) k))))
 
 pub replace-is : (s : Fs) (i j : ℕ) (old name : List ℕ) (k : ℕ) → replace s i j old name k ≡ bind (slotAt (s .arena) (recAt s j) k) (λ e. replaceNamed s i j old name k (e .id))
 unfolding replace replaceNamed

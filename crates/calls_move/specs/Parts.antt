@@ -10,17 +10,16 @@ use Rattle.base.specs.Search.{pick}
 use Rattle.structs.specs.declared.DiskINode.{DiskINode}
 use Rattle.structs.specs.declared.DiskEntry.{DiskEntry}
 use Rattle.arena.specs.Blocks.{legal}
-use Rattle.table.specs.Table.{rowAt}
 use Rattle.sefs.specs.State.{Fs}
 use Rattle.sefs.specs.Nodes.{recAt, getNode}
 use Rattle.sefs.specs.Slots.{lookup, findSlot}
 use Rattle.sefs.specs.Ask.{goodName, notLong, notSpecial, known, liveFolder}
 use Rattle.sefs.specs.Create.{After, after}
-use Rattle.sefs.specs.Move.{moveTo}
+use Rattle.sefs.specs.Move.{moveOnto, moveTo}
 use Rattle.steps.specs.Ends.{ending}
-use Rattle.mem.specs.Mem.{tableIn, Whole}
+use Rattle.mem.specs.Mem.{Whole}
 use Rattle.move_steps.specs.declared.Gone.the-variants.{Free}
-use Rattle.move_steps.specs.Steps.{Typed, moveSlot, moveOver}
+use Rattle.move_steps.specs.Steps.{moveSlot, moveOver}
 
 -- ---- the new name exists
 
@@ -45,12 +44,16 @@ knownTwo moved gone = do
   _ ← known moved
   known gone
 
--- slot k of the target names node `new`, and the old name is node `was`
+-- slot k of the target names node `new`, in row d, and the old name is node `was`, in row c. z is the state at the call's start
+unfoldable pub replaceKnown : Fs → Fs → ℕ → ℕ → List ℕ → List ℕ → ℕ → ℕ → ℕ → ℕ → ℕ → Out After
+replaceKnown z s i j old name k new was d c = do
+  _ ← knownTwo (recAt s c) (recAt s d)
+  pick (eqb was new) (done (after z)) (moveOnto s i j old name c d k)
+
 unfoldable pub replaceNode : Fs → ℕ → ℕ → List ℕ → List ℕ → ℕ → ℕ → ℕ → Out After
 replaceNode s i j old name k new was = do
   b ← openTwo s new was
-  _ ← knownTwo (recAt (b .state) (b .moved)) (recAt (b .state) (b .gone))
-  pick (eqb was new) (done (after s)) (ending (moveOver (b .state) i j old name (b .moved) (b .gone) k))
+  replaceKnown s (b .state) i j old name k new was (b .gone) (b .moved)
 
 unfoldable pub replaceNamed : Fs → ℕ → ℕ → List ℕ → List ℕ → ℕ → ℕ → Out After
 replaceNamed s i j old name k new = do
@@ -101,7 +104,7 @@ moveWork s i j old name = do
 
 -- ---- a move that is decided but for its steps
 
--- by its way: 1, the new name is free and e is the moved slot; else node c goes in the place of node d
+-- by its way: 1, the new name is free and e is the moved slot; else node c goes in the place of node d, and may
 unfoldable pub planSteps : Fs → ℕ → ℕ → ℕ → List ℕ → List ℕ → DiskEntry → ℕ → ℕ → ℕ → Out Fs
 planSteps s way i j old name e k d c = pick (eqb way 1) (moveSlot s i j k e Free) (moveOver s i j old name c d k)
 
@@ -110,17 +113,16 @@ unfoldable pub planned : Fs → Fs → ℕ → ℕ → ℕ → List ℕ → List
 planned z s way i j old name e k d c = pick (eqb way 0) (done (after z)) (ending (planSteps s way i j old name e k d c))
 
 -- what is known of it, with the memory m
-pub record Planned (m : List ℕ) (way i j d c : ℕ) : Type 0 where
+pub record Planned (m : List ℕ) (i j d c : ℕ) : Type 0 where
   pub whole : Whole m
   pub source : i < 34
   pub target : j < 34
   pub gone : d < 34
   pub moved : c < 34
-  pub typed : (way ≡ 1 → ⊥) → Typed (rowAt (tableIn m) c .rec) × Typed (rowAt (tableIn m) d .rec)
 
 -- and once nothing refused: the arena a, the new name, the moved slot
-pub record Agreed (a m name slot : List ℕ) (way i j d c : ℕ) : Type 0 where
+pub record Agreed (a m name slot : List ℕ) (i j d c : ℕ) : Type 0 where
   pub legal : legal a ≡ true
-  pub plan : Planned m way i j d c
+  pub plan : Planned m i j d c
   pub short : length name ≤ 255
   pub long : length slot ≡ 264

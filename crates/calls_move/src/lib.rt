@@ -1,4 +1,5 @@
-// The call move: 5; the source 7, 8; 9, 10 for either name; the target 7, 8; where the new name exists 11, the same node, type rules; then the steps.
+// The call move: 5; the source 7, 8; 9, 10 for either name; the target 7, 8; where the new name exists 11, the same node, type rules; 11 where it
+// does not; 6 for a folder into itself or below; then the steps.
 // It asks and reads by the chains of `sound`, decides its steps on a view of the arena, and commits once nothing can refuse it any more.
 ghost use mathlib.Core.Path.{_≡_};
 ghost use mathlib.Core.List.{List};
@@ -11,15 +12,18 @@ ghost use Rattle.structs.specs.declared.DiskEntry.{DiskEntry};
 ghost use Rattle.base.specs.Out.{Went};
 ghost use Rattle.overlay.specs.View.{left, Empty};
 ghost use Rattle.sefs.specs.Ask.{start};
-ghost use Rattle.sefs.specs.Move.{callMove};
+ghost use Rattle.sefs.specs.State.{Fs};
+ghost use Rattle.sefs.specs.Move.{moveOnto, moveFree, callMove};
+ghost use Rattle.table.specs.Table.{rowAt};
 ghost use Rattle.mem.specs.Mem.{tableIn, Whole, memorySize};
 ghost use Rattle.mem.specs.State.{fsOf, Stepped, Ready, fsAt};
 ghost use Rattle.chains.specs.Led.{Led};
 ghost use Rattle.calls.specs.Asked.{Admitted};
 ghost use Rattle.steps.specs.Ends.{Rest, ending, Ended, Returned};
 ghost use Rattle.move_steps.specs.declared.Gone.the-variants.{Free};
-ghost use Rattle.move_steps.specs.Steps.{Typed, moveNamed};
-ghost use Rattle.calls_move.specs.Parts.{both, openTwo, knownTwo, replaceNode, replaceNamed, moveFound, goodTwo, plainTwo, shortTwo, lateAsks, moveAsks, moveWork, planSteps, planned, Planned, Agreed};
+ghost use Rattle.climbs.specs.Types.{Typed};
+ghost use Rattle.move_steps.specs.Steps.{moveNamed, moveOver};
+ghost use Rattle.calls_move.specs.Parts.{both, openTwo, knownTwo, replaceKnown, replaceNode, replaceNamed, moveFound, goodTwo, plainTwo, shortTwo, lateAsks, moveAsks, moveWork, planSteps, planned, Planned, Agreed};
 ghost use Rattle.calls_move.specs.Courses.{courseOf, courseAs, EndedMove};
 use base::index;
 use calls::Reply;
@@ -33,8 +37,11 @@ use calls::not_special;
 use calls::refused;
 use chains::slots::find_slot;
 use chains::slots::lookup;
+use climbs::judge;
+use climbs::not_below;
 use le::u32_at;
 use mem::MEMORY;
+use mem::id_at;
 use mem::put_table;
 use mem::rec_at;
 use mem::table_at;
@@ -117,6 +124,55 @@ pub struct Plan {
     pub moved: usize,
 }
 
+// Type rules; and a folder does not go into itself or below.
+fn ask_onto(
+    arena: &[u8],
+    first: &[u16],
+    next: &[u16],
+    mem: &[u8],
+    i: usize,
+    j: usize,
+    c: usize,
+    d: usize,
+) -> u8
+    requires { ⌜ Led (now arena) (now first) (now next) ⌝ }
+    requires { ⌜ Whole (now mem) × ((i < 34) × ((j < 34) × ((c < 34) × ((d < 34) × (Typed (rowAt (tableIn (now mem)) c .rec) × Typed (rowAt (tableIn (now mem)) d .rec)))))) ⌝ }
+    ensures { λ r. ⌜ ((old name : List ℕ) (k : ℕ) → Rest (moveOnto (fsAt (now (arena .entry)) (now (mem .entry))) i j old name c d k) (ending (moveOver (fsAt (now (arena .entry)) (now (mem .entry))) i j old name c d k)) Unit r) ⌝ }
+{
+    let r = judge(arena, first, next, mem, c, d);
+    if r != 0 {
+        return r;
+    }
+    not_below(arena, first, next, mem, i, j, c)
+}
+
+// The old name is node `was`, in row c, and the new one node `new`, in row d. Where they are two, the one may go in the other's place.
+fn ask_two(
+    arena: &[u8],
+    first: &[u16],
+    next: &[u16],
+    mem: &[u8],
+    i: usize,
+    j: usize,
+    c: usize,
+    d: usize,
+    new: u32,
+    was: u32,
+) -> u8
+    requires { ⌜ Led (now arena) (now first) (now next) ⌝ }
+    requires { ⌜ Whole (now mem) × ((i < 34) × ((j < 34) × ((c < 34) × (d < 34)))) ⌝ }
+    ensures { λ r. ⌜ ((z : Fs) (old name : List ℕ) (e : DiskEntry) (k : ℕ) → Rest (replaceKnown z (fsAt (now (arena .entry)) (now (mem .entry))) i j old name k new was d c) (planned z (fsAt (now (arena .entry)) (now (mem .entry))) (pick (eqb was new) 0 2) i j old name e k d c) Unit r) ⌝ }
+{
+    let r = known_two(rec_at(mem, c), rec_at(mem, d));
+    if r != 0 {
+        return r;
+    }
+    if was == new {
+        return 0;
+    }
+    ask_onto(arena, first, next, mem, i, j, c, d)
+}
+
 // The way where the new name is node `new` and the old name node `was`.
 fn way_onto(was: u32, new: u32) -> u8
     ensures { λ r. ⌜ r ≡ pick (eqb was new) 0 2 ⌝ }
@@ -141,7 +197,7 @@ fn plan_node(
 ) -> Plan
     requires { ⌜ Led (now arena) (now first) (now next) ⌝ }
     requires { ⌜ Whole (now mem) × ((i < 34) × (j < 34)) ⌝ }
-    ensures { λ r. ⌜ ((old name : List ℕ) (e : DiskEntry) → Rest (replaceNode (fsAt (now (arena .entry)) (now (mem .entry))) i j old name k new was) (planned (fsAt (now (arena .entry)) (now (mem .entry))) (fsAt (now (arena .entry)) (now (mem .exit))) (r .way) (r .row) (r .other) old name e (r .place) (r .gone) (r .moved)) (Planned (now (mem .exit)) (r .way) (r .row) (r .other) (r .gone) (r .moved)) (r .reason)) ⌝ }
+    ensures { λ r. ⌜ ((old name : List ℕ) (e : DiskEntry) → Rest (replaceNode (fsAt (now (arena .entry)) (now (mem .entry))) i j old name k new was) (planned (fsAt (now (arena .entry)) (now (mem .entry))) (fsAt (now (arena .entry)) (now (mem .exit))) (r .way) (r .row) (r .other) old name e (r .place) (r .gone) (r .moved)) (Planned (now (mem .exit)) (r .row) (r .other) (r .gone) (r .moved)) (r .reason)) ⌝ }
 {
     let p = open_two(arena, first, next, mem, new, was);
     if p.reason != 0 {
@@ -155,20 +211,20 @@ fn plan_node(
             moved: 0,
         };
     }
-    let r = known_two(rec_at(&mem[..], p.moved), rec_at(&mem[..], p.gone));
-    if r != 0 {
-        return Plan {
-            reason: r,
-            way: 0,
-            row: 0,
-            other: 0,
-            place: 0,
-            gone: 0,
-            moved: 0,
-        };
-    }
+    let r = ask_two(
+        arena,
+        first,
+        next,
+        &mem[..],
+        i,
+        j,
+        p.moved,
+        p.gone,
+        new,
+        was,
+    );
     Plan {
-        reason: 0,
+        reason: r,
         way: way_onto(was, new),
         row: i,
         other: j,
@@ -192,7 +248,7 @@ fn plan_named(
 ) -> Plan
     requires { ⌜ Led (now arena) (now first) (now next) ⌝ }
     requires { ⌜ Whole (now mem) × ((i < 34) × (j < 34)) ⌝ }
-    ensures { λ r. ⌜ ((name : List ℕ) (e : DiskEntry) → Rest (replaceNamed (fsAt (now (arena .entry)) (now (mem .entry))) i j (now (old .entry)) name k new) (planned (fsAt (now (arena .entry)) (now (mem .entry))) (fsAt (now (arena .entry)) (now (mem .exit))) (r .way) (r .row) (r .other) (now (old .entry)) name e (r .place) (r .gone) (r .moved)) (Planned (now (mem .exit)) (r .way) (r .row) (r .other) (r .gone) (r .moved)) (r .reason)) ⌝ }
+    ensures { λ r. ⌜ ((name : List ℕ) (e : DiskEntry) → Rest (replaceNamed (fsAt (now (arena .entry)) (now (mem .entry))) i j (now (old .entry)) name k new) (planned (fsAt (now (arena .entry)) (now (mem .entry))) (fsAt (now (arena .entry)) (now (mem .exit))) (r .way) (r .row) (r .other) (now (old .entry)) name e (r .place) (r .gone) (r .moved)) (Planned (now (mem .exit)) (r .row) (r .other) (r .gone) (r .moved)) (r .reason)) ⌝ }
 {
     let mut slot = [0u8; 264];
     let p = find_slot(arena, first, next, rec_at(&mem[..], i), old, &mut slot);
@@ -210,8 +266,37 @@ fn plan_named(
     plan_node(arena, first, next, mem, i, j, k, new, u32_at(&slot, 0))
 }
 
-// The new name is free: the moved slot, with its new name, goes to `slot`.
-fn plan_free(
+// The new name is free. Between two folders the moved node is opened, and a folder does not go into itself or below.
+fn open_moved(
+    arena: &[u8],
+    first: &[u16],
+    next: &[u16],
+    mem: &mut [u8],
+    i: usize,
+    j: usize,
+    old: &[u8],
+) -> u8
+    requires { ⌜ Led (now arena) (now first) (now next) ⌝ }
+    requires { ⌜ Whole (now mem) × ((i < 34) × (j < 34)) ⌝ }
+    ensures { λ r. ⌜ ((name : List ℕ) → Rest (moveFree (fsAt (now (arena .entry)) (now (mem .entry))) i j (now (old .entry)) name) (ending (moveNamed (fsAt (now (arena .entry)) (now (mem .exit))) i j (now (old .entry)) name Free)) (Whole (now (mem .exit))) r) ⌝ }
+{
+    if id_at(&mem[..], i) == id_at(&mem[..], j) {
+        return 0;
+    }
+    let mut slot = [0u8; 264];
+    let p = find_slot(arena, first, next, rec_at(&mem[..], i), old, &mut slot);
+    if p.reason != 0 {
+        return p.reason;
+    }
+    let o = get_node(arena, first, next, mem, u32_at(&slot, 0));
+    if o.reason != 0 {
+        return o.reason;
+    }
+    not_below(arena, first, next, &mem[..], i, j, o.row)
+}
+
+// The moved slot, with its new name, goes to `slot`.
+fn plan_slot(
     arena: &[u8],
     first: &[u16],
     next: &[u16],
@@ -224,7 +309,7 @@ fn plan_free(
 ) -> Plan
     requires { ⌜ Led (now arena) (now first) (now next) ⌝ }
     requires { ⌜ Whole (now mem) × ((i < 34) × ((j < 34) × ((length (now name) ≤ 255) × (length (now slot) ≡ 264)))) ⌝ }
-    ensures { λ r. ⌜ Rest (ending (moveNamed (fsAt (now (arena .entry)) (now (mem .entry))) i j (now (old .entry)) (now (name .entry)) Free)) (planned (fsAt (now (arena .entry)) (now (mem .entry))) (fsAt (now (arena .entry)) (now (mem .entry))) (r .way) (r .row) (r .other) (now (old .entry)) (now (name .entry)) (entryOf (now (slot .exit))) (r .place) (r .gone) (r .moved)) (Planned (now (mem .entry)) (r .way) (r .row) (r .other) (r .gone) (r .moved)) (r .reason) ⌝ }
+    ensures { λ r. ⌜ ((z : Fs) → Rest (ending (moveNamed (fsAt (now (arena .entry)) (now (mem .entry))) i j (now (old .entry)) (now (name .entry)) Free)) (planned z (fsAt (now (arena .entry)) (now (mem .entry))) (r .way) (r .row) (r .other) (now (old .entry)) (now (name .entry)) (entryOf (now (slot .exit))) (r .place) (r .gone) (r .moved)) (Planned (now (mem .entry)) (r .row) (r .other) (r .gone) (r .moved)) (r .reason)) ⌝ }
 {
     let p = find_slot(arena, first, next, rec_at(mem, i), old, slot);
     if p.reason != 0 {
@@ -250,6 +335,37 @@ fn plan_free(
     }
 }
 
+// The old name is looked for again by the record that its folder has once the moved node is open.
+fn plan_free(
+    arena: &[u8],
+    first: &[u16],
+    next: &[u16],
+    mem: &mut [u8],
+    slot: &mut [u8],
+    i: usize,
+    j: usize,
+    old: &[u8],
+    name: &[u8],
+) -> Plan
+    requires { ⌜ Led (now arena) (now first) (now next) ⌝ }
+    requires { ⌜ Whole (now mem) × ((i < 34) × ((j < 34) × ((length (now name) ≤ 255) × (length (now slot) ≡ 264)))) ⌝ }
+    ensures { λ r. ⌜ Rest (moveFree (fsAt (now (arena .entry)) (now (mem .entry))) i j (now (old .entry)) (now (name .entry))) (planned (fsAt (now (arena .entry)) (now (mem .entry))) (fsAt (now (arena .entry)) (now (mem .exit))) (r .way) (r .row) (r .other) (now (old .entry)) (now (name .entry)) (entryOf (now (slot .exit))) (r .place) (r .gone) (r .moved)) (Planned (now (mem .exit)) (r .row) (r .other) (r .gone) (r .moved)) (r .reason) ⌝ }
+{
+    let r = open_moved(arena, first, next, mem, i, j, old);
+    if r != 0 {
+        return Plan {
+            reason: r,
+            way: 0,
+            row: 0,
+            other: 0,
+            place: 0,
+            gone: 0,
+            moved: 0,
+        };
+    }
+    plan_slot(arena, first, next, &mem[..], slot, i, j, old, name)
+}
+
 fn plan_found(
     arena: &[u8],
     first: &[u16],
@@ -263,7 +379,7 @@ fn plan_found(
 ) -> Plan
     requires { ⌜ Led (now arena) (now first) (now next) ⌝ }
     requires { ⌜ Whole (now mem) × ((i < 34) × ((j < 34) × ((length (now name) ≤ 255) × (length (now slot) ≡ 264)))) ⌝ }
-    ensures { λ r. ⌜ Rest (moveFound (fsAt (now (arena .entry)) (now (mem .entry))) i j (now (old .entry)) (now (name .entry))) (planned (fsAt (now (arena .entry)) (now (mem .entry))) (fsAt (now (arena .entry)) (now (mem .exit))) (r .way) (r .row) (r .other) (now (old .entry)) (now (name .entry)) (entryOf (now (slot .exit))) (r .place) (r .gone) (r .moved)) (Planned (now (mem .exit)) (r .way) (r .row) (r .other) (r .gone) (r .moved)) (r .reason) ⌝ }
+    ensures { λ r. ⌜ Rest (moveFound (fsAt (now (arena .entry)) (now (mem .entry))) i j (now (old .entry)) (now (name .entry))) (planned (fsAt (now (arena .entry)) (now (mem .entry))) (fsAt (now (arena .entry)) (now (mem .exit))) (r .way) (r .row) (r .other) (now (old .entry)) (now (name .entry)) (entryOf (now (slot .exit))) (r .place) (r .gone) (r .moved)) (Planned (now (mem .exit)) (r .row) (r .other) (r .gone) (r .moved)) (r .reason) ⌝ }
 {
     let rec = rec_at(&mem[..], j);
     let l = lookup(arena, first, next, rec, name, slot);
@@ -282,7 +398,7 @@ fn plan_found(
         let new = u32_at(&slot[..], 0);
         return plan_named(arena, first, next, mem, i, j, old, l.place, new);
     }
-    plan_free(arena, first, next, &mem[..], slot, i, j, old, name)
+    plan_free(arena, first, next, mem, slot, i, j, old, name)
 }
 
 fn good_names(old: &[u8], name: &[u8]) -> u8
@@ -357,7 +473,7 @@ fn plan_work(
 ) -> Plan
     requires { ⌜ Led (now arena) (now first) (now next) ⌝ }
     requires { ⌜ Whole (now mem) × ((i < 34) × ((j < 34) × (length (now slot) ≡ 264))) ⌝ }
-    ensures { λ r. ⌜ Rest (moveWork (fsAt (now (arena .entry)) (now (mem .entry))) i j (now (old .entry)) (now (name .entry))) (planned (fsAt (now (arena .entry)) (now (mem .entry))) (fsAt (now (arena .entry)) (now (mem .exit))) (r .way) (r .row) (r .other) (now (old .entry)) (now (name .entry)) (entryOf (now (slot .exit))) (r .place) (r .gone) (r .moved)) ((length (now (name .entry)) ≤ 255) × (Planned (now (mem .exit)) (r .way) (r .row) (r .other) (r .gone) (r .moved) × (length (now (slot .exit)) ≡ 264))) (r .reason) ⌝ }
+    ensures { λ r. ⌜ Rest (moveWork (fsAt (now (arena .entry)) (now (mem .entry))) i j (now (old .entry)) (now (name .entry))) (planned (fsAt (now (arena .entry)) (now (mem .entry))) (fsAt (now (arena .entry)) (now (mem .exit))) (r .way) (r .row) (r .other) (now (old .entry)) (now (name .entry)) (entryOf (now (slot .exit))) (r .place) (r .gone) (r .moved)) ((length (now (name .entry)) ≤ 255) × (Planned (now (mem .exit)) (r .row) (r .other) (r .gone) (r .moved) × (length (now (slot .exit)) ≡ 264))) (r .reason) ⌝ }
 {
     let r = move_ask(rec_at(&mem[..], i), rec_at(&mem[..], j), old, name);
     if r != 0 {
@@ -387,7 +503,7 @@ pub fn plan_led(
     name: &[u8],
 ) -> Plan
     requires { ⌜ Admitted (now arena) (now first) (now next) (now mem) × (length (now slot) ≡ 264) ⌝ }
-    ensures { λ r. ⌜ Rest (callMove (now (arena .entry)) (tableIn (now (mem .entry))) h (now (old .entry)) target (now (name .entry))) (planned (start (now (arena .entry)) (tableIn (now (mem .entry)))) (fsAt (now (arena .entry)) (now (mem .exit))) (r .way) (r .row) (r .other) (now (old .entry)) (now (name .entry)) (entryOf (now (slot .exit))) (r .place) (r .gone) (r .moved)) (Agreed (now (arena .entry)) (now (mem .exit)) (now (name .entry)) (now (slot .exit)) (r .way) (r .row) (r .other) (r .gone) (r .moved)) (r .reason) ⌝ }
+    ensures { λ r. ⌜ Rest (callMove (now (arena .entry)) (tableIn (now (mem .entry))) h (now (old .entry)) target (now (name .entry))) (planned (start (now (arena .entry)) (tableIn (now (mem .entry)))) (fsAt (now (arena .entry)) (now (mem .exit))) (r .way) (r .row) (r .other) (now (old .entry)) (now (name .entry)) (entryOf (now (slot .exit))) (r .place) (r .gone) (r .moved)) (Agreed (now (arena .entry)) (now (mem .exit)) (now (name .entry)) (now (slot .exit)) (r .row) (r .other) (r .gone) (r .moved)) (r .reason) ⌝ }
 {
     let b = reach_two_read(arena, first, next, mem, h, target);
     if b.reason != 0 {
@@ -417,7 +533,7 @@ fn decide(
     name: &[u8],
 ) -> Plan
     requires { ⌜ Whole (now mem) × (length (now slot) ≡ 264) ⌝ }
-    ensures { λ r. ⌜ Rest (callMove (now (arena .entry)) (tableIn (now (mem .entry))) h (now (old .entry)) target (now (name .entry))) (planned (start (now (arena .entry)) (tableIn (now (mem .entry)))) (fsAt (now (arena .entry)) (now (mem .exit))) (r .way) (r .row) (r .other) (now (old .entry)) (now (name .entry)) (entryOf (now (slot .exit))) (r .place) (r .gone) (r .moved)) (Agreed (now (arena .entry)) (now (mem .exit)) (now (name .entry)) (now (slot .exit)) (r .way) (r .row) (r .other) (r .gone) (r .moved)) (r .reason) ⌝ }
+    ensures { λ r. ⌜ Rest (callMove (now (arena .entry)) (tableIn (now (mem .entry))) h (now (old .entry)) target (now (name .entry))) (planned (start (now (arena .entry)) (tableIn (now (mem .entry)))) (fsAt (now (arena .entry)) (now (mem .exit))) (r .way) (r .row) (r .other) (now (old .entry)) (now (name .entry)) (entryOf (now (slot .exit))) (r .place) (r .gone) (r .moved)) (Agreed (now (arena .entry)) (now (mem .exit)) (now (name .entry)) (now (slot .exit)) (r .row) (r .other) (r .gone) (r .moved)) (r .reason) ⌝ }
 {
     let mut chains = [0u16; 8192];
     let r = admit(arena, &mut chains, &mem[..]);
@@ -457,9 +573,9 @@ fn move_planned(
     old: &[u8],
     name: &[u8],
 ) -> u8
-    requires { ⌜ Ready (now arena) (now work) (now mem) × (58 ≤ left (now work)) ⌝ }
-    requires { ⌜ Agreed (now arena) (now mem) (now name) (now slot) (p .way) (p .row) (p .other) (p .gone) (p .moved) ⌝ }
-    ensures { λ r. ⌜ Stepped (planSteps (fsOf (now (arena .entry)) (now (work .entry)) (now (mem .entry))) (p .way) (p .row) (p .other) (now (old .entry)) (now (name .entry)) (entryOf (now (slot .entry))) (p .place) (p .gone) (p .moved)) (now (arena .entry)) (now (work .entry)) (now (work .exit)) (now (mem .exit)) 58 r ⌝ }
+    requires { ⌜ Ready (now arena) (now work) (now mem) × (61 ≤ left (now work)) ⌝ }
+    requires { ⌜ Agreed (now arena) (now mem) (now name) (now slot) (p .row) (p .other) (p .gone) (p .moved) ⌝ }
+    ensures { λ r. ⌜ Stepped (planSteps (fsOf (now (arena .entry)) (now (work .entry)) (now (mem .entry))) (p .way) (p .row) (p .other) (now (old .entry)) (now (name .entry)) (entryOf (now (slot .entry))) (p .place) (p .gone) (p .moved)) (now (arena .entry)) (now (work .entry)) (now (work .exit)) (now (mem .exit)) 61 r ⌝ }
 {
     if p.way == 1 {
         return move_slot(arena, work, mem, p.row, p.other, p.place, slot, Gone::Free);
@@ -488,7 +604,7 @@ fn move_in(
     old: &[u8],
     name: &[u8],
 ) -> u8
-    requires { ⌜ Empty (now arena) (now work) 68 × Agreed (now arena) (now mem) (now name) (now slot) (p .way) (p .row) (p .other) (p .gone) (p .moved) ⌝ }
+    requires { ⌜ Empty (now arena) (now work) 71 × Agreed (now arena) (now mem) (now name) (now slot) (p .row) (p .other) (p .gone) (p .moved) ⌝ }
     ensures { λ r. ⌜ Ended (ending (planSteps (fsAt (now (arena .entry)) (now (mem .entry))) (p .way) (p .row) (p .other) (now (old .entry)) (now (name .entry)) (entryOf (now (slot .entry))) (p .place) (p .gone) (p .moved))) (now (arena .entry)) (now (arena .exit)) (tableIn (now (mem .exit))) r ⌝ }
 {
     let r = move_planned(&arena[..], work, mem, slot, p, old, name);
@@ -508,10 +624,10 @@ pub fn move_rows(
     old: &[u8],
     name: &[u8],
 ) -> u8
-    requires { ⌜ Agreed (now arena) (now mem) (now name) (now slot) (p .way) (p .row) (p .other) (p .gone) (p .moved) ⌝ }
+    requires { ⌜ Agreed (now arena) (now mem) (now name) (now slot) (p .row) (p .other) (p .gone) (p .moved) ⌝ }
     ensures { λ r. ⌜ Ended (ending (planSteps (fsAt (now (arena .entry)) (now (mem .entry))) (p .way) (p .row) (p .other) (now (old .entry)) (now (name .entry)) (entryOf (now (slot .entry))) (p .place) (p .gone) (p .moved))) (now (arena .entry)) (now (arena .exit)) (tableIn (now (mem .exit))) r ⌝ }
 {
-    let mut work = [0u8; 34816];
+    let mut work = [0u8; 36352];
     overlay::begin(&mut work);
     move_in(arena, &mut work, mem, slot, p, old, name)
 }

@@ -24,8 +24,8 @@ use Rattle.rules.specs.Tests.{test1, checked}
 use Rattle.fsck.specs.Verdicts.{passOf, verdictOf}
 use Rattle.fsck.specs.declared.Verdict.the-variants as verdicts
 use Rattle.sequences.specs.Pairs.{Pair, pair, Passed}
-use Rattle.sequences.specs.Calls.{Call, root, create, does, next}
-use Rattle.sequences.specs.Promises.{Fresh, Keeps, Plain}
+use Rattle.sequences.specs.Calls.{Call, root, create, does, next, Fits}
+use Rattle.sequences.specs.Promises.{Fresh, Keeps}
 use Rattle.sequences.proofs.Fresh.{fresh as format-fresh}
 use Rattle.sequences.proofs.Sequences.{keeps}
 use Rattle.course_states.specs.Worlds.{epoch, uuid, fresh}
@@ -118,7 +118,7 @@ next-root = rw root-is
 
 root-passed : Passed (pair freshArena rootTable)
 unfolding Keeps
-root-passed = subst (λ (p : Pair). Passed p) next-root (keeps (pair freshArena emptyTable) root fresh-passed (record { fits = tt; leaves = refl }) .passes)
+root-passed = subst (λ (p : Pair). Passed p) next-root (keeps (pair freshArena emptyTable) root fresh-passed tt .passes)
 
 createA : Call
 createA = create (handle 0 1) (97 ∷ []) typeFile 420 epoch (uuid 2)
@@ -127,20 +127,17 @@ next-a : next createA (pair freshArena rootTable) ≡ pair (aWorld .arena) (aWor
 unfolding does createA
 next-a = rw a-done
 
-a-plain : Plain createA (pair freshArena rootTable)
+a-fits : Fits createA
 unfolding createA
-a-plain = record {
-  fits = (
-    record { hold = omega arith; stamp = omega arith },
-    (λ i. bytes-same 1 97 (omega arith) i),
-    record { kind = omega arith; mode = omega arith; time = time-fits; file = length-replicate {A = ℕ} 16 2; bytes = bytes-same 16 2 (omega arith) },
-  );
-  leaves = refl;
-}
+a-fits = (
+  record { hold = omega arith; stamp = omega arith },
+  (λ i. bytes-same 1 97 (omega arith) i),
+  record { kind = omega arith; mode = omega arith; time = time-fits; file = length-replicate {A = ℕ} 16 2; bytes = bytes-same 16 2 (omega arith) },
+)
 
 a-passed : Passed (pair (aWorld .arena) (aWorld .table))
 unfolding Keeps
-a-passed = subst (λ (p : Pair). Passed p) next-a (keeps (pair freshArena rootTable) createA root-passed a-plain .passes)
+a-passed = subst (λ (p : Pair). Passed p) next-a (keeps (pair freshArena rootTable) createA root-passed a-fits .passes)
 
 -- ---- the verdicts
 

@@ -14,7 +14,7 @@ ghost use Rattle.overlay.specs.View.{left};
 ghost use Rattle.table.specs.Table.{rowAt};
 ghost use Rattle.sefs.specs.Records.{withLinks, withBlocks};
 ghost use Rattle.sefs.specs.Nodes.{idAt};
-ghost use Rattle.sefs.specs.Folders.{entry, putSlot, direntInit, direntAppend, direntRemove, nlinksInc, nlinksDec, unlinkFolder, direntNodeRemove};
+ghost use Rattle.sefs.specs.Folders.{entry, dotsEntry, putSlot, direntInit, direntAppend, direntRemove, nlinksInc, nlinksDec, unlinkFolder, direntNodeRemove};
 ghost use Rattle.mem.specs.Mem.{tableIn, Whole};
 ghost use Rattle.mem.specs.State.{fsOf, Ready, Stepped};
 ghost use Rattle.folders.specs.Steps.{Blocked, Linked, shortened, unlinkDots};
@@ -100,9 +100,9 @@ fn put_dot(arena: &[u8], work: &mut [u8], mem: &[u8], i: usize) -> u8
     put_slot(arena, work, mem, i, 0, &slot)
 }
 
-fn put_dots(arena: &[u8], work: &mut [u8], mem: &[u8], i: usize, parent: u32) -> u8
+pub fn put_dots(arena: &[u8], work: &mut [u8], mem: &[u8], i: usize, parent: u32) -> u8
     requires { ⌜ Ready (now arena) (now work) (now mem) × ((3 ≤ left (now work)) × (i < 34)) ⌝ }
-    ensures { λ r. ⌜ Stepped (putSlot (fsOf (now (arena .entry)) (now (work .entry)) (now (mem .entry))) i 1 (entryBytes (entry parent (46 ∷ 46 ∷ []) typeDir))) (now (arena .entry)) (now (work .entry)) (now (work .exit)) (now (mem .entry)) 3 r ⌝ }
+    ensures { λ r. ⌜ Stepped (putSlot (fsOf (now (arena .entry)) (now (work .entry)) (now (mem .entry))) i 1 (entryBytes (dotsEntry parent))) (now (arena .entry)) (now (work .entry)) (now (work .exit)) (now (mem .entry)) 3 r ⌝ }
 {
     let mut slot = [0u8; 264];
     put_entry(&mut slot, parent, b"..", 2);

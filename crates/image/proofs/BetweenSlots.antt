@@ -1,5 +1,4 @@
--- The first two steps of a move between folders: the slot is put at the end of the one and removed from the other. What does not stick then, whatever
--- moves.
+-- The first two steps of a move between folders: the slot is put at the end of the one and removed from the other.
 use mathlib.Core.Path.{_≡_, refl, sym, ap, _∙_, subst}
 use mathlib.Core.Bool.{true}
 use mathlib.Core.List.{List}
@@ -10,39 +9,26 @@ use Rattle.base.specs.Out.{done, Ok}
 use Rattle.base.proofs.Outs.{ok-weaken}
 use Rattle.structs.specs.Layout.{entryBytes}
 use Rattle.structs.specs.declared.DiskEntry.{DiskEntry}
-use Rattle.structs.specs.declared.SuperBlock.{SuperBlock}
 use Rattle.arena.specs.Fields.{file}
-use Rattle.table.specs.declared.Table.{Table}
 use Rattle.table.specs.declared.Row.{Row}
 use Rattle.table.specs.Table.{rowAt, takeRow}
 use Rattle.files.specs.Read.{there}
 use Rattle.files_laws.specs.Laws.{Put, Kept}
-use Rattle.sefs.specs.State.{Fs, Meta, withArena}
-use Rattle.sefs.specs.Meta.{isUsed}
+use Rattle.sefs.specs.State.{Fs, withArena}
 use Rattle.sefs.specs.Records.{withBlocks}
 use Rattle.sefs.specs.Nodes.{nodeFile, recAt, idAt, setRec}
 use Rattle.sefs.specs.Slots.{Slot, slotBytes}
 use Rattle.sefs.specs.Folders.{direntRemove}
 use Rattle.sefs.specs.Move.{Replaced, renamed}
-use Rattle.rules.specs.Image.{run, storedSuper, isNode, recOf}
-use Rattle.rules.proofs.Files.{node-below}
-use Rattle.image.specs.Midway.{storedMeta, Midway}
-use Rattle.image.proofs.Nodes.{there-meta, used-is, node-some}
-use Rattle.image.proofs.Stores.{node-apart}
-use Rattle.image.proofs.Drops.{super-kept, maps-kept}
-use Rattle.image.proofs.Resets.{reset-apart, recs-kept}
+use Rattle.rules.specs.Image.{run, recOf}
+use Rattle.image.proofs.Resets.{reset-apart}
 use Rattle.image.proofs.Appends.{Appended, slot-kept, put-small}
 use Rattle.image.proofs.Removes.{Gone, RemovedAt, remove-law}
 use Rattle.image.proofs.Moving.{Moving, owns}
-use Rattle.image.proofs.Movings.{slot-read, live-there, live-long, live-kind, moves-node, moves-fits, moves-files}
+use Rattle.image.proofs.Movings.{slot-read, live-there, live-long, live-kind, moves-fits, moves-files}
 use Rattle.tree.proofs.Trees.{at}
 use Rattle.image.proofs.Counts.{Counts, counts-none, counts-blocks}
 use Rattle.image.proofs.Carries.{Carried, put-bytes, put-sound, put-from, carried-slot}
-use Rattle.image.proofs.Holding.{Seat, Alive, Holding}
-
--- a node's id is one that a record may have
-pub node-seat : (s : Fs) {own : ℕ → Type 0} → Midway own (s .arena) (s .table) → (x : ℕ) → isNode (s .arena) x ≡ true → Seat (storedSuper (s .arena) .groups) x
-node-seat s M x n = record { some = node-some (s .arena) (s .table) (M .fair) x n; off = node-apart (s .arena) x n; below = node-below (s .arena) x n }
 
 -- the counts of slots before
 abbrev pub slotsOf : Fs → ℕ → ℕ
@@ -51,46 +37,13 @@ slotsOf s x = recOf (s .arena) (s .table) x .blocks
 abbrev pub linksOf : Fs → ℕ → ℕ
 linksOf s x = recOf (s .arena) (s .table) x .nlinks
 
-module _ (s : Fs) (i j : ℕ) (old : Slot) (name : List ℕ) (r : Replaced) (M : Moving s i j old name r) where
-  -- what does not stick: the image in memory and on the arena, whatever the counts
-  pub holding-carried : (k l : ℕ) (b : List ℕ) → Carried (s .arena) (recAt s i .file) (recAt s i .blocks - 1) (old .place) (recAt s j .file) (recAt s j .blocks) k l (renamed (old .entry) name) b
-      → (B L : ℕ → ℕ) (u : Table) → Counts (owns r) (s .arena) (s .table) B L u → L (old .entry .id) ≢ 0
-      → Holding (owns r) (storedSuper (s .arena) .groups) (old .entry .id) (recOf (s .arena) (s .table) (old .entry .id) .kind) (record { arena = b; table = u; meta = s .meta })
-  holding-carried k l b C B L u S n =
-      let c : ℕ = old .entry .id in
-      let m : storedMeta b ≡ storedMeta (s .arena) = λ x. record { super = super-kept (s .arena) b (C .meta) x; maps = maps-kept (s .arena) b (C .meta) x } in
-      let q = recs-kept (s .arena) b u (C .meta) (old .entry .id) in
-      record {
-        ground = record {
-          bytes = C .bytes;
-          sound = C .sound;
-          exists = C .meta .exists ∙ there-meta (s .arena) (s .table) (M .mid .fair);
-          long = C .meta .long ∙ M .mid .fair .rule3 .length;
-          groups = ap (λ (x : SuperBlock). x .groups) (super-kept (s .arena) b (C .meta));
-          few = M .mid .fair .rule3 .few;
-          known = ap (λ (x : Meta). isUsed x (old .entry .id)) m ∙ used-is (s .arena) (s .table) (M .mid .fair) (old .entry .id) (moves-node s i j old name r M);
-        };
-        meta = M .meta ∙ ap done (sym m);
-        formed = S .formed;
-        fits = S .fits;
-        seats = λ x w. subst (Seat (storedSuper (s .arena) .groups)) (sym (S .ids x))
-            (node-seat s (M .mid) (rowAt (s .table) x .id) (M .mid .fair .rule4 .node x (w .below) (λ z. w .node (S .ids x ∙ z))));
-        alive = subst (Alive b (recOf (s .arena) (s .table) (old .entry .id) .kind)) (sym q)
-            (record {
-              kind = S .kinds (old .entry .id);
-              links = λ z. n (sym (S .links (old .entry .id)) ∙ z);
-              file = C .exists (recOf (s .arena) u (old .entry .id) .file) ∙ ap (λ (x : List ℕ). there (s .arena) (file 1 x)) (S .files (old .entry .id))
-                  ∙ M .mid .fair .rule5 .own (old .entry .id) (moves-node s i j old name r M);
-            });
-      }
-
 -- after both steps
-pub record Carrying (s : Fs) (i j : ℕ) (old : Slot) (name : List ℕ) (r : Replaced) (x : Fs) : Type 0 where
+pub record Carrying (own : ℕ → Type 0) (s : Fs) (i j : ℕ) (old : Slot) (name : List ℕ) (r : Replaced) (x : Fs) : Type 0 where
   pub files : Carried (s .arena) (recAt s i .file) (recAt s i .blocks - 1) (old .place) (recAt s j .file) (recAt s j .blocks) (recAt s j .blocks) (recAt s j .blocks + 1) (renamed (old .entry) name) (x .arena)
-  pub rows : Counts (owns r) (s .arena) (s .table) (at (idAt s i) (recAt s i .blocks - 1) (at (idAt s j) (recAt s j .blocks + 1) (slotsOf s))) (linksOf s) (x .table)
+  pub rows : Counts (owns own r) (s .arena) (s .table) (at (idAt s i) (recAt s i .blocks - 1) (at (idAt s j) (recAt s j .blocks + 1) (slotsOf s))) (linksOf s) (x .table)
   pub meta : x .meta ≡ s .meta
 
-module _ (s : Fs) (i j : ℕ) (old : Slot) (name : List ℕ) (r : Replaced) (M : Moving s i j old name r) (apart : idAt s i ≢ idAt s j) where
+module _ {own : ℕ → Type 0} (s : Fs) (i j : ℕ) (old : Slot) (name : List ℕ) (r : Replaced) (M : Moving own s i j old name r) (apart : idAt s i ≢ idAt s j) where
   abbrev e : DiskEntry
   e = renamed (old .entry) name
 
@@ -121,24 +74,24 @@ module _ (s : Fs) (i j : ℕ) (old : Slot) (name : List ℕ) (r : Replaced) (M :
         (subst (λ (x : DiskEntry). x .kind ≤ 4) (sym (slot-kept (s .arena) b (recAt s i) (recAt s i) refl B (recAt s i .blocks - 1)))
         (live-kind s (M .mid) i (M .from) (recAt s i .blocks - 1) (omega (arith, M .later, M .inside)) (omega (arith, M .inside))))
 
-    first : Counts (owns r) (s .arena) (s .table) (at (idAt s j) (recAt s j .blocks + 1) (slotsOf s)) (linksOf s) (x1 .table)
+    first : Counts (owns own r) (s .arena) (s .table) (at (idAt s j) (recAt s j .blocks + 1) (slotsOf s)) (linksOf s) (x1 .table)
     first =
         counts-blocks (s .arena) (s .table) (slotsOf s) (linksOf s) (s .table) (counts-none (s .arena) (s .table) (M .mid)) j (M .to .used) (recAt s j .blocks + 1)
         (put-small (s .arena) (recAt s j .file) (recAt s j .blocks) e (moves-fits s i j old name r M) is-j b P)
 
-    carries : (x : Fs) → RemovedAt x1 i (old .place) x → Carrying s i j old name r x
-    carries x R = subst (Carrying s i j old name r) (sym (R .is)) (record {
+    carries : (x : Fs) → RemovedAt x1 i (old .place) x → Carrying own s i j old name r x
+    carries x R = subst (Carrying own s i j old name r) (sym (R .is)) (record {
       files = carried-slot (s .arena) (recAt s i .file) (recAt s i .blocks - 1) (old .place) (recAt s j .file) (recAt s j .blocks) e (moves-files s i j old name r M apart) (M .mid .bytes) (M .mid .fair .rule1 .sound)
           is-i is-j (moves-fits s i j old name r M) (live-long s (M .mid) j (M .to)) below b P (R .arena)
           (subst (λ (y : Row). Gone b (y .rec .file) (y .rec .blocks - 1) (old .place) (R .arena)) row-i (R .gone));
-      rows = subst (λ (y : Row). Counts (owns r) (s .arena) (s .table) (at (idAt s i) (y .rec .blocks - 1) (at (idAt s j) (recAt s j .blocks + 1) (slotsOf s))) (linksOf s)
+      rows = subst (λ (y : Row). Counts (owns own r) (s .arena) (s .table) (at (idAt s i) (y .rec .blocks - 1) (at (idAt s j) (recAt s j .blocks + 1) (slotsOf s))) (linksOf s)
           (takeRow (x1 .table) i (rowAt (x1 .table) i .id) (withBlocks (rowAt (x1 .table) i .rec) (rowAt (x1 .table) i .rec .blocks - 1)) true)) row-i
           (counts-blocks (s .arena) (s .table) (at (idAt s j) (recAt s j .blocks + 1) (slotsOf s)) (linksOf s) (x1 .table) first i (M .from .used) (rowAt (x1 .table) i .rec .blocks - 1)
           (omega (arith, first .fits .rows i (M .from .used .below) .rec .blocks)));
       meta = refl;
     })
 
-    removes : Ok (Carrying s i j old name r) (λ n. n ≡ 17) (direntRemove x1 i (old .place))
+    removes : Ok (Carrying own s i j old name r) (λ n. n ≡ 17) (direntRemove x1 i (old .place))
     removes =
         ok-weaken (λ x R. carries x R) (λ n q. q)
         (remove-law x1 i (old .place) (subst (λ (y : Row). old .place < y .rec .blocks) (sym row-i) (M .inside))
@@ -150,5 +103,5 @@ module _ (s : Fs) (i j : ℕ) (old : Slot) (name : List ℕ) (r : Replaced) (M :
         (subst (λ (y : Row). slotBytes b (y .rec) (y .rec .blocks - 1) ≡ done (run b (nodeFile (y .rec)) (264 * (y .rec .blocks - 1)) 264)) (sym row-i) last))
 
   -- the second step, after the first
-  pub carry-law : (x : Fs) → Appended s j (renamed (old .entry) name) x → Ok (Carrying s i j old name r) (λ n. n ≡ 17) (direntRemove x i (old .place))
-  carry-law x A = subst (λ (y : Fs). Ok (Carrying s i j old name r) (λ n. n ≡ 17) (direntRemove y i (old .place))) (sym (A .is)) (removes (A .arena) (A .put))
+  pub carry-law : (x : Fs) → Appended s j (renamed (old .entry) name) x → Ok (Carrying own s i j old name r) (λ n. n ≡ 17) (direntRemove x i (old .place))
+  carry-law x A = subst (λ (y : Fs). Ok (Carrying own s i j old name r) (λ n. n ≡ 17) (direntRemove y i (old .place))) (sym (A .is)) (removes (A .arena) (A .put))

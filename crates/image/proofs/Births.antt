@@ -37,13 +37,11 @@ use Rattle.image.specs.Midway.{Used, Fair, treeOf, storedMeta, Midway}
 use Rattle.image.proofs.Images.{Like, root-node, head-there, there-head}
 use Rattle.tree.specs.Tree.{Tree, Tidy}
 use Rattle.tree.proofs.Trees.{folder-is}
-use Rattle.image.proofs.TreeOf.{tidy-six, tidy-seven, tidy-eight}
 use Rattle.tree.proofs.Naming.{Names, May, names-tidy}
 use Rattle.tree.proofs.Born.{Born, born-tidy}
 use Rattle.image.proofs.Nodes.{node-some}
 use Rattle.image.proofs.Metas.{kept-same}
 use Rattle.image.proofs.Drops.{mid-rec}
-use Rattle.image.proofs.Resets.{fair-tidy}
 use Rattle.image.proofs.Appends.{slot-kept}
 use Rattle.image.proofs.NewNames.{NewName}
 use Rattle.image.proofs.Inits.{dot-name, dots-name}
@@ -302,7 +300,7 @@ module _ (a b : List ℕ) (t u : Table) (M : Midway none a t) (i : ℕ) (ui : Us
   }
 
   tidy : Tidy (treeOf b u)
-  tidy = names-tidy w (treeOf b u) d id e (born-tidy v w id (fair-tidy a t A) born) tree may
+  tidy = names-tidy w (treeOf b u) d id e (born-tidy v w id (A .tidy) born) tree may
 
   -- ---- the other rules
 
@@ -378,7 +376,5 @@ module _ (a b : List ℕ) (t u : Table) (M : Midway none a t) (i : ℕ) (ui : Us
       other = λ k l g h. heads (block.nameOf (blk b k)) (head-there b k l g h);
       root = old-kind 2 (root-node a t A) ∙ A .rule5 .root;
     };
-    rule6 = tidy-six b u tidy;
-    rule7 = tidy-seven b u tidy;
-    rule8 = tidy-eight b u tidy;
+    tidy = tidy;
   }

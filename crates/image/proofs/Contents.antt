@@ -40,11 +40,11 @@ use Rattle.rules.specs.Image.{isNode, recOf, isOpen, isFolderAt, slotIn}
 use Rattle.tree.specs.Tree.{Tidy, folderAt}
 use Rattle.tree.proofs.Trees.{folder-is}
 use Rattle.tree.proofs.Contents.{withContents, contents-tidy}
-use Rattle.image.specs.Midway.{Used, Fair, treeOf, Midway}
+use Rattle.image.specs.Midway.{Used, Fair, treeOf, plain, Midway}
 use Rattle.image.proofs.Metas.{kept-then, node-other}
 use Rattle.image.proofs.Appends.{slot-kept}
 use Rattle.image.proofs.Drops.{mid-rec}
-use Rattle.image.proofs.Resets.{Cleans, reset-id, reset-open, reset-own, reset-other, reset-formed, reset-fits, reset-clean, recs-kept, nodes-kept, ids-kept, fair-tidy, fair-by-tree}
+use Rattle.image.proofs.Resets.{Cleans, reset-id, reset-open, reset-own, reset-other, reset-formed, reset-fits, reset-clean, recs-kept, nodes-kept, ids-kept, fair-by-tree}
 use Rattle.files_laws.specs.Laws as laws
 
 -- ---- the arena: file f has length n, and every other file is as it was
@@ -204,7 +204,7 @@ module _ {own : ℕ → Type 0} (a : List ℕ) (t : Table) (M : Midway own a t) 
         (eq-cases x d)))
       where
         I : Tidy (treeOf a t)
-        I = fair-tidy a t (M .fair)
+        I = M .fair .tidy
 
     theirs : (f : List ℕ) → there b (file 1 f) ≡ there a (file 1 f)
     theirs f =
@@ -215,7 +215,7 @@ module _ {own : ℕ → Type 0} (a : List ℕ) (t : Table) (M : Midway own a t) 
 
     rewritten-mid : Midway own b u
     rewritten-mid = record {
-      fair = fair-by-tree a b t u A
+      fair = fair-by-tree plain a b t u A
           (record { length = legal-same a b (B .size) ∙ A .rule1 .length; sound = B .sound })
           K theirs (S .ids) (S .clean) (λ x m. kinds x) (λ x m. files x) tidy;
       formed = S .formed;
@@ -241,7 +241,7 @@ module _ {own : ℕ → Type 0} (s : Fs) (M : Midway own (s .arena) (s .table)) 
   long-is =
       let e = rec-is a (s .table) M i used in
       ap (λ (r : DiskINode). lengthOf a (nodeFile r)) (sym e)
-      ∙ M .fair .rule6 .size (rowAt (s .table) i .id) (M .fair .rule4 .node i (used .below) (used .node))
+      ∙ M .fair .tidy .sized (rowAt (s .table) i .id) (M .fair .rule4 .node i (used .below) (used .node))
       (test-fails _ (λ x. true-false (and-parts (isNode a (rowAt (s .table) i .id)) _ x .1) (ap (λ (r : DiskINode). isFolder (r .kind)) e ∙ no-dir)))
       ∙ ap (λ (r : DiskINode). r .size) e
 

@@ -13,7 +13,7 @@ use Rattle.table_bytes.specs.Fits.{TableFits}
 use Rattle.table_laws.specs.Rules.{Formed}
 use Rattle.sefs.specs.Records.{withLinks, withBlocks}
 use Rattle.rules.specs.Image.{recOf, isOpen}
-use Rattle.image.specs.Midway.{Used, Midway}
+use Rattle.image.specs.Midway.{Used, Look, Amid}
 use Rattle.image.proofs.Drops.{mid-rec}
 use Rattle.image.proofs.Resets.{Cleans, reset-id, reset-open, reset-own, reset-other, reset-formed, reset-fits, reset-clean}
 use Rattle.image.proofs.Records.{links-fit, blocks-fit}
@@ -32,7 +32,7 @@ pub record Counts (own : ℕ → Type 0) (a : List ℕ) (t : Table) (B L : ℕ �
   pub blocks : (x : ℕ) → recOf a u x .blocks ≡ B x
   pub links : (x : ℕ) → recOf a u x .nlinks ≡ L x
 
-pub counts-none : {own : ℕ → Type 0} (a : List ℕ) (t : Table) → Midway own a t → Counts own a t (λ x. recOf a t x .blocks) (λ x. recOf a t x .nlinks) t
+pub counts-none : {way : Look} {own : ℕ → Type 0} (a : List ℕ) (t : Table) → Amid way own a t → Counts own a t (λ x. recOf a t x .blocks) (λ x. recOf a t x .nlinks) t
 counts-none a t M = record {
   formed = M .formed;
   fits = M .fits;

@@ -45,13 +45,13 @@ use Rattle.sefs.specs.Meta.{metaFile, mapAt, freeBlock}
 use Rattle.sefs.specs.Nodes.{nodeFile, recAt, idAt, noRow, freeNode, dropNode, release}
 use Rattle.rules.specs.Image.{run, storedSuper, mapsTo, storedMaps, idsIn, isNode, storedBytes, recBy, recOf, isOpen}
 use Rattle.rules.proofs.Files.{node-below}
-use Rattle.image.specs.Midway.{Used, storedMeta, Midway}
+use Rattle.image.specs.Midway.{Used, storedMeta, treeOf, Look, look, Amid}
 use Rattle.image.proofs.Slots.{run-bytes}
-use Rattle.image.proofs.Images.{like-same, alike-same, image-fair}
+use Rattle.image.proofs.Images.{like-same, alike-same, Off, nodes-by, image-fair}
 use Rattle.image.proofs.Records.{fits-row}
 use Rattle.image.proofs.Nodes.{there-meta, used-is, node-some}
 use Rattle.image.proofs.Metas.{length-mapsTo, bytes-mapsTo, kept-same, kept-then, Within, MetaPut, MetaFits, node-other, sync-meta-law}
-use Rattle.image.proofs.Freed.{oneMore, freed-fair}
+use Rattle.image.proofs.Freed.{oneMore, freed-node, freed-fair}
 use Rattle.image.proofs.Stores.{node-apart, Synced, sync-mid}
 use Rattle.files_laws.specs.Laws as laws
 use Rattle.files_laws.proofs.Drop as drops
@@ -111,11 +111,11 @@ mid-rec a t O i u = ap (recBy a t (rowAt t i .id)) (row-is t O i (u .below) (u .
 -- superblock and maps can be stored when an id is freed
 module _ (a : List ℕ) (y : Bytes a) (some : 1 ≤ storedSuper a .groups) (end : lengthOf a metaFile ≡ 131072 * storedSuper a .groups)
     (spare : storedSuper a .unused + 1 < 4294967296) (id : ℕ) (below : id < idsIn a) where
-  pub freed-inside : id / 8 < length (storedMaps a)
+  freed-inside : id / 8 < length (storedMaps a)
   unfolding storedMaps
   freed-inside = omega (arith, length-mapsTo a (storedSuper a .groups))
 
-  pub freed-fits : MetaFits a (record { super = oneMore (storedSuper a); maps = withBit (storedMaps a) id true })
+  freed-fits : MetaFits a (record { super = oneMore (storedSuper a); maps = withBit (storedMaps a) id true })
   unfolding storedSuper storedMaps
   freed-fits =
       let F = superOf-fits (run a metaFile 0 16) (run-bytes a metaFile 0 16 y) in
@@ -133,7 +133,7 @@ Unheld t i = (n : ℕ) → n < 32 → (holdAt t n .stamp ≡ 0 → ⊥) → hold
 
 -- ---- a row in use, clean and not held, becomes free
 
-module _ {own : ℕ → Type 0} (a : List ℕ) (t : Table) (i : ℕ) (M : Midway (also own i) a t) (used : Used t i) (clean : rowAt t i .dirty ≡ false) (unheld : Unheld t i) where
+module _ {way : Look} {own : ℕ → Type 0} (a : List ℕ) (t : Table) (i : ℕ) (M : Amid way (also own i) a t) (used : Used t i) (clean : rowAt t i .dirty ≡ false) (unheld : Unheld t i) where
   abbrev id : ℕ
   id = rowAt t i .id
 
@@ -206,14 +206,14 @@ module _ {own : ℕ → Type 0} (a : List ℕ) (t : Table) (i : ℕ) (M : Midway
       (eq-cases k id)
 
   -- with links, that is all
-  pub row-dropped : rowAt t i .rec .nlinks ≢ 0 → Midway own a (freeRowAt t i)
-  row-dropped links = record {
+  pub row-dropped : Off way (rowAt t i .id) → rowAt t i .rec .nlinks ≢ 0 → Amid way own a (freeRowAt t i)
+  row-dropped off links = record {
     fair = image-fair a a t w (M .fair) (alike-same a) (M .fair .rule1)
         (λ j l. split (λ (x : Row). x .id ≢ 0 → isNode a (x .id) ≡ true) j (λ e z. absurd (z refl)) (λ d. M .fair .rule4 .node j l))
         (λ j l. split (λ (x : Row). x .id ≢ 0 → x .dirty ≡ false → recordBytes (x .rec) ≡ storedBytes a (x .id)) j (λ e z. absurd (z refl)) (λ d. M .fair .rule4 .clean j l))
         (λ k m. like-same (row-recs k m))
         (λ k m z o. ⊎-elim
-        (λ (e : k ≡ id). absurd (links (ap (λ (r : DiskINode). r .nlinks) (sym rec-is) ∙ ap (λ (j : ℕ). recOf a t j .nlinks) (sym e) ∙ z)))
+        (λ (e : k ≡ id). absurd (links (ap (λ (r : DiskINode). r .nlinks) (sym rec-is) ∙ sym (off (treeOf a t)) ∙ ap (look way (treeOf a t) .links) (sym e) ∙ z)))
         (λ d. other-open k m d o)
         (eq-cases k id));
     formed = w-formed;
@@ -226,9 +226,9 @@ module _ {own : ℕ → Type 0} (a : List ℕ) (t : Table) (i : ℕ) (M : Midway
   abbrev left : Meta
   left = record { super = oneMore (storedSuper a); maps = withBit (storedMaps a) id true }
 
-  module _ (nil : rowAt t i .rec .nlinks ≡ 0) where
-    none-links : recOf a t id .nlinks ≡ 0
-    none-links = ap (λ (r : DiskINode). r .nlinks) rec-is ∙ nil
+  module _ (off : Off way (rowAt t i .id)) (nil : rowAt t i .rec .nlinks ≡ 0) where
+    none-links : look way (treeOf a t) .links id ≡ 0
+    none-links = off (treeOf a t) ∙ ap (λ (r : DiskINode). r .nlinks) rec-is ∙ nil
 
     few-unused : storedSuper a .unused + 1 < 4294967296
     few-unused = omega (arith, M .fair .rule3 .unused, setBits-le (storedMaps a) (idsIn a), M .fair .rule3 .few)
@@ -250,7 +250,13 @@ module _ {own : ℕ → Type 0} (a : List ℕ) (t : Table) (i : ℕ) (M : Midway
       file-is : rowAt t i .rec .file ≡ recOf a t id .file
       file-is = ap (λ (r : DiskINode). r .file) (sym rec-is)
 
-      pub node-dropped : Midway own c (freeRowAt t i)
+      meta-left : storedMeta c ≡ left
+      meta-left = λ x. record { super = (super-kept b c meta-kept ∙ P .super) x; maps = (maps-kept b c meta-kept ∙ P .maps) x }
+
+      others-left : (k : ℕ) → isNode a k ≡ true → k ≢ rowAt t i .id → (isNode c k ≡ true) × (recOf c (freeRowAt t i) k ≡ recOf a t k)
+      others-left k m d = (freed-node a c id n (super-kept b c meta-kept ∙ P .super) (maps-kept b c meta-kept ∙ P .maps) k d ∙ m, other-rec c stored-same k m d)
+
+      pub node-dropped : Amid way own c (freeRowAt t i)
       node-dropped = record {
         fair = freed-fair a c t w (M .fair) id n none-links
             (super-kept b c meta-kept ∙ P .super) (maps-kept b c meta-kept ∙ P .maps) (meta-kept .long ∙ P .within .long)
@@ -270,7 +276,7 @@ module _ {own : ℕ → Type 0} (a : List ℕ) (t : Table) (i : ℕ) (M : Midway
 -- ---- the steps
 
 -- the id is freed in memory
-free-block-is : {own : ℕ → Type 0} (s : Fs) (i : ℕ) (M : Midway (also own i) (s .arena) (s .table)) → Used (s .table) i → s .meta ≡ done (storedMeta (s .arena))
+free-block-is : {way : Look} {own : ℕ → Type 0} (s : Fs) (i : ℕ) (M : Amid way (also own i) (s .arena) (s .table)) → Used (s .table) i → s .meta ≡ done (storedMeta (s .arena))
     → freeBlock s (idAt s i) ≡ done (withMeta s (record { super = oneMore (storedSuper (s .arena)); maps = withBit (storedMaps (s .arena)) (rowAt (s .table) i .id) true }))
 unfolding freeBlock
 free-block-is s i M u e =
@@ -280,20 +286,32 @@ free-block-is s i M u e =
       lt-ltb (storedSuper (s .arena) .unused + 1) 4294967296 (omega (arith, M .fair .rule3 .unused, setBits-le (storedMaps (s .arena)) (idsIn (s .arena)), M .fair .rule3 .few)),
     )
 
-pub drop-file : (b : List ℕ) (f : File) → there b f ≡ true → Ok (Drop b f) (λ r. r ≡ 17) (dropFile b f)
+drop-file : (b : List ℕ) (f : File) → there b f ≡ true → Ok (Drop b f) (λ r. r ≡ 17) (dropFile b f)
 drop-file b f e = ok-weaken (λ c D. D) (λ r q. why q) (drops.drop-law b f)
   where
     why : {r : ℕ} → DropRefused b f r → r ≡ 17
     why (laws.missing q) = absurd (true-false e q)
 
-free-law : {own : ℕ → Type 0} (s : Fs) (i : ℕ) → Midway (also own i) (s .arena) (s .table) → Used (s .table) i → rowAt (s .table) i .dirty ≡ false → Unheld (s .table) i
-    → rowAt (s .table) i .rec .nlinks ≡ 0 → s .meta ≡ done (storedMeta (s .arena))
-    → Ok (λ (d : Fs). Midway own (d .arena) (freeRowAt (d .table) i) × (d .table ≡ s .table)) (λ r. r ≡ 17) (freeNode s i)
+-- a node is one still, with its record
+pub record Remains (s d : Fs) (k : ℕ) : Type 0 where
+  pub node : isNode (d .arena) k ≡ true
+  pub rec : recOf (d .arena) (d .table) k ≡ recOf (s .arena) (s .table) k
+
+-- a state whose row i is to be free
+record Frees (way : Look) (own : ℕ → Type 0) (s : Fs) (i : ℕ) (d : Fs) : Type 0 where
+  mid : Amid way own (d .arena) (freeRowAt (d .table) i)
+  table : d .table ≡ s .table
+  meta : d .meta ≡ done (storedMeta (d .arena))
+  others : (k : ℕ) → isNode (s .arena) k ≡ true → k ≢ idAt s i → (isNode (d .arena) k ≡ true) × (recOf (d .arena) (freeRowAt (d .table) i) k ≡ recOf (s .arena) (s .table) k)
+
+free-law : {way : Look} {own : ℕ → Type 0} (s : Fs) (i : ℕ) → Amid way (also own i) (s .arena) (s .table) → Used (s .table) i → rowAt (s .table) i .dirty ≡ false → Unheld (s .table) i
+    → Off way (idAt s i) → rowAt (s .table) i .rec .nlinks ≡ 0 → s .meta ≡ done (storedMeta (s .arena))
+    → Ok (Frees way own s i) (λ r. r ≡ 17) (freeNode s i)
 unfolding freeNode
-free-law {own = own} s i M u clean unheld nil e =
+free-law {way = way} {own = own} s i M u clean unheld off nil e =
     rw (free-block-is s i M u e)
-    (ok-bind (sync-meta-law (s .arena) m (within-own (s .arena) (s .table) i M u clean unheld nil) (left-fits (s .arena) (s .table) i M u clean unheld nil) x refl refl) λ d h.
-    ends d (h .0) (h .2))
+    (ok-bind (sync-meta-law (s .arena) m (within-own (s .arena) (s .table) i M u clean unheld off nil) (left-fits (s .arena) (s .table) i M u clean unheld off nil) x refl refl) λ d h.
+    ends d (h .0) (h .1) (h .2))
   where
     m : Meta
     m = record { super = oneMore (storedSuper (s .arena)); maps = withBit (storedMaps (s .arena)) (rowAt (s .table) i .id) true }
@@ -307,51 +325,71 @@ free-law {own = own} s i M u clean unheld nil e =
     is-there : there (s .arena) (nodeFile (rowAt (s .table) i .rec)) ≡ true
     is-there = ap (λ (r : DiskINode). there (s .arena) (nodeFile r)) (sym (mid-rec (s .arena) (s .table) (M .formed) i u)) ∙ M .fair .rule5 .own (rowAt (s .table) i .id) n
 
-    ends : (d : Fs) → d .table ≡ s .table → MetaPut (s .arena) (record { super = oneMore (storedSuper (s .arena)); maps = withBit (storedMaps (s .arena)) (rowAt (s .table) i .id) true }) (d .arena)
-        → Ok (λ (d : Fs). Midway own (d .arena) (freeRowAt (d .table) i) × (d .table ≡ s .table)) (λ r. r ≡ 17) (bind (dropFile (d .arena) (nodeFile (recAt d i))) (λ c. done (withArena d c)))
-    ends d q P =
+    ends : (d : Fs) → d .table ≡ s .table → d .meta ≡ done (record { super = oneMore (storedSuper (s .arena)); maps = withBit (storedMaps (s .arena)) (rowAt (s .table) i .id) true }) → MetaPut (s .arena) (record { super = oneMore (storedSuper (s .arena)); maps = withBit (storedMaps (s .arena)) (rowAt (s .table) i .id) true }) (d .arena)
+        → Ok (Frees way own s i) (λ r. r ≡ 17) (bind (dropFile (d .arena) (nodeFile (recAt d i))) (λ c. done (withArena d c)))
+    ends d q m P =
         let r : rowAt (d .table) i .rec ≡ rowAt (s .table) i .rec = ap (λ (y : Table). rowAt y i .rec) q in
         ok-bind (drop-file (d .arena) (nodeFile (recAt d i)) (ap (λ (y : DiskINode). there (d .arena) (nodeFile y)) r ∙ P .within .files (rowAt (s .table) i .rec .file) .exists ∙ is-there)) λ c D.
-        went (
-          subst (λ (y : Table). Midway own c (freeRowAt y i)) (sym q)
-              (node-dropped (s .arena) (s .table) i M u clean unheld nil (d .arena) P c (subst (λ (y : DiskINode). Drop (d .arena) (nodeFile y) c) r D)),
-          q,
-        )
+        let D = subst (λ (y : DiskINode). Drop (d .arena) (nodeFile y) c) r D in
+        went (record {
+          mid = subst (λ (y : Table). Amid way own c (freeRowAt y i)) (sym q) (node-dropped (s .arena) (s .table) i M u clean unheld off nil (d .arena) P c D);
+          table = q;
+          meta = m ∙ ap done (sym (meta-left (s .arena) (s .table) i M u clean unheld off nil (d .arena) P c D));
+          others = subst (λ (y : Table). (k : ℕ) → isNode (s .arena) k ≡ true → k ≢ rowAt (s .table) i .id → (isNode c k ≡ true) × (recOf c (freeRowAt y i) k ≡ recOf (s .arena) (s .table) k)) (sym q)
+              (others-left (s .arena) (s .table) i M u clean unheld off nil (d .arena) P c D);
+        })
 
--- what is left then: the other rows have the ids that they had
-pub record Dropped (own : ℕ → Type 0) (s : Fs) (i : ℕ) (d : Fs) : Type 0 where
-  pub mid : Midway own (d .arena) (d .table)
+-- what is left then: the other rows have the ids that they had, and the other nodes their records
+pub record Dropped (way : Look) (own : ℕ → Type 0) (s : Fs) (i : ℕ) (d : Fs) : Type 0 where
+  pub mid : Amid way own (d .arena) (d .table)
   pub ids : (j : ℕ) → (j ≡ i → ⊥) → rowAt (d .table) j .id ≡ rowAt (s .table) j .id
+  pub meta : d .meta ≡ done (storedMeta (d .arena))
+  pub others : (k : ℕ) → isNode (s .arena) k ≡ true → k ≢ idAt s i → Remains s d k
 
 -- 000's Drop of a node that nobody holds
-pub drop-law : {own : ℕ → Type 0} (s : Fs) (i : ℕ) → Midway (also own i) (s .arena) (s .table) → Used (s .table) i → Unheld (s .table) i → s .meta ≡ done (storedMeta (s .arena))
-    → Ok (Dropped own s i) (λ r. r ≡ 17) (dropNode s i)
+pub drop-law : {way : Look} {own : ℕ → Type 0} (s : Fs) (i : ℕ) → Amid way (also own i) (s .arena) (s .table) → Used (s .table) i → Unheld (s .table) i → Off way (idAt s i) → s .meta ≡ done (storedMeta (s .arena))
+    → Ok (Dropped way own s i) (λ r. r ≡ 17) (dropNode s i)
 unfolding dropNode
-drop-law {own = own} s i M u unheld e =
+drop-law {way = way} {own = own} s i M u unheld off e =
     ok-bind (sync-mid s M i u) λ d S.
     ok-bind (links d S (eqb (recAt d i .nlinks) 0) refl) λ z h.
-    went (record { mid = h .0; ids = λ j n. ap (λ (x : Row). x .id) (row-apart (z .table) i zeroRow j n) ∙ ap (λ (x : Table). rowAt x j .id) (h .1) ∙ S .ids j })
+    went (record {
+      mid = h .mid;
+      ids = λ j n. ap (λ (x : Row). x .id) (row-apart (z .table) i zeroRow j n) ∙ ap (λ (x : Table). rowAt x j .id) (h .table) ∙ S .ids j;
+      meta = h .meta;
+      others = λ k m n.
+          let o = h .others k (nodes-by (s .arena) (d .arena) (S .super) (S .maps) k ∙ m) (λ q. n (q ∙ S .ids i)) in
+          record { node = o .0; rec = o .1 ∙ S .all k };
+    })
   where
-    used : (d : Fs) → Synced (also own i) s i d → Used (d .table) i
+    used : (d : Fs) → Synced way (also own i) s i d → Used (d .table) i
     used d S = record { below = u .below; node = λ z. u .node (sym (S .ids i) ∙ z) }
 
-    still : (d : Fs) → Synced (also own i) s i d → Unheld (d .table) i
+    still : (d : Fs) → Synced way (also own i) s i d → Unheld (d .table) i
     still d S = subst (λ (h : List Hold). (n : ℕ) → n < 32 → (getD h n zeroHold .stamp ≡ 0 → ⊥) → getD h n zeroHold .row ≡ i → ⊥) (sym (S .holds)) unheld
 
-    meta : (d : Fs) → Synced (also own i) s i d → d .meta ≡ done (storedMeta (d .arena))
+    meta : (d : Fs) → Synced way (also own i) s i d → d .meta ≡ done (storedMeta (d .arena))
     meta d S = S .meta ∙ e ∙ λ x. done (record { super = sym (S .super) x; maps = sym (S .maps) x })
 
-    links : (d : Fs) → Synced (also own i) s i d → (b : Bool) → eqb (recAt d i .nlinks) 0 ≡ b
-        → Ok (λ (z : Fs). Midway own (z .arena) (freeRowAt (z .table) i) × (z .table ≡ d .table)) (λ r. r ≡ 17) (pick b (freeNode d i) (done d))
-    links d S true q = free-law d i (S .mid) (used d S) (S .clean) (still d S) (eqb-true (recAt d i .nlinks) 0 q) (meta d S)
-    links d S false q = went (row-dropped (d .arena) (d .table) i (S .mid) (used d S) (S .clean) (still d S) (eqb-false (recAt d i .nlinks) 0 q), refl)
+    same : (d : Fs) → Synced way (also own i) s i d → Off way (idAt d i)
+    same d S = subst (Off way) (sym (S .ids i)) off
+
+    links : (d : Fs) → Synced way (also own i) s i d → (b : Bool) → eqb (recAt d i .nlinks) 0 ≡ b
+        → Ok (Frees way own d i) (λ r. r ≡ 17) (pick b (freeNode d i) (done d))
+    links d S true q = free-law d i (S .mid) (used d S) (S .clean) (still d S) (same d S) (eqb-true (recAt d i .nlinks) 0 q) (meta d S)
+    links d S false q = went (record {
+      mid = row-dropped (d .arena) (d .table) i (S .mid) (used d S) (S .clean) (still d S) (same d S) (eqb-false (recAt d i .nlinks) 0 q);
+      table = refl;
+      meta = meta d S;
+      others = λ k m n. (m, row-recs (d .arena) (d .table) i (S .mid) (used d S) (S .clean) (still d S) k m);
+    })
 
 -- a call's own opening ends
-pub release-law : {own : ℕ → Type 0} (s : Fs) (i : ℕ) → Midway (also own i) (s .arena) (s .table) → Used (s .table) i → s .meta ≡ done (storedMeta (s .arena))
-    → Ok (Dropped own s i) (λ r. r ≡ 17) (release s i)
+pub release-law : {way : Look} {own : ℕ → Type 0} (s : Fs) (i : ℕ) → Amid way (also own i) (s .arena) (s .table) → Used (s .table) i → Off way (idAt s i) → s .meta ≡ done (storedMeta (s .arena))
+    → Ok (Dropped way own s i) (λ r. r ≡ 17) (release s i)
 unfolding release
-release-law {own = own} s i M u e = go (rowUsed (s .table) i) refl
+release-law {way = way} {own = own} s i M u off e = go (rowUsed (s .table) i) refl
   where
-    go : (b : Bool) → rowUsed (s .table) i ≡ b → Ok (Dropped own s i) (λ r. r ≡ 17) (pick b (done s) (dropNode s i))
-    go true q = went (record { mid = record { fair = M .fair; formed = formed-held (s .table) i (holder-of (s .table) i q) (M .formed); bytes = M .bytes; fits = M .fits }; ids = λ j n. refl })
-    go false q = drop-law s i M u (λ n l v z. true-false (of-holder (s .table) i (record { hold = n; is-hold = l; live = v; names = z })) q) e
+    go : (b : Bool) → rowUsed (s .table) i ≡ b → Ok (Dropped way own s i) (λ r. r ≡ 17) (pick b (done s) (dropNode s i))
+    go true q = went (record { mid = record { fair = M .fair; formed = formed-held (s .table) i (holder-of (s .table) i q) (M .formed); bytes = M .bytes; fits = M .fits }; ids = λ j n. refl; meta = e; others = λ k m n. record { node = m; rec = refl } })
+    go false q = drop-law s i M u (λ n l v z. true-false (of-holder (s .table) i (record { hold = n; is-hold = l; live = v; names = z })) q) off e

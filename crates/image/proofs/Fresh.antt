@@ -5,6 +5,7 @@ use mathlib.Core.List.{List}
 use mathlib.Core.Logic.{_⊎_, inl, ⊎-elim}
 use Prim.Native.Nat.{ℕ, zero, suc, _+_, _*_, _≤_, _<_}
 use native.Mathlib.Omega.{arith}
+use borrow.Author.Tests.{eq-eqb}
 use lib.Dec.{eqb, ltb}
 use lib.ListN.{getD-replicate}
 use Rattle.base.specs.Count.{sumTo, countTo}
@@ -43,6 +44,7 @@ use Rattle.image.proofs.Images.{head-there}
 use Rattle.image.proofs.Freed.{node-clear}
 use Rattle.image.proofs.Stores.{node-apart}
 use Rattle.image.proofs.Drops.{zero-fits}
+use Rattle.image.proofs.TreeOf.{tidy-of}
 use Rattle.image.proofs.Inits.{dot-name, dots-name}
 use Rattle.image.proofs.Roots.{rootMap, rootSuper, root-zero, root-one, root-two, root-high, root-bits}
 use Rattle.image.proofs.Formats.{rootRecord, Made}
@@ -223,9 +225,8 @@ module _ (n : ℕ) (time : Timespec) (name b : List ℕ) (fine : legal b ≡ tru
     rule3 = three;
     rule4 = four;
     rule5 = five;
-    rule6 = record { folder = of-folders (Folder b t) folder; size = λ id e f. absurd (true-false (of-nodes (λ (k : ℕ). isFolderAt b t k ≡ true) root-folder id e) f) };
-    rule7 = seven;
-    rule8 = eight;
+    tidy = tidy-of b t (node-below b) root-node (eq-eqb (recOf b t 2 .kind) 2 (five .root))
+        (record { folder = of-folders (Folder b t) folder; size = λ id e f. absurd (true-false (of-nodes (λ (k : ℕ). isFolderAt b t k ≡ true) root-folder id e) f) }) seven eight;
   }
 
 -- ---- the empty table

@@ -1,23 +1,20 @@
 -- The rules in another image by the same ids: where superblock, maps and node files are as they were, each node's record keeps its type,
 -- links, slots and file, and what was open is open, an image that is allowed stays so. (Ids that are no nodes may have any record: id 0 has
 -- that of the lowest free row, or bytes of the superblock.)
-use mathlib.Core.Path.{_≡_, refl, sym, ap, _∙_, subst}
+use mathlib.Core.Path.{_≡_, refl, sym, ap, _∙_}
 use mathlib.Core.Bool.{Bool, true, false, not, _&&_}
 use mathlib.Core.List.{List}
-use mathlib.Core.Logic.{_≢_, inl, inr, ⊎-elim}
-use Prim.Native.Nat.{ℕ, zero, suc, _+_, _*_, _-_, _%_, _≤_, _<_}
+use mathlib.Core.Logic.{_≢_}
+use Prim.Native.Nat.{ℕ, _+_, _*_, _%_, _<_}
 use native.Mathlib.Omega.{arith}
 use lib.Dec.{eqb, ltb}
 use borrow.Author.Tests.{lt-ltb, eq-eqb}
-use Rattle.base.proofs.Bools.{and-both, bool-cases}
-use Rattle.base.proofs.Finds.{eq-cases, test-yes, test-at}
+use Rattle.base.proofs.Bools.{and-both, true-false}
+use Rattle.base.proofs.Finds.{test-yes, test-at}
 use Rattle.base.proofs.Lists.{tab-cong}
-use Rattle.base.specs.Count.{sumTo, countTo}
-use Rattle.base.specs.Search.{pick, lowest}
+use Rattle.base.specs.Search.{lowest}
 use Rattle.structs.specs.Layout.{entryOf, recordBytes}
-use Rattle.structs.specs.Types.{isFolder}
 use Rattle.structs.specs.declared.DiskINode.{DiskINode}
-use Rattle.structs.specs.declared.DiskEntry.{DiskEntry}
 use Rattle.structs.specs.declared.SuperBlock.{SuperBlock}
 use Rattle.maps.specs.Maps.{bitAt, setBits}
 use Rattle.arena.specs.Blocks.{blk, blocks}
@@ -27,14 +24,18 @@ use Rattle.arena.proofs.Fields.{head-is, head-own}
 use Rattle.files.specs.Read.{there, lengthOf, byteAt}
 use Rattle.files_laws.specs.Laws.{Kept}
 use Rattle.sefs.specs.Meta.{metaFile}
+use Rattle.sefs.specs.Folders.{dotsEntry}
 use Rattle.table.specs.declared.Table.{Table}
 use Rattle.table.specs.Table.{rowAt}
 use Rattle.table.specs.Formed.{wellFormed}
-use Rattle.rules.specs.Image.{run, storedSuper, storedMaps, idsIn, isNode, storedBytes, recOf, isOpen, isFolderAt, slotIn, namesIn, named, subfolders, parentOf, climb}
-use Rattle.rules.specs.Rules.{Rule1, Rule3, Rule5, Later, Folder, Rule6, Linked, Removed, Rule7, Rule8, Allowed}
-use Rattle.rules.proofs.Folders.{folder-node}
-use Rattle.tree.proofs.Trees.{pick-like}
-use Rattle.image.specs.Midway.{Fair}
+use Rattle.rules.specs.Image.{run, storedSuper, storedMaps, idsIn, isNode, storedBytes, recOf, isOpen, slotIn}
+use Rattle.rules.specs.Rules.{Rule1, Rule3, Rule4, Rule5, Allowed}
+use Rattle.rules.proofs.Files.{node-below}
+use Rattle.tree.specs.Tree.{Tree}
+use Rattle.tree.proofs.Trees.{folder-is}
+use Rattle.tree.proofs.Stays.{Stays, stays-turned, stays-tidy}
+use Rattle.image.specs.Midway.{treeOf, Look, plain, turning, look, Fairly, Fair}
+use Rattle.image.proofs.TreeOf.{tidy-of, tidy-six, tidy-seven, tidy-eight}
 use Rattle.arena.specs.Fields as block
 
 -- the fields that the rules speak of
@@ -83,95 +84,46 @@ there-head a name e =
 
 -- ---- two records alike have the same slots
 
-module _ (a b : List ℕ) (same : Alike a b) (r s : DiskINode) (l : Like r s) where
-  slot-like : (k : ℕ) → slotIn b r k ≡ slotIn a s k
-  unfolding slotIn
-  slot-like k =
-      ap entryOf (tab-cong (byteAt b (file 1 (r .file))) (byteAt a (file 1 (r .file))) (264 * k) (264 * k) 264 (λ i m. same .files (r .file) .byte (264 * k + i)))
-      ∙ ap (λ (f : List ℕ). entryOf (run a (file 1 f) (264 * k) 264)) (l .file)
+slot-like : (a b : List ℕ) → Alike a b → (r s : DiskINode) → Like r s → (k : ℕ) → slotIn b r k ≡ slotIn a s k
+unfolding slotIn
+slot-like a b same r s l k =
+    ap entryOf (tab-cong (byteAt b (file 1 (r .file))) (byteAt a (file 1 (r .file))) (264 * k) (264 * k) 264 (λ i m. same .files (r .file) .byte (264 * k + i)))
+    ∙ ap (λ (f : List ℕ). entryOf (run a (file 1 f) (264 * k) 264)) (l .file)
 
-  names-like : (id : ℕ) → namesIn b r id ≡ namesIn a s id
-  unfolding namesIn
-  names-like id = λ x. countTo (λ j. eqb (slot-like (2 + j) x .id) id) (l .blocks x - 2)
+-- what stays of a tree stays of it as it is looked at
+pub stays-look : (k : Look) {gone : ℕ → Bool} {v w : Tree} → Stays gone v w → Stays gone (look k v) (look k w)
+stays-look plain R = R
+stays-look (turning c f g) R = stays-turned c f g (dotsEntry g) R
 
-  subfolders-like : subfolders b r ≡ subfolders a s
-  unfolding subfolders
-  subfolders-like = λ x. countTo (λ j. isFolder (slot-like (2 + j) x .kind)) (l .blocks x - 2)
+-- the parts of a tree that look the same
+pub look-node : (k : Look) (v : Tree) (i : ℕ) → look k v .node i ≡ v .node i
+look-node plain v i = refl
+look-node (turning c f g) v i = refl
 
--- a folder with links
-pub record Living (a : List ℕ) (t : Table) (id : ℕ) : Type 0 where
-  pub folder : isFolderAt a t id ≡ true
-  pub links : recOf a t id .nlinks ≢ 0
+pub look-opened : (k : Look) (v : Tree) (i : ℕ) → look k v .opened i ≡ v .opened i
+look-opened plain v i = refl
+look-opened (turning c f g) v i = refl
 
--- its parent is one too
-pub living-up : (a : List ℕ) (t : Table) → Rule7 a t → Rule8 a t → (id : ℕ) → Living a t id → Living a t (parentOf a t id)
-living-up a t S E id v =
-    ⊎-elim
-    (λ (e : id ≡ 2).
-    let r : parentOf a t id ≡ id = ap (parentOf a t) e ∙ E .root (subst (λ (i : ℕ). recOf a t i .nlinks ≢ 0) e (v .links)) ∙ sym e in
-    subst (Living a t) (sym r) v)
-    (λ n.
-    let f = E .parent id (v .folder) (v .links) n in
-    let k = E .names id (v .folder) (v .links) n in
-    record {
-      folder = f;
-      links = ⊎-elim
-          (λ (h : Linked a t (parentOf a t id)). λ z. omega (arith, h .links))
-          (λ (h : Removed a t (parentOf a t id)). absurd (omega (arith, k .1, k .2, h .slots)))
-          (S .folder (parentOf a t id) f);
-    })
-    (eq-cases id 2)
+-- a node's links look as they are
+abbrev pub Off : Look → ℕ → Type 0
+Off k x = (v : Tree) → look k v .links x ≡ v .links x
+
+-- ids are nodes by superblock and maps
+pub nodes-by : (a b : List ℕ) → storedSuper b ≡ storedSuper a → storedMaps b ≡ storedMaps a → (id : ℕ) → isNode b id ≡ isNode a id
+unfolding isNode
+nodes-by a b super maps id = λ x. ltb id (1024 * super x .groups) && (not (eqb id 0) && (not (eqb (id % 1024) 1) && not (bitAt (maps x) id)))
+
+pub and-true : (b : Bool) → b ≡ (b && true)
+and-true true = refl
+and-true false = refl
 
 module _ (a b : List ℕ) (t u : Table) (same : Alike a b) (like : (id : ℕ) → isNode a id ≡ true → Like (recOf b u id) (recOf a t id)) where
   nodes-like : (id : ℕ) → isNode b id ≡ isNode a id
-  unfolding isNode
-  nodes-like id =
-      λ x. ltb id (1024 * same .super x .groups) && (not (eqb id 0) && (not (eqb (id % 1024) 1) && not (bitAt (same .maps x) id)))
+  nodes-like = nodes-by a b (same .super) (same .maps)
 
-  folder-like : (id : ℕ) → isFolderAt b u id ≡ isFolderAt a t id
-  unfolding isFolderAt
-  folder-like id =
-      ap (λ (n : Bool). n && isFolder (recOf b u id .kind)) (nodes-like id)
-      ∙ ⊎-elim
-      (λ e. ap (λ (k : ℕ). isNode a id && isFolder k) (like id e .kind))
-      (λ e. rw e refl)
-      (bool-cases (isNode a id))
-
-  -- a node there is one here, and so is a folder
+  -- a node there is one here
   was : (id : ℕ) → isNode b id ≡ true → isNode a id ≡ true
   was id n = sym (nodes-like id) ∙ n
-
-  back : (id : ℕ) → isFolderAt b u id ≡ true → isFolderAt a t id ≡ true
-  back id f = sym (folder-like id) ∙ f
-
-  at : (id : ℕ) → isFolderAt a t id ≡ true → Like (recOf b u id) (recOf a t id)
-  at id f = like id (folder-node a t id f)
-
-  slots : (id : ℕ) → isFolderAt a t id ≡ true → (k : ℕ) → slotIn b (recOf b u id) k ≡ slotIn a (recOf a t id) k
-  slots id f = slot-like a b same (recOf b u id) (recOf a t id) (at id f)
-
-  times-like : (id d : ℕ) → pick (isFolderAt b u d) (namesIn b (recOf b u d) id) 0 ≡ pick (isFolderAt a t d) (namesIn a (recOf a t d) id) 0
-  times-like id d =
-      ap (λ (f : Bool). pick f (namesIn b (recOf b u d) id) 0) (folder-like d)
-      ∙ pick-like (isFolderAt a t d) (λ f. names-like a b same (recOf b u d) (recOf a t d) (at d f) id)
-
-  named-like : (id : ℕ) → named b u id ≡ named a t id
-  unfolding named
-  named-like id = λ x. sumTo (λ d. times-like id d x) (1024 * same .super x .groups)
-
-  parent-like : (id : ℕ) → isFolderAt a t id ≡ true → parentOf b u id ≡ parentOf a t id
-  unfolding parentOf
-  parent-like id f = ap (λ (e : DiskEntry). e .id) (slots id f 1)
-
-  later-like : (e : DiskEntry) → Later a t e → Later b u e
-  later-like e L = record {
-    ended = L .ended;
-    some = L .some;
-    no-dot = L .no-dot;
-    no-dots = L .no-dots;
-    node = nodes-like (e .id) ∙ L .node;
-    kind = like (e .id) (L .node) .kind ∙ L .kind;
-  }
 
   three-like : Rule3 a → Rule3 b
   three-like R = record {
@@ -196,102 +148,55 @@ module _ (a b : List ℕ) (t u : Table) (same : Alike a b) (like : (id : ℕ) �
     root = like 2 two .kind ∙ R .root;
   }
 
-  six-like : Rule6 a t → Rule6 b u
-  six-like R = record {
-    folder = λ id f.
-        let g : isFolderAt a t id ≡ true = back id f in
-        let F : Folder a t id = R .folder id g in
-        let L = at id g in
-        let s : (k : ℕ) → slotIn b (recOf b u id) k ≡ slotIn a (recOf a t id) k = slots id g in
-        record {
-          blocks = omega (arith, L .blocks, F .blocks);
-          length = same .files (recOf b u id .file) .long ∙ ap (λ (n : List ℕ). lengthOf a (file 1 n)) (L .file) ∙ F .length ∙ ap (λ (n : ℕ). 264 * n) (sym (L .blocks));
-          dot = rw (s 0) (F .dot);
-          own = rw (s 0) (F .own);
-          dot-kind = rw (s 0) (F .dot-kind);
-          dots = rw (s 1) (F .dots);
-          dots-kind = rw (s 1) (F .dots-kind);
-          later = λ k l m. rw (s k) (later-like (slotIn a (recOf a t id) k) (F .later k l (omega (arith, L .blocks))));
-          distinct = λ j k l m n. rw (s j, s k) (F .distinct j k l m (omega (arith, L .blocks)));
-        };
-    size = λ id n f.
-        let L = like id (was id n) in
-        same .files (recOf b u id .file) .long ∙ ap (λ (x : List ℕ). lengthOf a (file 1 x)) (L .file) ∙ R .size id (was id n) (sym (folder-like id) ∙ f) ∙ sym (L .size);
+  tree-like : Stays (λ i. false) (treeOf a t) (treeOf b u)
+  tree-like = record {
+    ids = ap (λ (x : SuperBlock). 1024 * x .groups) (same .super);
+    node = λ i. nodes-like i ∙ and-true (isNode a i);
+    kind = λ i n. like i (was i n) .kind;
+    links = λ i n. like i (was i n) .nlinks;
+    blocks = λ i n. like i (was i n) .blocks;
+    size = λ i n. like i (was i n) .size;
+    long = λ i n. same .files (recOf b u i .file) .long ∙ ap (λ (f : List ℕ). lengthOf a (file 1 f)) (like i (was i n) .file);
+    slot = λ i f k l. slot-like a b same (recOf b u i) (recOf a t i) (like i (was i (folder-is (treeOf b u) i f))) k;
   }
-
-  module _ (opens : (id : ℕ) → isNode a id ≡ true → recOf a t id .nlinks ≡ 0 → isOpen t id ≡ true → isOpen u id ≡ true) where
-    seven-like : Rule7 a t → Rule7 b u
-    seven-like R = record {
-      other = λ id n f. like id (was id n) .nlinks ∙ R .other id (was id n) (sym (folder-like id) ∙ f) ∙ sym (named-like id);
-      unnamed = λ id n f z. let e = sym (like id (was id n) .nlinks) ∙ z in opens id (was id n) e (R .unnamed id (was id n) (sym (folder-like id) ∙ f) e);
-      folder = λ id f. ⊎-elim (λ h. inl (linked id (back id f) h)) (λ h. inr (removed id (back id f) h)) (R .folder id (back id f));
-    }
-      where
-        linked : (id : ℕ) → isFolderAt a t id ≡ true → Linked a t id → Linked b u id
-        linked id f h = record {
-          links = at id f .nlinks ∙ h .links ∙ ap (λ (n : ℕ). 2 + n) (sym (subfolders-like a b same (recOf b u id) (recOf a t id) (at id f)));
-          root = λ e. named-like id ∙ h .root e;
-          once = λ n. named-like id ∙ h .once n;
-        }
-
-        removed : (id : ℕ) → isFolderAt a t id ≡ true → Removed a t id → Removed b u id
-        removed id f h = record {
-          apart = h .apart;
-          opened = opens id (folder-node a t id f) (h .links) (h .opened);
-          links = at id f .nlinks ∙ h .links;
-          unnamed = named-like id ∙ h .unnamed;
-          slots = at id f .blocks ∙ h .slots;
-        }
-
-  climb-like : Rule7 a t → Rule8 a t → (id : ℕ) → Living a t id → (n : ℕ) → (climb b u id n ≡ climb a t id n) × Living a t (climb a t id n)
-  unfolding climb
-  climb-like S E id v zero = (refl, v)
-  climb-like S E id v (suc n) =
-      let c = climb-like S E id v n in
-      (ap (parentOf b u) (c .0) ∙ parent-like (climb a t id n) (c .1 .folder), living-up a t S E (climb a t id n) (c .1))
-
-  eight-like : isNode a 2 ≡ true → Rule7 a t → Rule8 a t → Rule5 a t → Rule8 b u
-  unfolding isFolderAt
-  eight-like two S E H = record {
-    root = λ n. parent-like 2 root-folder ∙ E .root (λ z. n (like 2 two .nlinks ∙ z));
-    parent = λ id f n d. let v = lives id f n in
-        folder-like (parentOf b u id) ∙ ap (isFolderAt a t) (parent-like id (v .folder)) ∙ E .parent id (v .folder) (v .links) d;
-    names = λ id f n d. let v = lives id f n in
-        let k = E .names id (v .folder) (v .links) d in
-        let e : parentOf b u id ≡ parentOf a t id = parent-like id (v .folder) in
-        let g : isFolderAt a t (parentOf a t id) ≡ true = E .parent id (v .folder) (v .links) d in
-        subst (λ (p : ℕ). (k : ℕ) × (2 ≤ k) × (k < recOf b u p .blocks) × (slotIn b (recOf b u p) k .id ≡ id)) (sym e)
-        (k .0, k .1, omega (arith, at (parentOf a t id) g .blocks, k .2), ap (λ (x : DiskEntry). x .id) (slots (parentOf a t id) g (k .0)) ∙ k .3);
-    climbs = λ id f n. let v = lives id f n in
-        let c = E .climbs id (v .folder) (v .links) in
-        (c .0, climb-like S E id v (c .0) .0 ∙ c .1);
-  }
-    where
-      lives : (id : ℕ) → isFolderAt b u id ≡ true → recOf b u id .nlinks ≢ 0 → Living a t id
-      lives id f n = record { folder = back id f; links = λ z. n (at id (back id f) .nlinks ∙ z) }
-
-      root-folder : isFolderAt a t 2 ≡ true
-      root-folder = and-both two (eq-eqb (recOf a t 2 .kind) 2 (H .root))
-
-pub fair : (a : List ℕ) (t : Table) → Allowed a t → Fair a t
-fair a t A = record { rule1 = A .rule1; rule3 = A .rule3; rule4 = A .rule4; rule5 = A .rule5; rule6 = A .rule6; rule7 = A .rule7; rule8 = A .rule8 }
-
-pub fair-allowed : (a : List ℕ) (t : Table) → Fair a t → wellFormed t ≡ true → Allowed a t
-fair-allowed a t A f = record { rule1 = A .rule1; rule2 = record { formed = f }; rule3 = A .rule3; rule4 = A .rule4; rule5 = A .rule5; rule6 = A .rule6; rule7 = A .rule7; rule8 = A .rule8 }
 
 -- node 2 is one
-pub root-node : (a : List ℕ) (t : Table) → Fair a t → isNode a 2 ≡ true
+root-two : (a : List ℕ) (t : Table) → Rule3 a → Rule4 a t → isNode a 2 ≡ true
 unfolding isNode
-root-node a t A = and-both (lt-ltb 2 (idsIn a) (omega (arith, A .rule3 .some))) (ap not (A .rule4 .two))
+root-two a t R S = and-both (lt-ltb 2 (idsIn a) (omega (arith, R .some))) (ap not (S .two))
+
+pub root-node : {k : Look} (a : List ℕ) (t : Table) → Fairly k a t → isNode a 2 ≡ true
+root-node a t A = root-two a t (A .rule3) (A .rule4)
+
+pub fair : (a : List ℕ) (t : Table) → Allowed a t → Fair a t
+fair a t A = record {
+  rule1 = A .rule1;
+  rule3 = A .rule3;
+  rule4 = A .rule4;
+  rule5 = A .rule5;
+  tidy = tidy-of a t (node-below a) (root-two a t (A .rule3) (A .rule4)) (eq-eqb (recOf a t 2 .kind) 2 (A .rule5 .root)) (A .rule6) (A .rule7) (A .rule8);
+}
+
+pub fair-allowed : (a : List ℕ) (t : Table) → Fair a t → wellFormed t ≡ true → Allowed a t
+fair-allowed a t A f = record {
+  rule1 = A .rule1;
+  rule2 = record { formed = f };
+  rule3 = A .rule3;
+  rule4 = A .rule4;
+  rule5 = A .rule5;
+  rule6 = tidy-six a t (A .tidy);
+  rule7 = tidy-seven a t (A .tidy);
+  rule8 = tidy-eight a t (A .tidy);
+}
 
 -- another image
-module _ (a b : List ℕ) (t u : Table) (A : Fair a t) (same : Alike a b)
+module _ {k : Look} (a b : List ℕ) (t u : Table) (A : Fairly k a t) (same : Alike a b)
     (fine : Rule1 b)
     (node : (i : ℕ) → i < 34 → rowAt u i .id ≢ 0 → isNode a (rowAt u i .id) ≡ true)
     (clean : (i : ℕ) → i < 34 → rowAt u i .id ≢ 0 → rowAt u i .dirty ≡ false → recordBytes (rowAt u i .rec) ≡ storedBytes b (rowAt u i .id))
     (like : (id : ℕ) → isNode a id ≡ true → Like (recOf b u id) (recOf a t id))
-    (opens : (id : ℕ) → isNode a id ≡ true → recOf a t id .nlinks ≡ 0 → isOpen t id ≡ true → isOpen u id ≡ true) where
-  pub image-fair : Fair b u
+    (opens : (id : ℕ) → isNode a id ≡ true → look k (treeOf a t) .links id ≡ 0 → isOpen t id ≡ true → isOpen u id ≡ true) where
+  pub image-fair : Fairly k b u
   image-fair = record {
     rule1 = fine;
     rule3 = three-like a b t u same like (A .rule3);
@@ -303,9 +208,8 @@ module _ (a b : List ℕ) (t u : Table) (A : Fair a t) (same : Alike a b)
       clean = clean;
     };
     rule5 = five-like a b t u same like (root-node a t A) (A .rule5);
-    rule6 = six-like a b t u same like (A .rule6);
-    rule7 = seven-like a b t u same like opens (A .rule7);
-    rule8 = eight-like a b t u same like (root-node a t A) (A .rule7) (A .rule8) (A .rule5);
+    tidy = stays-tidy (λ i. false) (look k (treeOf a t)) (look k (treeOf b u)) (A .tidy) (λ i e. absurd (true-false e refl)) (stays-look k (tree-like a b t u same like))
+        (λ i n z o. look-opened k (treeOf b u) i ∙ opens i (was a b t u same like i (sym (look-node k (treeOf b u) i) ∙ n)) z (sym (look-opened k (treeOf a t) i) ∙ o));
   }
     where
       bit : (i : ℕ) → bitAt (storedMaps b) i ≡ bitAt (storedMaps a) i

@@ -4,6 +4,7 @@ pub mod BetweenSlots
 pub mod Births
 pub mod Breeds
 pub mod Carries
+pub mod Climbs
 pub mod Contents
 pub mod Counts
 pub mod Drops
@@ -13,8 +14,6 @@ pub mod Fresh
 pub mod Grown
 pub mod Handles
 pub mod Hits
-pub mod Holding
-pub mod HoldingSteps
 pub mod Holds
 pub mod Images
 pub mod Inits
@@ -41,5 +40,7 @@ pub mod Stores
 pub mod Takes
 pub mod Transfers
 pub mod TreeOf
+pub mod Turned
+pub mod Turning
 pub mod Unlinks
 pub mod Zeros

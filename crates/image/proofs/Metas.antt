@@ -64,7 +64,7 @@ pub node-other : (f : List ℕ) → metaFile ≢ file 1 f
 node-other f e = let z : _≡_ {A = ℕ} 0 1 = ap (λ (g : File). g .which) e in omega arith
 
 module _ (a b : List ℕ) (W : Within a b) (pos : ℕ) (src : List ℕ) (B : Bytes src) (end : pos + length src ≤ lengthOf a metaFile) where
-  pub within-put : Ok (Put b metaFile pos src) (λ r. r ≡ 17) (putFile b metaFile pos src)
+  within-put : Ok (Put b metaFile pos src) (λ r. r ≡ 17) (putFile b metaFile pos src)
   within-put = ok-weaken (λ b P. P) (λ r e. why e) (put-law b metaFile pos src)
     where
       why : {r : ℕ} → PutRefused b metaFile pos (length src) r → r ≡ 17
@@ -72,7 +72,7 @@ module _ (a b : List ℕ) (W : Within a b) (pos : ℕ) (src : List ℕ) (B : Byt
       why (laws.far _ _) = refl
       why (laws.full _ _ _) = refl
 
-  pub within-then : (c : List ℕ) → Put b metaFile pos src c → Within a c
+  within-then : (c : List ℕ) → Put b metaFile pos src c → Within a c
   within-then c P = record {
     size = P .size ∙ W .size;
     bytes = P .bytes (W .bytes) B;

@@ -29,7 +29,7 @@ use Rattle.sefs.specs.Slots.{slotAt}
 use Rattle.sefs.specs.Ask.{start}
 use Rattle.sefs.specs.Move.{readSlots, judge}
 use Rattle.rules.specs.Image.{isNode, recOf, isFolderAt, slotIn}
-use Rattle.image.specs.Midway.{Used, Midway}
+use Rattle.image.specs.Midway.{Used, plain, Midway}
 use Rattle.image.proofs.Slots.{slot-is}
 use Rattle.image.proofs.Drops.{mid-rec}
 use Rattle.image.proofs.Takes.{Gets, Got}
@@ -89,7 +89,7 @@ pub record Ended (a : List ℕ) (t : Table) (d id : ℕ) (x : Fs) : Type 0 where
   pub used : Used table d
   pub same : rowAt table d .id ≡ id
 
-module _ (a : List ℕ) (t : Table) (idd idc : ℕ) (o : Opened) (D : Got a t idd o) (w : Opened) (C : Gets (also none (D .row)) a (D .table) idc w) (apart : idc ≢ idd)
+module _ (a : List ℕ) (t : Table) (idd idc : ℕ) (o : Opened) (D : Got a t idd o) (w : Opened) (C : Gets plain (also none (D .row)) a (D .table) idc w) (apart : idc ≢ idd)
     (links : rowAt (C .table) (C .row) .rec .nlinks ≢ 0) where
   -- the row is held, or is new
   held : Holder (C .table) (C .row) ⊎ ((rowAt (C .table) (C .row) .dirty ≡ false) × (rowAt (D .table) (C .row) .id ≡ 0))

@@ -10,6 +10,7 @@ use Rattle.base.specs.Out.{done}
 use Rattle.le.specs.Le.{Bytes}
 use Rattle.structs.specs.Types.{isFolder}
 use Rattle.utf8.specs.Names.{nameOf, GoodName, isSpecial}
+use Rattle.table.specs.Table.{rowAt}
 use Rattle.sefs.specs.State.{Fs}
 use Rattle.sefs.specs.Nodes.{recAt, idAt}
 use Rattle.sefs.specs.Slots.{Slot}
@@ -19,10 +20,10 @@ use Rattle.image.specs.Midway.{Used, storedMeta, Midway}
 use Rattle.image.proofs.NewNames.{NewName}
 use Rattle.table_laws.specs.Rules as rows
 
--- the call's own rows: that of the node that is replaced
-abbrev pub owns : Replaced → ℕ → Type 0
-owns none = rows.none
-owns (node d k) = rows.also rows.none d
+-- the call's own rows: those it has, and that of the node that is replaced
+abbrev pub owns : (ℕ → Type 0) → Replaced → ℕ → Type 0
+owns own none = own
+owns own (node d k) = rows.also own d
 
 -- row i is a folder's, with links
 pub record LiveFolder (s : Fs) (i : ℕ) : Type 0 where
@@ -48,8 +49,10 @@ Onto s j old name none = NewName (s .arena) (recAt s j) name
 Onto s j old name (node d k) = Replaces s j old name d k
 
 -- before the slot `old` of folder i moves to folder j, to be named `name` there
-pub record Moving (s : Fs) (i j : ℕ) (old : Slot) (name : List ℕ) (r : Replaced) : Type 0 where
-  pub mid : Midway (owns r) (s .arena) (s .table)
+pub record Moving (own : ℕ → Type 0) (s : Fs) (i j : ℕ) (old : Slot) (name : List ℕ) (r : Replaced) : Type 0 where
+  pub mid : Midway (owns own r) (s .arena) (s .table)
+  -- a row that the call has of its own is that of the node that moves
+  pub mine : (m : ℕ) → own m → Used (s .table) m × (rowAt (s .table) m .id ≡ old .entry .id)
   pub meta : s .meta ≡ done (storedMeta (s .arena))
   pub from : LiveFolder s i
   pub to : LiveFolder s j

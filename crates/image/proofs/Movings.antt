@@ -32,10 +32,9 @@ use Rattle.rules.proofs.Files.{node-below}
 use Rattle.image.specs.Midway.{Fair, treeOf, Midway}
 use Rattle.tree.specs.Tree.{Tidy, LinkedIn, RemovedIn, Lives}
 use Rattle.tree.proofs.Trees.{lives-linked}
-use Rattle.image.proofs.TreeOf.{named-tree}
+use Rattle.image.proofs.TreeOf.{named-tree, tidy-six}
 use Rattle.image.proofs.Freed.{slot-counts}
 use Rattle.image.proofs.Drops.{mid-rec}
-use Rattle.image.proofs.Resets.{fair-tidy}
 use Rattle.image.proofs.NewNames.{entry-fits}
 use Rattle.image.proofs.Moving.{Moving, LiveFolder}
 
@@ -52,7 +51,7 @@ pub named-links : (a : List ℕ) (t : Table) → Fair a t → (x : ℕ) → isNo
 named-links a t A x n counted = by (isFolder (recOf a t x .kind)) refl
   where
     I : Tidy (treeOf a t)
-    I = fair-tidy a t A
+    I = A .tidy
 
     by : (b : Bool) → isFolder (recOf a t x .kind) ≡ b → 1 + bit (isFolder (recOf a t x .kind)) ≤ recOf a t x .nlinks
     by true e =
@@ -80,11 +79,11 @@ module _ {own : ℕ → Type 0} (s : Fs) (M : Midway own (s .arena) (s .table)) 
 
   pub live-links : 2 ≤ recAt s i .nlinks
   live-links =
-      let h = lives-linked (treeOf (s .arena) (s .table)) (fair-tidy (s .arena) (s .table) (M .fair)) (idAt s i) live-lives in
+      let h = lives-linked (treeOf (s .arena) (s .table)) (M .fair .tidy) (idAt s i) live-lives in
       omega (arith, h .links, ap (λ (r : DiskINode). r .nlinks) live-rec)
 
   F : Folder (s .arena) (s .table) (idAt s i)
-  F = M .fair .rule6 .folder (idAt s i) live-folder-at
+  F = tidy-six (s .arena) (s .table) (M .fair .tidy) .folder (idAt s i) live-folder-at
 
   pub live-there : there (s .arena) (file 1 (recAt s i .file)) ≡ true
   live-there = ap (λ (r : DiskINode). there (s .arena) (nodeFile r)) (sym live-rec) ∙ M .fair .rule5 .own (idAt s i) live-node
@@ -106,7 +105,7 @@ module _ {own : ℕ → Type 0} (s : Fs) (M : Midway own (s .arena) (s .table)) 
 
 -- ---- the slot that moves
 
-module _ (s : Fs) (i j : ℕ) (old : Slot) (name : List ℕ) (r : Replaced) (M : Moving s i j old name r) where
+module _ {own : ℕ → Type 0} (s : Fs) (i j : ℕ) (old : Slot) (name : List ℕ) (r : Replaced) (M : Moving own s i j old name r) where
   L : Later (s .arena) (s .table) (slotIn (s .arena) (recAt s i) (old .place))
   L = live-later s (M .mid) i (M .from) (old .place) (M .later) (M .inside)
 

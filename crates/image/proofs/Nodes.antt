@@ -26,9 +26,9 @@ use Rattle.sefs.specs.Nodes.{nodeFile, opened, loadNode, getNode}
 use Rattle.sefs.specs.Ask.{start}
 use Rattle.rules.specs.Image.{run, storedSuper, mapsTo, storedMaps, idsIn, isNode, storedBytes, recBy, recOf}
 use Rattle.rules.proofs.Files.{node-below}
-use Rattle.image.specs.Midway.{Fair, storedMeta}
+use Rattle.image.specs.Midway.{Look, Fairly, storedMeta}
 
-module _ (a : List ℕ) (t : Table) (A : Fair a t) where
+module _ {k : Look} (a : List ℕ) (t : Table) (A : Fairly k a t) where
   pub there-meta : there a metaFile ≡ true
   there-meta =
       ⊎-elim (λ e. e) (λ e. absurd (omega (arith, A .rule3 .some, A .rule3 .length, length-none a metaFile e))) (bool-cases (there a metaFile))

@@ -48,7 +48,7 @@ let-go {own = own} s i M u how links = go (rowUsed (s .table) i) refl
         (went (record {
           table = freeRowAt (s .table) i;
           is = refl;
-          mid = row-dropped (s .arena) (s .table) i M u clean free links;
+          mid = row-dropped (s .arena) (s .table) i M u clean free (λ v. refl) links;
           rows = λ j n. row-apart (s .table) i zeroRow j (⊎-elim (λ h. absurd (true-false (of-holder (s .table) i h) q)) (λ m. m) n);
           recs = row-recs (s .arena) (s .table) i M u clean free;
         }))

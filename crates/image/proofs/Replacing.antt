@@ -1,20 +1,20 @@
 -- The replaced node of a move between folders: its slot goes, over which the moved one is copied, its links fall, and it is let go.
 use mathlib.Core.Path.{_≡_, refl, sym, ap, _∙_, subst}
-use mathlib.Core.Bool.{Bool, true, false}
+use mathlib.Core.Bool.{Bool, true, false, _&&_}
 use mathlib.Core.List.{List}
 use mathlib.Core.Logic.{_≢_, ⊎-elim}
 use Prim.Native.Nat.{ℕ, _+_, _*_, _-_, _≤_, _<_}
 use native.Mathlib.Omega.{arith}
+use lib.Dec.{eqb}
+use borrow.Author.Tests.{eqb-true, eqb-false}
 use Rattle.base.specs.Count.{bit}
 use Rattle.base.specs.Out.{done, bind, Ok}
 use Rattle.base.proofs.Outs.{ok-bind}
-use Rattle.base.proofs.Bools.{true-false}
-use Rattle.base.proofs.Finds.{eq-cases}
 use Rattle.base.specs.Search.{pick}
 use Rattle.structs.specs.Types.{isFolder}
 use Rattle.structs.specs.declared.DiskINode.{DiskINode}
 use Rattle.structs.specs.declared.DiskEntry.{DiskEntry}
-use Rattle.utf8.specs.Names.{nameOf}
+use Rattle.utf8.specs.Names.{nameOf, nameBytes}
 use Rattle.arena.specs.Fields.{file}
 use Rattle.table.specs.declared.Table.{Table}
 use Rattle.files.specs.Read.{there, lengthOf}
@@ -25,23 +25,26 @@ use Rattle.sefs.specs.Slots.{Slot, slotBytes}
 use Rattle.sefs.specs.Folders.{nlinksDec, unlinkFolder, direntNodeRemove}
 use Rattle.sefs.specs.Move.{node, renamed}
 use Rattle.rules.specs.Image.{run, recOf, slotIn, named}
-use Rattle.tree.specs.Tree.{Tidy}
-use Rattle.image.specs.Midway.{treeOf, Midway}
-use Rattle.image.proofs.Resets.{fair-tidy, row-open}
+use Rattle.tree.specs.Tree.{Tidy, folderAt, LinkedIn, RemovedIn}
+use Rattle.tree.specs.Moves.{over, Over}
+use Rattle.tree.proofs.Naming.{none-subs}
+use Rattle.image.specs.Midway.{treeOf, Amid}
+use Rattle.image.proofs.Resets.{row-open}
 use Rattle.image.proofs.Removes.{Gone, remove-law}
 use Rattle.image.proofs.Unlinks.{dec-is}
 use Rattle.image.proofs.Moving.{Moving, owns}
-use Rattle.image.proofs.Movings.{slot-read, named-links, live-rec, live-lives, live-links, live-there, live-named, moves-node, moves-kind, moves-most, moves-links, moves-ended, moves-name, moves-files}
-use Rattle.tree.proofs.Trees.{at, at-here, at-else}
+use Rattle.image.proofs.Movings.{slot-read, named-links, live-rec, live-lives, live-links, live-there, live-named, moves-node, moves-kind, moves-most, moves-ended, moves-name, moves-files}
+use Rattle.tree.proofs.Trees.{at, at-here, at-else, names-differ}
 use Rattle.image.proofs.Counts.{Counts, counts-rec, counts-row, counts-blocks, counts-links}
 use Rattle.image.proofs.Carries.{Carried, carried-over}
 use Rattle.tree.proofs.Redirects.{onto, Turns, turned-tidy}
 use Rattle.image.proofs.Transfers.{transferred}
+use Rattle.image.proofs.Turning.{turning-mid}
 use Rattle.image.proofs.BetweenSlots.{slotsOf, linksOf, Carrying}
-use Rattle.image.proofs.Settling.{movedKind, Settled, rec-d, d-not-i, d-not-j, node-d, settle-node}
+use Rattle.image.proofs.Settling.{movedKind, Avoids, wayBy, wayOf, Settled, may-move, rec-d, d-not-i, d-not-j, node-d, settle-node}
 
-module _ (s : Fs) (i j : ℕ) (old : Slot) (name : List ℕ) (d k : ℕ) (M : Moving s i j old name (node d k)) (apart : idAt s i ≢ idAt s j)
-    (x : Fs) (X : Carrying s i j old name (node d k) x) where
+module _ {own : ℕ → Type 0} (s : Fs) (i j : ℕ) (old : Slot) (name : List ℕ) (d k : ℕ) (M : Moving own s i j old name (node d k)) (apart : idAt s i ≢ idAt s j) (avoids : Avoids s j old)
+    (x : Fs) (X : Carrying own s i j old name (node d k) x) where
   abbrev a : List ℕ
   a = s .arena
 
@@ -83,9 +86,6 @@ module _ (s : Fs) (i j : ℕ) (old : Slot) (name : List ℕ) (d k : ℕ) (M : Mo
   links-i : 2 ≤ linksOf s (idAt s i)
   links-i = omega (arith, live-links s (M .mid) i (M .from), ap (λ (y : DiskINode). y .nlinks) (live-rec s (M .mid) i (M .from)))
 
-  links-c : linksOf s c ≢ 0
-  links-c z = omega (arith, moves-links s i j old name (node d k) M)
-
   d-not-c : c ≢ idAt s d
   d-not-c q = M .onto .apart (sym q)
 
@@ -122,16 +122,16 @@ module _ (s : Fs) (i j : ℕ) (old : Slot) (name : List ℕ) (d k : ℕ) (M : Mo
     abbrev L4 : ℕ → ℕ
     L4 = at (idAt s j) (recAt y3 j .nlinks - 1) L3
 
-    S1 : Counts (owns (node d k)) a t B (linksOf s) (y1 .table)
+    S1 : Counts (owns own (node d k)) a t B (linksOf s) (y1 .table)
     S1 = counts-blocks a t slots (linksOf s) (x .table) (X .rows) j (M .to .used) (recAt x j .blocks - 1) (omega (arith, X .rows .fits .rows j (M .to .used .below) .rec .blocks))
 
-    S2 : Counts (owns (node d k)) a t B L2 (y2 .table)
+    S2 : Counts (owns own (node d k)) a t B L2 (y2 .table)
     S2 = counts-links a t B (linksOf s) (y1 .table) S1 d (M .onto .used) (recAt y1 d .nlinks - 1) (omega (arith, S1 .fits .rows d (M .onto .used .below) .rec .nlinks))
 
-    S3 : Counts (owns (node d k)) a t B L3 (y3 .table)
+    S3 : Counts (owns own (node d k)) a t B L3 (y3 .table)
     S3 = counts-links a t B L2 (y2 .table) S2 d (M .onto .used) (recAt y2 d .nlinks - 1) (omega (arith, S2 .fits .rows d (M .onto .used .below) .rec .nlinks))
 
-    S4 : Counts (owns (node d k)) a t B L4 (y4 .table)
+    S4 : Counts (owns own (node d k)) a t B L4 (y4 .table)
     S4 = counts-links a t B L3 (y3 .table) S3 j (M .to .used) (recAt y3 j .nlinks - 1) (omega (arith, S3 .fits .rows j (M .to .used .below) .rec .nlinks))
 
     at-1 : recAt y1 d .nlinks ≡ linksOf s (idAt s d)
@@ -180,44 +180,91 @@ module _ (s : Fs) (i j : ℕ) (old : Slot) (name : List ℕ) (d k : ℕ) (M : Mo
     tidy : isFolder (movedKind s old) ≡ false → Tidy (onto (treeOf a t) (idAt s j) k (recAt s j .blocks) e (at c (linksOf s c + 1) L2))
     tidy no-dir =
         subst (λ (n : ℕ). Tidy (onto (treeOf a t) (idAt s j) k n e (at c (linksOf s c + 1) L2))) (ap (λ (y : DiskINode). y .blocks) rec-j)
-        (turned-tidy (treeOf a t) (idAt s j) k (idAt s d) c e (fair-tidy a t (M .mid .fair)) (turns no-dir) (at c (linksOf s c + 1) L2)
+        (turned-tidy (treeOf a t) (idAt s j) k (idAt s d) c e (M .mid .fair .tidy) (turns no-dir) (at c (linksOf s c + 1) L2)
         (at-here c (linksOf s c + 1) L2)
         (omega (arith, at-else c (linksOf s c + 1) L2 (idAt s d) (λ q. d-not-c (sym q)), at-here (idAt s d) (recAt y1 d .nlinks - 1) (linksOf s), at-1, links-d))
         (λ y n m. at-else c (linksOf s c + 1) L2 y n ∙ else-2 y m))
 
-    fair : isFolder (movedKind s old) ≡ false → Midway (owns (node d k)) b (y2 .table)
-    fair no-dir =
-        transferred s i j old name (node d k) M apart no-dir k (recAt s j .blocks) (λ y l n. l) b C B L2 (y2 .table) S2
-        (at-else (idAt s j) (recAt x j .blocks - 1) slots (idAt s i) apart ∙ at-here (idAt s i) (recAt s i .blocks - 1) to-slots)
-        (at-here (idAt s j) (recAt x j .blocks - 1) slots ∙ omega (arith, blocks-x))
-        (λ y n m. at-else (idAt s j) (recAt x j .blocks - 1) slots y m ∙ at-else (idAt s i) (recAt s i .blocks - 1) to-slots y n ∙ at-else (idAt s j) (recAt s j .blocks + 1) (slotsOf s) y m)
+    b-from : B (idAt s i) ≡ recAt s i .blocks - 1
+    b-from = at-else (idAt s j) (recAt x j .blocks - 1) slots (idAt s i) apart ∙ at-here (idAt s i) (recAt s i .blocks - 1) to-slots
+
+    b-to : B (idAt s j) ≡ recAt s j .blocks
+    b-to = at-here (idAt s j) (recAt x j .blocks - 1) slots ∙ omega (arith, blocks-x)
+
+    b-else : (y : ℕ) → y ≢ idAt s i → y ≢ idAt s j → B y ≡ slotsOf s y
+    b-else y n m = at-else (idAt s j) (recAt x j .blocks - 1) slots y m ∙ at-else (idAt s i) (recAt s i .blocks - 1) to-slots y n ∙ at-else (idAt s j) (recAt s j .blocks + 1) (slotsOf s) y m
+
+    file-mid : isFolder (movedKind s old) ≡ false → Amid (wayOf s i j old) (owns own (node d k)) b (y2 .table)
+    file-mid no-dir =
+        subst (λ (q : Bool). Amid (wayBy q s i j old) (owns own (node d k)) b (y2 .table)) (sym no-dir)
+        (transferred s i j old name (node d k) M apart no-dir k (recAt s j .blocks) (λ y l n. l) b C B L2 (y2 .table) S2 b-from b-to b-else
         (else-2 (idAt s i) (λ q. d-not-i s i j old name d k M (sym q)))
         (else-2 c d-not-c)
-        (tidy no-dir)
+        (tidy no-dir))
 
-    falls : Ok (Settled s i j old) (λ n. n ≡ 17) (bind (nlinksDec y1 d) (λ s. bind (pick (isFolder (recAt s d .kind)) (unlinkFolder s j d) (done s)) (λ s. release s d)))
+    -- a folder in the place of an empty folder, which has the two links of its own
+    module _ (dir : isFolder (movedKind s old) ≡ true) where
+      dir-d : isFolder (recAt s d .kind) ≡ true
+      dir-d = sym (M .onto .kinds) ∙ dir
+
+      over-d : Over (treeOf a t) (idAt s j) k c (idAt s d)
+      over-d = record {
+        later = M .onto .later;
+        inside = subst (λ (y : DiskINode). k < y .blocks) (sym rec-j) (M .onto .inside);
+        names = ap (λ (y : DiskINode). slotIn a y k .id) rec-j ∙ M .onto .names;
+        folder = ap (λ (y : DiskINode). isFolder (y .kind)) (rec-d s i j old name d k M) ∙ dir-d;
+        small = subst (λ (y : DiskINode). y .blocks ≤ 2) (sym (rec-d s i j old name d k M)) (M .onto .small dir-d);
+        opened = row-open t (M .mid .formed) d (M .onto .used);
+        apart = M .onto .apart;
+      }
+
+      fresh : (m : ℕ) → 2 ≤ m → m < recOf a t (idAt s j) .blocks → m ≢ k → nameOf (slotIn a (recOf a t (idAt s j)) m .name) ≢ nameOf (nameBytes name)
+      fresh m y z n q =
+          names-differ (treeOf a t) (idAt s j) (M .mid .fair .tidy .folder (idAt s j) (live-lives s (M .mid) j (M .to) .folder)) m k n y (M .onto .later) z (over-d .inside)
+          (q ∙ moves-name s i j old name (node d k) M ∙ sym (M .onto .named) ∙ ap (λ (y : DiskINode). nameOf (slotIn a y k .name)) (sym rec-j))
+
+      two-links : linksOf s (idAt s d) ≡ 2
+      two-links =
+          let v = treeOf a t in
+          let f : folderAt (treeOf a t) (idAt s d) ≡ true = λ y. node-d s i j old name d k M y && over-d .folder y in
+          let F = M .mid .fair .tidy .folder (idAt s d) f in
+          ⊎-elim
+          (λ (N : LinkedIn (treeOf a t) (idAt s d)). omega (arith, N .links, none-subs (treeOf a t) (idAt s d) (omega (arith, F .blocks, over-d .small))))
+          (λ (N : RemovedIn (treeOf a t) (idAt s d)). absurd (omega (arith, N .links, links-d)))
+          (M .mid .fair .tidy .either (idAt s d) f)
+
+      gone-4 : (y : ℕ) → eqb (idAt s d) y ≡ true → L4 y ≡ 0
+      gone-4 y q =
+          ap L4 (sym (eqb-true (idAt s d) y q)) ∙ at-else (idAt s j) (recAt y3 j .nlinks - 1) L3 (idAt s d) (d-not-j s i j old name d k M)
+          ∙ at-here (idAt s d) (recAt y2 d .nlinks - 1) L2 ∙ omega (arith, at-2, at-1, two-links)
+
+      folder-mid : Amid (wayOf s i j old) (owns own (node d k)) b (y4 .table)
+      folder-mid =
+          subst (λ (q : Bool). Amid (wayBy q s i j old) (owns own (node d k)) b (y4 .table)) (sym dir)
+          (turning-mid s i j old name (node d k) M apart k (recAt s j .blocks) (over (idAt s d))
+          (may-move s i j old name (node d k) M apart avoids dir k (over (idAt s d)) fresh over-d)
+          (λ y l n. l) (omega arith) b C B L4 (y4 .table) S4 b-from b-to b-else
+          (else-4 (idAt s i) (λ q. d-not-i s i j old name d k M (sym q)) apart)
+          here-4 gone-4 (λ y n q. else-4 y (λ z. eqb-false (idAt s d) y q (sym z)) n))
+
+    falls : Ok (Settled own s i j old) (λ n. n ≡ 17) (bind (nlinksDec y1 d) (λ s. bind (pick (isFolder (recAt s d .kind)) (unlinkFolder s j d) (done s)) (λ s. release s d)))
     unfolding unlinkFolder
     falls = rw (dec-is y1 d (omega (arith, at-1, links-d))) (go (isFolder (recAt y2 d .kind)) refl)
       where
         i-not-d : idAt s i ≢ idAt s d
         i-not-d q = d-not-i s i j old name d k M (sym q)
 
-        go : (f : Bool) → isFolder (recAt y2 d .kind) ≡ f → Ok (Settled s i j old) (λ n. n ≡ 17) (bind (pick f (bind (nlinksDec y2 d) (λ s. nlinksDec s j)) (done y2)) (λ s. release s d))
+        go : (f : Bool) → isFolder (recAt y2 d .kind) ≡ f → Ok (Settled own s i j old) (λ n. n ≡ 17) (bind (pick f (bind (nlinksDec y2 d) (λ s. nlinksDec s j)) (done y2)) (λ s. release s d))
         go false q =
             settle-node s i j old name d k M y2 (recAt s j .blocks) C B L2 S2 (X .meta)
-            (λ z. links-c (sym (else-2 c d-not-c) ∙ z))
             (omega (arith, else-2 (idAt s i) i-not-d, links-i))
-            fair
+            (file-mid (M .onto .kinds ∙ ap isFolder (sym kind-2) ∙ q))
         go true q =
             let f : isFolder (recAt s d .kind) ≡ true = ap isFolder (sym kind-2) ∙ q in
             rw (dec-is y2 d (omega (arith, at-1, at-2, links-d, ap bit f)), dec-is y3 j (omega (arith, at-3, links-j)))
             (settle-node s i j old name d k M y4 (recAt s j .blocks) C B L4 S4 (X .meta)
-            (λ z. ⊎-elim
-            (λ (w : c ≡ idAt s j). omega (arith, here-4, links-j, ap L4 w))
-            (λ w. links-c (sym (else-4 c d-not-c w) ∙ z))
-            (eq-cases c (idAt s j)))
             (omega (arith, else-4 (idAt s i) i-not-d apart, links-i))
-            (λ no-dir. absurd (true-false f (sym (M .onto .kinds) ∙ no-dir))))
+            (folder-mid (M .onto .kinds ∙ f)))
 
   last : slotBytes (x .arena) (recAt x j) (recAt x j .blocks - 1) ≡ done (run (x .arena) (nodeFile (recAt x j)) (264 * (recAt x j .blocks - 1)) 264)
   last =
@@ -229,10 +276,10 @@ module _ (s : Fs) (i j : ℕ) (old : Slot) (name : List ℕ) (d k : ℕ) (M : Mo
       is-there : there (x .arena) (nodeFile (recAt x j)) ≡ true
       is-there = ap (λ (f : List ℕ). there (x .arena) (file 1 f)) file-x ∙ X .files .exists (recAt s j .file) ∙ live-there s (M .mid) j (M .to)
 
-  pub replace-law : Ok (Settled s i j old) (λ n. n ≡ 17) (direntNodeRemove x j d k)
+  pub replace-law : Ok (Settled own s i j old) (λ n. n ≡ 17) (direntNodeRemove x j d k)
   unfolding direntNodeRemove
   replace-law =
       ok-bind (remove-law x j k (omega (arith, blocks-x, M .onto .inside)) (X .files .bytes) (X .files .sound)
       (ap (λ (f : List ℕ). there (x .arena) (file 1 f)) file-x ∙ X .files .exists (recAt s j .file) ∙ live-there s (M .mid) j (M .to)) last) λ y R.
-      subst (λ (z : Fs). Ok (Settled s i j old) (λ n. n ≡ 17) (bind (nlinksDec z d) (λ s. bind (pick (isFolder (recAt s d .kind)) (unlinkFolder s j d) (done s)) (λ s. release s d)))) (sym (R .is))
+      subst (λ (z : Fs). Ok (Settled own s i j old) (λ n. n ≡ 17) (bind (nlinksDec z d) (λ s. bind (pick (isFolder (recAt s d .kind)) (unlinkFolder s j d) (done s)) (λ s. release s d)))) (sym (R .is))
       (falls (R .arena) (R .gone))

@@ -7,7 +7,6 @@ use mathlib.Core.Logic.{_≢_, ⊎-elim}
 use Prim.Native.Nat.{ℕ, _+_, _*_, _%_, _<_}
 use native.Mathlib.Omega.{arith}
 use lib.Dec.{eqb, ltb}
-use borrow.Author.Tests.{eq-eqb}
 use Rattle.base.proofs.Bools.{true-false}
 use Rattle.base.proofs.Finds.{eq-cases}
 use Rattle.base.specs.declared.Found.{Found}
@@ -33,11 +32,9 @@ use Rattle.sefs.specs.Meta.{metaFile}
 use Rattle.sefs.specs.Nodes.{noRow}
 use Rattle.rules.specs.Image.{storedSuper, storedMaps, idsIn, isNode, storedBytes, recBy, recOf, isOpen}
 use Rattle.rules.specs.Rules.{Rule1}
-use Rattle.rules.proofs.Files.{node-below}
-use Rattle.image.specs.Midway.{Used, Fair, treeOf}
+use Rattle.image.specs.Midway.{Used, treeOf, Look, look, Fairly}
 use Rattle.image.proofs.Images.{root-node, head-there, there-head}
 use Rattle.tree.specs.Tree.{Tidy}
-use Rattle.image.proofs.TreeOf.{tidy-of, tidy-six, tidy-seven, tidy-eight}
 use Rattle.image.proofs.Records.{fits-row}
 use Rattle.image.proofs.Drops.{super-kept, maps-kept, stored-kept}
 use Rattle.utf8.specs.Names.{nameOf}
@@ -113,17 +110,13 @@ nodes-kept a b K k = λ x. ltb k (1024 * super-kept a b K x .groups) && (not (eq
 pub ids-kept : (a b : List ℕ) → Kept a b metaFile → idsIn b ≡ idsIn a
 ids-kept a b K = ap (λ (s : SuperBlock). 1024 * s .groups) (super-kept a b K)
 
--- the tree of a fair image is tidy
-pub fair-tidy : (a : List ℕ) (t : Table) → Fair a t → Tidy (treeOf a t)
-fair-tidy a t A = tidy-of a t (node-below a) (root-node a t A) (eq-eqb (recOf a t 2 .kind) 2 (A .rule5 .root)) (A .rule6) (A .rule7) (A .rule8)
-
-module _ (a b : List ℕ) (t u : Table) (A : Fair a t) (fine : Rule1 b) (K : Kept a b metaFile)
+module _ {was-way : Look} (way : Look) (a b : List ℕ) (t u : Table) (A : Fairly was-way a t) (fine : Rule1 b) (K : Kept a b metaFile)
     (files : (f : List ℕ) → there b (file 1 f) ≡ there a (file 1 f))
     (ids : (j : ℕ) → rowAt u j .id ≡ rowAt t j .id)
     (clean : Cleans a u)
     (kinds : (k : ℕ) → isNode a k ≡ true → recOf b u k .kind ≡ recOf a t k .kind)
     (names : (k : ℕ) → isNode a k ≡ true → recOf b u k .file ≡ recOf a t k .file)
-    (I : Tidy (treeOf b u)) where
+    (I : Tidy (look way (treeOf b u))) where
   super : storedSuper b ≡ storedSuper a
   super = super-kept a b K
 
@@ -133,7 +126,7 @@ module _ (a b : List ℕ) (t u : Table) (A : Fair a t) (fine : Rule1 b) (K : Kep
   was : (k : ℕ) → isNode b k ≡ true → isNode a k ≡ true
   was k n = sym (nodes-kept a b K k) ∙ n
 
-  pub fair-by-tree : Fair b u
+  pub fair-by-tree : Fairly way b u
   fair-by-tree = record {
     rule1 = fine;
     rule3 = record {
@@ -162,9 +155,7 @@ module _ (a b : List ℕ) (t u : Table) (A : Fair a t) (fine : Rule1 b) (K : Kep
           (o .0, nodes-kept a b K (o .0) ∙ o .1, names (o .0) (o .1) ∙ o .2 ∙ H .named);
       root = kinds 2 (root-node a t A) ∙ A .rule5 .root;
     };
-    rule6 = tidy-six b u I;
-    rule7 = tidy-seven b u I;
-    rule8 = tidy-eight b u I;
+    tidy = I;
   }
 
 -- a node with a row is open

@@ -43,7 +43,7 @@ use Rattle.sefs.specs.Nodes.{noRow, storeRow, syncRow}
 use Rattle.rules.specs.Image.{run, storedSuper, mapsTo, storedMaps, idsIn, isNode, storedBytes, recBy, recOf, isOpen}
 use Rattle.rules.specs.Rules.{Rule1}
 use Rattle.rules.proofs.Files.{node-below}
-use Rattle.image.specs.Midway.{Used, Fair, Midway}
+use Rattle.image.specs.Midway.{Used, Look, Fairly, Amid}
 use Rattle.image.proofs.Images.{like-same, Alike, image-fair}
 use Rattle.image.proofs.Records.{fits-row}
 use Rattle.image.proofs.Nodes.{there-meta, node-some}
@@ -66,7 +66,7 @@ module _ (a : List ℕ) (id : ℕ) (some : id ≢ 0) (off : id % 1024 ≢ 1) (sr
   elsewhere pos m h =
       tab-cong (byteAt b metaFile) (byteAt a metaFile) pos pos m (λ i l. P .outside (pos + i) (λ g. omega (arith, long, h i l g)))
 
-  pub put-super : storedSuper b ≡ storedSuper a
+  put-super : storedSuper b ≡ storedSuper a
   unfolding storedSuper
   put-super = ap superOf (elsewhere 0 16 (λ i l g. absurd (omega (arith, above-zero id some))))
 
@@ -77,18 +77,18 @@ module _ (a : List ℕ) (id : ℕ) (some : id ≢ 0) (off : id % 1024 ≢ 1) (sr
       λ x. same-maps k x ++ elsewhere (mapAt k) 128 (λ i l g.
       ⊎-elim (λ m. absurd (off (let e : id ≡ 1024 * k + 1 = omega arith in omega arith))) (λ m. m) (lt-or-le (mapAt k + i) (128 * id + 112))) x
 
-  pub put-maps : storedMaps b ≡ storedMaps a
+  put-maps : storedMaps b ≡ storedMaps a
   unfolding storedMaps
   put-maps = ap (λ (x : SuperBlock). mapsTo b (x .groups)) put-super ∙ same-maps (storedSuper a .groups)
 
-  pub put-records : (j : ℕ) → j ≢ id → storedBytes b j ≡ storedBytes a j
+  put-records : (j : ℕ) → j ≢ id → storedBytes b j ≡ storedBytes a j
   unfolding storedBytes
   put-records j d =
       elsewhere (128 * j) 112 (λ i l g. ⊎-elim (λ m. omega arith) (λ m. absurd (d (omega arith))) (lt-or-le id j))
 
 -- ---- the same at a node's place
 
-module _ (a : List ℕ) (t : Table) (A : Fair a t) (id : ℕ) (n : isNode a id ≡ true) (src : List ℕ) (long : length src ≡ 112) where
+module _ {way : Look} (a : List ℕ) (t : Table) (A : Fairly way a t) (id : ℕ) (n : isNode a id ≡ true) (src : List ℕ) (long : length src ≡ 112) where
   -- it can be refused for want of room alone
   pub record-put : Ok (Put a metaFile (128 * id) src) (λ r. r ≡ 17) (putFile a metaFile (128 * id) src)
   record-put = ok-weaken (λ b P. P) (λ r e. why e) (put-law a metaFile (128 * id) src)
@@ -122,7 +122,7 @@ module _ (a : List ℕ) (t : Table) (A : Fair a t) (id : ℕ) (n : isNode a id �
 
 -- ---- a dirty row is stored
 
-module _ {own : ℕ → Type 0} (a : List ℕ) (t : Table) (A : Fair a t) (O : Formed own t) (y : Bytes a) (T : TableFits t) (i : ℕ) (used : Used t i) where
+module _ {way : Look} {own : ℕ → Type 0} (a : List ℕ) (t : Table) (A : Fairly way a t) (O : Formed own t) (y : Bytes a) (T : TableFits t) (i : ℕ) (used : Used t i) where
   abbrev id : ℕ
   id = rowAt t i .id
 
@@ -176,7 +176,7 @@ module _ {own : ℕ → Type 0} (a : List ℕ) (t : Table) (A : Fair a t) (O : F
     unfolding isOpen
     open-all k o = ap (λ (f : Found). not (noRow f)) (same-row k) ∙ o
 
-    pub stored-fair : Fair b (withDirty t i false)
+    pub stored-fair : Fairly way b (withDirty t i false)
     stored-fair =
         image-fair a b t u A (put-alike a t A id n src long b P) (put-fine a t A id n src long b P y src-bytes)
         (λ j l d. subst (λ (k : ℕ). isNode a k ≡ true) (sym (same-id j)) (A .rule4 .node j l (λ z. d (same-id j ∙ z))))
@@ -186,7 +186,7 @@ module _ {own : ℕ → Type 0} (a : List ℕ) (t : Table) (A : Fair a t) (O : F
         (λ k m. like-same (same-all k))
         (λ k m z. open-all k)
 
-    pub stored-mid : Midway own b (withDirty t i false)
+    pub stored-mid : Amid way own b (withDirty t i false)
     stored-mid = record {
       fair = stored-fair;
       formed = dirty-kept t O i (used .below) false (used .node);
@@ -198,8 +198,8 @@ module _ {own : ℕ → Type 0} (a : List ℕ) (t : Table) (A : Fair a t) (O : F
     stored-clean = ap (λ (x : Row). x .dirty) (row-here t i row (omega (arith, used .below, T .rows-34)))
 
 -- what syncRow leaves of a state
-pub record Synced (own : ℕ → Type 0) (s : Fs) (i : ℕ) (d : Fs) : Type 0 where
-  pub mid : Midway own (d .arena) (d .table)
+pub record Synced (way : Look) (own : ℕ → Type 0) (s : Fs) (i : ℕ) (d : Fs) : Type 0 where
+  pub mid : Amid way own (d .arena) (d .table)
   pub meta : d .meta ≡ s .meta
   pub super : storedSuper (d .arena) ≡ storedSuper (s .arena)
   pub maps : storedMaps (d .arena) ≡ storedMaps (s .arena)
@@ -207,11 +207,12 @@ pub record Synced (own : ℕ → Type 0) (s : Fs) (i : ℕ) (d : Fs) : Type 0 wh
   pub ids : (j : ℕ) → rowAt (d .table) j .id ≡ rowAt (s .table) j .id
   pub recs : (j : ℕ) → rowAt (d .table) j .rec ≡ rowAt (s .table) j .rec
   pub holds : d .table .holds ≡ s .table .holds
+  pub all : (k : ℕ) → recOf (d .arena) (d .table) k ≡ recOf (s .arena) (s .table) k
 
 -- a row is stored, if it is dirty; 17 is the one reason
-pub sync-mid : {own : ℕ → Type 0} (s : Fs) → Midway own (s .arena) (s .table) → (i : ℕ) → Used (s .table) i → Ok (Synced own s i) (λ r. r ≡ 17) (syncRow s i)
+pub sync-mid : {way : Look} {own : ℕ → Type 0} (s : Fs) → Amid way own (s .arena) (s .table) → (i : ℕ) → Used (s .table) i → Ok (Synced way own s i) (λ r. r ≡ 17) (syncRow s i)
 unfolding syncRow storeRow
-sync-mid {own = own} s p i u = go (rowAt (s .table) i .dirty) refl
+sync-mid {way = way} {own = own} s p i u = go (rowAt (s .table) i .dirty) refl
   where
     a : List ℕ
     a = s .arena
@@ -219,7 +220,7 @@ sync-mid {own = own} s p i u = go (rowAt (s .table) i .dirty) refl
     t : Table
     t = s .table
 
-    A : Fair (s .arena) (s .table)
+    A : Fairly way (s .arena) (s .table)
     A = p .fair
 
     F : RecordFits (rowAt (s .table) i .rec)
@@ -231,7 +232,7 @@ sync-mid {own = own} s p i u = go (rowAt (s .table) i .dirty) refl
     long : length (recordBytes (rowAt (s .table) i .rec)) ≡ 112
     long = length-recordBytes (rowAt (s .table) i .rec) (F .file) (F .mac)
 
-    go : (d : Bool) → rowAt (s .table) i .dirty ≡ d → Ok (Synced own s i) (λ r. r ≡ 17) (pick d (storeRow s i) (done s))
+    go : (d : Bool) → rowAt (s .table) i .dirty ≡ d → Ok (Synced way own s i) (λ r. r ≡ 17) (pick d (storeRow s i) (done s))
     go true e =
         ok-bind (record-put (s .arena) (s .table) A (rowAt (s .table) i .id) n (recordBytes (rowAt (s .table) i .rec)) long) λ b P.
         let S = put-alike (s .arena) (s .table) A (rowAt (s .table) i .id) n (recordBytes (rowAt (s .table) i .rec)) long b P in
@@ -244,5 +245,6 @@ sync-mid {own = own} s p i u = go (rowAt (s .table) i .dirty) refl
           ids = same-id (s .arena) (s .table) A (p .formed) (p .bytes) (p .fits) i u;
           recs = same-rec (s .arena) (s .table) A (p .formed) (p .bytes) (p .fits) i u;
           holds = refl;
+          all = same-all (s .arena) (s .table) A (p .formed) (p .bytes) (p .fits) i u b P;
         })
-    go false e = went (record { mid = p; meta = refl; super = refl; maps = refl; clean = e; ids = λ j. refl; recs = λ j. refl; holds = refl })
+    go false e = went (record { mid = p; meta = refl; super = refl; maps = refl; clean = e; ids = λ j. refl; recs = λ j. refl; holds = refl; all = λ k. refl })

@@ -34,17 +34,17 @@ use Rattle.sefs.specs.Nodes.{Opened, opened, getNode, noRow}
 use Rattle.sefs.specs.Ask.{start}
 use Rattle.rules.specs.Image.{isNode, storedBytes, recBy, recOf, isOpen}
 use Rattle.rules.proofs.Files.{node-below}
-use Rattle.image.specs.Midway.{Used, Midway}
+use Rattle.image.specs.Midway.{Used, Look, plain, Amid}
 use Rattle.image.proofs.Slots.{run-bytes}
 use Rattle.image.proofs.Images.{like-same, alike-same, image-fair}
 use Rattle.image.proofs.Records.{fits-row}
 use Rattle.image.proofs.Nodes.{node-some, node-held, node-read}
 
-pub record Gets (own : ℕ → Type 0) (a : List ℕ) (t : Table) (id : ℕ) (o : Opened) : Type 0 where
+pub record Gets (way : Look) (own : ℕ → Type 0) (a : List ℕ) (t : Table) (id : ℕ) (o : Opened) : Type 0 where
   pub table : Table
   pub row : ℕ
   pub is : o ≡ opened (withTable (start a t) table) row
-  pub mid : Midway (also own row) a table
+  pub mid : Amid way (also own row) a table
   pub used : Used table row
   pub same : rowAt table row .id ≡ id
   pub recs : (k : ℕ) → isNode a k ≡ true → recOf a table k ≡ recOf a t k
@@ -55,9 +55,9 @@ pub record Gets (own : ℕ → Type 0) (a : List ℕ) (t : Table) (id : ℕ) (o 
 
 -- the first that a call opens
 abbrev pub Got : List ℕ → Table → ℕ → Opened → Type 0
-Got a t id o = Gets none a t id o
+Got a t id o = Gets plain none a t id o
 
-module _ {own : ℕ → Type 0} (a : List ℕ) (t : Table) (M : Midway own a t) (id : ℕ) (n : isNode a id ≡ true) (i : ℕ) (new : rowOf t id ≡ Nothing) (free : freeRow t ≡ At i) where
+module _ {way : Look} {own : ℕ → Type 0} (a : List ℕ) (t : Table) (M : Amid way own a t) (id : ℕ) (n : isNode a id ≡ true) (i : ℕ) (new : rowOf t id ≡ Nothing) (free : freeRow t ≡ At i) where
   abbrev rec : DiskINode
   rec = recordOf (storedBytes a id)
 
@@ -136,7 +136,7 @@ module _ {own : ℕ → Type 0} (a : List ℕ) (t : Table) (M : Midway own a t) 
   unfolding storedBytes
   stored-bytes = run-bytes a metaFile (128 * id) 112 (M .bytes)
 
-  taken : Gets own a t id (opened (withTable (start a t) (takeRow t i id (recordOf (storedBytes a id)) false)) i)
+  taken : Gets way own a t id (opened (withTable (start a t) (takeRow t i id (recordOf (storedBytes a id)) false)) i)
   taken = record {
     table = u;
     row = i;
@@ -162,10 +162,10 @@ module _ {own : ℕ → Type 0} (a : List ℕ) (t : Table) (M : Midway own a t) 
   }
 
 -- a node of the image can be opened, also where the call has a row of its own
-pub get-more : {own : ℕ → Type 0} (a : List ℕ) (t : Table) → Midway own a t → (k : ℕ) → ((j : ℕ) → own j → j ≡ k) → (id : ℕ) → isNode a id ≡ true → Ok (Gets own a t id) Clear (getNode (start a t) id)
-get-more {own = own} a t M k only id n = go (rowOf t id) refl
+pub get-more : {way : Look} {own : ℕ → Type 0} (a : List ℕ) (t : Table) → Amid way own a t → (k : ℕ) → ((j : ℕ) → own j → j ≡ k) → (id : ℕ) → isNode a id ≡ true → Ok (Gets way own a t id) Clear (getNode (start a t) id)
+get-more {way = way} {own = own} a t M k only id n = go (rowOf t id) refl
   where
-    go : (f : Found) → rowOf t id ≡ f → Ok (Gets own a t id) Clear (getNode (start a t) id)
+    go : (f : Found) → rowOf t id ≡ f → Ok (Gets way own a t id) Clear (getNode (start a t) id)
     go (At i) e =
         let s = row-found t id i e in
         rw (node-held a t (M .fair) id n i e)
@@ -185,5 +185,5 @@ get-more {own = own} a t M k only id n = go (rowOf t id) refl
         let s = spare-row t k (M .formed) only in
         rw (node-read a t (M .fair) id n (s .0) e (s .1)) (went (taken a t M id n (s .0) e (s .1)))
 
-pub get-law : (a : List ℕ) (t : Table) → Midway none a t → (id : ℕ) → isNode a id ≡ true → Ok (Got a t id) Clear (getNode (start a t) id)
+pub get-law : {way : Look} (a : List ℕ) (t : Table) → Amid way none a t → (id : ℕ) → isNode a id ≡ true → Ok (Gets way none a t id) Clear (getNode (start a t) id)
 get-law a t M id n = get-more a t M 0 (λ j o. absurd o) id n

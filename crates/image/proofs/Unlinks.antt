@@ -33,7 +33,7 @@ use Rattle.sefs.specs.Nodes.{nodeFile, recAt, setRec, release}
 use Rattle.sefs.specs.Slots.{slotBytes}
 use Rattle.sefs.specs.Folders.{nlinksDec, unlinkFolder, direntNodeRemove}
 use Rattle.rules.specs.Image.{run, isNode, recOf, isOpen, slotIn}
-use Rattle.image.specs.Midway.{Used, storedMeta, Fair, treeOf, Midway}
+use Rattle.image.specs.Midway.{Used, storedMeta, Fair, treeOf, plain, Midway}
 use Rattle.image.proofs.Metas.{node-other, kept-then}
 use Rattle.tree.specs.Tree.{Tidy}
 use Rattle.tree.proofs.Trees.{folder-is}
@@ -258,7 +258,7 @@ module _ {own : ℕ → Type 0} (a : List ℕ) (t : Table) (O : Formed own t) (y
 
     pub unnamed-mid : Midway own b u
     unnamed-mid = record {
-      fair = fair-by-tree a0 b t u A
+      fair = fair-by-tree plain a0 b t u A
           (record { length = legal-same a0 b (B .size ∙ size) ∙ A .rule1 .length; sound = B .sound })
           (kept-then a0 a b metaFile K0 K)
           (λ f. gone-there a (ri .file) (ri .blocks - 1) pl below y so is-there b B f ∙ theirs f)
@@ -343,7 +343,7 @@ module _ (s : Fs) (i c pl : ℕ) (O : Formed (also none c) (s .table)) (T : Tabl
         (λ d D. (D .mid, record { below = ui .below; node = λ z. ui .node (sym (S .ids i) ∙ sym (D .ids i (λ q. rows (sym q))) ∙ z) }))
         (λ r q. q)
         (release-law x c (subst (λ (y : List ℕ). Midway (also none c) y (x .table)) (sym e) (mid b B (x .table) S))
-        (used-in t (x .table) (S .ids) c uc) (m ∙ metas ∙ ap (λ (y : List ℕ). done (storedMeta y)) (sym e)))
+        (used-in t (x .table) (S .ids) c uc) (λ v. refl) (m ∙ metas ∙ ap (λ (y : List ℕ). done (storedMeta y)) (sym e)))
 
     falls : Ok Ends (λ r. r ≡ 17) (bind (nlinksDec x1 c) (λ s. bind (pick (isFolder (recAt s c .kind)) (unlinkFolder s i c) (done s)) (λ s. release s c)))
     unfolding unlinkFolder

@@ -9,10 +9,12 @@ use Rattle.table_bytes.specs.Fits.{TableFits}
 use Rattle.files.specs.Read.{lengthOf}
 use Rattle.sefs.specs.State.{Meta}
 use Rattle.sefs.specs.Nodes.{nodeFile}
+use Rattle.sefs.specs.Folders.{dotsEntry}
 use Rattle.rules.specs.Image.{storedSuper, storedMaps, idsIn, isNode, recOf, isOpen, slotIn}
-use Rattle.rules.specs.Rules.{Rule1, Rule3, Rule4, Rule5, Rule6, Rule7, Rule8}
+use Rattle.rules.specs.Rules.{Rule1, Rule3, Rule4, Rule5}
 use Rattle.table_laws.specs.Rules.{Formed}
-use Rattle.tree.specs.Tree.{Tree}
+use Rattle.tree.specs.Tree.{Tree, Tidy}
+use Rattle.tree.specs.Moves.{turned}
 
 -- ---- superblock and maps
 
@@ -25,25 +27,6 @@ storedMeta a = record { super = storedSuper a; maps = storedMaps a }
 pub record Used (t : Table) (i : ℕ) : Type 0 where
   pub below : i < 34
   pub node : rowAt t i .id ≢ 0
-
--- ---- what holds of the image in the middle of a call too: all rules but that the table is well formed
-
-pub record Fair (a : List ℕ) (t : Table) : Type 0 where
-  pub rule1 : Rule1 a
-  pub rule3 : Rule3 a
-  pub rule4 : Rule4 a t
-  pub rule5 : Rule5 a t
-  pub rule6 : Rule6 a t
-  pub rule7 : Rule7 a t
-  pub rule8 : Rule8 a t
-
--- ---- in the middle of a call: the table is well formed but for the call's own rows
-
-pub record Midway (own : ℕ → Type 0) (a : List ℕ) (t : Table) : Type 0 where
-  pub fair : Fair a t
-  pub formed : Formed own t
-  pub bytes : Bytes a
-  pub fits : TableFits t
 
 -- ---- an image's tree
 
@@ -59,3 +42,37 @@ treeOf a t = record {
   slot = λ i k. slotIn a (recOf a t i) k;
   opened = isOpen t;
 }
+
+-- ---- how an image's tree is looked at: as it is, or, from a folder's slot to its `..`, as it will be (folder c goes from folder f to folder g)
+
+pub data Look : Type 0 where
+  plain : Look
+  turning : (c f g : ℕ) → Look
+
+abbrev pub look : Look → Tree → Tree
+look plain v = v
+look (turning c f g) v = turned c f g (dotsEntry g) v
+
+-- ---- what holds of the image in the middle of a call too: all rules but that the table is well formed, and rules 6 to 8 of its tree as it is
+-- looked at
+
+pub record Fairly (k : Look) (a : List ℕ) (t : Table) : Type 0 where
+  pub rule1 : Rule1 a
+  pub rule3 : Rule3 a
+  pub rule4 : Rule4 a t
+  pub rule5 : Rule5 a t
+  pub tidy : Tidy (look k (treeOf a t))
+
+abbrev pub Fair : List ℕ → Table → Type 0
+Fair a t = Fairly plain a t
+
+-- ---- in the middle of a call: the table is well formed but for the call's own rows
+
+pub record Amid (k : Look) (own : ℕ → Type 0) (a : List ℕ) (t : Table) : Type 0 where
+  pub fair : Fairly k a t
+  pub formed : Formed own t
+  pub bytes : Bytes a
+  pub fits : TableFits t
+
+abbrev pub Midway : (ℕ → Type 0) → List ℕ → Table → Type 0
+Midway own a t = Amid plain own a t

@@ -18,6 +18,7 @@ use lesson_lib::say::text;
 use lesson_lib::world::fresh;
 use lesson_lib::world::handle;
 use lesson_made::three_files;
+use structs::DIR;
 use structs::FILE;
 use table::Handle;
 use table::Table;
@@ -96,6 +97,54 @@ fn same_node(arena: &mut [u8; 8192]) {
     handle_line(arena, t, h, b"; it is ");
     text(b".\n");
     move_line(arena, t, root);
+}
+
+// Where `..` of a folder leads, after a text. The table with that hold is not kept.
+fn parent_line(arena: &[u8; 8192], t: Table, h: Handle, before: &[u8]) {
+    let g = find(arena, t, h, b"..");
+    let a = g.answer;
+    let u = g.table;
+    handle_line(arena, u, handle(a), before);
+}
+
+// A weight's folder goes to another family; then that family can't go below it.
+fn reorganised(
+    arena: &mut [u8; 8192],
+    t: Table,
+    root: Handle,
+    sans: Handle,
+    serif: Handle,
+    bold: Handle,
+) {
+    parent_line(arena, t, bold, b"  Bold's .. leads to ");
+    let m = move_(arena, t, sans, b"Bold", serif, b"Bold");
+    let a = m.answer;
+    let t = m.table;
+    say::answer(b".\n  move Bold to Serif: ", a);
+    parent_line(arena, t, bold, b"; its .. leads to ");
+    let m = move_(arena, t, root, b"Serif", bold, b"Serif");
+    let a = m.answer;
+    say::answer(b".\n  move Serif into Bold, which is in it: ", a);
+    text(b".\n");
+}
+
+fn families(arena: &mut [u8; 8192]) {
+    text(b"\nA weight's folder goes to another family\n");
+    let w = fresh(arena);
+    let t = w.table;
+    let root = w.root;
+    let g = create_line(arena, t, root, b"Sans", DIR, 2);
+    let a = g.answer;
+    let t = g.table;
+    let sans = handle(a);
+    let g = create_line(arena, t, root, b"Serif", DIR, 3);
+    let a = g.answer;
+    let t = g.table;
+    let serif = handle(a);
+    let g = create_line(arena, t, sans, b"Bold", DIR, 4);
+    let a = g.answer;
+    let t = g.table;
+    reorganised(arena, t, root, sans, serif, handle(a));
 }
 
 // A handle is a hold and a stamp, and not a node's number.
@@ -192,5 +241,6 @@ fn main() {
     lesson_made::numbers();
     lesson_made::names(&mut arena);
     same_node(&mut arena);
+    families(&mut arena);
     support_call(&mut arena);
 }

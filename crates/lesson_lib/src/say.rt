@@ -30,6 +30,7 @@ pub fn signed(before: &[u8], z: i64, after: &[u8]) {
 fn words(reason: u8) {
     match reason {
         4 => text(b" (bad handle)"),
+        6 => text(b" (invalid parameter)"),
         10 => text(b" (name too long)"),
         12 => text(b" (entry exists)"),
         _ => text(b""),

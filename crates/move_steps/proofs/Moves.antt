@@ -7,19 +7,18 @@ use lib.Dec.{eqb}
 use Rattle.base.specs.Out.{Out, done, bind}
 use Rattle.base.specs.Search.{pick}
 use Rattle.structs.specs.Layout.{entryBytes}
-use Rattle.structs.specs.Types.{moveVerdictOf}
 use Rattle.sefs.specs.State.{Fs}
 use Rattle.sefs.specs.Nodes.{recAt, idAt, getNode, syncRow, release}
 use Rattle.sefs.specs.Slots.{Slot, findSlot}
 use Rattle.sefs.specs.Folders.{putSlot, direntAppend, direntRemove}
 use Rattle.sefs.specs.Create.{After, after}
-use Rattle.sefs.specs.Move.{judge, renamed, moveLinks, moveWithin, moveBetween, moveSteps, moveOnto}
+use Rattle.sefs.specs.Move.{node, renamed, moveLinks, moveParent, moveWithin, moveBetween, moveSteps}
 use Rattle.steps.specs.Ends.{ending}
 use Rattle.steps.specs.Steps.{syncTwo}
 use Rattle.steps.proofs.Ends.{ending-bind, ending-both}
 use Rattle.move_steps.specs.declared.Gone.{Gone}
 use Rattle.move_steps.specs.declared.Gone.the-variants.{Node}
-use Rattle.move_steps.specs.Steps.{replacedOf, removeGone, withinFolder, endMove, openMoved, restMove, betweenFolders, moveSlot, moveNamed, judgeRows, moveOver}
+use Rattle.move_steps.specs.Steps.{replacedOf, removeGone, withinFolder, endFolders, endMove, openMoved, restMove, betweenFolders, moveSlot, moveNamed, moveOver}
 
 -- ---- the steps
 
@@ -35,6 +34,10 @@ rest-is s i j c =
     ending-both (syncRow s i) (λ s. syncRow s j) (λ s. release s c) _ (λ s.
     ending-bind (syncRow s j) (λ s. release s c) _ (λ s. refl))
 
+parent-is : (s : Fs) (i j c : ℕ) → bind (moveParent s j c) (λ s. bind (syncRow s i) (λ s. bind (syncRow s j) (λ s. bind (release s c) (λ s. done (after s))))) ≡ ending (bind (endFolders s i j c) (λ s. release s c))
+unfolding endFolders
+parent-is s i j c = ending-both (moveParent s j c) (λ s. syncTwo s j i) (λ s. release s c) _ (λ s. rest-is s i j c)
+
 between-is : (s : Fs) (i j : ℕ) (f : Slot) (name : List ℕ) (g : Gone) → moveBetween s i j f name (replacedOf g) ≡ ending (betweenFolders s i j (f .place) (renamed (f .entry) name) g)
 unfolding moveBetween betweenFolders restMove openMoved endMove removeGone
 between-is s i j f name g =
@@ -42,7 +45,7 @@ between-is s i j f name g =
     ending-bind (direntRemove s i (f .place)) (λ s. restMove s i j (f .entry .id) g) _ (λ s.
     ending-bind (removeGone s j g) (λ s. openMoved s i j (f .entry .id)) _ (λ s.
     ending-bind (getNode s (f .entry .id)) (λ o. endMove (o .state) i j (o .row)) _ (λ o.
-    ending-bind (moveLinks (o .state) i j (o .row)) (λ s. bind (syncTwo s j i) (λ s. release s (o .row))) _ (λ s. rest-is s i j (o .row))))))
+    ending-bind (moveLinks (o .state) i j (o .row)) (λ s. bind (endFolders s i j (o .row)) (λ s. release s (o .row))) _ (λ s. parent-is s i j (o .row))))))
 
 pick-is : (b : Bool) (x y : Out Fs) (p q : Out After) → p ≡ ending x → q ≡ ending y → pick b p q ≡ ending (pick b x y)
 pick-is true x y p q e f = e
@@ -56,8 +59,7 @@ steps-is s i j old name g =
 
 -- ---- the new name exists
 
-pub onto-is : (s : Fs) (i j : ℕ) (old name : List ℕ) (c d k : ℕ) → moveOnto s i j old name c d k ≡ ending (moveOver s i j old name c d k)
-unfolding moveOnto moveOver judgeRows
-onto-is s i j old name c d k =
-    ending-bind (judge (moveVerdictOf (recAt s c .kind) (recAt s d .kind)) s d) (λ s. bind (release s c) (λ s. moveNamed s i j old name (Node d k))) _ (λ s.
-    ending-bind (release s c) (λ s. moveNamed s i j old name (Node d k)) _ (λ s. steps-is s i j old name (Node d k)))
+pub over-is : (s : Fs) (i j : ℕ) (old name : List ℕ) (c d k : ℕ) → bind (release s c) (λ s. moveSteps s i j old name (node d k)) ≡ ending (moveOver s i j old name c d k)
+unfolding moveOver
+over-is s i j old name c d k =
+    ending-bind (release s c) (λ s. moveNamed s i j old name (Node d k)) _ (λ s. steps-is s i j old name (Node d k))

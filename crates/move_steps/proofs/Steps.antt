@@ -1,21 +1,15 @@
 -- The steps of move, one after another.
 use mathlib.Core.Path.{_≡_, refl, sym, _∙_, ap, subst}
 use mathlib.Core.List.{List}
-use mathlib.Core.Logic.{⊎-elim}
-use Prim.Native.Nat.{ℕ, zero, suc, _+_, _-_, _≤_, _<_}
-use native.Mathlib.Nat.{eq-or-lt-of-le, le-of-suc-le-suc}
-use native.Mathlib.Numerals.{add-one}
+use Prim.Native.Nat.{ℕ, _≤_, _<_}
 use native.Mathlib.Omega.{arith}
 use lib.ListN.{length}
 use borrow.Author.Tests.{eq-eqb, ne-eqb, le-leb, lt-leb}
-use Rattle.base.specs.Out.{done, refused, bind, Went, well, ill}
-use Rattle.base.proofs.Outs.{went-is, went-has, went-not, went-next, went-stop, above-zero}
+use Rattle.base.specs.Out.{bind, Went, well, ill}
+use Rattle.base.proofs.Outs.{went-is, went-has, went-next, went-stop}
 use Rattle.le.specs.Le.{leAt, Bytes}
 use Rattle.structs.specs.declared.DiskINode.{DiskINode}
 use Rattle.structs.specs.declared.DiskEntry.{DiskEntry}
-use Rattle.structs.specs.declared.MoveVerdict.{MoveVerdict}
-use Rattle.structs.specs.declared.MoveVerdict.the-variants.{Allowed, NotDir, IsDir, IfEmpty}
-use Rattle.structs.specs.Types.{moveVerdictOf}
 use Rattle.structs.specs.Layout.{entryOf, entryBytes}
 use Rattle.structs.specs.Fits.{EntryFits}
 use Rattle.structs.proofs.Layouts.{entryOf-entryBytes, entryBytes-entryOf}
@@ -24,9 +18,9 @@ use Rattle.overlay.specs.View.{view}
 use Rattle.table.specs.Table.{rowAt}
 use Rattle.sefs.specs.State.{Fs}
 use Rattle.sefs.specs.Nodes.{recAt, idAt, opened, getNode, syncRow, release}
-use Rattle.sefs.specs.Slots.{Slot, slotAt, findSlot}
-use Rattle.sefs.specs.Folders.{entry, putSlot, direntAppend, direntRemove, direntNodeRemove}
-use Rattle.sefs.specs.Move.{renamed, readSlots, moveDots, moveLinks}
+use Rattle.sefs.specs.Slots.{Slot, findSlot}
+use Rattle.sefs.specs.Folders.{entry, dotsEntry, putSlot, direntAppend, direntRemove, direntNodeRemove}
+use Rattle.sefs.specs.Move.{renamed, moveDots, moveLinks, moveParent}
 use Rattle.mem.specs.Mem.{tableIn, Whole}
 use Rattle.mem.specs.State.{fsOf, Ready, Stepped}
 use Rattle.folders.proofs.Folders.{id-of}
@@ -35,7 +29,7 @@ use Rattle.steps.specs.Steps.{syncTwo}
 use Rattle.steps.proofs.Steps.{rec-of, name-bytes}
 use Rattle.move_steps.specs.declared.Gone.{Gone}
 use Rattle.move_steps.specs.declared.Gone.the-variants.{Free, Node}
-use Rattle.move_steps.specs.Steps.{InRow, Typed, removeGone, withinFolder, endMove, openMoved, restMove, betweenFolders, moveSlot, moveNamed, ifEmpty, judgeRows, moveOver}
+use Rattle.move_steps.specs.Steps.{InRow, removeGone, withinFolder, endFolders, endMove, openMoved, restMove, betweenFolders, moveSlot, moveNamed, moveOver}
 
 -- ---- the replaced node
 
@@ -87,67 +81,85 @@ module _ (m : List ℕ) (i j c : ℕ) (x : DiskINode) (e : x ≡ rowAt (tableIn 
 
 -- ---- between folders
 
--- the moved node is in row c
+-- the moved node is in row c, with the record x
+module _ (a w m : List ℕ) (j c : ℕ) (x : DiskINode) (e : x ≡ rowAt (tableIn m) c .rec) where
+  pub parent-folder : {u : List ℕ} {r : ℕ} (y : ℕ) → y ≡ rowAt (tableIn m) j .id → x .kind ≡ 2 → Stepped (putSlot (fsOf a w m) c 1 (entryBytes (dotsEntry y))) a w u m 3 r → Stepped (moveParent (fsOf a w m) j c) a w u m 3 r
+  unfolding moveParent
+  parent-folder y f k h = rw (← rec-of a w m c x e, eq-eqb (x .kind) 2 k, ← id-of a w m j y f) h
+
+  pub parent-other : (x .kind ≡ 2 → ⊥) → Ready a w m → Stepped (moveParent (fsOf a w m) j c) a w w m 3 0
+  unfolding moveParent
+  parent-other k h = rw (← rec-of a w m c x e, ne-eqb (x .kind) 2 k) (well refl (record { fine = h .fine; whole = h .whole; room = omega arith }))
+
+module _ {a w u : List ℕ} {r : ℕ} (m : List ℕ) (i j c : ℕ) (g : Stepped (moveParent (fsOf a w m) j c) a w u m 3 r) where
+  pub folders-stop : (v q : List ℕ) → (r ≡ 0 → ⊥) → Stepped (endFolders (fsOf a w m) i j c) a w v q 9 r
+  unfolding endFolders
+  folders-stop v q z = went-stop _ _ z g
+
+  pub folders-done : {v q : List ℕ} {x : ℕ} → r ≡ 0 → Stepped (syncTwo (fsOf a u m) j i) a u v q 6 x → Stepped (endFolders (fsOf a w m) i j c) a w v q 9 x
+  unfolding endFolders
+  folders-done z h = stepped-next (λ s. syncTwo s j i) 3 9 (went-is g z) (went-has g z) h (omega arith)
+
 module _ {a w n : List ℕ} {r : ℕ} (m : List ℕ) (i j c : ℕ) (g : Went (moveLinks (fsOf a w m) i j c) (fsOf a w n) (Whole n) r) where
-  pub end-stop : (v q : List ℕ) → (r ≡ 0 → ⊥) → Stepped (endMove (fsOf a w m) i j c) a w v q 19 r
+  pub end-stop : (v q : List ℕ) → (r ≡ 0 → ⊥) → Stepped (endMove (fsOf a w m) i j c) a w v q 22 r
   unfolding endMove
   end-stop v q z = went-stop _ _ z g
 
-  module _ {u q : List ℕ} {x : ℕ} (z : r ≡ 0) (d : Stepped (syncTwo (fsOf a w n) j i) a w u q 6 x) where
-    pub end-sync : (v t : List ℕ) → (x ≡ 0 → ⊥) → Stepped (endMove (fsOf a w m) i j c) a w v t 19 x
+  module _ {u q : List ℕ} {x : ℕ} (z : r ≡ 0) (d : Stepped (endFolders (fsOf a w n) i j c) a w u q 9 x) where
+    pub end-sync : (v t : List ℕ) → (x ≡ 0 → ⊥) → Stepped (endMove (fsOf a w m) i j c) a w v t 22 x
     unfolding endMove
     end-sync v t o = went-next _ (went-is g z) (went-stop _ _ o d)
 
-    pub end-done : {v t : List ℕ} {y : ℕ} → x ≡ 0 → Stepped (release (fsOf a u q) c) a u v t 13 y → Stepped (endMove (fsOf a w m) i j c) a w v t 19 y
+    pub end-done : {v t : List ℕ} {y : ℕ} → x ≡ 0 → Stepped (release (fsOf a u q) c) a u v t 13 y → Stepped (endMove (fsOf a w m) i j c) a w v t 22 y
     unfolding endMove
-    end-done o h = went-next (λ s. bind (syncTwo s j i) (λ s. release s c)) (went-is g z) (stepped-next (λ s. release s c) 6 19 (went-is d o) (went-has d o) h (omega arith))
+    end-done o h = went-next (λ s. bind (endFolders s i j c) (λ s. release s c)) (went-is g z) (stepped-next (λ s. release s c) 9 22 (went-is d o) (went-has d o) h (omega arith))
 
 -- it is opened
 module _ (a w m n : List ℕ) (i j id c : ℕ) {r : ℕ} {P : Type 0} (g : Went (getNode (fsOf a w m) id) (opened (fsOf a w n) c) P r) where
-  pub open-stop : (v q : List ℕ) → (r ≡ 0 → ⊥) → Stepped (openMoved (fsOf a w m) i j id) a w v q 19 r
+  pub open-stop : (v q : List ℕ) → (r ≡ 0 → ⊥) → Stepped (openMoved (fsOf a w m) i j id) a w v q 22 r
   unfolding openMoved
   open-stop v q z = went-stop _ _ z g
 
-  pub open-next : {u q : List ℕ} {x : ℕ} → r ≡ 0 → Stepped (endMove (fsOf a w n) i j c) a w u q 19 x → Stepped (openMoved (fsOf a w m) i j id) a w u q 19 x
+  pub open-next : {u q : List ℕ} {x : ℕ} → r ≡ 0 → Stepped (endMove (fsOf a w n) i j c) a w u q 22 x → Stepped (openMoved (fsOf a w m) i j id) a w u q 22 x
   unfolding openMoved
   open-next z h = went-next (λ o. endMove (o .state) i j (o .row)) (went-is g z) h
 
 -- the replaced node goes first
 module _ {a w u n : List ℕ} {r : ℕ} (m : List ℕ) (i j id : ℕ) (e : Gone) (g : Stepped (removeGone (fsOf a w m) j e) a w u n 18 r) where
-  pub rest-stop : (v q : List ℕ) → (r ≡ 0 → ⊥) → Stepped (restMove (fsOf a w m) i j id e) a w v q 37 r
+  pub rest-stop : (v q : List ℕ) → (r ≡ 0 → ⊥) → Stepped (restMove (fsOf a w m) i j id e) a w v q 40 r
   unfolding restMove
   rest-stop v q z = went-stop _ _ z g
 
-  pub rest-next : {v q : List ℕ} {x : ℕ} → r ≡ 0 → Stepped (openMoved (fsOf a u n) i j id) a u v q 19 x → Stepped (restMove (fsOf a w m) i j id e) a w v q 37 x
+  pub rest-next : {v q : List ℕ} {x : ℕ} → r ≡ 0 → Stepped (openMoved (fsOf a u n) i j id) a u v q 22 x → Stepped (restMove (fsOf a w m) i j id e) a w v q 40 x
   unfolding restMove
-  rest-next z h = stepped-next (λ s. openMoved s i j id) 18 37 (went-is g z) (went-has g z) h (omega arith)
+  rest-next z h = stepped-next (λ s. openMoved s i j id) 18 40 (went-is g z) (went-has g z) h (omega arith)
 
 -- the slots go first
 module _ {a w u n : List ℕ} {r : ℕ} (m l : List ℕ) (i j k : ℕ) (e : Gone) (g : Stepped (direntAppend (fsOf a w m) j (entryOf l)) a w u n 3 r) where
-  pub between-stop : (v q : List ℕ) → (r ≡ 0 → ⊥) → Stepped (betweenFolders (fsOf a w m) i j k (entryOf l) e) a w v q 45 r
+  pub between-stop : (v q : List ℕ) → (r ≡ 0 → ⊥) → Stepped (betweenFolders (fsOf a w m) i j k (entryOf l) e) a w v q 48 r
   unfolding betweenFolders
   between-stop v q z = went-stop _ _ z g
 
   module _ {v q : List ℕ} {x : ℕ} (z : r ≡ 0) (d : Stepped (direntRemove (fsOf a u n) i k) a u v q 5 x) where
-    pub between-remove : (t p : List ℕ) → (x ≡ 0 → ⊥) → Stepped (betweenFolders (fsOf a w m) i j k (entryOf l) e) a w t p 45 x
+    pub between-remove : (t p : List ℕ) → (x ≡ 0 → ⊥) → Stepped (betweenFolders (fsOf a w m) i j k (entryOf l) e) a w t p 48 x
     unfolding betweenFolders
     between-remove t p o = went-next _ (went-is g z) (went-stop _ _ o d)
 
-    pub between-next : {t p : List ℕ} {y : ℕ} (id : ℕ) → id ≡ leAt l 0 4 → x ≡ 0 → Stepped (restMove (fsOf a v q) i j id e) a v t p 37 y → Stepped (betweenFolders (fsOf a w m) i j k (entryOf l) e) a w t p 45 y
+    pub between-next : {t p : List ℕ} {y : ℕ} (id : ℕ) → id ≡ leAt l 0 4 → x ≡ 0 → Stepped (restMove (fsOf a v q) i j id e) a v t p 40 y → Stepped (betweenFolders (fsOf a w m) i j k (entryOf l) e) a w t p 48 y
     unfolding betweenFolders entryOf
     between-next id f o h =
-        stepped-next (λ s. bind (direntRemove s i k) (λ s. restMove s i j (leAt l 0 4) e)) 3 45 (went-is g z) (went-has g z)
-        (stepped-next (λ s. restMove s i j (leAt l 0 4) e) 5 42 (went-is d o) (went-has d o) (rw f at h) (omega arith))
+        stepped-next (λ s. bind (direntRemove s i k) (λ s. restMove s i j (leAt l 0 4) e)) 3 48 (went-is g z) (went-has g z)
+        (stepped-next (λ s. restMove s i j (leAt l 0 4) e) 5 45 (went-is d o) (went-has d o) (rw f at h) (omega arith))
         (omega arith)
 
 -- ---- within or between: x and y are the folders' ids
 
 module _ (a w m : List ℕ) (i j k : ℕ) (d : DiskEntry) (g : Gone) (x y : ℕ) (p : x ≡ rowAt (tableIn m) i .id) (q : y ≡ rowAt (tableIn m) j .id) where
-  pub slot-within : {u n : List ℕ} {r : ℕ} → x ≡ y → Stepped (withinFolder (fsOf a w m) i k d g) a w u n 24 r → Stepped (moveSlot (fsOf a w m) i j k d g) a w u n 45 r
+  pub slot-within : {u n : List ℕ} {r : ℕ} → x ≡ y → Stepped (withinFolder (fsOf a w m) i k d g) a w u n 24 r → Stepped (moveSlot (fsOf a w m) i j k d g) a w u n 48 r
   unfolding moveSlot
-  slot-within e h = rw (eq-eqb (idAt (fsOf a w m) i) (idAt (fsOf a w m) j) (sym (id-of a w m i x p) ∙ e ∙ id-of a w m j y q)) (stepped-more 45 (omega arith) h)
+  slot-within e h = rw (eq-eqb (idAt (fsOf a w m) i) (idAt (fsOf a w m) j) (sym (id-of a w m i x p) ∙ e ∙ id-of a w m j y q)) (stepped-more 48 (omega arith) h)
 
-  pub slot-between : {u n : List ℕ} {r : ℕ} → (x ≡ y → ⊥) → Stepped (betweenFolders (fsOf a w m) i j k d g) a w u n 45 r → Stepped (moveSlot (fsOf a w m) i j k d g) a w u n 45 r
+  pub slot-between : {u n : List ℕ} {r : ℕ} → (x ≡ y → ⊥) → Stepped (betweenFolders (fsOf a w m) i j k d g) a w u n 48 r → Stepped (moveSlot (fsOf a w m) i j k d g) a w u n 48 r
   unfolding moveSlot
   slot-between e h = rw (ne-eqb (idAt (fsOf a w m) i) (idAt (fsOf a w m) j) (λ o. e (id-of a w m i x p ∙ o ∙ sym (id-of a w m j y q)))) h
 
@@ -177,92 +189,13 @@ module _ (a w m : List ℕ) (i j : ℕ) (old name l : List ℕ) (k r : ℕ) {P :
       went-next (λ f. moveSlot (fsOf a w m) i j (f .place) (renamed (f .entry) name) g) (went-is (find-fs a w m i old x e f) z)
       (subst (λ (y : DiskEntry). Went (moveSlot (fsOf a w m) i j k y g) v Q q) d h)
 
--- ---- slots that are read
-
-module _ (s : Fs) (d : ℕ) where
-  pub read-none : readSlots s d 0 ≡ done s
-  unfolding readSlots
-  read-none = refl
-
-  read-next : (k : ℕ) (e : DiskEntry) → readSlots s d k ≡ done s → slotAt (s .arena) (recAt s d) k ≡ done e → readSlots s d (k + 1) ≡ done s
-  unfolding readSlots
-  read-next k e p q = rw (add-one, p, q)
-
-  read-stuck : (k x : ℕ) → readSlots s d k ≡ done s → slotAt (s .arena) (recAt s d) k ≡ refused x → readSlots s d (suc k) ≡ refused x
-  unfolding readSlots
-  read-stuck k x p q = rw (p, q)
-
-  read-over : (m n x : ℕ) → readSlots s d m ≡ refused x → m ≤ n → readSlots s d n ≡ refused x
-  unfolding readSlots
-  read-over m zero x e h = subst (λ (j : ℕ). readSlots s d j ≡ refused x) (let q : m ≡ 0 = omega arith in q) e
-  read-over m (suc n) x e h =
-      ⊎-elim
-      (λ q. subst (λ (j : ℕ). readSlots s d j ≡ refused x) q e)
-      (λ l. rw (read-over m n x e (le-of-suc-le-suc l)))
-      (eq-or-lt-of-le h)
-
-module _ (a w m : List ℕ) (d : ℕ) (rec : DiskINode) (y : rec ≡ rowAt (tableIn m) d .rec) (k : ℕ) {x : ℕ} {v : DiskEntry} {P : Type 0} (e : readSlots (fsOf a w m) d k ≡ done (fsOf a w m)) (g : Went (slotAt (view a w) rec k) v P x) where
-  at-fs : Went (slotAt (fsOf a w m .arena) (recAt (fsOf a w m) d) k) v P x
-  unfolding fsOf
-  at-fs = rw y at g
-
-  pub read-ends : (n : ℕ) → k < n → (x ≡ 0 → ⊥) → Went (readSlots (fsOf a w m) d n) (fsOf a w m) Unit x
-  read-ends n l z = ill (above-zero _ z) (read-over (fsOf a w m) d (suc k) n _ (read-stuck (fsOf a w m) d k _ e (went-not at-fs z)) l)
-
-  pub read-more : x ≡ 0 → readSlots (fsOf a w m) d (k + 1) ≡ done (fsOf a w m)
-  read-more z = read-next (fsOf a w m) d k _ e (went-is at-fs z)
-
-pub read-all : (s : Fs) (d k n : ℕ) → readSlots s d k ≡ done s → k ≤ n → n ≤ k → Went (readSlots s d n) s Unit 0
-read-all s d k n e l h = well (ap (readSlots s d) (let z : n ≡ k = omega arith in z) ∙ e) tt
-
--- ---- type rules
-
-module _ (a w m : List ℕ) (d : ℕ) (x : DiskINode) (e : x ≡ rowAt (tableIn m) d .rec) where
-  pub empty-not : 2 < x .blocks → Went (ifEmpty (fsOf a w m) d) (fsOf a w m) Unit 13
-  unfolding ifEmpty
-  empty-not l = ill {r = 13} (omega arith) (rw (← rec-of a w m d x e, lt-leb (x .blocks) 2 l))
-
-  pub empty-read : {r : ℕ} (n : ℕ) → n ≡ x .blocks → x .blocks ≤ 2 → Went (readSlots (fsOf a w m) d n) (fsOf a w m) Unit r → Went (ifEmpty (fsOf a w m) d) (fsOf a w m) Unit r
-  unfolding ifEmpty
-  empty-read n q l h = rw (← rec-of a w m d x e, le-leb (x .blocks) 2 l, ← q) h
-
--- a type that is known of a record, by another name of it
-pub typed-of : {x y : DiskINode} → x ≡ y → Typed y → Typed x
-typed-of e h = subst Typed (sym e) h
-
-module _ (a w m : List ℕ) (c d : ℕ) (x y : DiskINode) (p : x ≡ rowAt (tableIn m) c .rec) (q : y ≡ rowAt (tableIn m) d .rec) (v : MoveVerdict) (e : v ≡ moveVerdictOf (x .kind) (y .kind)) where
-  is-verdict : (u : MoveVerdict) → v ≡ u → moveVerdictOf (recAt (fsOf a w m) c .kind) (recAt (fsOf a w m) d .kind) ≡ u
-  unfolding fsOf
-  is-verdict u k = rw (← p, ← q, ← e, k)
-
-  pub judge-allowed : v ≡ Allowed → Went (judgeRows (fsOf a w m) c d) (fsOf a w m) Unit 0
-  unfolding judgeRows
-  judge-allowed k = well (rw (is-verdict Allowed k)) tt
-
-  pub judge-not-dir : v ≡ NotDir → Went (judgeRows (fsOf a w m) c d) (fsOf a w m) Unit 7
-  unfolding judgeRows
-  judge-not-dir k = ill {r = 7} (omega arith) (rw (is-verdict NotDir k))
-
-  pub judge-is-dir : v ≡ IsDir → Went (judgeRows (fsOf a w m) c d) (fsOf a w m) Unit 9
-  unfolding judgeRows
-  judge-is-dir k = ill {r = 9} (omega arith) (rw (is-verdict IsDir k))
-
-  pub judge-empty : {r : ℕ} → v ≡ IfEmpty → Went (ifEmpty (fsOf a w m) d) (fsOf a w m) Unit r → Went (judgeRows (fsOf a w m) c d) (fsOf a w m) Unit r
-  unfolding judgeRows ifEmpty
-  judge-empty k h = rw (is-verdict IfEmpty k) h
-
 -- ---- node c in the place of node d
 
-module _ {a w : List ℕ} {r : ℕ} (m : List ℕ) (i j : ℕ) (old name : List ℕ) (c d k : ℕ) (g : Went (judgeRows (fsOf a w m) c d) (fsOf a w m) Unit r) where
-  pub over-stop : (v q : List ℕ) → (r ≡ 0 → ⊥) → Stepped (moveOver (fsOf a w m) i j old name c d k) a w v q 58 r
+module _ {a w u n : List ℕ} {r : ℕ} (m : List ℕ) (i j : ℕ) (old name : List ℕ) (c d k : ℕ) (g : Stepped (release (fsOf a w m) c) a w u n 13 r) where
+  pub over-stop : (v q : List ℕ) → (r ≡ 0 → ⊥) → Stepped (moveOver (fsOf a w m) i j old name c d k) a w v q 61 r
   unfolding moveOver
   over-stop v q z = went-stop _ _ z g
 
-  module _ {u n : List ℕ} {x : ℕ} (z : r ≡ 0) (h : Stepped (release (fsOf a w m) c) a w u n 13 x) where
-    pub over-release : (v q : List ℕ) → (x ≡ 0 → ⊥) → Stepped (moveOver (fsOf a w m) i j old name c d k) a w v q 58 x
-    unfolding moveOver
-    over-release v q o = went-next _ (went-is g z) (went-stop _ _ o h)
-
-    pub over-next : {v q : List ℕ} {y : ℕ} → x ≡ 0 → Stepped (moveNamed (fsOf a u n) i j old name (Node d k)) a u v q 45 y → Stepped (moveOver (fsOf a w m) i j old name c d k) a w v q 58 y
-    unfolding moveOver
-    over-next o f = went-next (λ s. bind (release s c) (λ s. moveNamed s i j old name (Node d k))) (went-is g z) (stepped-next (λ s. moveNamed s i j old name (Node d k)) 13 58 (went-is h o) (went-has h o) f (omega arith))
+  pub over-next : {v q : List ℕ} {y : ℕ} → r ≡ 0 → Stepped (moveNamed (fsOf a u n) i j old name (Node d k)) a u v q 48 y → Stepped (moveOver (fsOf a w m) i j old name c d k) a w v q 61 y
+  unfolding moveOver
+  over-next z f = stepped-next (λ s. moveNamed s i j old name (Node d k)) 13 61 (went-is g z) (went-has g z) f (omega arith)

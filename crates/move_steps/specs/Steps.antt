@@ -1,19 +1,16 @@
 -- Parts of the steps of move, as the code's functions have them.
 use mathlib.Core.List.{List}
-use Prim.Native.Nat.{ℕ, _<_, _≤_}
-use lib.Dec.{eqb, leb}
-use Rattle.base.specs.Out.{Out, guard, _>>=_}
-use Rattle.base.specs.Reasons.{dirNotEmpty}
+use Prim.Native.Nat.{ℕ, _<_}
+use lib.Dec.{eqb}
+use Rattle.base.specs.Out.{Out, _>>=_}
 use Rattle.base.specs.Search.{pick}
 use Rattle.structs.specs.Layout.{entryBytes}
-use Rattle.structs.specs.Types.{moveVerdictOf}
-use Rattle.structs.specs.declared.DiskINode.{DiskINode}
 use Rattle.structs.specs.declared.DiskEntry.{DiskEntry}
 use Rattle.sefs.specs.State.{Fs}
 use Rattle.sefs.specs.Nodes.{recAt, idAt, getNode, syncRow, release}
 use Rattle.sefs.specs.Slots.{findSlot}
 use Rattle.sefs.specs.Folders.{putSlot, direntAppend, direntRemove}
-use Rattle.sefs.specs.Move.{Replaced, none, node, readSlots, judge, removeReplaced, renamed, moveLinks}
+use Rattle.sefs.specs.Move.{Replaced, none, node, removeReplaced, renamed, moveLinks, moveParent}
 use Rattle.steps.specs.Steps.{syncTwo}
 use Rattle.move_steps.specs.declared.Gone.{Gone}
 use Rattle.move_steps.specs.declared.Gone.the-variants.{Free, Node}
@@ -41,11 +38,16 @@ withinFolder s i k e g = do
   s ← removeGone s i g
   syncRow s i
 
--- the moved node is in row c
+-- the moved node is in row c: its slot 1, and the folders' records
+unfoldable pub endFolders : Fs → ℕ → ℕ → ℕ → Out Fs
+endFolders s i j c = do
+  s ← moveParent s j c
+  syncTwo s j i
+
 unfoldable pub endMove : Fs → ℕ → ℕ → ℕ → Out Fs
 endMove s i j c = do
   s ← moveLinks s i j c
-  s ← syncTwo s j i
+  s ← endFolders s i j c
   release s c
 
 unfoldable pub openMoved : Fs → ℕ → ℕ → ℕ → Out Fs
@@ -77,19 +79,8 @@ moveNamed s i j old name g = do
 
 -- ---- the new name exists
 
--- the types that the table of verdicts has
-abbrev pub Typed : DiskINode → Type 0
-Typed r = (1 ≤ r .kind) × (r .kind ≤ 4)
-
-unfoldable pub ifEmpty : Fs → ℕ → Out Fs
-ifEmpty s d = guard (leb (recAt s d .blocks) 2) dirNotEmpty (readSlots s d (recAt s d .blocks))
-
-unfoldable pub judgeRows : Fs → ℕ → ℕ → Out Fs
-judgeRows s c d = judge (moveVerdictOf (recAt s c .kind) (recAt s d .kind)) s d
-
 -- node c in the place of node d, which slot k of the target names
 unfoldable pub moveOver : Fs → ℕ → ℕ → List ℕ → List ℕ → ℕ → ℕ → ℕ → Out Fs
 moveOver s i j old name c d k = do
-  s ← judgeRows s c d
   s ← release s c
   moveNamed s i j old name (Node d k)

@@ -1,4 +1,4 @@
-// The steps of move: slots first, then the replaced node, then the folders' records. And the type rules, where the new name exists.
+// The steps of move: slots first, then the replaced node, then a moved folder's slot 1, then the folders' records.
 ghost use mathlib.Core.Path.{_≡_};
 ghost use mathlib.Core.List.{List};
 ghost use Prim.Native.Nat.{ℕ, _<_, _≤_};
@@ -6,21 +6,19 @@ ghost use lib.ListN.{length};
 ghost use Rattle.base.specs.Out.{Went};
 ghost use Rattle.overlay.specs.View.{left};
 ghost use Rattle.structs.specs.Layout.{entryOf};
-ghost use Rattle.table.specs.Table.{rowAt};
-ghost use Rattle.sefs.specs.Move.{renamed, readSlots, moveDots, moveLinks};
-ghost use Rattle.mem.specs.Mem.{tableIn, Whole};
+ghost use Rattle.sefs.specs.Move.{renamed, moveDots, moveLinks, moveParent};
+ghost use Rattle.mem.specs.Mem.{Whole};
 ghost use Rattle.mem.specs.State.{fsOf, Ready, Stepped};
-ghost use Rattle.move_steps.specs.Steps.{InRow, Typed, removeGone, withinFolder, endMove, openMoved, restMove, betweenFolders, moveSlot, moveNamed, ifEmpty, judgeRows, moveOver};
-use base::index;
+ghost use Rattle.move_steps.specs.Steps.{InRow, removeGone, withinFolder, endFolders, endMove, openMoved, restMove, betweenFolders, moveSlot, moveNamed, moveOver};
 use folders::dirent_append;
 use folders::dirent_node_remove;
 use folders::dirent_remove;
 use folders::nlinks_dec;
 use folders::nlinks_inc;
+use folders::put_dots;
 use folders::put_entry;
 use folders::put_slot;
 use folders::slots::find_slot;
-use folders::slots::slot_at;
 use le::u32_at;
 use mem::id_at;
 use mem::rec_at;
@@ -28,8 +26,6 @@ use nodes::get_node;
 use nodes::release;
 use nodes::sync_row;
 use steps::sync_two;
-use structs::MoveVerdict;
-use structs::move_verdict;
 
 // The node that is replaced: its row, and the target's slot that names it. Or there is none.
 pub enum Gone {
@@ -100,16 +96,38 @@ fn move_links(mem: &mut [u8], i: usize, j: usize, c: usize) -> u8
     0
 }
 
-// The moved node, in row c: the links of both folders, their records, and the end of c's opening.
+// Slot 1 of a moved folder names its new parent.
+fn move_parent(arena: &[u8], work: &mut [u8], mem: &[u8], j: usize, c: usize) -> u8
+    requires { ⌜ Ready (now arena) (now work) (now mem) × ((3 ≤ left (now work)) × ((j < 34) × (c < 34))) ⌝ }
+    ensures { λ r. ⌜ Stepped (moveParent (fsOf (now (arena .entry)) (now (work .entry)) (now (mem .entry))) j c) (now (arena .entry)) (now (work .entry)) (now (work .exit)) (now (mem .entry)) 3 r ⌝ }
+{
+    if rec_at(mem, c).kind == 2 {
+        return put_dots(arena, work, mem, c, id_at(mem, j));
+    }
+    0
+}
+
+fn end_folders(arena: &[u8], work: &mut [u8], mem: &mut [u8], i: usize, j: usize, c: usize) -> u8
+    requires { ⌜ Ready (now arena) (now work) (now mem) × ((9 ≤ left (now work)) × ((i < 34) × ((j < 34) × (c < 34)))) ⌝ }
+    ensures { λ r. ⌜ Stepped (endFolders (fsOf (now (arena .entry)) (now (work .entry)) (now (mem .entry))) i j c) (now (arena .entry)) (now (work .entry)) (now (work .exit)) (now (mem .exit)) 9 r ⌝ }
+{
+    let r = move_parent(arena, work, &mem[..], j, c);
+    if r != 0 {
+        return r;
+    }
+    sync_two(arena, work, mem, j, i)
+}
+
+// The moved node, in row c: the links of both folders, its slot 1, their records, and the end of c's opening.
 fn move_end(arena: &[u8], work: &mut [u8], mem: &mut [u8], i: usize, j: usize, c: usize) -> u8
-    requires { ⌜ Ready (now arena) (now work) (now mem) × ((19 ≤ left (now work)) × ((i < 34) × ((j < 34) × ((c < 34))))) ⌝ }
-    ensures { λ r. ⌜ Stepped (endMove (fsOf (now (arena .entry)) (now (work .entry)) (now (mem .entry))) i j c) (now (arena .entry)) (now (work .entry)) (now (work .exit)) (now (mem .exit)) 19 r ⌝ }
+    requires { ⌜ Ready (now arena) (now work) (now mem) × ((22 ≤ left (now work)) × ((i < 34) × ((j < 34) × ((c < 34))))) ⌝ }
+    ensures { λ r. ⌜ Stepped (endMove (fsOf (now (arena .entry)) (now (work .entry)) (now (mem .entry))) i j c) (now (arena .entry)) (now (work .entry)) (now (work .exit)) (now (mem .exit)) 22 r ⌝ }
 {
     let r = move_links(mem, i, j, c);
     if r != 0 {
         return r;
     }
-    let r = sync_two(arena, work, mem, j, i);
+    let r = end_folders(arena, work, mem, i, j, c);
     if r != 0 {
         return r;
     }
@@ -117,8 +135,8 @@ fn move_end(arena: &[u8], work: &mut [u8], mem: &mut [u8], i: usize, j: usize, c
 }
 
 fn move_open(arena: &[u8], work: &mut [u8], mem: &mut [u8], i: usize, j: usize, id: u32) -> u8
-    requires { ⌜ Ready (now arena) (now work) (now mem) × ((19 ≤ left (now work)) × ((i < 34) × ((j < 34)))) ⌝ }
-    ensures { λ r. ⌜ Stepped (openMoved (fsOf (now (arena .entry)) (now (work .entry)) (now (mem .entry))) i j id) (now (arena .entry)) (now (work .entry)) (now (work .exit)) (now (mem .exit)) 19 r ⌝ }
+    requires { ⌜ Ready (now arena) (now work) (now mem) × ((22 ≤ left (now work)) × ((i < 34) × ((j < 34)))) ⌝ }
+    ensures { λ r. ⌜ Stepped (openMoved (fsOf (now (arena .entry)) (now (work .entry)) (now (mem .entry))) i j id) (now (arena .entry)) (now (work .entry)) (now (work .exit)) (now (mem .exit)) 22 r ⌝ }
 {
     let o = get_node(arena, &work[..], mem, id);
     if o.reason != 0 {
@@ -137,8 +155,8 @@ fn move_rest(
     id: u32,
     gone: Gone,
 ) -> u8
-    requires { ⌜ Ready (now arena) (now work) (now mem) × ((37 ≤ left (now work)) × ((i < 34) × ((j < 34) × (InRow gone)))) ⌝ }
-    ensures { λ r. ⌜ Stepped (restMove (fsOf (now (arena .entry)) (now (work .entry)) (now (mem .entry))) i j id gone) (now (arena .entry)) (now (work .entry)) (now (work .exit)) (now (mem .exit)) 37 r ⌝ }
+    requires { ⌜ Ready (now arena) (now work) (now mem) × ((40 ≤ left (now work)) × ((i < 34) × ((j < 34) × (InRow gone)))) ⌝ }
+    ensures { λ r. ⌜ Stepped (restMove (fsOf (now (arena .entry)) (now (work .entry)) (now (mem .entry))) i j id gone) (now (arena .entry)) (now (work .entry)) (now (work .exit)) (now (mem .exit)) 40 r ⌝ }
 {
     let r = remove_gone(arena, work, mem, j, gone);
     if r != 0 {
@@ -157,8 +175,8 @@ fn move_between(
     moved: &[u8],
     gone: Gone,
 ) -> u8
-    requires { ⌜ Ready (now arena) (now work) (now mem) × ((45 ≤ left (now work)) × ((i < 34) × ((j < 34) × ((length (now moved) ≡ 264) × (InRow gone))))) ⌝ }
-    ensures { λ r. ⌜ Stepped (betweenFolders (fsOf (now (arena .entry)) (now (work .entry)) (now (mem .entry))) i j k (entryOf (now (moved .entry))) gone) (now (arena .entry)) (now (work .entry)) (now (work .exit)) (now (mem .exit)) 45 r ⌝ }
+    requires { ⌜ Ready (now arena) (now work) (now mem) × ((48 ≤ left (now work)) × ((i < 34) × ((j < 34) × ((length (now moved) ≡ 264) × (InRow gone))))) ⌝ }
+    ensures { λ r. ⌜ Stepped (betweenFolders (fsOf (now (arena .entry)) (now (work .entry)) (now (mem .entry))) i j k (entryOf (now (moved .entry))) gone) (now (arena .entry)) (now (work .entry)) (now (work .exit)) (now (mem .exit)) 48 r ⌝ }
 {
     let r = dirent_append(arena, work, mem, j, moved);
     if r != 0 {
@@ -181,8 +199,8 @@ pub fn move_slot(
     moved: &[u8],
     gone: Gone,
 ) -> u8
-    requires { ⌜ Ready (now arena) (now work) (now mem) × ((45 ≤ left (now work)) × ((i < 34) × ((j < 34) × ((length (now moved) ≡ 264) × (InRow gone))))) ⌝ }
-    ensures { λ r. ⌜ Stepped (moveSlot (fsOf (now (arena .entry)) (now (work .entry)) (now (mem .entry))) i j k (entryOf (now (moved .entry))) gone) (now (arena .entry)) (now (work .entry)) (now (work .exit)) (now (mem .exit)) 45 r ⌝ }
+    requires { ⌜ Ready (now arena) (now work) (now mem) × ((48 ≤ left (now work)) × ((i < 34) × ((j < 34) × ((length (now moved) ≡ 264) × (InRow gone))))) ⌝ }
+    ensures { λ r. ⌜ Stepped (moveSlot (fsOf (now (arena .entry)) (now (work .entry)) (now (mem .entry))) i j k (entryOf (now (moved .entry))) gone) (now (arena .entry)) (now (work .entry)) (now (work .exit)) (now (mem .exit)) 48 r ⌝ }
 {
     if id_at(&mem[..], i) == id_at(&mem[..], j) {
         return move_within(arena, work, mem, i, k, moved, gone);
@@ -210,8 +228,8 @@ fn move_steps(
     name: &[u8],
     gone: Gone,
 ) -> u8
-    requires { ⌜ Ready (now arena) (now work) (now mem) × ((45 ≤ left (now work)) × ((i < 34) × ((j < 34) × ((length (now name) ≤ 255) × (InRow gone))))) ⌝ }
-    ensures { λ r. ⌜ Stepped (moveNamed (fsOf (now (arena .entry)) (now (work .entry)) (now (mem .entry))) i j (now (old .entry)) (now (name .entry)) gone) (now (arena .entry)) (now (work .entry)) (now (work .exit)) (now (mem .exit)) 45 r ⌝ }
+    requires { ⌜ Ready (now arena) (now work) (now mem) × ((48 ≤ left (now work)) × ((i < 34) × ((j < 34) × ((length (now name) ≤ 255) × (InRow gone))))) ⌝ }
+    ensures { λ r. ⌜ Stepped (moveNamed (fsOf (now (arena .entry)) (now (work .entry)) (now (mem .entry))) i j (now (old .entry)) (now (name .entry)) gone) (now (arena .entry)) (now (work .entry)) (now (work .exit)) (now (mem .exit)) 48 r ⌝ }
 {
     let mut slot = [0u8; 264];
     let p = find_slot(arena, &work[..], rec_at(&mem[..], i), old, &mut slot);
@@ -222,50 +240,7 @@ fn move_steps(
     move_slot(arena, work, mem, i, j, p.place, &slot, gone)
 }
 
-// ---- the new name exists: type rules
-
-// The first n slots can be read.
-fn read_slots<'a>(arena: &'a [u8], work: &'a [u8], mem: &'a [u8], d: usize, n: usize) -> u8
-    requires { ⌜ Ready (now arena) (now work) (now mem) × ((d < 34) × (n ≤ 4294967295)) ⌝ }
-    ensures { λ r. ⌜ Went (readSlots (fsOf (now (arena .entry)) (now (work .entry)) (now (mem .entry))) d n) (fsOf (now (arena .entry)) (now (work .entry)) (now (mem .entry))) Unit r ⌝ }
-{
-    let rec = rec_at(mem, d);
-    let mut slot = [0u8; 264];
-    let mut k: usize = 0;
-    while k < n {
-        let r = slot_at(arena, work, rec, k, &mut slot);
-        if r != 0 {
-            return r;
-        }
-        k = k + 1;
-    }
-    0
-}
-
-// 13 for a replaced folder with over 2 slots; those there are, are read.
-fn if_empty<'a>(arena: &'a [u8], work: &'a [u8], mem: &'a [u8], d: usize) -> u8
-    requires { ⌜ Ready (now arena) (now work) (now mem) × (d < 34) ⌝ }
-    ensures { λ r. ⌜ Went (ifEmpty (fsOf (now (arena .entry)) (now (work .entry)) (now (mem .entry))) d) (fsOf (now (arena .entry)) (now (work .entry)) (now (mem .entry))) Unit r ⌝ }
-{
-    let n = rec_at(mem, d).blocks;
-    if n > 2 {
-        return 13;
-    }
-    read_slots(arena, work, mem, d, index(n))
-}
-
-fn judge<'a>(arena: &'a [u8], work: &'a [u8], mem: &'a [u8], c: usize, d: usize) -> u8
-    requires { ⌜ Ready (now arena) (now work) (now mem) × ((c < 34) × ((d < 34) × ((Typed (rowAt (tableIn (now mem)) c .rec)) × (Typed (rowAt (tableIn (now mem)) d .rec))))) ⌝ }
-    ensures { λ r. ⌜ Went (judgeRows (fsOf (now (arena .entry)) (now (work .entry)) (now (mem .entry))) c d) (fsOf (now (arena .entry)) (now (work .entry)) (now (mem .entry))) Unit r ⌝ }
-{
-    let v = move_verdict(rec_at(mem, c).kind, rec_at(mem, d).kind);
-    match v {
-        MoveVerdict::Allowed => 0,
-        MoveVerdict::NotDir => 7,
-        MoveVerdict::IsDir => 9,
-        MoveVerdict::IfEmpty => if_empty(arena, work, mem, d),
-    }
-}
+// ---- the new name exists
 
 // Node c goes in the place of node d, which slot k of the target names; the opening of c ends here.
 pub fn move_onto(
@@ -280,13 +255,9 @@ pub fn move_onto(
     d: usize,
     k: usize,
 ) -> u8
-    requires { ⌜ Ready (now arena) (now work) (now mem) × ((58 ≤ left (now work)) × ((i < 34) × ((j < 34) × ((c < 34) × ((d < 34) × ((length (now name) ≤ 255) × ((Typed (rowAt (tableIn (now mem)) c .rec)) × (Typed (rowAt (tableIn (now mem)) d .rec))))))))) ⌝ }
-    ensures { λ r. ⌜ Stepped (moveOver (fsOf (now (arena .entry)) (now (work .entry)) (now (mem .entry))) i j (now (old .entry)) (now (name .entry)) c d k) (now (arena .entry)) (now (work .entry)) (now (work .exit)) (now (mem .exit)) 58 r ⌝ }
+    requires { ⌜ Ready (now arena) (now work) (now mem) × ((61 ≤ left (now work)) × ((i < 34) × ((j < 34) × ((c < 34) × ((d < 34) × (length (now name) ≤ 255)))))) ⌝ }
+    ensures { λ r. ⌜ Stepped (moveOver (fsOf (now (arena .entry)) (now (work .entry)) (now (mem .entry))) i j (now (old .entry)) (now (name .entry)) c d k) (now (arena .entry)) (now (work .entry)) (now (work .exit)) (now (mem .exit)) 61 r ⌝ }
 {
-    let r = judge(arena, &work[..], &mem[..], c, d);
-    if r != 0 {
-        return r;
-    }
     let r = release(arena, work, mem, c);
     if r != 0 {
         return r;

@@ -15,7 +15,7 @@ use mem::put_flag;
 use nodes::meta::map_at;
 use structs::super_block_at;
 
-fn read_meta(arena: &[u8], first: &[u16], next: &[u16], pos: usize, out: &mut [u8]) -> u8
+pub fn read_meta(arena: &[u8], first: &[u16], next: &[u16], pos: usize, out: &mut [u8]) -> u8
     requires { ⌜ Led (now arena) (now first) (now next) ⌝ }
     requires { ⌜ length (now out) ≤ 480 ⌝ }
     ensures { λ r. ⌜ Went (readFile (now (arena .entry)) metaFile pos (length (now (out .entry)))) (now (out .exit)) (length (now (out .exit)) ≡ length (now (out .entry))) r ⌝ }

@@ -2,7 +2,7 @@
 use mathlib.Core.Path.{_≡_, refl, sym, ap, subst}
 use mathlib.Core.Bool.{Bool, true, false}
 use mathlib.Core.List.{List}
-use Prim.Native.Nat.{ℕ}
+use Prim.Native.Nat.{ℕ, _<_, _^_}
 use lib.ListN.{length}
 use lib.Dec.{eqb}
 use Rattle.base.specs.Out.{Out, done, refused, bind, guard, kept}
@@ -18,11 +18,12 @@ use Rattle.sefs.specs.Create.{After, Given, callCreate, callLink}
 use Rattle.sefs.specs.Unlink.{callUnlink}
 use Rattle.sefs.specs.Move.{callMove}
 use Rattle.sefs.specs.Read.{callSet}
+use Rattle.sefs.specs.Contents.{callWrite, callResize}
 use Rattle.sefs.specs.Close.{callSync, callClose}
 use Rattle.rules.proofs.Check.{check-pass}
 use Rattle.sequences.specs.Pairs.{Pair, pair, Passed}
-use Rattle.sequences.specs.Calls.{Call, root, find, create, link, unlink, move, setMetadata, sync, close, Fits, HandleFits, NewFits, SetFits, does, next, carries}
-use Rattle.sequences.specs.Promises.{Keeps, Plain, Well}
+use Rattle.sequences.specs.Calls.{Call, root, find, create, link, unlink, move, setMetadata, write, resize, sync, close, Fits, HandleFits, NewFits, SetFits, does, next}
+use Rattle.sequences.specs.Promises.{Keeps}
 use Rattle.sequences.proofs.Sequences.{keeps}
 use Rattle.edge.specs.Edge.{sized, Leaves, Makes, Holds, Sets}
 use Rattle.owners.specs.Owned.{Chained, Owned}
@@ -50,11 +51,11 @@ module _ (a t : List ℕ) (y : Trusted a t) where
   abbrev own : Pair
   own = pair a (tableOf t)
 
-  -- a call that fits and carries no folder
-  module _ (c : Call) (F : Fits c) (e : carries own c ≡ false) where
+  -- a call that fits
+  module _ (c : Call) (F : Fits c) where
     went : (q : Pair) → does c own ≡ done q → Passed q
     unfolding Keeps
-    went q d = subst Passed (ap (kept own) d) (keeps own c (y .passes) (record { fits = F; leaves = e }) .passes)
+    went q d = subst Passed (ap (kept own) d) (keeps own c (y .passes) F .passes)
 
     leaves-trusted : (o : Out After) → does c own ≡ bind o (λ x. done (pair (x .arena) (x .table))) → {b u : List ℕ} {n : ℕ} → Leaves o a b t u n → Trusted b u
     leaves-trusted (done x) d L = moved (L .arena) (L .table) (written (x .arena) (x .table) (went (pair (x .arena) (x .table)) d))
@@ -80,43 +81,50 @@ module _ (a t : List ℕ) (y : Trusted a t) where
   module _ {u : List ℕ} {n : ℕ} where
     pub sync-owned : {b : List ℕ} → Leaves (callSync a (tableOf t)) a b t u n → Trusted b u
     unfolding does
-    sync-owned = leaves-trusted sync tt refl (callSync a (tableOf t)) refl
+    sync-owned = leaves-trusted sync tt (callSync a (tableOf t)) refl
 
     pub root-owned : (w : List ℕ) {v : List ℕ} → Holds (sized 2 w (callRoot a (tableOf t))) t u w v n → Trusted a u
     unfolding does
-    root-owned w = holds-trusted root tt refl (callRoot a (tableOf t)) refl (eqb (length w) 2)
+    root-owned w = holds-trusted root tt (callRoot a (tableOf t)) refl (eqb (length w) 2)
 
     module _ (h : Handle) (H : HandleFits h) where
       pub find-owned : (name w : List ℕ) {v : List ℕ} → Bytes name → Holds (sized 2 w (callFind a (tableOf t) h name)) t u w v n → Trusted a u
       unfolding does
-      find-owned name w N = holds-trusted (find h name) (H, N) refl (callFind a (tableOf t) h name) refl (eqb (length w) 2)
+      find-owned name w N = holds-trusted (find h name) (H, N) (callFind a (tableOf t) h name) refl (eqb (length w) 2)
 
       pub close-owned : {b : List ℕ} → Leaves (callClose a (tableOf t) h) a b t u n → Trusted b u
       unfolding does
-      close-owned = leaves-trusted (close h) H refl (callClose a (tableOf t) h) refl
+      close-owned = leaves-trusted (close h) H (callClose a (tableOf t) h) refl
 
       pub create-owned : (name w : List ℕ) {b v : List ℕ} (kind mode : ℕ) (time : Timespec) (file : List ℕ) → Bytes name → NewFits kind mode time file
           → Makes (sized 16 file (sized 2 w (callCreate a (tableOf t) h name kind mode time file))) a b t u w v n → Trusted b u
       unfolding does
       create-owned name w kind mode time file N F =
-          makes-trusted (create h name kind mode time file) (H, N, F) refl (callCreate a (tableOf t) h name kind mode time file) refl (eqb (length file) 16) (eqb (length w) 2)
+          makes-trusted (create h name kind mode time file) (H, N, F) (callCreate a (tableOf t) h name kind mode time file) refl (eqb (length file) 16) (eqb (length w) 2)
 
       pub link-owned : (name : List ℕ) → Bytes name → (child : Handle) → HandleFits child → {b : List ℕ} → Leaves (callLink a (tableOf t) h name child) a b t u n → Trusted b u
       unfolding does
-      link-owned name N child C = leaves-trusted (link h name child) (H, N, C) refl (callLink a (tableOf t) h name child) refl
+      link-owned name N child C = leaves-trusted (link h name child) (H, N, C) (callLink a (tableOf t) h name child) refl
 
       pub unlink-owned : (name : List ℕ) → Bytes name → {b : List ℕ} → Leaves (callUnlink a (tableOf t) h name) a b t u n → Trusted b u
       unfolding does
-      unlink-owned name N = leaves-trusted (unlink h name) (H, N) refl (callUnlink a (tableOf t) h name) refl
+      unlink-owned name N = leaves-trusted (unlink h name) (H, N) (callUnlink a (tableOf t) h name) refl
 
-      -- "and move no folder to another folder"
-      pub move-owned : (old : List ℕ) → Bytes old → (target : Handle) → HandleFits target → (name : List ℕ) → Bytes name → carries own (move h old target name) ≡ false
+      pub move-owned : (old : List ℕ) → Bytes old → (target : Handle) → HandleFits target → (name : List ℕ) → Bytes name
           → {b : List ℕ} → Leaves (callMove a (tableOf t) h old target name) a b t u n → Trusted b u
       unfolding does
-      move-owned old O target T name N e = leaves-trusted (move h old target name) (H, O, T, N) e (callMove a (tableOf t) h old target name) refl
+      move-owned old O target T name N = leaves-trusted (move h old target name) (H, O, T, N) (callMove a (tableOf t) h old target name) refl
+
+      pub write-owned : (place : ℕ) → place < 2 ^ 64 → (src : List ℕ) → Bytes src → {b : List ℕ} → Leaves (callWrite a (tableOf t) h place src) a b t u n → Trusted b u
+      unfolding does
+      write-owned place P src S = leaves-trusted (write h place src) (H, P, S) (callWrite a (tableOf t) h place src) refl
+
+      pub resize-owned : (m : ℕ) → m < 2 ^ 64 → {b : List ℕ} → Leaves (callResize a (tableOf t) h m) a b t u n → Trusted b u
+      unfolding does
+      resize-owned m M = leaves-trusted (resize h m) (H, M) (callResize a (tableOf t) h m) refl
 
       pub set-metadata-owned : (mode uid gid : ℕ) (atime mtime ctime : Timespec) → SetFits mode uid gid atime mtime ctime
           → Sets (callSet a (tableOf t) h mode uid gid atime mtime ctime) t u n → Trusted a u
       unfolding does
       set-metadata-owned mode uid gid atime mtime ctime S =
-          sets-trusted (setMetadata h mode uid gid atime mtime ctime) (H, S) refl (callSet a (tableOf t) h mode uid gid atime mtime ctime) refl
+          sets-trusted (setMetadata h mode uid gid atime mtime ctime) (H, S) (callSet a (tableOf t) h mode uid gid atime mtime ctime) refl

@@ -21,6 +21,10 @@ use Rattle.sefs.specs.Slots.{slotBytes}
 abbrev pub entry : ℕ → List ℕ → ℕ → DiskEntry
 entry id name kind = record { id = id; name = nameBytes name; kind = kind }
 
+-- slot 1 of a folder below that one
+abbrev pub dotsEntry : ℕ → DiskEntry
+dotsEntry parent = entry parent (46 ∷ 46 ∷ []) typeDir
+
 -- 264 bytes at slot k of folder i
 unfoldable pub putSlot : Fs → ℕ → ℕ → List ℕ → Out Fs
 putSlot s i k l = do
@@ -32,7 +36,7 @@ unfoldable pub direntInit : Fs → ℕ → ℕ → Out Fs
 direntInit s i parent = do
   s ← done (setRec s i (withBlocks (recAt s i) 2))
   s ← putSlot s i 0 (entryBytes (entry (idAt s i) (46 ∷ []) typeDir))
-  putSlot s i 1 (entryBytes (entry parent (46 ∷ 46 ∷ []) typeDir))
+  putSlot s i 1 (entryBytes (dotsEntry parent))
 
 -- 000's dirent_append: a slot at the end. (The count can't overflow: the store is too long first.)
 unfoldable pub direntAppend : Fs → ℕ → DiskEntry → Out Fs

@@ -1,14 +1,14 @@
 -- move (000's move_).
 use mathlib.Core.Bool.{Bool, true, false, not, _&&_, _||_}
 use mathlib.Core.List.{List}
-use Prim.Native.Nat.{ℕ, zero, suc, _+_}
+use Prim.Native.Nat.{ℕ, zero, suc, _+_, _*_}
 use lib.Dec.{eqb, ltb, leb}
 use Rattle.base.specs.Out.{Out, done, refused, ensure, guard, _>>=_}
-use Rattle.base.specs.Reasons.{notDir, isDir, dirNotEmpty, stuck}
+use Rattle.base.specs.Reasons.{invalidParam, notDir, isDir, dirNotEmpty, stuck}
 use Rattle.base.specs.Search.{pick}
 use Rattle.base.specs.declared.Found.{Found}
 use Rattle.base.specs.declared.Found.the-variants.{At, Nothing}
-use Rattle.structs.specs.Layout.{entryBytes}
+use Rattle.structs.specs.Layout.{recordOf, entryOf, entryBytes}
 use Rattle.structs.specs.Types.{isFolder, moveVerdictOf}
 use Rattle.structs.specs.declared.DiskINode.{DiskINode}
 use Rattle.structs.specs.declared.DiskEntry.{DiskEntry}
@@ -16,11 +16,13 @@ use Rattle.structs.specs.declared.MoveVerdict.{MoveVerdict}
 use Rattle.structs.specs.declared.MoveVerdict.the-variants.{Allowed, NotDir, IsDir, IfEmpty}
 use Rattle.table.specs.declared.Table.{Table}
 use Rattle.table.specs.declared.Handle.{Handle}
-use Rattle.table.specs.Table.{rowAt}
+use Rattle.table.specs.Table.{rowAt, rowOf}
+use Rattle.files.specs.Read.{readFile}
 use Rattle.sefs.specs.State.{Fs}
+use Rattle.sefs.specs.Meta.{metaFile, isUsed}
 use Rattle.sefs.specs.Nodes.{recAt, idAt, getNode, syncRow, release, Opened}
-use Rattle.sefs.specs.Slots.{lookup, slotAt, Slot, findSlot}
-use Rattle.sefs.specs.Folders.{entry, putSlot, direntAppend, direntRemove, direntNodeRemove, nlinksInc, nlinksDec}
+use Rattle.sefs.specs.Slots.{slotBytes, lookup, slotAt, Slot, findSlot}
+use Rattle.sefs.specs.Folders.{entry, dotsEntry, putSlot, direntAppend, direntRemove, direntNodeRemove, nlinksInc, nlinksDec}
 use Rattle.sefs.specs.Ask.{admit, byHandle, goodName, notLong, notSpecial, known, liveFolder, start}
 use Rattle.sefs.specs.Create.{After, after}
 
@@ -38,6 +40,40 @@ judge Allowed s d = done s
 judge NotDir s d = refused notDir
 judge IsDir s d = refused isDir
 judge IfEmpty s d = guard (leb (recAt s d .blocks) 2) dirNotEmpty (readSlots s d (recAt s d .blocks))
+
+-- ---- order 2: "a folder can't go into itself or below". The climb takes no row and changes nothing
+
+-- a folder's record: that of its row, or the stored one
+abbrev pub recordBy : Fs → ℕ → Found → Out DiskINode
+recordBy s id (At i) = done (recAt s i)
+recordBy s id Nothing = do
+  l ← readFile (s .arena) metaFile (128 * id) 112
+  done (recordOf l)
+
+-- it sticks where an opening would
+unfoldable pub recordOn : Fs → ℕ → Out DiskINode
+recordOn s id = do
+  m ← s .meta
+  guard (isUsed m id) stuck (recordBy s id (rowOf (s .table) id))
+
+-- what slot 1 of a folder names
+unfoldable pub dotsOf : Fs → DiskINode → Out ℕ
+dotsOf s r = guard (isFolder (r .kind)) stuck (do
+  l ← slotBytes (s .arena) r 1
+  done (entryOf l .id))
+
+-- from folder x, whose record is r, up to node 2: 6 where node c is met, 19 "if that climb passes 4,096 folders" (n may still be climbed from)
+unfoldable pub climb : Fs → ℕ → ℕ → ℕ → Out DiskINode → Out Unit
+climb s c zero x r = guard (not (eqb x c)) invalidParam (guard (eqb x 2) stuck (done tt))
+climb s c (suc n) x r = guard (not (eqb x c)) invalidParam (pick (eqb x 2) (done tt) (do
+  r ← r
+  y ← dotsOf s r
+  climb s c n y (recordOn s y)))
+
+-- "6 when the target is the moved folder or the climb from the target meets it": node c goes from folder i to folder j
+unfoldable pub notBelow : Fs → ℕ → ℕ → ℕ → Out Unit
+notBelow s i j c =
+    pick (not (eqb (idAt s i) (idAt s j)) && isFolder (recAt s c .kind)) (climb s (idAt s c) 4096 (idAt s j) (done (recAt s j))) (done tt)
 
 -- ---- the steps: slots first, then the replaced node, then the folders' records
 
@@ -72,6 +108,10 @@ moveDots s i j = do
 unfoldable pub moveLinks : Fs → ℕ → ℕ → ℕ → Out Fs
 moveLinks s i j c = guard (leb (recAt s c .kind) 4) stuck (pick (isFolder (recAt s c .kind)) (moveDots s i j) (done s))
 
+-- order 2: "`..` must name the new parent". "Slot 1 is stored last before the syncs", whole
+unfoldable pub moveParent : Fs → ℕ → ℕ → Out Fs
+moveParent s j c = pick (isFolder (recAt s c .kind)) (putSlot s c 1 (entryBytes (dotsEntry (idAt s j)))) (done s)
+
 unfoldable pub moveBetween : Fs → ℕ → ℕ → Slot → List ℕ → Replaced → Out After
 moveBetween s i j old name r = do
   s ← direntAppend s j (renamed (old .entry) name)
@@ -79,6 +119,7 @@ moveBetween s i j old name r = do
   s ← removeReplaced s j r
   o ← getNode s (old .entry .id)
   s ← moveLinks (o .state) i j (o .row)
+  s ← moveParent s j (o .row)
   s ← syncRow s i
   s ← syncRow s j
   s ← release s (o .row)
@@ -95,6 +136,7 @@ moveSteps s i j old name r = do
 unfoldable pub moveOnto : Fs → ℕ → ℕ → List ℕ → List ℕ → ℕ → ℕ → ℕ → Out After
 moveOnto s i j old name c d k = do
   s ← judge (moveVerdictOf (recAt s c .kind) (recAt s d .kind)) s d
+  _ ← notBelow s i j c
   s ← release s c
   moveSteps s i j old name (node d k)
 
@@ -108,9 +150,18 @@ replace s i j old name k = do
   _ ← known (recAt (c .state) (d .row))
   pick (eqb (was .entry .id) (new .id)) (done (after s)) (moveOnto (c .state) i j old name (c .row) (d .row) k)
 
+-- no node has the new name. Between two folders the moved node is opened first, since its type decides whether there is a climb; the opening
+-- stays to the end
+unfoldable pub moveFree : Fs → ℕ → ℕ → List ℕ → List ℕ → Out After
+moveFree s i j old name = pick (eqb (idAt s i) (idAt s j)) (moveSteps s i j old name none) (do
+  was ← findSlot (s .arena) (recAt s i) old
+  c ← getNode s (was .entry .id)
+  _ ← notBelow (c .state) i j (c .row)
+  moveSteps (c .state) i j old name none)
+
 abbrev pub moveTo : Fs → ℕ → ℕ → List ℕ → List ℕ → Found → Out After
 moveTo s i j old name (At k) = replace s i j old name k
-moveTo s i j old name Nothing = moveSteps s i j old name none
+moveTo s i j old name Nothing = moveFree s i j old name
 
 -- ---- the order of reasons: source 7, 8; 9 for either name; 10; target 7, 8; then as above
 

@@ -42,7 +42,7 @@ use Rattle.sefs.specs.Create.{After, after, birth, nameFolder, named, linkSteps
 use Rattle.sefs.specs.Close.{withNext, syncFrom}
 use Rattle.sefs.specs.Unlink.{unlinkSteps}
 use Rattle.sefs.specs.Contents.{resizeSteps, writeSteps}
-use Rattle.sefs.specs.Move.{Replaced, none, node, readSlots, judge, removeReplaced, moveWithin, moveDots, moveLinks, moveBetween, moveSteps, moveOnto, replace, moveTo}
+use Rattle.sefs.specs.Move.{Replaced, none, node, readSlots, judge, removeReplaced, moveWithin, moveDots, moveLinks, moveParent, moveBetween, moveSteps, notBelow, moveOnto, replace, moveFree, moveTo}
 use Rattle.sefs_laws.proofs.Says.{says-make, says-ensure, says-read, says-slot-bytes, says-slot, says-find, says-cut}
 
 -- whatever the reason
@@ -233,6 +233,10 @@ module _ (P : List ℕ → Table → Type 0) (i : ℕ) (fills : Fills P i) where
   unfolding putSlot
   leaves-slot s k l h = ok-bind (leaves-filled s _ _ h) λ a k. went k
 
+  leaves-parent : (s : Fs) (j : ℕ) → P (s .arena) (s .table) → Leaves P (moveParent s j i)
+  unfolding moveParent
+  leaves-parent s j h = any-pick (isFolder (recAt s i .kind)) (putSlot s i 1 _) (done s) (λ _. leaves-slot s 1 _ h) (λ _. went h)
+
   module _ (change : Changes P) where
     leaves-init : (s : Fs) (parent : ℕ) → P (s .arena) (s .table) → Leaves P (direntInit s i parent)
     unfolding direntInit
@@ -243,7 +247,7 @@ module _ (P : List ℕ → Table → Type 0) (i : ℕ) (fills : Fills P i) where
     unfolding direntAppend
     leaves-append s e h = ok-bind (leaves-slot s _ _ h) λ u k. went (change (u .arena) (u .table) i _ refl refl k)
 
-    leaves-remove : (s : Fs) (k : ℕ) → P (s .arena) (s .table) → Leaves P (direntRemove s i k)
+    pub leaves-remove : (s : Fs) (k : ℕ) → P (s .arena) (s .table) → Leaves P (direntRemove s i k)
     unfolding direntRemove
     leaves-remove s k h =
         any-guard (ltb 0 (recAt s i .blocks)) 19 (λ _.
@@ -287,7 +291,7 @@ module _ (P : List ℕ → Table → Type 0) (change : Changes P) where
   leaves-named s i c kind h =
       ok-bind (leaves-inc s c h) λ u k. any-pick (isFolder kind) (nameFolder u i c) (done u) (λ _. leaves-name-folder u i c k) (λ _. went k)
 
-  leaves-dots : (s : Fs) (i j : ℕ) → P (s .arena) (s .table) → Leaves P (moveDots s i j)
+  pub leaves-dots : (s : Fs) (i j : ℕ) → P (s .arena) (s .table) → Leaves P (moveDots s i j)
   unfolding moveDots
   leaves-dots s i j h = ok-bind (leaves-dec s i h) λ u k. leaves-inc u j k
 
@@ -356,7 +360,7 @@ module _ (P : List ℕ → Table → Type 0) (change : Changes P) where
             (λ _. went k)) λ v l.
             went (free (v .arena) (v .table) i (l .1) (l .0))
 
-        leaves-release : (s : Fs) (i : ℕ) → P (s .arena) (s .table) → Leaves P (release s i)
+        pub leaves-release : (s : Fs) (i : ℕ) → P (s .arena) (s .table) → Leaves P (release s i)
         unfolding release
         leaves-release s i h = any-pick (rowUsed (s .table) i) (done s) (dropNode s i) (λ _. went h) (λ e. leaves-drop s i e h)
 
@@ -372,26 +376,27 @@ module _ (P : List ℕ → Table → Type 0) (change : Changes P) where
         unfolding unlinkSteps
         leaves-unlink s i fills c k h = ok-bind (leaves-node-remove s i fills c k h) λ u g. ok-bind (leaves-sync u i g) λ v l. went l
 
-        leaves-replaced : (s : Fs) (j : ℕ) → Fills P j → (r : Replaced) → P (s .arena) (s .table) → Leaves P (removeReplaced s j r)
+        pub leaves-replaced : (s : Fs) (j : ℕ) → Fills P j → (r : Replaced) → P (s .arena) (s .table) → Leaves P (removeReplaced s j r)
         leaves-replaced s j fills none h = went h
         leaves-replaced s j fills (node d k) h = leaves-node-remove s j fills d k h
 
-        -- ---- a move, whose two folders are rows i and j
+        pub leaves-within : (s : Fs) (i : ℕ) → Fills P i → (old : Slot) (name : List ℕ) (r : Replaced) → P (s .arena) (s .table) → LeavesAfter P (moveWithin s i old name r)
+        unfolding moveWithin
+        leaves-within s i fills old name r h =
+            ok-bind (leaves-slot P i fills s _ _ h) λ s h. ok-bind (leaves-replaced s i fills r h) λ s h. ok-bind (leaves-sync s i h) λ s h. went h
 
-        module _ (i j : ℕ) (fills-i : Fills P i) (fills-j : Fills P j) where
-          leaves-within : (s : Fs) (old : Slot) (name : List ℕ) (r : Replaced) → P (s .arena) (s .table) → LeavesAfter P (moveWithin s i old name r)
-          unfolding moveWithin
-          leaves-within s old name r h =
-              ok-bind (leaves-slot P i fills-i s _ _ h) λ s h. ok-bind (leaves-replaced s i fills-i r h) λ s h. ok-bind (leaves-sync s i h) λ s h. went h
+        -- ---- a move, whose two folders are rows i and j. It fills the moved folder too
 
+        module _ (i j : ℕ) (fills : (c : ℕ) → Fills P c) where
           leaves-between : (s : Fs) (old : Slot) (name : List ℕ) (r : Replaced) → P (s .arena) (s .table) → LeavesAfter P (moveBetween s i j old name r)
           unfolding moveBetween
           leaves-between s old name r h =
-              ok-bind (leaves-append P j fills-j change s _ h) λ s h.
-              ok-bind (leaves-remove P i fills-i change s _ h) λ s h.
-              ok-bind (leaves-replaced s j fills-j r h) λ s h.
+              ok-bind (leaves-append P j (fills j) change s _ h) λ s h.
+              ok-bind (leaves-remove P i (fills i) change s _ h) λ s h.
+              ok-bind (leaves-replaced s j (fills j) r h) λ s h.
               ok-bind (leaves-node P take s _ h) λ o h.
               ok-bind (leaves-links (o .state) i j (o .row) h) λ s h.
+              ok-bind (leaves-parent P (o .row) (fills (o .row)) s j h) λ s h.
               ok-bind (leaves-sync s i h) λ s h.
               ok-bind (leaves-sync s j h) λ s h.
               ok-bind (leaves-release s (o .row) h) λ s h. went h
@@ -400,12 +405,13 @@ module _ (P : List ℕ → Table → Type 0) (change : Changes P) where
           unfolding moveSteps
           leaves-move-steps s old name r h =
               ok-bind (says-find Any tt tt _ _ _) λ e _.
-              any-pick (eqb (idAt s i) (idAt s j)) (moveWithin s i e name r) (moveBetween s i j e name r) (λ _. leaves-within s e name r h) (λ _. leaves-between s e name r h)
+              any-pick (eqb (idAt s i) (idAt s j)) (moveWithin s i e name r) (moveBetween s i j e name r) (λ _. leaves-within s i (fills i) e name r h) (λ _. leaves-between s e name r h)
 
           leaves-onto : (s : Fs) (old name : List ℕ) (c d k : ℕ) → P (s .arena) (s .table) → LeavesAfter P (moveOnto s i j old name c d k)
           unfolding moveOnto
           leaves-onto s old name c d k h =
               ok-bind (leaves-judge P (moveVerdictOf (recAt s c .kind) (recAt s d .kind)) s d h) λ s h.
+              ok-bind (any (notBelow s i j c)) λ _ _.
               ok-bind (leaves-release s c h) λ s h. leaves-move-steps s old name (node d k) h
 
           leaves-replace : (s : Fs) (old name : List ℕ) (k : ℕ) → P (s .arena) (s .table) → LeavesAfter P (replace s i j old name k)
@@ -419,6 +425,14 @@ module _ (P : List ℕ → Table → Type 0) (change : Changes P) where
               ok-bind (says-ensure (isType (recAt (c .state) (d .row) .kind)) 19 tt) λ _ _.
               any-pick (eqb (was .entry .id) (new .id)) (done (after s)) (moveOnto (c .state) i j old name (c .row) (d .row) k) (λ _. went h) (λ _. leaves-onto (c .state) old name (c .row) (d .row) k l)
 
+          leaves-move-free : (s : Fs) (old name : List ℕ) → P (s .arena) (s .table) → LeavesAfter P (moveFree s i j old name)
+          unfolding moveFree
+          leaves-move-free s old name h =
+              any-pick (eqb (idAt s i) (idAt s j)) (moveSteps s i j old name none) _ (λ _. leaves-move-steps s old name none h) λ _.
+              ok-bind (says-find Any tt tt _ _ _) λ was _.
+              ok-bind (leaves-node P take s (was .entry .id) h) λ c g.
+              ok-bind (any (notBelow (c .state) i j (c .row))) λ _ _. leaves-move-steps (c .state) old name none g
+
           pub leaves-move : (s : Fs) (old name : List ℕ) (f : Found) → P (s .arena) (s .table) → LeavesAfter P (moveTo s i j old name f)
           leaves-move s old name (At k) h = leaves-replace s old name k h
-          leaves-move s old name Nothing h = leaves-move-steps s old name none h
+          leaves-move s old name Nothing h = leaves-move-free s old name h

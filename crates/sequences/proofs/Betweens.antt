@@ -1,198 +1,206 @@
--- A move between two folders never sticks, whatever moves; and where a file moves, the pair passes afterwards.
+-- A move between two folders: the slots, the replaced node, the links, the moved folder's `..`. Then the pair passes.
 use mathlib.Core.Path.{refl, _≡_, sym, ap, _∙_, subst}
-use Rattle.sefs_laws.proofs.Clear.{Clear, clear, clear-17}
-use mathlib.Core.Bool.{Bool, true, false, not, _&&_}
+use Rattle.sefs_laws.proofs.Clear.{Clear, clear-17}
+use mathlib.Core.Bool.{Bool, true, false}
 use mathlib.Core.List.{List}
-use mathlib.Core.Logic.{_≢_}
-use Prim.Native.Nat.{ℕ, _+_, _-_, _%_, _≤_, _<_}
+use mathlib.Core.Logic.{_≢_, inr, ⊎-elim}
+use Prim.Native.Nat.{ℕ, _≤_}
 use native.Mathlib.Omega.{arith}
-use lib.Dec.{eqb, ltb}
-use borrow.Author.Tests.{ltb-true, ne-eqb}
 use Rattle.base.specs.Out.{done, bind, Ok, went}
-use Rattle.base.proofs.Outs.{ok-bind, ok-weaken, ok-guard}
-use Rattle.base.proofs.Bools.{and-both, and-parts, true-false}
+use Rattle.base.proofs.Outs.{ok-bind, ok-weaken, bind-assoc}
 use Rattle.base.proofs.Sames.{decided-yes}
 use Rattle.base.proofs.Tests.{decides-leb}
-use Rattle.base.specs.Search.{pick}
 use Rattle.structs.specs.Types.{isFolder}
-use Rattle.maps.specs.Maps.{bitAt}
+use Rattle.structs.specs.declared.DiskINode.{DiskINode}
+use Rattle.table.specs.declared.Table.{Table}
 use Rattle.table.specs.declared.Row.{Row}
 use Rattle.table.specs.Table.{rowAt}
-use Rattle.sefs.specs.State.{Fs}
-use Rattle.sefs.specs.Meta.{isUsed}
-use Rattle.sefs.specs.Records.{withLinks}
-use Rattle.sefs.specs.Nodes.{Opened, recAt, idAt, setRec, getNode, syncRow, release}
+use Rattle.table_laws.proofs.Rows.{formed-more}
+use Rattle.sefs.specs.State.{Fs, withTable}
+use Rattle.sefs.specs.Ask.{start}
+use Rattle.sefs.specs.Nodes.{Opened, idAt, getNode, syncRow, release}
 use Rattle.sefs.specs.Slots.{Slot}
-use Rattle.sefs.specs.Folders.{nlinksInc}
 use Rattle.sefs.specs.Create.{After, after}
-use Rattle.sefs.specs.Move.{Replaced, none, node, removeReplaced, renamed, moveDots, moveLinks, moveBetween}
-use Rattle.rules.specs.Image.{storedSuper, storedMaps, idsIn, isNode, recOf}
+use Rattle.base.specs.Search.{pick}
+use Rattle.sefs.specs.Move.{Replaced, none, node, removeReplaced, renamed, moveDots, moveLinks, moveParent, moveBetween}
+use Rattle.rules.specs.Image.{isNode, recOf}
 use Rattle.sequences.specs.Pairs.{pair, Passed}
-use Rattle.image.specs.Midway.{Used, storedMeta, Midway}
+use Rattle.sefs_laws.proofs.Rows.{Fills, leaves-node, leaves-append, leaves-remove, leaves-dots, leaves-sync, leaves-release, leaves-replaced}
+use Rattle.image.specs.Midway.{Used}
 use Rattle.image.proofs.Nodes.{meta-is}
 use Rattle.sequences.proofs.Passing.{midway-passed}
+use Rattle.sequences.proofs.Bears.{Bears, ok-and}
 use Rattle.image.proofs.Stores.{sync-mid}
-use Rattle.image.proofs.Drops.{release-law}
-use Rattle.image.proofs.Resets.{reset-id, reset-used}
+use Rattle.image.proofs.Drops.{mid-rec, release-law}
 use Rattle.image.proofs.Appends.{append-law}
-use Rattle.image.proofs.Records.{links-fit}
-use Rattle.image.proofs.Unlinks.{dec-is}
-use Rattle.image.proofs.Takes.{Got, get-law}
+use Rattle.image.proofs.Takes.{Gets, get-more}
 use Rattle.image.proofs.Moving.{Moving}
-use Rattle.image.proofs.Movings.{live-there, moves-node, moves-fits, moves-kind, moves-most}
-use Rattle.image.proofs.Holding.{Seat, Holding, holding-own, holding-set, holding-sync}
-use Rattle.image.proofs.HoldingSteps.{Reached, get-holds, last-holds}
-use Rattle.image.proofs.BetweenSlots.{node-seat, Carrying, carry-law}
-use Rattle.image.proofs.Settling.{ok-when, movedKind, Settled, state-is, settle-none}
+use Rattle.image.proofs.Movings.{live-there, moves-fits, moves-kind, moves-most}
+use Rattle.image.proofs.BetweenSlots.{Carrying, carry-law}
+use Rattle.image.proofs.Settling.{movedKind, Avoids, wayBy, wayOf, Settled, settle-none}
 use Rattle.image.proofs.Replacing.{replace-law}
-use Rattle.table_laws.specs.Rules as rules
+use Rattle.image.proofs.Turned.{Ready, Relinked, dots-law, parent-law}
+use Rattle.files_laws.specs.Laws.{Kept}
+use Rattle.arena.specs.Fields.{file}
 
--- an id that the maps know, and that is none of a map's, is a node
-used-node : (a : List ℕ) (x : ℕ) → isUsed (storedMeta a) x ≡ true → x % 1024 ≢ 1 → isNode a x ≡ true
-unfolding isUsed isNode
-used-node a x u o =
-    let y = and-parts (not (eqb x 0)) (ltb x (idsIn a) && not (bitAt (storedMaps a) x)) u in
-    let z = and-parts (ltb x (idsIn a)) (not (bitAt (storedMaps a) x)) (y .1) in
-    and-both (z .0) (and-both (y .0) (and-both (ap not (ne-eqb (x % 1024) 1 o)) (z .1)))
+-- the replaced node goes, if there is one
+replaced-law : {own : ℕ → Type 0} (s : Fs) (i j : ℕ) (old : Slot) (name : List ℕ) (r : Replaced) → Moving own s i j old name r → idAt s i ≢ idAt s j → Avoids s j old → (x : Fs) → Carrying own s i j old name r x
+    → Ok (Settled own s i j old) (λ n. n ≡ 17) (removeReplaced x j r)
+replaced-law s i j old name none M apart avoids x X = went (settle-none s i j old name M apart avoids x X)
+replaced-law s i j old name (node d k) M apart avoids x X = replace-law s i j old name d k M apart avoids x X
 
--- the node that moves is open, in a row of the call's own
-record Carried (g c kd i j row : ℕ) (x : Fs) : Type 0 where
-  hold : Holding (rules.also rules.none row) g c kd x
-  mid : isFolder kd ≡ false → Midway (rules.also rules.none row) (x .arena) (x .table)
-  from : Used (x .table) i
-  to : Used (x .table) j
-  used : Used (x .table) row
-  same : idAt x row ≡ c
-
-module _ (g c kd i j : ℕ) where
-  -- ---- links
-
-  module _ (most : kd ≤ 4) (row : ℕ) (x : Fs) (Y : Carried g c kd i j row x) (links : 2 ≤ recAt x i .nlinks) where
-    abbrev x1 : Fs
-    x1 = setRec x i (withLinks (recAt x i) (recAt x i .nlinks - 1))
-
-    abbrev x2 : Fs
-    x2 = setRec x1 j (withLinks (recAt x1 j) (recAt x1 j .nlinks + 1))
-
-    kind : recAt x row .kind ≡ kd
-    kind = holding-own g c kd x (Y .hold) row (Y .used) (Y .same) .kind
-
-    H1 : Holding (rules.also rules.none row) g c kd x1
-    H1 =
-        holding-set g c kd x (Y .hold) i (Y .from) (withLinks (recAt x i) (recAt x i .nlinks - 1))
-        (links-fit (recAt x i) (recAt x i .nlinks - 1) (Y .hold .fits .rows i (Y .from .below) .rec) (omega (arith, Y .hold .fits .rows i (Y .from .below) .rec .nlinks)))
-        refl refl (λ e z. omega arith)
-
-    used-1 : (m : ℕ) → Used (x .table) m → Used (x1 .table) m
-    used-1 = reset-used (x .table) (Y .hold .formed) i (Y .from) (withLinks (recAt x i) (recAt x i .nlinks - 1))
-
-    used-2 : (m : ℕ) → Used (x .table) m → Used (x2 .table) m
-    used-2 m w = reset-used (x1 .table) (H1 .formed) j (used-1 j (Y .to)) (withLinks (recAt x1 j) (recAt x1 j .nlinks + 1)) m (used-1 m w)
-
-    dots : isFolder kd ≡ true → Ok (Carried g c kd i j row) Clear (moveDots x i j)
-    unfolding moveDots nlinksInc
-    dots dir =
-        rw (dec-is x i (omega arith))
-        (ok-guard (ltb (recAt x1 j .nlinks) 65535) 15 (clear 15 refl) λ q.
-        let few : recAt x1 j .nlinks < 65535 = ltb-true (recAt x1 j .nlinks) 65535 q in
-        went (record {
-          hold = holding-set g c kd x1 H1 j (used-1 j (Y .to)) (withLinks (recAt x1 j) (recAt x1 j .nlinks + 1))
-              (links-fit (recAt x1 j) (recAt x1 j .nlinks + 1) (H1 .fits .rows j (Y .to .below) .rec) (omega arith)) refl refl (λ e z. omega arith);
-          mid = λ f. absurd (true-false dir f);
-          from = used-2 i (Y .from);
-          to = used-2 j (Y .to);
-          used = used-2 row (Y .used);
-          same = reset-id (x1 .table) (H1 .formed) j (used-1 j (Y .to)) (withLinks (recAt x1 j) (recAt x1 j .nlinks + 1)) row
-              ∙ reset-id (x .table) (Y .hold .formed) i (Y .from) (withLinks (recAt x i) (recAt x i .nlinks - 1)) row ∙ Y .same;
-        }))
-
-    links-law : Ok (Carried g c kd i j row) Clear (moveLinks x i j row)
-    unfolding moveLinks
-    links-law = rw (kind, decided-yes (decides-leb kd 4) most) (go (isFolder kd) refl)
-      where
-        go : (b : Bool) → isFolder kd ≡ b → Ok (Carried g c kd i j row) Clear (pick b (moveDots x i j) (done x))
-        go true e = dots e
-        go false e = went Y
-
-  -- ---- the records are stored, and the node is let go
-
-  sync-law : (row : ℕ) (x : Fs) → Carried g c kd i j row x → (m : ℕ) → Used (x .table) m → Ok (Carried g c kd i j row) Clear (syncRow x m)
-  sync-law row x Y m w =
-      ok-weaken
-      (λ d h.
-      let S = h .0 in
-      let still : (n : ℕ) → Used (x .table) n → Used (d .table) n = λ n u. record { below = u .below; node = λ z. u .node (sym (S .ids n) ∙ z) } in
-      record { hold = S .hold; mid = λ f. h .1 f .mid; from = still i (Y .from); to = still j (Y .to); used = still row (Y .used); same = S .ids row ∙ Y .same })
-      clear-17
-      (ok-when (isFolder kd) (holding-sync g c kd x (Y .hold) m w) (λ f. sync-mid x (Y .mid f) m w))
-
-  end-law : (row : ℕ) (x : Fs) → Carried g c kd i j row x → Ok (λ (d : Fs). isFolder kd ≡ false → Passed (pair (d .arena) (d .table))) Clear (release x row)
-  end-law row x Y =
-      ok-weaken (λ d h f. midway-passed (d .arena) (d .table) (h .1 f .mid)) clear-17
-      (ok-when (isFolder kd) (last-holds g c kd x (Y .hold) row (Y .used) (Y .same)) (λ f. release-law x row (Y .mid f) (Y .used) (Y .hold .meta)))
-
--- ---- from the settled state on
-
-module _ (s : Fs) (i j : ℕ) (old : Slot) (name : List ℕ) (r : Replaced) (M : Moving s i j old name r) where
-  abbrev g : ℕ
-  g = storedSuper (s .arena) .groups
-
+module _ (P : List ℕ → Table → Type 0) (K : Bears P) {own : ℕ → Type 0} (k : ℕ) (only : (m : ℕ) → own m → m ≡ k)
+    (s : Fs) (i j : ℕ) (old : Slot) (name : List ℕ) (r : Replaced) (M : Moving own s i j old name r) (apart : rowAt (s .table) i .id ≢ rowAt (s .table) j .id) (avoids : Avoids s j old)
+    (fills-i : Fills P i) (fills-j : Fills P j)
+    (turns : (row : ℕ) (x y : Fs) → isFolder (movedKind s old) ≡ true → Ready (wayBy true s i j old) (old .entry .id) (idAt s i) (idAt s j) (movedKind s old) i j row x → Relinked (idAt s i) (idAt s j) row x y
+    → (b : List ℕ) → ((h : List ℕ) → rowAt (y .table) row .rec .file ≢ h → Kept (y .arena) b (file 1 h)) → P (y .arena) (y .table) → P b (y .table)) where
   abbrev c : ℕ
   c = old .entry .id
 
   abbrev kd : ℕ
   kd = movedKind s old
 
+  abbrev Left : Fs → Type 0
+  Left x = P (x .arena) (x .table)
+
+  abbrev Q : After → Type 0
+  Q x = Passed (pair (x .arena) (x .table)) × P (x .arena) (x .table)
+
+  -- the row is open, and the image is as it is looked at
+  abbrev Open : Bool → ℕ → Fs → Type 0
+  Open dir row x = Ready (wayBy dir s i j old) (old .entry .id) (idAt s i) (idAt s j) (movedKind s old) i j row x
+
+  -- ---- the moved node is open
+
+  module _ (z : Fs) (Z : Settled own s i j old z) where
+    used : (m n : ℕ) → Used (s .table) m → rowAt (z .table) m .id ≡ rowAt (s .table) m .id → Used (z .table) m
+    used m n w q = record { below = w .below; node = λ e. w .node (sym q ∙ e) }
+
+    used-i : Used (z .table) i
+    used-i = used i 0 (M .from .used) (Z .from)
+
+    gets : Ok (Gets (wayOf s i j old) own (z .arena) (z .table) c) Clear (getNode z c)
+    gets =
+        subst (λ (y : Fs). Ok (Gets (wayOf s i j old) own (z .arena) (z .table) c) Clear (getNode y c))
+        (λ y. record { arena = z .arena; table = z .table; meta = (meta-is (z .arena) (z .table) (Z .mid .fair) ∙ sym (Z .meta)) y })
+        (get-more (z .arena) (z .table) (Z .mid) k only c (Z .node))
+
+    module _ (o : Opened) (G : Gets (wayOf s i j old) own (z .arena) (z .table) c o) where
+      abbrev x : Fs
+      x = withTable (start (z .arena) (z .table)) (G .table)
+
+      still : (m : ℕ) → Used (z .table) m → rowAt (G .table) m .id ≡ rowAt (z .table) m .id
+      still m w = ap (λ (y : Row). y .id) (G .rows m w)
+
+      -- a row that the call had of its own is this one
+      mine : (m : ℕ) → own m → m ≡ G .row
+      mine m h =
+          let w = M .mine m h in
+          let q = Z .mine m h in
+          let e : rowAt (G .table) m .id ≡ c = still m (used m 0 (w .0) (q ∙ sym (w .1))) ∙ q in
+          G .mid .formed .one-row m (G .row) (w .0 .below) (G .used .below) (λ n. w .0 .node (w .1 ∙ sym e ∙ n)) (e ∙ sym (G .same))
+
+      ready : Open (isFolder kd) (G .row) x
+      ready = record {
+        mid = record {
+          fair = G .mid .fair;
+          formed = formed-more (G .table) (λ m h. inr (⊎-elim (λ y. mine m y) (λ y. y) h)) (G .mid .formed);
+          bytes = G .mid .bytes;
+          fits = G .mid .fits;
+        };
+        meta = meta-is (z .arena) (z .table) (Z .mid .fair);
+        from = still i used-i ∙ Z .from;
+        to = still j (used j 0 (M .to .used) (Z .to)) ∙ Z .to;
+        used = G .used;
+        same = G .same;
+        kind = ap (λ (y : DiskINode). y .kind) (sym (mid-rec (z .arena) (G .table) (G .mid .formed) (G .row) (G .used)) ∙ ap (recOf (z .arena) (G .table)) (G .same) ∙ G .recs c (Z .node)) ∙ Z .kind;
+      }
+
+      links : 2 ≤ recOf (z .arena) (G .table) (idAt s i) .nlinks
+      links =
+          let n : isNode (z .arena) (idAt s i) ≡ true = ap (isNode (z .arena)) (sym (Z .from)) ∙ Z .mid .fair .rule4 .node i (M .from .used .below) (used-i .node) in
+          omega (arith, ap (λ (y : DiskINode). y .nlinks) (G .recs (idAt s i) n), Z .links)
+
+  -- ---- its folders' links and its `..`
+
   most : kd ≤ 4
   most = omega (arith, moves-kind s i j old name r M, moves-most s i j old name r M)
 
-  seat : Seat g c
-  seat = node-seat s (M .mid) c (moves-node s i j old name r M)
+  -- the two steps, by the type of what moves
+  links-are : (row : ℕ) (x : Fs) → rowAt (x .table) row .rec .kind ≡ kd → (dir : Bool) → isFolder kd ≡ dir → moveLinks x i j row ≡ pick dir (moveDots x i j) (done x)
+  unfolding moveLinks
+  links-are row x e dir q = rw (e, decided-yes (decides-leb kd 4) most, q)
 
-  module _ (z : Fs) (Z : Settled s i j old z) where
-    gets : Ok (λ (o : Opened). Reached g c kd z o × (isFolder kd ≡ false → Got (z .arena) (z .table) c o)) Clear (getNode z c)
-    gets =
-        ok-when (isFolder kd) (ok-weaken (λ o h. h) clear-17 (get-holds g c kd most seat z (Z .hold))) λ f.
-        subst (λ (y : Fs). Ok (Got (z .arena) (z .table) c) Clear (getNode y c)) (state-is z (Z .hold .meta ∙ sym (meta-is (z .arena) (z .table) (Z .mid f .fair))))
-        (get-law (z .arena) (z .table) (Z .mid f) c (used-node (z .arena) c (Z .hold .ground .known) (seat .off)))
+  parent-none : (row : ℕ) (x : Fs) → rowAt (x .table) row .rec .kind ≡ kd → isFolder kd ≡ false → moveParent x j row ≡ done x
+  unfolding moveParent
+  parent-none row x e q = rw (e, q)
 
-    module _ (o : Opened) (R : Reached g c kd z o) (T : isFolder kd ≡ false → Got (z .arena) (z .table) c o) where
-      still : (n : ℕ) → Used (z .table) n → Used (R .table) n
-      still n w = record { below = w .below; node = λ q. w .node (ap (λ (y : Row). y .id) (sym (R .rows n w)) ∙ q) }
+  some-i : idAt s i ≢ 0
+  some-i = M .from .used .node
 
-      ready : Carried g c kd i j (o .row) (o .state)
-      ready = record {
-        hold = subst (Holding (rules.also rules.none (o .row)) g c kd) (sym (R .is)) (R .hold);
-        mid = λ f. subst (λ (q : Opened). Midway (rules.also rules.none (q .row)) (q .state .arena) (q .state .table)) (sym (T f .is)) (T f .mid);
-        from = subst (λ (y : Fs). Used (y .table) i) (sym (R .is)) (still i (Z .from));
-        to = subst (λ (y : Fs). Used (y .table) j) (sym (R .is)) (still j (Z .to));
-        used = subst (λ (y : Fs). Used (y .table) (o .row)) (sym (R .is)) (R .used);
-        same = ap (λ (y : Fs). idAt y (o .row)) (R .is) ∙ R .same;
-      }
+  some-j : idAt s j ≢ 0
+  some-j = M .to .used .node
 
-      links : 2 ≤ recAt (o .state) i .nlinks
-      links = subst (λ (y : Fs). 2 ≤ recAt y i .nlinks) (sym (R .is)) (subst (λ (y : Row). 2 ≤ y .rec .nlinks) (sym (R .rows i (Z .from))) (Z .from-links))
+  turn-by : (row : ℕ) (x : Fs) → 2 ≤ recOf (x .arena) (x .table) (idAt s i) .nlinks → P (x .arena) (x .table) → (dir : Bool) → isFolder kd ≡ dir → Open dir row x
+      → Ok (λ (d : Fs). Open false row d × Left d) Clear (bind (moveLinks x i j row) (λ y. moveParent y j row))
+  turn-by row x links h false q R = rw (links-are row x (R .kind) false q, parent-none row x (R .kind) q) (went (R, h))
+  turn-by row x links h true q R =
+      rw (links-are row x (R .kind) true q)
+      (ok-bind (ok-and (dots-law c (idAt s i) (idAt s j) kd i j row (M .from .used .below) (M .to .used .below) some-i some-j apart x R links) (leaves-dots P (K .changes) x i j h)) λ y e.
+      ok-weaken
+      (λ d w. (w .ready, subst (P (d .arena)) (sym (w .table)) (turns row x y q R (e .0) (d .arena) (w .others) (e .1))))
+      (λ n z. z)
+      (parent-law c (idAt s i) (idAt s j) kd i j row (M .from .used .below) (M .to .used .below) some-i some-j apart x R q y (e .0)))
 
-    rest : Ok (λ (x : After). isFolder kd ≡ false → Passed (pair (x .arena) (x .table))) Clear
-        (bind (getNode z c) (λ o. bind (moveLinks (o .state) i j (o .row)) (λ s. bind (syncRow s i) (λ s. bind (syncRow s j) (λ s. bind (release s (o .row)) (λ s. done (after s)))))))
-    rest =
-        ok-bind gets λ o h.
-        ok-bind (links-law g c kd i j most (o .row) (o .state) (ready o (h .0) (h .1)) (links o (h .0) (h .1))) λ x Y.
-        ok-bind (sync-law g c kd i j (o .row) x Y i (Y .from)) λ x Y.
-        ok-bind (sync-law g c kd i j (o .row) x Y j (Y .to)) λ x Y.
-        ok-bind (end-law g c kd i j (o .row) x Y) λ x p. went p
+  -- ---- the records are stored, and the node is let go
 
--- the replaced node goes, if there is one
-replaced-law : (s : Fs) (i j : ℕ) (old : Slot) (name : List ℕ) (r : Replaced) → Moving s i j old name r → idAt s i ≢ idAt s j → (x : Fs) → Carrying s i j old name r x
-    → Ok (Settled s i j old) (λ n. n ≡ 17) (removeReplaced x j r)
-replaced-law s i j old name none M apart x X = went (settle-none s i j old name M apart x X)
-replaced-law s i j old name (node d k) M apart x X = replace-law s i j old name d k M apart x X
+  module _ (row : ℕ) where
+    sync-law : (x : Fs) → Open false row x → P (x .arena) (x .table) → (m : ℕ) → Used (x .table) m → Ok (λ (d : Fs). Open false row d × Left d) Clear (syncRow x m)
+    sync-law x R h m w =
+        ok-and
+        (ok-weaken
+        (λ d S. record {
+          mid = S .mid;
+          meta = S .meta ∙ R .meta ∙ λ y. done (record { super = sym (S .super) y; maps = sym (S .maps) y });
+          from = S .ids i ∙ R .from;
+          to = S .ids j ∙ R .to;
+          used = record { below = R .used .below; node = λ e. R .used .node (sym (S .ids row) ∙ e) };
+          same = S .ids row ∙ R .same;
+          kind = ap (λ (y : DiskINode). y .kind) (S .recs row) ∙ R .kind;
+        })
+        clear-17 (sync-mid x (R .mid) m w))
+        (leaves-sync P (K .changes) (K .stores) x m h)
 
-pub between-law : (s : Fs) (i j : ℕ) (old : Slot) (name : List ℕ) (r : Replaced) → Moving s i j old name r → rowAt (s .table) i .id ≢ rowAt (s .table) j .id
-    → Ok (λ (x : After). isFolder (recOf (s .arena) (s .table) (old .entry .id) .kind) ≡ false → Passed (pair (x .arena) (x .table))) Clear (moveBetween s i j old name r)
-unfolding moveBetween
-between-law s i j old name r M apart =
-    ok-bind (ok-weaken (λ x A. A) clear-17 (append-law s j (renamed (old .entry) name) (moves-fits s i j old name r M) (live-there s (M .mid) j (M .to)))) λ x A.
-    ok-bind (ok-weaken (λ x X. X) clear-17 (carry-law s i j old name r M apart x A)) λ x X.
-    ok-bind (ok-weaken (λ z Z. Z) clear-17 (replaced-law s i j old name r M apart x X)) λ z Z.
-    rest s i j old name r M z Z
+    from-used : (x : Fs) → Open false row x → Used (x .table) i
+    from-used x R = record { below = M .from .used .below; node = λ e. some-i (sym (R .from) ∙ e) }
+
+    to-used : (x : Fs) → Open false row x → Used (x .table) j
+    to-used x R = record { below = M .to .used .below; node = λ e. some-j (sym (R .to) ∙ e) }
+
+    ends : (x : Fs) → Open false row x → P (x .arena) (x .table)
+        → Ok Q Clear (bind (syncRow x i) (λ s. bind (syncRow s j) (λ s. bind (release s row) (λ s. done (after s)))))
+    ends x R h =
+        ok-bind (sync-law x R h i (from-used x R)) λ x e.
+        ok-bind (sync-law x (e .0) (e .1) j (to-used x (e .0))) λ x e.
+        ok-bind (ok-and (ok-weaken (λ d D. midway-passed (d .arena) (d .table) (D .mid)) clear-17 (release-law x row (e .0 .mid) (e .0 .used) (λ v. refl) (e .0 .meta)))
+        (leaves-release P (K .changes) (K .stores) (K .takes) (K .frees) (K .drops) x row (e .1))) λ x q. went q
+
+  rest : (z : Fs) → Settled own s i j old z → P (z .arena) (z .table)
+      → Ok Q Clear (bind (getNode z c) (λ o. bind (moveLinks (o .state) i j (o .row)) (λ s. bind (moveParent s j (o .row)) (λ s. bind (syncRow s i) (λ s. bind (syncRow s j) (λ s. bind (release s (o .row)) (λ s. done (after s))))))))
+  rest z Z h =
+      ok-bind (ok-and (gets z Z) (leaves-node P (K .takes) z c h)) λ o e.
+      let G = e .0 in
+      subst (λ (w : Opened). P (w .state .arena) (w .state .table)
+      → Ok Q Clear (bind (moveLinks (w .state) i j (w .row)) (λ s. bind (moveParent s j (w .row)) (λ s. bind (syncRow s i) (λ s. bind (syncRow s j) (λ s. bind (release s (w .row)) (λ s. done (after s))))))))
+      (sym (G .is))
+      (λ p. subst (Ok Q Clear) (bind-assoc (moveLinks (x z Z o G) i j (G .row)) (λ s. moveParent s j (G .row)) (λ s. bind (syncRow s i) (λ s. bind (syncRow s j) (λ s. bind (release s (G .row)) (λ s. done (after s))))))
+      (ok-bind (turn-by (G .row) (x z Z o G) (links z Z o G) p (isFolder kd) refl (ready z Z o G)) λ d w. ends (G .row) d (w .0) (w .1)))
+      (e .1)
+
+  pub between-law : P (s .arena) (s .table) → Ok (λ (x : After). Passed (pair (x .arena) (x .table)) × P (x .arena) (x .table)) Clear (moveBetween s i j old name r)
+  unfolding moveBetween
+  between-law h =
+      ok-bind (ok-and (ok-weaken (λ x A. A) clear-17 (append-law s j (renamed (old .entry) name) (moves-fits s i j old name r M) (live-there s (M .mid) j (M .to)))) (leaves-append P j fills-j (K .changes) s _ h)) λ x e.
+      ok-bind (ok-and (ok-weaken (λ x X. X) clear-17 (carry-law s i j old name r M apart x (e .0))) (leaves-remove P i fills-i (K .changes) x _ (e .1))) λ x e.
+      ok-bind (ok-and (ok-weaken (λ z Z. Z) clear-17 (replaced-law s i j old name r M apart avoids x (e .0))) (leaves-replaced P (K .changes) (K .stores) (K .takes) (K .frees) (K .drops) x j fills-j r (e .1))) λ z e.
+      rest z (e .0) (e .1)

@@ -1,4 +1,4 @@
--- The bytes of an open node's file: a call stores into the metadata file, into the files of folders that it has handles on, into a new node's, and
+-- The bytes of an open node's file: a call stores into the metadata file, into the files of folders that it has handles on or moves, into a new node's, and
 -- into the file of the node that it writes or resizes; and it removes files. A node that is open has its file afterwards, so what was removed was
 -- another's.
 use mathlib.Core.Path.{_≡_, refl, sym, ap, _∙_, subst}
@@ -35,7 +35,11 @@ use Rattle.sefs.specs.Contents.{callRead}
 use Rattle.rules.specs.Image.{isNode, recOf}
 use Rattle.rules.specs.Rules.{Allowed}
 use Rattle.sefs_laws.proofs.Rows.{Any, any, ok-both, Changes, Takes, Frees, Stores, Drops, Fills, Makes, leaves-meta, leaves-sync, leaves-append, leaves-birth, leaves-named, leaves-new}
-use Rattle.image.specs.Midway.{Used}
+use Rattle.sefs.specs.State.{Fs}
+use Rattle.table_laws.specs.Rules.{also, none}
+use Rattle.image.specs.Midway.{Used, turning}
+use Rattle.image.proofs.Counts.{Counts, counts-rec}
+use Rattle.image.proofs.Turned.{Ready, Relinked}
 use Rattle.image.proofs.Handles.{formed, row-rec, row-node}
 use Rattle.image.proofs.Metas.{kept-same, kept-then}
 use Rattle.image.proofs.Appends.{file-apart}
@@ -43,8 +47,10 @@ use Rattle.sequences.specs.Pairs.{Pair, Passed}
 use Rattle.sequences.specs.Calls.{Call, root, find, create, link, unlink, move, metadata, setMetadata, getEntry, listing, read, write, resize, sync, close, check, Fits, does, next}
 use Rattle.sequences.specs.Promises.{On, SameFile, Through, writes, resizes}
 use Rattle.sequences.proofs.Passing.{allowed}
-use Rattle.sequences.proofs.Tables.{FillsFolders, keeps-create, keeps-link, keeps-unlink, keeps-move, keeps-write, keeps-resize, keeps-sync, keeps-close}
-use Rattle.sequences.proofs.Corner.{at-put, Has, new-law, on-used, on-there}
+use Rattle.sequences.proofs.Tables.{FillsFolders, keeps-create, keeps-link, keeps-unlink, keeps-write, keeps-resize, keeps-sync, keeps-close}
+use Rattle.sequences.proofs.Bears.{Bears, Turns}
+use Rattle.sequences.proofs.Moves.{move-call}
+use Rattle.sequences.proofs.Corner.{at-put, Has, new-law, on-changes, on-takes, on-frees, on-used, on-there}
 
 -- where file f is there, it is as it was in arena o
 abbrev Stays : List ℕ → List ℕ → List ℕ → Type 0
@@ -208,6 +214,56 @@ module _ (p : Pair) (y : Passed p) (h : Handle) (n : ℕ) (f : List ℕ) (on : O
       other : uuid ≢ f
       other e = true-false (ap (λ (x : List ℕ). there (p .arena) (file 1 x)) e ∙ on-there (p .arena) (p .table) (allowed p y) h n f on) none
 
+  -- ---- a move fills the moved folder's file too, once it has found it again: while the handle is on the node, that is another's
+
+  abbrev Watched : List ℕ → Table → Type 0
+  Watched b u = Calm (p .arena) (p .table) f b u × On u h n f
+
+  some-n : n ≢ 0
+  some-n z = row-n .node (on .node ∙ z)
+
+  watched : Bears (λ b u. Calm (p .arena) (p .table) f b u × On u h n f)
+  watched = record {
+    stores = λ b d u k w. (calm-stores a t f b d u k (w .0), w .1);
+    drops = λ b d u g k w. (calm-drops a t f b d u g k (w .0), w .1);
+    changes = λ b u i r e q w. (calm-changes a t f b u i r e q (w .0), on-changes h n f b u i r e q (w .1));
+    takes = λ b u i r e w. (calm-takes a t f b u i r e (w .0), on-takes h n f some-n b u i r e (w .1));
+    frees = λ b u i e w. (calm-frees a t f b u i e (w .0), on-frees h n f b u i e (w .1));
+  }
+
+  module _ (c e g kd i j row : ℕ) (x z : Fs) (dir : isFolder (recOf (p .arena) (p .table) c .kind) ≡ true) (R : Ready (turning c e g) c e g kd i j row x) (L : Relinked e g row x z) (o : On (z .table) h n f) where
+    S : Counts (also none row) (x .arena) (x .table) (λ m. recOf (x .arena) (x .table) m .blocks) (L .L) (L .table)
+    S = L .rows
+
+    here : On (L .table) h n f
+    here = subst (λ (v : Fs). On (v .table) h n f) (L .is) o
+
+    -- the node's row, before the links changed
+    was : rowAt (x .table) (here .row) .id ≡ n
+    was = sym (S .ids (here .row)) ∙ here .node
+
+    row-here : Used (x .table) (here .row)
+    row-here = record { below = live-means (L .table) h (here .row) .0 (here .live) .is-row; node = λ z. some-n (sym was ∙ z) }
+
+    file-of : (m id : ℕ) → Used (x .table) m → rowAt (x .table) m .id ≡ id → rowAt (L .table) m .rec .file ≡ recOf (x .arena) (x .table) id .file
+    file-of m id w q =
+        ap (λ (r : DiskINode). r .file) (sym (counts-rec (x .arena) (x .table) (λ m. recOf (x .arena) (x .table) m .blocks) (L .L) (L .table) S m w))
+        ∙ ap (λ (k : ℕ). recOf (x .arena) (L .table) k .file) q ∙ S .files id
+
+    node-of : (m id : ℕ) → Used (x .table) m → rowAt (x .table) m .id ≡ id → isNode (x .arena) id ≡ true
+    node-of m id w q = ap (isNode (x .arena)) (sym q) ∙ R .mid .fair .rule4 .node m (w .below) (w .node)
+
+    moved-off : rowAt (z .table) row .rec .file ≢ f
+    moved-off w =
+        let q : recOf (x .arena) (x .table) n .file ≡ recOf (x .arena) (x .table) c .file =
+        sym (file-of (here .row) n row-here was) ∙ here .file ∙ sym w ∙ ap (λ (v : Fs). rowAt (v .table) row .rec .file) (L .is) ∙ file-of row c (R .used) (R .same) in
+        let d : n ≡ c = R .mid .fair .rule5 .distinct n c (node-of (here .row) n row-here was) (node-of row c (R .used) (R .same)) q in
+        true-false (ap (λ (k : ℕ). isFolder (recOf a t k .kind)) d ∙ dir) no-dir
+
+  moved : Turns (λ b u. Calm (p .arena) (p .table) f b u × On u h n f) (p .arena) (p .table)
+  moved c e g kd i j row x z dir R L b k w =
+      (record { stays = stays-kept a t f (z .arena) b (k f (moved-off c e g kd i j row x z dir R L (w .1))) (w .0 .stays); firm = w .0 .firm }, w .1)
+
   calls : (c : Call) → Fits c → (Through n (p .table) c → ⊥) → Ok (λ (q : Pair). Stays (p .arena) f (q .arena)) Any (does c p)
   unfolding does
   calls root F z = ok-bind (any (callRoot a t)) λ x _. went (λ e. kept-same a (file 1 f))
@@ -219,7 +275,7 @@ module _ (p : Pair) (y : Passed p) (h : Handle) (n : ℕ) (f : List ℕ) (on : O
   calls (unlink g name) F z =
       ok-bind (keeps-unlink C (calm-stores a t f) (calm-drops a t f) (calm-changes a t f) (calm-takes a t f) (calm-frees a t f) a t folders g name (calm-start a t f)) λ x k. went (k .stays)
   calls (move g old target name) F z =
-      ok-bind (keeps-move C (calm-stores a t f) (calm-drops a t f) (calm-changes a t f) (calm-takes a t f) (calm-frees a t f) a t folders g old target name (calm-start a t f)) λ x k. went (k .stays)
+      ok-bind (ok-weaken (λ x k. k) (λ m r. tt) (move-call (λ b u. Calm a t f b u × On u h n f) watched p y (λ g i l dir b d u k w. (folders g i l dir b d u k (w .0), w .1)) moved (calm-start a t f, on) g old target name (F .3))) λ x k. went (k .1 .0 .stays)
   calls (metadata g) F z = ok-bind (any (callMetadata a t g)) λ x _. went (λ e. kept-same a (file 1 f))
   calls (setMetadata g mode uid gid at mt ct) F z = ok-bind (any (callSet a t g mode uid gid at mt ct)) λ x _. went (λ e. kept-same a (file 1 f))
   calls (getEntry g k room) F z = ok-bind (any (callEntry a t g k room)) λ x _. went (λ e. kept-same a (file 1 f))

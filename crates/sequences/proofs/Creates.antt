@@ -54,6 +54,7 @@ use Rattle.sefs_laws.proofs.Rows.{tabled-stores, leaves-sync}
 use Rattle.image.proofs.Holds.{hold-mid}
 use Rattle.image.proofs.Nodes.{there-meta, meta-is, node-some}
 use Rattle.image.proofs.Metas.{length-mapsTo, bytes-mapsTo, kept-same, kept-then, Within, MetaPut, MetaFits, sync-meta-law}
+use Rattle.image.proofs.TreeOf.{tidy-six}
 use Rattle.image.proofs.Stores.{node-apart, sync-mid}
 use Rattle.image.proofs.Drops.{mid-rec}
 use Rattle.sequences.proofs.Asks.{live-folder, new-law}
@@ -148,7 +149,7 @@ module _ (a : List ℕ) (t : Table) (M : Midway none a t) (i : ℕ) (ui : Used t
 
   long : lengthOf a (file 1 (ri .file)) ≡ 264 * ri .blocks
   unfolding isFolderAt
-  long = subst (λ (r : DiskINode). lengthOf a (nodeFile r) ≡ 264 * r .blocks) rec-d (A .rule6 .folder d (and-both node-d (ap (λ (r : DiskINode). isFolder (r .kind)) rec-d ∙ dir)) .length)
+  long = subst (λ (r : DiskINode). lengthOf a (nodeFile r) ≡ 264 * r .blocks) rec-d (tidy-six a t (A .tidy) .folder d (and-both node-d (ap (λ (r : DiskINode). isFolder (r .kind)) rec-d ∙ dir)) .length)
 
   apart : ri .file ≢ uuid
   apart q = true-false (ap (λ (f : List ℕ). there a (file 1 f)) (sym q) ∙ was) absent

@@ -1,14 +1,13 @@
--- The call of move: what it asks before its steps. A move that is done from one folder to another is of no folder, as the promise says.
-use mathlib.Core.Path.{refl, _≡_, sym, _∙_, subst}
+-- The call of move: what it asks before its steps.
+use mathlib.Core.Path.{refl, _≡_, sym, subst}
 use Rattle.sefs_laws.proofs.Clear.{Clear, clear}
-use mathlib.Core.Bool.{Bool, true, false, not, _&&_}
+use mathlib.Core.Bool.{true, false, not}
 use mathlib.Core.List.{List}
-use mathlib.Core.Logic.{_≢_}
 use Prim.Native.Nat.{ℕ, _≤_, _<_}
 use lib.Dec.{eqb, leb}
 use lib.ListN.{length}
-use borrow.Author.Tests.{ne-eqb, not-true}
-use Rattle.base.specs.Out.{Out, done, bind, kept, Ok, went, said, _>>=_}
+use borrow.Author.Tests.{not-true}
+use Rattle.base.specs.Out.{Ok, went}
 use Rattle.base.proofs.Outs.{ok-bind, ok-weaken}
 use Rattle.base.proofs.Bools.{true-T}
 use Rattle.base.proofs.Finds.{search-at}
@@ -22,41 +21,29 @@ use Rattle.structs.specs.declared.DiskINode.{DiskINode}
 use Rattle.utf8.specs.Names.{GoodName, isNamed, isSpecial, nameVerdict, earlyReason}
 use Rattle.table.specs.declared.Table.{Table}
 use Rattle.table.specs.declared.Handle.{Handle}
-use Rattle.table.specs.Table.{rowAt, liveRow}
-use Rattle.sefs.specs.Slots.{Slot, lookup, findSlot}
-use Rattle.sefs.specs.Ask.{start, byHandle}
+use Rattle.table.specs.Table.{rowAt}
+use Rattle.sefs.specs.Slots.{lookup}
+use Rattle.sefs.specs.Ask.{start}
 use Rattle.sefs.specs.Create.{After}
 use Rattle.sefs.specs.Move.{moveTo, callMove}
 use Rattle.rules.specs.Image.{recOf, slotIn}
 use Rattle.rules.specs.Rules.{Allowed}
 use Rattle.sequences.specs.Pairs.{Pair, pair, Passed}
-use Rattle.sequences.specs.Calls.{move, does, moves}
-use Rattle.sequences.specs.Promises.{Plain, Well}
+use Rattle.sequences.specs.Calls.{move, does}
+use Rattle.sequences.specs.Promises.{Well}
+use Rattle.sefs_laws.proofs.Rows.{Fills}
+use Rattle.table_laws.proofs.Handles.{live-means}
+use Rattle.sequences.proofs.Bears.{Bears, Turns}
+use Rattle.sequences.proofs.Tables.{FillsFolders}
 use Rattle.sefs_laws.proofs.Says.{says-ensure, says-is, ok-is, ensure-asks}
 use Rattle.sequences.proofs.Passing.{allowed, well}
 use Rattle.image.specs.Midway.{Used}
-use Rattle.image.proofs.Handles.{Reaches, admitted, handle-law, row-rec, row-folder}
+use Rattle.image.proofs.Handles.{admitted, handle-law, row-rec, row-folder}
 use Rattle.image.proofs.Lookups.{lookup-is}
 use Rattle.image.proofs.NewNames.{good-name, NewName, new-name}
 use Rattle.sequences.proofs.Asks.{live-folder}
 use Rattle.image.proofs.Moving.{LiveFolder}
 use Rattle.sequences.proofs.MoveSteps.{none-law, node-law}
-
--- whether the old name leads to a folder, of another folder than the target
-abbrev carried : Pair → Handle → List ℕ → Handle → Out Bool
-carried p h old target = do
-  i ← byHandle (p .table) h
-  j ← byHandle (p .table) target
-  s ← findSlot (p .arena) (rowAt (p .table) i .rec) old
-  done (not (eqb (rowAt (p .table) i .id) (rowAt (p .table) j .id)) && isFolder (recOf (p .arena) (p .table) (s .entry .id) .kind))
-
--- where it does not, what moves between two folders is no folder
-not-carried : (p : Pair) (h : Handle) (old : List ℕ) (target : Handle) (i j : ℕ) → liveRow (p .table) h ≡ At i → liveRow (p .table) target ≡ At j
-    → (e : Slot) → findSlot (p .arena) (rowAt (p .table) i .rec) old ≡ done e → rowAt (p .table) i .id ≢ rowAt (p .table) j .id
-    → kept false (carried p h old target) ≡ false → isFolder (recOf (p .arena) (p .table) (e .entry .id) .kind) ≡ false
-not-carried p h old target i j u v e f n z =
-    let q : kept false (carried p h old target) ≡ isFolder (recOf (p .arena) (p .table) (e .entry .id) .kind) = rw (u, v, f, ne-eqb (rowAt (p .table) i .id) (rowAt (p .table) j .id) n) in
-    sym q ∙ z
 
 -- what a lookup tells
 data Looked (a : List ℕ) (r : DiskINode) (name : List ℕ) : Found → Type 0 where
@@ -75,10 +62,12 @@ look-law a t A b j u f name g s =
     by (At k) e = let h = search-at (λ k. isNamed (slotIn a (recOf a t (rowAt t j .id)) k .name) name) (recOf a t (rowAt t j .id) .blocks) k (sym e) in here k (h .0) (h .1)
     by Nothing e = new (new-name a t (rowAt t j .id) (A .rule6 .folder (rowAt t j .id) (row-folder a t A j u f)) name g s (sym e))
 
-move-call : (p : Pair) → Passed p → (h : Handle) (old : List ℕ) (target : Handle) (name : List ℕ) → Bytes name
-    → Ok (λ (x : After). kept false (carried p h old target) ≡ false → Passed (pair (x .arena) (x .table))) Clear (callMove (p .arena) (p .table) h old target name)
+-- P holds of arena and table through all of it
+pub move-call : (P : List ℕ → Table → Type 0) → Bears P → (p : Pair) → Passed p → FillsFolders P (p .table) → Turns P (p .arena) (p .table) → P (p .arena) (p .table)
+    → (h : Handle) (old : List ℕ) (target : Handle) (name : List ℕ) → Bytes name
+    → Ok (λ (x : After). Passed (pair (x .arena) (x .table)) × P (x .arena) (x .table)) Clear (callMove (p .arena) (p .table) h old target name)
 unfolding callMove
-move-call p y h old target name nb =
+move-call P K p y fills turns start-p h old target name nb =
     ok-bind (says-is (admitted a t A)) λ _ _.
     ok-bind (handle-law a t A h) λ i u.
     ok-bind (handle-law a t A target) λ j v.
@@ -91,8 +80,9 @@ move-call p y h old target name nb =
     ok-bind (ensure-asks (leb (length name) 255) 10 (clear 10 refl)) λ _ short.
     ok-bind (live-folder a t A j (v .used)) λ _ to.
     ok-bind (look-law a t A (y .typed .bytes) j (v .used) (to .0) name (good-name name good) (is-short short)) λ f l.
-    goes i j u v (record { used = u .used; folder = from .0; links = from .1 }) (record { used = v .used; folder = to .0; links = to .1 })
-    (not-true (isSpecial old) plain-old) (good-name name good) (not-true (isSpecial name) plain) (is-short short) f l
+    goes i j (record { used = u .used; folder = from .0; links = from .1 }) (record { used = v .used; folder = to .0; links = to .1 })
+    (not-true (isSpecial old) plain-old) (good-name name good) (not-true (isSpecial name) plain) (is-short short)
+    (fills h i (live-means t h i .0 (u .live)) (from .0)) (fills target j (live-means t target j .0 (v .live)) (to .0)) f l
   where
     a : List ℕ
     a = p .arena
@@ -106,19 +96,17 @@ move-call p y h old target name nb =
     is-short : leb (length name) 255 ≡ true → length name ≤ 255
     is-short e = decides-leb (length name) 255 .right (true-T (leb (length name) 255) e)
 
-    goes : (i j : ℕ) → Reaches (p .table) h i → Reaches (p .table) target j → LiveFolder (start (p .arena) (p .table)) i → LiveFolder (start (p .arena) (p .table)) j
-        → isSpecial old ≡ false → GoodName name → isSpecial name ≡ false → length name ≤ 255 → (f : Found) → Looked (p .arena) (rowAt (p .table) j .rec) name f
-        → Ok (λ (x : After). kept false (carried p h old target) ≡ false → Passed (pair (x .arena) (x .table))) Clear (moveTo (start (p .arena) (p .table)) i j old name f)
-    goes i j u v from to plain-old good plain short f (here k l e) =
-        node-law (p .arena) (p .table) A y i j from to old name plain-old good plain short nb (kept false (carried p h old target) ≡ false) (not-carried p h old target i j (u .live) (v .live)) k l e
-    goes i j u v from to plain-old good plain short f (new N) =
-        none-law (p .arena) (p .table) A y i j from to old name plain-old good plain short nb (kept false (carried p h old target) ≡ false) (not-carried p h old target i j (u .live) (v .live)) N
+    goes : (i j : ℕ) → LiveFolder (start (p .arena) (p .table)) i → LiveFolder (start (p .arena) (p .table)) j
+        → isSpecial old ≡ false → GoodName name → isSpecial name ≡ false → length name ≤ 255 → Fills P i → Fills P j → (f : Found) → Looked (p .arena) (rowAt (p .table) j .rec) name f
+        → Ok (λ (x : After). Passed (pair (x .arena) (x .table)) × P (x .arena) (x .table)) Clear (moveTo (start (p .arena) (p .table)) i j old name f)
+    goes i j from to plain-old good plain short fills-i fills-j f (here k l e) =
+        node-law (p .arena) (p .table) A y i j from to old name plain-old good plain short nb P K fills-i fills-j turns start-p k l e
+    goes i j from to plain-old good plain short fills-i fills-j f (new N) =
+        none-law (p .arena) (p .table) A y i j from to old name plain-old good plain short nb P K fills-i fills-j turns start-p N
 
-pub keeps-move : (p : Pair) (h : Handle) (old : List ℕ) (target : Handle) (name : List ℕ) → Passed p → Plain (move h old target name) p → Well (move h old target name) p
-unfolding does moves
-keeps-move p h old target name y P = well (move h old target name) p y (by (move-call p y h old target name (P .fits .3)) (P .leaves))
-  where
-    by : {o : Out After} → Ok (λ (x : After). kept false (carried p h old target) ≡ false → Passed (pair (x .arena) (x .table))) Clear o
-        → kept false (bind o (λ _. carried p h old target)) ≡ false → Ok Passed Clear (bind o (λ x. done (pair (x .arena) (x .table))))
-    by (went q) e = went (q e)
-    by (said f) e = said f
+pub keeps-move : (p : Pair) (h : Handle) (old : List ℕ) (target : Handle) (name : List ℕ) → Passed p → Bytes name → Well (move h old target name) p
+unfolding does
+keeps-move p h old target name y nb =
+    well (move h old target name) p y
+    (ok-bind (move-call (λ b u. Unit) (record { stores = λ b c u k o. o; drops = λ b c u g d o. o; changes = λ b u i r e q o. o; takes = λ b u i r e o. o; frees = λ b u i e o. o }) p y
+    (λ g i l f b c u k o. o) (λ c f g kd i j row x z d R L b k o. o) tt h old target name nb) λ x q. went (q .0))

@@ -25,7 +25,7 @@ makes-else p c h n f y o g name kind mode time uuid x _ e =
     ok-done (subst (Ok (Else n f) Any) e (else-create (p .arena) (p .table) (allowed p y) h n f o g name kind mode time uuid))
 
 -- where the pair afterwards passes
-pub spared : (p : Pair) (c : Call) (h : Handle) (n : ℕ) (f : List ℕ) → Passed p → On (p .table) h n f → Spares h c p → Passed (next c p) → Safe h n f c p
+pub spared : (p : Pair) (c : Call) (h : Handle) (n : ℕ) (f : List ℕ) → Passed p → On (p .table) h n f → Spares h c → Passed (next c p) → Safe h n f c p
 spared p c h n f y o s w =
     let u = on-used (p .arena) (p .table) (allowed p y) h n f o in
     let k : On (next c p .table) h n f = by-kept h n f p o (on-does h n f (λ z. u .node (o .node ∙ z)) c p (s .not-closed) o) in
@@ -35,5 +35,5 @@ spared p c h n f y o s w =
       node = subst (λ (x : ℕ). isNode (next c p .arena) x ≡ true) (k .node)
           (row-node (next c p .arena) (next c p .table) A (k .row) (on-used (next c p .arena) (next c p .table) A h n f k));
       new = makes-else p c h n f y o;
-      same = λ no-dir not-through. same-file p y h n f o no-dir c (s .plain .fits) not-through (on-there (next c p .arena) (next c p .table) A h n f k);
+      same = λ no-dir not-through. same-file p y h n f o no-dir c (s .fits) not-through (on-there (next c p .arena) (next c p .table) A h n f k);
     }

@@ -37,14 +37,14 @@ use Rattle.sefs.specs.Create.{After, after}
 use Rattle.sefs.specs.Move.{Replaced, none, node, renamed, removeReplaced, moveWithin}
 use Rattle.rules.specs.Image.{run, isNode, recOf, isOpen, slotIn, named}
 use Rattle.sequences.specs.Pairs.{pair, Passed}
-use Rattle.image.specs.Midway.{Used, storedMeta, Fair, treeOf, Midway}
+use Rattle.image.specs.Midway.{Used, storedMeta, Fair, treeOf, plain, Midway}
 use Rattle.tree.specs.Tree.{Tree, Tidy, folderAt}
 use Rattle.tree.proofs.Trees.{folder-is, names-differ}
 use Rattle.tree.proofs.Unnaming.{Unnames, MayGo, unnames-tidy}
 use Rattle.sequences.proofs.Passing.{midway-passed}
 use Rattle.image.proofs.Stores.{sync-mid}
 use Rattle.image.proofs.Drops.{mid-rec, super-kept, maps-kept, stored-kept}
-use Rattle.image.proofs.Resets.{recs-kept, nodes-kept, fair-tidy, fair-by-tree, row-open}
+use Rattle.image.proofs.Resets.{recs-kept, nodes-kept, fair-by-tree, row-open}
 use Rattle.image.proofs.Appends.{entry-bytes, put-meta, put-there, slot-new}
 use Rattle.image.proofs.Removes.{Gone}
 use Rattle.image.proofs.Unlinks.{Less, gone-tree, unnamed-mid, removes}
@@ -56,7 +56,7 @@ use Rattle.table_laws.specs.Rules as rows
 
 -- ---- the slot has its new name
 
-module _ (s : Fs) (i : ℕ) (old : Slot) (name : List ℕ) (r : Replaced) (H : Moving s i i old name r) where
+module _ (s : Fs) (i : ℕ) (old : Slot) (name : List ℕ) (r : Replaced) (H : Moving rows.none s i i old name r) where
   abbrev a : List ℕ
   a = s .arena
 
@@ -183,13 +183,13 @@ module _ (s : Fs) (i : ℕ) (old : Slot) (name : List ℕ) (r : Replaced) (H : M
     there-same = put-there a (ri .file) pl e fits is-there b P
 
     -- where no other has the name, that is all
-    pub renamed-mid : ((j : ℕ) → 2 ≤ j → j < recAt s i .blocks → nameOf (slotIn (s .arena) (recAt s i) j .name) ≢ nameOf (nameBytes name)) → Midway (owns r) b (s .table)
+    pub renamed-mid : ((j : ℕ) → 2 ≤ j → j < recAt s i .blocks → nameOf (slotIn (s .arena) (recAt s i) j .name) ≢ nameOf (nameBytes name)) → Midway (owns rows.none r) b (s .table)
     renamed-mid fresh = record {
-      fair = fair-by-tree a b t t A
+      fair = fair-by-tree plain a b t t A
           (record { length = legal-same a b (P .size) ∙ A .rule1 .length; sound = sounds })
           K there-same (λ j. refl) (A .rule4 .clean) (λ x n. ap (λ (z : DiskINode). z .kind) (recs x)) (λ x n. ap (λ (z : DiskINode). z .file) (recs x))
           (subst Tidy (sym (tree-slots a (ri .file) pl e fits is-there room b P t))
-          (retitled-tidy (treeOf a t) here d pl (ri .blocks) (fair-tidy a t A) tree-d
+          (retitled-tidy (treeOf a t) here d pl (ri .blocks) (A .tidy) tree-d
           (retitles here (ri .blocks) (omega (arith, H .inside, H .later)) (λ z. omega (arith, H .inside)) (λ x j n. refl) refl refl (λ l. absurd (omega (arith, blocks-d))) (λ j x y n. fresh j x y))));
       formed = H .mid .formed;
       bytes = bytes;
@@ -210,7 +210,7 @@ module _ (s : Fs) (i : ℕ) (old : Slot) (name : List ℕ) (r : Replaced) (H : M
 
 -- ---- with a node that is replaced
 
-module _ (s : Fs) (i : ℕ) (old : Slot) (name : List ℕ) (c k : ℕ) (H : Moving s i i old name (node c k)) where
+module _ (s : Fs) (i : ℕ) (old : Slot) (name : List ℕ) (c k : ℕ) (H : Moving rows.none s i i old name (node c k)) where
   R : Replaces s i old name c k
   R = H .onto
 
@@ -248,7 +248,7 @@ module _ (s : Fs) (i : ℕ) (old : Slot) (name : List ℕ) (c k : ℕ) (H : Movi
 
   distinct : (j : ℕ) → 2 ≤ j → j < recAt s i .blocks → j ≢ k → nameOf (slotIn (s .arena) (recAt s i) j .name) ≢ nameOf (nameBytes name)
   distinct j x y n z =
-      names-differ (treeOf (s .arena) (s .table)) (idAt s i) (fair-tidy (s .arena) (s .table) (H .mid .fair) .folder (idAt s i) (tree-d s i old name (node c k) H)) j k n x (R .later)
+      names-differ (treeOf (s .arena) (s .table)) (idAt s i) (H .mid .fair .tidy .folder (idAt s i) (tree-d s i old name (node c k) H)) j k n x (R .later)
       (omega (arith, blocks-d s i old name (node c k) H)) inside
       (ap (λ (e : DiskEntry). nameOf (e .name)) (slots-d j) ∙ z ∙ moves-name s i i old name (node c k) H ∙ sym (R .named) ∙ ap (λ (e : DiskEntry). nameOf (e .name)) (sym (slots-d k)))
 
@@ -278,7 +278,7 @@ module _ (s : Fs) (i : ℕ) (old : Slot) (name : List ℕ) (c k : ℕ) (H : Movi
         (eq-cases x (idAt s i))
 
     tidy : Tidy (withSlots (treeOf (s .arena) (s .table)) slots)
-    tidy = retitled-tidy (treeOf (s .arena) (s .table)) slots (idAt s i) (old .place) k (fair-tidy (s .arena) (s .table) (H .mid .fair)) (tree-d s i old name (node c k) H)
+    tidy = retitled-tidy (treeOf (s .arena) (s .table)) slots (idAt s i) (old .place) k (H .mid .fair .tidy) (tree-d s i old name (node c k) H)
         (retitles s i old name (node c k) H b P slots k (R .later) places like
         (ap (λ (z : DiskEntry). z .id) slot-k) (ap (λ (z : DiskEntry). z .kind) slot-k) (λ l. ap (λ (z : DiskEntry). z .name) slot-k) distinct)
 
@@ -329,14 +329,14 @@ module _ (s : Fs) (i : ℕ) (old : Slot) (name : List ℕ) (c k : ℕ) (H : Movi
 stored : (s : Fs) (i : ℕ) → Midway rows.none (s .arena) (s .table) → Used (s .table) i → Ok (λ (x : After). Passed (pair (x .arena) (x .table))) Clear (bind (syncRow s i) (λ s. done (after s)))
 stored s i M u = ok-bind (ok-weaken (λ x Z. Z) clear-17 (sync-mid s M i u)) λ x Z. went (midway-passed (x .arena) (x .table) (Z .mid))
 
-pub within-law : (s : Fs) (i : ℕ) (old : Slot) (name : List ℕ) (r : Replaced) → Moving s i i old name r → Ok (λ (x : After). Passed (pair (x .arena) (x .table))) Clear (moveWithin s i old name r)
+pub within-law : (s : Fs) (i : ℕ) (old : Slot) (name : List ℕ) (r : Replaced) → Moving rows.none s i i old name r → Ok (λ (x : After). Passed (pair (x .arena) (x .table))) Clear (moveWithin s i old name r)
 unfolding moveWithin
 within-law s i old name r H =
     ok-bind (ok-weaken (λ x Q. Q) clear-17 (overwrite-law s i (old .place) (renamed (old .entry) name) (fits s i old name r H) (is-there s i old name r H))) λ x Q.
     subst (λ (y : Fs). Ok (λ (x : After). Passed (pair (x .arena) (x .table))) Clear (bind (removeReplaced y i r) (λ s. bind (syncRow s i) (λ s. done (after s))))) (sym (Q .is))
     (rest r H (Q .arena) (Q .put))
   where
-    rest : (r : Replaced) → Moving s i i old name r → (b : List ℕ) → Put (s .arena) (nodeFile (recAt s i)) (264 * old .place) (entryBytes (renamed (old .entry) name)) b
+    rest : (r : Replaced) → Moving rows.none s i i old name r → (b : List ℕ) → Put (s .arena) (nodeFile (recAt s i)) (264 * old .place) (entryBytes (renamed (old .entry) name)) b
         → Ok (λ (x : After). Passed (pair (x .arena) (x .table))) Clear (bind (removeReplaced (withArena s b) i r) (λ s. bind (syncRow s i) (λ s. done (after s))))
     rest none H b P = stored (withArena s b) i (renamed-mid s i old name none H b P (H .onto .fresh)) (H .from .used)
     rest (node c k) H b P = ok-bind (ok-weaken (λ x E. E) clear-17 (gone s i old name c k H b P)) λ x E. stored x i (E .0) (E .1)

@@ -1,7 +1,10 @@
 pub mod Born
 pub mod Contents
+pub mod Moves
 pub mod Naming
 pub mod Redirects
 pub mod Renaming
+pub mod Stays
 pub mod Trees
 pub mod Unnaming
+pub mod Ways

@@ -47,7 +47,7 @@ pub record MayGo (v : Tree) (d c k : ℕ) : Type 0 where
   pub small : isFolder (v .kind c) ≡ true → v .blocks c ≤ 2
 
 -- one element goes, and the last takes its place
-count-swap : (p q : ℕ → Bool) (m k : ℕ) → k ≤ m → ((j : ℕ) → j < m → j ≢ k → q j ≡ p j) → (k < m → q k ≡ p m) → countTo q m + bit (p k) ≡ countTo p (m + 1)
+pub count-swap : (p q : ℕ → Bool) (m k : ℕ) → k ≤ m → ((j : ℕ) → j < m → j ≢ k → q j ≡ p j) → (k < m → q k ≡ p m) → countTo q m + bit (p k) ≡ countTo p (m + 1)
 count-swap p q m k l same last =
     ⊎-elim
     (λ (s : k < m).

@@ -40,7 +40,7 @@ struct Plan {
     left: Option<usize>,
     /// Now and then some stored bytes are changed from outside, and the calls go on from there for a while.
     hurt: bool,
-    /// No folder goes to another folder, and no open.
+    /// No open.
     premise: bool,
 }
 
@@ -121,6 +121,9 @@ pub fn sequence(seed: u64, calls: usize) -> Sequence {
 
 impl Sequence {
     fn call(&mut self, call: Call) -> bool {
+        if self.answered && self.world.moved_folder(&call).is_some() {
+            return true;
+        }
         let line = self.world.call(&call);
         let on = !matches!(line, Line::Lost(_));
         if !self.answered || matches!(line, Line::Same(_)) {
@@ -465,12 +468,7 @@ impl Sequence {
         let h = self.filled();
         let target = if self.dice.once(3) { h } else { self.other(h) };
         let old = self.name(h, 12);
-        let new = self.name(target, 2);
-        let call = Call::Move(h, old.clone(), target, new.clone());
-        match self.plan.premise && self.world.moves_folder(&call) {
-            true => Call::Move(h, old, h, new),
-            false => call,
-        }
+        Call::Move(h, old, target, self.name(target, 2))
     }
 
     fn set(&mut self) -> Call {

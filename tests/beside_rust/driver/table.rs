@@ -21,6 +21,11 @@ struct Hold {
 pub struct Row([u8; ROW]);
 
 impl Row {
+    /// What a row of this node would be, by its record's 112 bytes.
+    pub fn stored(id: u32, record: &[u8]) -> Row {
+        Row([&id.to_le_bytes(), [0].as_slice(), record].concat().try_into().unwrap())
+    }
+
     fn u32(&self, at: usize) -> u32 {
         u32::from_le_bytes(self.0[at..at + 4].try_into().unwrap())
     }
@@ -79,8 +84,12 @@ impl Table {
         self.live(h).map(|hold| &self.rows[hold.row])
     }
 
+    pub fn row_of(&self, id: u32) -> Option<&Row> {
+        self.rows.iter().find(|row| row.id() == id)
+    }
+
     pub fn has(&self, id: u32) -> bool {
-        self.rows.iter().any(|row| row.id() == id)
+        self.row_of(id).is_some()
     }
 
     pub fn handles(&self) -> Vec<Handle> {

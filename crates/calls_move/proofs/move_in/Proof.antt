@@ -26,7 +26,7 @@ same-length-3 c = search needs
 returns : tie.Need-returns
 returns c =
     let s = c .before .before .before .before .before .before .before .before .before .before .before .before .before .before .before in
-    ended-not (λ x. planSteps x (s .args .p .way) (s .args .p .row) (s .args .p .other) (s .args .old .now) (s .args .name .now) (entryOf (s .args .slot .now)) (s .args .p .place) (s .args .p .gone) (s .args .p .moved)) _ _ _ (fs-begun _ _ _ 68 (s .pre .0)) (c .before .before .before .before .before .move-planned .ensures) (c .if1 .taken) refl
+    ended-not (λ x. planSteps x (s .args .p .way) (s .args .p .row) (s .args .p .other) (s .args .old .now) (s .args .name .now) (entryOf (s .args .slot .now)) (s .args .p .place) (s .args .p .gone) (s .args .p .moved)) _ _ _ (fs-begun _ _ _ 71 (s .pre .0)) (c .before .before .before .before .before .move-planned .ensures) (c .if1 .taken) refl
 
 commit-requires : tie.Need-commit-requires
 commit-requires c κs = went-has (c .before .before .before .before .before .before .before .move-planned .ensures) (c .before .before .if1 .left) .fine
@@ -43,7 +43,7 @@ same-length-6 c = search needs
 returns-2 : tie.Need-returns-2
 returns-2 c =
     let s = c .before .before .before .before .before .before .before .before .before .before .before .before .before .before .before .before .before .before .before .before in
-    ended-done (λ x. planSteps x (s .args .p .way) (s .args .p .row) (s .args .p .other) (s .args .old .now) (s .args .name .now) (entryOf (s .args .slot .now)) (s .args .p .place) (s .args .p .gone) (s .args .p .moved)) _ _ _ _ (fs-begun _ _ _ 68 (s .pre .0)) (c .before .before .before .before .before .before .before .before .before .before .move-planned .ensures) (c .before .before .before .before .before .if1 .left) (c .before .before .commit .ensures)
+    ended-done (λ x. planSteps x (s .args .p .way) (s .args .p .row) (s .args .p .other) (s .args .old .now) (s .args .name .now) (entryOf (s .args .slot .now)) (s .args .p .place) (s .args .p .gone) (s .args .p .moved)) _ _ _ _ (fs-begun _ _ _ 71 (s .pre .0)) (c .before .before .before .before .before .before .before .before .before .before .move-planned .ensures) (c .before .before .before .before .before .if1 .left) (c .before .before .commit .ensures)
 
 pub move-in-spec : {M : Type 1} → statement M
 move-in-spec =

@@ -26,8 +26,7 @@ returns c =
 move-onto-requires : tie.Need-move-onto-requires
 move-onto-requires c κs =
     let p = c .before .before .before .before .before .before .before .before .before .before .pre in
-    let t = p .1 .plan .typed (c .before .before .if1 .left) in
-    (p .0 .0, (p .0 .1, (p .1 .plan .source, (p .1 .plan .target, (p .1 .plan .moved, (p .1 .plan .gone, (p .1 .short, (t .0, t .1))))))))
+    (p .0 .0, (p .0 .1, (p .1 .plan .source, (p .1 .plan .target, (p .1 .plan .moved, (p .1 .plan .gone, p .1 .short))))))
 
 same-length-3 : tie.Need-same-length-3
 same-length-3 c = search needs

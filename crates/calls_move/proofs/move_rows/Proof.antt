@@ -15,7 +15,7 @@ slice-aggregate-move-in : tie.Need-slice-aggregate-move-in
 slice-aggregate-move-in c = search needs
 
 move-in-requires : tie.Need-move-in-requires
-move-in-requires c κs = (started _ _ 68 (c .before .before .before .before .before .before .before .before .before .before .before .pre .legal) (omega arith) (omega arith) (c .before .before .before .before .begin .ensures), c .before .before .before .before .before .before .before .before .before .before .before .pre)
+move-in-requires c κs = (started _ _ 71 (c .before .before .before .before .before .before .before .before .before .before .before .pre .legal) (omega arith) (omega arith) (c .before .before .before .before .begin .ensures), c .before .before .before .before .before .before .before .before .before .before .before .pre)
 
 same-length : tie.Need-same-length
 same-length c = search needs

@@ -61,8 +61,8 @@ same-length-6 c = search needs
 
 returns-3 : tie.Need-returns-3
 returns-3 c =
-    let s = c .before .before .before .before .before .before .before .before .before .before .before .before .before .before .before .before .before .before .before .before .before .before .before in
-    found-free (s .args .arena .now) (s .args .mem .now) (s .args .i) (s .args .j) (s .args .old .now) (s .args .name .now) _ (c .before .before .before .before .before .before .before .before .before .before .before .before .before .before .rec-at .ensures) (c .before .before .before .before .before .before .before .before .before .before .before .before .lookup .ensures) (c .before .before .before .before .before .before .before .before .if1 .left) (omega (arith, c .before .before .before .before .before .if2 .left, c .before .before .before .before .before .before .before .index .ensures)) (c .before .before .plan-free .ensures)
+    let s = c .before .before .before .before .before .before .before .before .before .before .before .before .before .before .before .before .before .before .before .before .before .before .before .before .before in
+    found-free (s .args .arena .now) (s .args .mem .now) (s .args .i) (s .args .j) (s .args .old .now) (s .args .name .now) _ (c .before .before .before .before .before .before .before .before .before .before .before .before .before .before .before .before .rec-at .ensures) (c .before .before .before .before .before .before .before .before .before .before .before .before .before .before .lookup .ensures) (c .before .before .before .before .before .before .before .before .before .before .if1 .left) (omega (arith, c .before .before .before .before .before .before .before .if2 .left, c .before .before .before .before .before .before .before .before .before .index .ensures)) (c .before .before .before .before .plan-free .ensures)
 
 pub plan-found-spec : {M : Type 1} → statement M
 plan-found-spec =

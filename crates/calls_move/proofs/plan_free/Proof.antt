@@ -1,47 +1,44 @@
--- `calls_move::plan_free`: the slot of the old name, with the new one.
-use mathlib.Core.Path.{refl, _∙_}
-use native.Mathlib.Omega.{arith}
-use Rattle.calls_move.proofs.Decisions.{free-stop, free-next}
+-- `calls_move::plan_free`: what is asked of the moved node, then its slot.
+use Rattle.steps.proofs.Ends.{rest-is, rest-has, rest-not, rest-off, rest-as}
 use borrow.Author.Needs.{needs}
 use Rattle.calls_move.proofs.plan_free.Statement.{statement}
 use Rattle.calls_move.proofs.plan_free.Tie as tie
 
-rec-at-requires : tie.Need-rec-at-requires
-rec-at-requires c κs = search needs
-
-find-slot-requires : tie.Need-find-slot-requires
-find-slot-requires c κs = search needs
+open-moved-requires : tie.Need-open-moved-requires
+open-moved-requires c κs = search needs
 
 same-length : tie.Need-same-length
 same-length c = search needs
 
 returns : tie.Need-returns
 returns c =
-    let s = c .before .before .before .before .before .before .before .before .before .before .before .before .before .before in
-    free-stop (s .args .arena .now) (s .args .mem .now) (s .args .i) (s .args .j) (s .args .old .now) (s .args .name .now) (c .before .before .before .before .find-slot .last .1 .1 .1 .1 .1 .0) _ _ _ (c .before .before .before .before .before .before .rec-at .ensures) (c .before .before .before .before .find-slot .ensures) (c .if1 .taken)
+    let s = c .before .before .before .before .before .before .before .before .before .before .before .before in
+    rest-off (c .if1 .taken) (rest-not (c .before .before .before .open-moved .ensures (s .args .name .now)) (c .if1 .taken))
 
-rename-requires : tie.Need-rename-requires
-rename-requires c κs =
-    let p = c .before .before .before .before .before .before .before .before .before .before .before .before .before .before .before .pre .1 .1 .1 .1 in
-    (c .before .before .before .before .before .find-slot .kept .1 .1 .1 .1 .1 .0 ∙ p .1, p .0)
+plan-slot-requires : tie.Need-plan-slot-requires
+plan-slot-requires c κs =
+    let s = c .before .before .before .before .before .before .before .before .before .before .before .before .before .before in
+    (s .pre .0, (rest-has (c .before .before .before .before .before .open-moved .ensures (s .args .name .now)) (c .before .before .if1 .left), s .pre .1 .1))
 
 same-length-2 : tie.Need-same-length-2
 same-length-2 c = search needs
 
+same-length-3 : tie.Need-same-length-3
+same-length-3 c = search needs
+
 returns-2 : tie.Need-returns-2
 returns-2 c =
-    let s = c .before .before .before .before .before .before .before .before .before .before .before .before .before .before .before .before .before .before in
-    let p = s .pre .1 in
-    free-next (s .args .arena .now) (s .args .mem .now) (s .args .i) (s .args .j) (s .args .old .now) (s .args .name .now) (c .before .before .before .before .before .before .before .before .find-slot .last .1 .1 .1 .1 .1 .0) _ _ _ (c .before .before .before .before .before .before .before .before .before .before .rec-at .ensures) (c .before .before .before .before .before .before .before .before .find-slot .ensures) _ _ _ (c .before .before .before .before .if1 .left) (c .before .before .rename .ensures) (record { whole = p .0; source = p .1 .0; target = p .1 .1 .0; gone = omega arith; moved = omega arith; typed = λ z. absurd (z refl) })
+    let s = c .before .before .before .before .before .before .before .before .before .before .before .before .before .before .before .before .before in
+    rest-as (rest-is (c .before .before .before .before .before .before .before .before .open-moved .ensures (s .args .name .now)) (c .before .before .before .before .before .if1 .left)) (λ p. p) (c .before .before .plan-slot .ensures _)
 
 pub plan-free-spec : {M : Type 1} → statement M
 plan-free-spec =
     tie.close
     (tie.spec
-    rec-at-requires
-    find-slot-requires
+    open-moved-requires
     same-length
     returns
-    rename-requires
+    plan-slot-requires
     same-length-2
+    same-length-3
     returns-2)

@@ -1,4 +1,4 @@
--- `move_steps::move_between`: the slots, then the nodes; 3 blocks, 5 and 37.
+-- `move_steps::move_between`: the slots, then the nodes; 3 blocks, 5 and 40.
 use native.Mathlib.Omega.{arith}
 use Rattle.base.proofs.Outs.{went-has}
 use Rattle.move_steps.proofs.Steps.{between-stop, between-remove, between-next}

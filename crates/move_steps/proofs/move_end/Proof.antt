@@ -1,4 +1,4 @@
--- `move_steps::move_end`: the links in memory, then 6 blocks and 13.
+-- `move_steps::move_end`: the links in memory, then 9 blocks and 13.
 use native.Mathlib.Omega.{arith}
 use mathlib.Core.List.{[]}
 use Rattle.base.proofs.Outs.{went-has}
@@ -18,10 +18,10 @@ returns c =
     let s = c .before .before .before .before .before .before .before .before in
     end-stop _ (s .args .i) (s .args .j) (s .args .c) (c .before .before .before .move-links .ensures _ _) _ _ (c .if1 .taken)
 
-sync-two-requires : tie.Need-sync-two-requires
-sync-two-requires c κs =
+end-folders-requires : tie.Need-end-folders-requires
+end-folders-requires c κs =
     let s = c .before .before .before .before .before .before .before .before .before .before in
-    (record { fine = s .pre .0 .fine; whole = went-has (c .before .before .before .before .before .move-links .ensures [] []) (c .before .before .if1 .left) }, (omega (arith, s .pre .1 .0), (s .pre .1 .1 .1 .0, s .pre .1 .1 .0)))
+    (record { fine = s .pre .0 .fine; whole = went-has (c .before .before .before .before .before .move-links .ensures [] []) (c .before .before .if1 .left) }, (omega (arith, s .pre .1 .0), (s .pre .1 .1 .0, (s .pre .1 .1 .1 .0, s .pre .1 .1 .1 .1))))
 
 same-length-2 : tie.Need-same-length-2
 same-length-2 c = search needs
@@ -32,12 +32,12 @@ same-length-3 c = search needs
 returns-2 : tie.Need-returns-2
 returns-2 c =
     let s = c .before .before .before .before .before .before .before .before .before .before .before .before .before .before .before .before in
-    end-sync _ (s .args .i) (s .args .j) (s .args .c) (c .before .before .before .before .before .before .before .before .before .before .before .move-links .ensures _ _) (c .before .before .before .before .before .before .before .before .if1 .left) (c .before .before .before .before .before .sync-two .ensures) _ _ (c .if2 .taken)
+    end-sync _ (s .args .i) (s .args .j) (s .args .c) (c .before .before .before .before .before .before .before .before .before .before .before .move-links .ensures _ _) (c .before .before .before .before .before .before .before .before .if1 .left) (c .before .before .before .before .before .end-folders .ensures) _ _ (c .if2 .taken)
 
 release-requires : tie.Need-release-requires
 release-requires c κs =
     let s = c .before .before .before .before .before .before .before .before .before .before .before .before .before .before .before .before .before .before in
-    let k = went-has (c .before .before .before .before .before .before .before .sync-two .ensures) (c .before .before .if2 .left) in
+    let k = went-has (c .before .before .before .before .before .before .before .end-folders .ensures) (c .before .before .if2 .left) in
     (record { fine = k .fine; whole = k .whole }, (omega (arith, k .room, s .pre .1 .0), s .pre .1 .1 .1 .1))
 
 same-length-4 : tie.Need-same-length-4
@@ -49,7 +49,7 @@ same-length-5 c = search needs
 returns-3 : tie.Need-returns-3
 returns-3 c =
     let s = c .before .before .before .before .before .before .before .before .before .before .before .before .before .before .before .before .before .before .before .before .before .before .before in
-    end-done _ (s .args .i) (s .args .j) (s .args .c) (c .before .before .before .before .before .before .before .before .before .before .before .before .before .before .before .before .before .before .move-links .ensures _ _) (c .before .before .before .before .before .before .before .before .before .before .before .before .before .before .before .if1 .left) (c .before .before .before .before .before .before .before .before .before .before .before .before .sync-two .ensures) (c .before .before .before .before .before .before .before .if2 .left) (c .before .before .before .before .release .ensures)
+    end-done _ (s .args .i) (s .args .j) (s .args .c) (c .before .before .before .before .before .before .before .before .before .before .before .before .before .before .before .before .before .before .move-links .ensures _ _) (c .before .before .before .before .before .before .before .before .before .before .before .before .before .before .before .if1 .left) (c .before .before .before .before .before .before .before .before .before .before .before .before .end-folders .ensures) (c .before .before .before .before .before .before .before .if2 .left) (c .before .before .before .before .release .ensures)
 
 pub move-end-spec : {M : Type 1} → statement M
 move-end-spec =
@@ -58,7 +58,7 @@ move-end-spec =
     move-links-requires
     same-length
     returns
-    sync-two-requires
+    end-folders-requires
     same-length-2
     same-length-3
     returns-2

@@ -1,13 +1,13 @@
--- `move_steps::move_onto`: type rules, the end of c's opening, the steps; 13 blocks and 45.
+-- `move_steps::move_onto`: the end of c's opening, the steps; 13 blocks and 48.
 use native.Mathlib.Omega.{arith}
 use Rattle.base.proofs.Outs.{went-has}
-use Rattle.move_steps.proofs.Steps.{over-stop, over-release, over-next}
+use Rattle.move_steps.proofs.Steps.{over-stop, over-next}
 use borrow.Author.Needs.{needs}
 use Rattle.move_steps.proofs.move_onto.Statement.{statement}
 use Rattle.move_steps.proofs.move_onto.Tie as tie
 
-judge-requires : tie.Need-judge-requires
-judge-requires c κs = search needs
+release-requires : tie.Need-release-requires
+release-requires c κs = search needs
 
 same-length : tie.Need-same-length
 same-length c = search needs
@@ -17,11 +17,14 @@ same-length-2 c = search needs
 
 returns : tie.Need-returns
 returns c =
-    let s = c .before .before .before .before .before .before .before .before .before in
-    over-stop _ (s .args .i) (s .args .j) (s .args .old .now) (s .args .name .now) (s .args .c) (s .args .d) (s .args .k) (c .before .judge .ensures) _ _ (c .if1 .taken)
+    let s = c .before .before .before .before .before .before .before .before .before .before .before .before .before in
+    over-stop _ (s .args .i) (s .args .j) (s .args .old .now) (s .args .name .now) (s .args .c) (s .args .d) (s .args .k) (c .before .before .before .before .before .release .ensures) _ _ (c .if1 .taken)
 
-release-requires : tie.Need-release-requires
-release-requires c κs = search needs
+move-steps-requires : tie.Need-move-steps-requires
+move-steps-requires c κs =
+    let s = c .before .before .before .before .before .before .before .before .before .before .before .before .before .before .before in
+    let k = went-has (c .before .before .before .before .before .before .before .release .ensures) (c .before .before .if1 .left) in
+    (record { fine = k .fine; whole = k .whole }, (omega (arith, k .room, s .pre .1 .0), (s .pre .1 .1 .0, (s .pre .1 .1 .1 .0, (s .pre .1 .1 .1 .1 .1 .1, s .pre .1 .1 .1 .1 .1 .0)))))
 
 same-length-3 : tie.Need-same-length-3
 same-length-3 c = search needs
@@ -31,39 +34,18 @@ same-length-4 c = search needs
 
 returns-2 : tie.Need-returns-2
 returns-2 c =
-    let s = c .before .before .before .before .before .before .before .before .before .before .before .before .before .before .before .before .before in
-    over-release _ (s .args .i) (s .args .j) (s .args .old .now) (s .args .name .now) (s .args .c) (s .args .d) (s .args .k) (c .before .before .before .before .before .before .before .before .before .judge .ensures) (c .before .before .before .before .before .before .before .before .if1 .left) (c .before .before .before .before .before .release .ensures) _ _ (c .if2 .taken)
-
-move-steps-requires : tie.Need-move-steps-requires
-move-steps-requires c κs =
-    let s = c .before .before .before .before .before .before .before .before .before .before .before .before .before .before .before .before .before .before .before in
-    let k = went-has (c .before .before .before .before .before .before .before .release .ensures) (c .before .before .if2 .left) in
-    (record { fine = k .fine; whole = k .whole }, (omega (arith, k .room, s .pre .1 .0), (s .pre .1 .1 .0, (s .pre .1 .1 .1 .0, (s .pre .1 .1 .1 .1 .1 .1 .0, s .pre .1 .1 .1 .1 .1 .0)))))
-
-same-length-5 : tie.Need-same-length-5
-same-length-5 c = search needs
-
-same-length-6 : tie.Need-same-length-6
-same-length-6 c = search needs
-
-returns-3 : tie.Need-returns-3
-returns-3 c =
-    let s = c .before .before .before .before .before .before .before .before .before .before .before .before .before .before .before .before .before .before .before .before .before .before .before .before in
-    over-next _ (s .args .i) (s .args .j) (s .args .old .now) (s .args .name .now) (s .args .c) (s .args .d) (s .args .k) (c .before .before .before .before .before .before .before .before .before .before .before .before .before .before .before .before .judge .ensures) (c .before .before .before .before .before .before .before .before .before .before .before .before .before .before .before .if1 .left) (c .before .before .before .before .before .before .before .before .before .before .before .before .release .ensures) (c .before .before .before .before .before .before .before .if2 .left) (c .before .before .before .before .move-steps .ensures)
+    let s = c .before .before .before .before .before .before .before .before .before .before .before .before .before .before .before .before .before .before .before .before in
+    over-next _ (s .args .i) (s .args .j) (s .args .old .now) (s .args .name .now) (s .args .c) (s .args .d) (s .args .k) (c .before .before .before .before .before .before .before .before .before .before .before .before .release .ensures) (c .before .before .before .before .before .before .before .if1 .left) (c .before .before .before .before .move-steps .ensures)
 
 pub move-onto-spec : {M : Type 1} → statement M
 move-onto-spec =
     tie.close
     (tie.spec
-    judge-requires
+    release-requires
     same-length
     same-length-2
     returns
-    release-requires
+    move-steps-requires
     same-length-3
     same-length-4
-    returns-2
-    move-steps-requires
-    same-length-5
-    same-length-6
-    returns-3)
+    returns-2)

@@ -1,4 +1,4 @@
--- `move_steps::move_rest`: the replaced node, then the moved one; 18 blocks and 19.
+-- `move_steps::move_rest`: the replaced node, then the moved one; 18 blocks and 22.
 use native.Mathlib.Omega.{arith}
 use Rattle.base.proofs.Outs.{went-has}
 use Rattle.move_steps.proofs.Steps.{rest-stop, rest-next}
