@@ -88,7 +88,7 @@ fn readers_side_by_side() {
     });
 }
 
-/// An enclave's threads have small stacks; a call takes less than 64 KB.
+/// An enclave's threads have small stacks; a call takes less than 48 KB.
 #[test]
 fn small_stack() {
     let run = || {

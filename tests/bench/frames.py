@@ -3,7 +3,7 @@
 
 A function's frame is what it pushes and what it takes from the stack pointer; the depth is its frame and that of the deepest function that it
 calls, with 8 bytes for each return address. A function of the C library counts nothing (memcpy, memset, memcmp).
-It fails where a call takes 64 KB or more, and where it found no call at all.
+It fails where a call takes 48 KB or more, and where it found no call at all.
 """
 import re
 import subprocess
@@ -37,7 +37,7 @@ def functions(archive):
     return found
 
 
-MOST = 65536
+MOST = 49152
 
 
 def depth(name, found, known):

@@ -7,8 +7,6 @@ use Rattle.table.specs.declared.Table.{Table}
 use Rattle.table.specs.declared.Added.{Added}
 use Rattle.calls.specs.Answers.{answerOf, doneWith, refusedWith, heldWith, notGiven, afterOf, givenOf, Lays, Replies}
 use Rattle.calls.specs.declared.Reply.{Reply}
-use Rattle.calls.specs.declared.HeldReply.{HeldReply}
-use lib.Dec.{eqb}
 use borrow.Author.Tests.{eq-eqb, ne-eqb}
 
 pub after-done : (t u : Table) (n : ℕ) → n ≡ 0 → doneWith u ≡ afterOf t u n

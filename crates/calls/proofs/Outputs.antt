@@ -1,10 +1,10 @@
 -- What code laid over the start of an output.
 use mathlib.Core.Path.{_≡_, refl, sym, _∙_, ap}
 use mathlib.Core.List.{List, _++_}
-use Prim.Native.Nat.{ℕ, zero, suc, _+_, _-_, _≤_, _<_}
+use Prim.Native.Nat.{ℕ, _+_, _-_, _≤_}
 use native.Mathlib.Omega.{arith}
 use lib.ListN.{length, drop}
-use Rattle.base.specs.Out.{Out, done, refused, bind, answer}
+use Rattle.base.specs.Out.{Out, done, bind, answer}
 use Rattle.base.specs.Parts.{paste}
 use Rattle.base.proofs.Lists.{length-paste}
 use Rattle.base.proofs.Outs.{above-zero}

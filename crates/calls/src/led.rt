@@ -1,5 +1,4 @@
 // What a call asks first: arena and table. The chains that `sound` builds on the way are left to what reads the arena next.
-ghost use mathlib.Core.Path.{_≡_};
 ghost use Rattle.base.specs.Out.{Went};
 ghost use Rattle.sound.specs.Chain.{firsts, nexts};
 ghost use Rattle.sefs.specs.Ask.{admitArena, admit as admitBoth};

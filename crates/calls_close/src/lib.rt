@@ -129,7 +129,7 @@ pub fn close_row(arena: &mut [u8], mem: &mut [u8], last: bool, i: usize) -> u8
 }
 
 // The call on the table in memory.
-fn close_on(arena: &mut [u8], mem: &mut [u8], h: Handle) -> u8
+pub fn close_on(arena: &mut [u8], mem: &mut [u8], h: Handle) -> u8
     requires { ⌜ Whole (now mem) ⌝ }
     ensures { λ r. ⌜ Ended (callClose (now (arena .entry)) (tableIn (now (mem .entry))) h) (now (arena .entry)) (now (arena .exit)) (tableIn (now (mem .exit))) r ⌝ }
 {

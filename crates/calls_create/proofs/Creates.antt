@@ -1,5 +1,5 @@
 -- The call create, in its parts.
-use mathlib.Core.Path.{_≡_, refl, sym, _∙_, subst}
+use mathlib.Core.Path.{_≡_, refl, _∙_}
 use mathlib.Core.Bool.{Bool, true, false, not, _&&_}
 use mathlib.Core.List.{List}
 use Prim.Native.Nat.{ℕ, _≤_, _<_}
@@ -8,7 +8,7 @@ use lib.ListN.{length}
 use lib.Dec.{eqb, ltb, leb}
 use borrow.Author.Tests.{eq-eqb, ne-eqb}
 use Rattle.base.specs.Out.{Out, done, refused, bind, ensure, answer, Went, well, ill}
-use Rattle.base.proofs.Outs.{went-is, went-has, went-not, went-stop, went-next, went-weaken, above-zero}
+use Rattle.base.proofs.Outs.{went-is, went-has, went-not, went-stop, went-next, went-weaken}
 use Rattle.structs.specs.Types.{isFolder}
 use Rattle.structs.specs.declared.DiskINode.{DiskINode}
 use Rattle.structs.specs.declared.Timespec.{Timespec}

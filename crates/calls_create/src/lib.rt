@@ -1,13 +1,9 @@
 // The call create. It asks and reads by the chains of `sound`, decides its steps on a view of the arena, and commits once nothing can refuse it any more.
-ghost use mathlib.Core.Path.{_≡_};
-ghost use mathlib.Core.Bool.{true};
 ghost use mathlib.Core.List.{List};
 ghost use Prim.Native.Nat.{ℕ, _<_, _≤_};
 ghost use lib.ListN.{length};
 ghost use Rattle.base.specs.Out.{Went};
-ghost use Rattle.arena.specs.Blocks.{legal};
-ghost use Rattle.overlay.specs.View.{view, left, Fine, Empty};
-ghost use Rattle.structs.specs.Types.{isType};
+ghost use Rattle.overlay.specs.View.{left, Empty};
 ghost use Rattle.table.specs.Table.{canHold};
 ghost use Rattle.sefs.specs.Nodes.{opened as openedAs};
 ghost use Rattle.sefs.specs.Create.{birth as bornOf, nameFolder, named, callCreate};
@@ -315,7 +311,7 @@ pub fn create_rows(arena: &mut [u8], mem: &mut [u8], i: usize, name: &[u8], new:
 }
 
 // The call on the table in memory.
-fn create_on(arena: &mut [u8], mem: &mut [u8], h: Handle, name: &[u8], new: New) -> Handed
+pub fn create_on(arena: &mut [u8], mem: &mut [u8], h: Handle, name: &[u8], new: New) -> Handed
     requires { ⌜ Whole (now mem) ⌝ }
     ensures { λ r. ⌜ EndedHeld (callCreate (now (arena .entry)) (tableIn (now (mem .entry))) h (now (name .entry)) (new .kind) (new .mode) (new .time) (new .file)) (now (arena .entry)) (now (arena .exit)) (addedAs (r .handle) (tableIn (now (mem .exit)))) (r .reason) ⌝ }
 {

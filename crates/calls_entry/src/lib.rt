@@ -121,7 +121,7 @@ pub fn as_answer(reason: u8) -> Answer
 }
 
 // The call on the table in memory.
-fn entry_on(arena: &[u8], mem: &[u8], h: Handle, k: u64, out: &mut [u8]) -> Answer
+pub fn entry_on(arena: &[u8], mem: &[u8], h: Handle, k: u64, out: &mut [u8]) -> Answer
     requires { ⌜ Whole (now mem) ⌝ }
     ensures { λ r. ⌜ Lays answerOf (callEntry (now (arena .entry)) (tableIn (now (mem .entry))) h k (length (now (out .entry)))) (now (out .entry)) (now (out .exit)) r ⌝ }
 {

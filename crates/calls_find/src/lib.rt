@@ -80,7 +80,7 @@ pub fn root_led(arena: &[u8], first: &[u16], next: &[u16], mem: &mut [u8]) -> Ha
 }
 
 // The call on the table in memory; so below, too.
-fn root_on(arena: &[u8], mem: &mut [u8]) -> Handed
+pub fn root_on(arena: &[u8], mem: &mut [u8]) -> Handed
     requires { ⌜ Whole (now mem) ⌝ }
     ensures { λ r. ⌜ Went (callRoot (now (arena .entry)) (tableIn (now (mem .entry)))) (addedAs (r .handle) (tableIn (now (mem .exit)))) Unit (r .reason) ⌝ }
 {
@@ -230,7 +230,7 @@ pub fn find_led(
     give_named(arena, first, next, mem, b.row, name)
 }
 
-fn find_on(arena: &[u8], mem: &mut [u8], h: Handle, name: &[u8]) -> Handed
+pub fn find_on(arena: &[u8], mem: &mut [u8], h: Handle, name: &[u8]) -> Handed
     requires { ⌜ Whole (now mem) ⌝ }
     ensures { λ r. ⌜ Went (callFind (now (arena .entry)) (tableIn (now (mem .entry))) h (now (name .entry))) (addedAs (r .handle) (tableIn (now (mem .exit)))) Unit (r .reason) ⌝ }
 {

@@ -28,7 +28,7 @@ use Rattle.calls.specs.declared.Reply as answered
 use Rattle.calls.specs.Answers.{doneWith, refusedWith}
 use Rattle.calls.proofs.Answers.{after-done, after-refused}
 use Rattle.steps.specs.Ends.{Ended, went, stopped, Returned}
-use Rattle.steps.proofs.Ends.{bind-same, returned-ended, returned-refused}
+use Rattle.steps.proofs.Ends.{bind-same, returned-ended}
 use Rattle.calls_format.specs.Format.{makeMeta, nameTwice, syncBoth, fillRoot, formatWork, cleared, formatted, emptied}
 
 -- ---- the metadata file
@@ -149,9 +149,6 @@ module _ (a name : List ℕ) (time : Timespec) where
 -- ---- what is returned: t is the empty table
 
 module _ {t : Table} (k : t ≡ emptyTable) {o : Out After} {a b : List ℕ} {n : ℕ} {r : answered.Reply} where
-  pub call-bad : o ≡ refused n → b ≡ a → r ≡ refusedWith t n → Returned emptyTable o a b r
-  call-bad e h q = returned-refused emptyTable e h (q ∙ ap (λ (x : Table). refusedWith x n) k)
-
   pub call-stuck : Ended o a b emptyTable n → (n ≡ 0 → ⊥) → r ≡ refusedWith t n → Returned emptyTable o a b r
   call-stuck g z q = returned-ended emptyTable g (q ∙ ap (λ (x : Table). refusedWith x n) k ∙ after-refused emptyTable emptyTable n z)
 

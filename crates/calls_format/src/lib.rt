@@ -24,7 +24,7 @@ use folders::nlinks_inc;
 use mem::MEMORY;
 use mem::fresh_meta;
 use mem::id_at;
-use mem::put_table;
+use mem::put_empty;
 use nodes::meta::sync_meta;
 use nodes::new_node;
 use nodes::sync_row;
@@ -147,19 +147,26 @@ fn format_fresh(arena: &mut [u8], time: Timespec, file: [u8; 16]) -> u8
     ensures { λ r. ⌜ Ended (formatted (callFormat (now (arena .entry)) time file)) (now (arena .entry)) (now (arena .exit)) emptyTable r ⌝ }
 {
     let mut mem = [0u8; MEMORY];
-    put_table(&mut mem, table::empty());
+    put_empty(&mut mem);
     fresh_meta(&mut mem);
     format_over(arena, &mut mem, time, file)
+}
+
+// The call but for the table that it leaves, the empty one.
+pub fn format_on(arena: &mut [u8], time: Timespec, file: [u8; 16]) -> u8
+    ensures { λ r. ⌜ Ended (formatted (callFormat (now (arena .entry)) time file)) (now (arena .entry)) (now (arena .exit)) emptyTable r ⌝ }
+{
+    if !arena::legal(&arena[..]) {
+        return 1;
+    }
+    format_fresh(arena, time, file)
 }
 
 pub fn format(arena: &mut [u8], time: Timespec, file: [u8; 16]) -> Reply
     ensures { λ r. ⌜ Returned emptyTable (formatted (callFormat (now (arena .entry)) time file)) (now (arena .entry)) (now (arena .exit)) r ⌝ }
 {
     let t = table::empty();
-    if !arena::legal(&arena[..]) {
-        return refused(t, 1);
-    }
-    let r = format_fresh(arena, time, file);
+    let r = format_on(arena, time, file);
     if r != 0 {
         return refused(t, r);
     }

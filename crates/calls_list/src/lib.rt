@@ -166,7 +166,7 @@ pub fn list_led(
 }
 
 // The call on the table in memory.
-fn listing_on(arena: &[u8], mem: &[u8], h: Handle, at: u64, out: &mut [u8]) -> Listed
+pub fn listing_on(arena: &[u8], mem: &[u8], h: Handle, at: u64, out: &mut [u8]) -> Listed
     requires { ⌜ Whole (now mem) ⌝ }
     ensures { λ r. ⌜ Lays listedOf (callListing (now (arena .entry)) (tableIn (now (mem .entry))) h at (length (now (out .entry)))) (now (out .entry)) (now (out .exit)) r ⌝ }
 {

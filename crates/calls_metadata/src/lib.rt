@@ -84,7 +84,7 @@ pub fn metadata_in(mem: &[u8], h: Handle) -> Told
 }
 
 // The call on the table in memory; so below, too.
-fn metadata_on(arena: &[u8], mem: &[u8], h: Handle) -> Told
+pub fn metadata_on(arena: &[u8], mem: &[u8], h: Handle) -> Told
     requires { ⌜ Whole (now mem) ⌝ }
     ensures { λ r. ⌜ r ≡ toldOf (callMetadata (now (arena .entry)) (tableIn (now (mem .entry))) h) ⌝ }
 {
@@ -161,7 +161,7 @@ pub fn set_in(
     0
 }
 
-fn set_on(
+pub fn set_on(
     arena: &[u8],
     mem: &mut [u8],
     h: Handle,

@@ -1,17 +1,17 @@
 -- Courses: from the steps' answers, and to what the call returns.
-use mathlib.Core.Path.{_≡_, refl, sym, _∙_, ap, subst}
+use mathlib.Core.Path.{_≡_, refl, _∙_, subst}
 use mathlib.Core.List.{List}
-use Prim.Native.Nat.{ℕ, _<_}
+use Prim.Native.Nat.{ℕ}
 use native.Mathlib.Omega.{arith}
 use borrow.Author.Tests.{eq-eqb, ne-eqb}
-use Rattle.base.specs.Out.{Out, done, refused}
+use Rattle.base.specs.Out.{Out, refused}
 use Rattle.base.proofs.Outs.{above-zero}
 use Rattle.table.specs.declared.Table.{Table}
 use Rattle.sefs.specs.Create.{After}
 use Rattle.calls.specs.declared.Reply as answered
 use Rattle.steps.specs.Ends.{Ended, went, stopped, Returned}
 use Rattle.calls_move.specs.declared.Course.{Course}
-use Rattle.calls_move.specs.declared.Course.the-variants.{Made, Same, Refused}
+use Rattle.calls_move.specs.declared.Course.the-variants.{Made, Refused}
 use Rattle.calls_move.specs.Courses.{courseOf, courseAs, EndedMove, moves, rests, denied}
 
 pub course-made : (n : ℕ) → n ≡ 0 → Made ≡ courseOf n

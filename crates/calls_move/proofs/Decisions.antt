@@ -1,6 +1,5 @@
 -- From the questions to the steps: what the code's ways out show of a move.
-use mathlib.Core.Path.{_≡_, refl, sym, _∙_, ap, subst}
-use mathlib.Core.Bool.{true}
+use mathlib.Core.Path.{_≡_, refl, sym, _∙_, subst}
 use mathlib.Core.List.{List}
 use Prim.Native.Nat.{ℕ, _≤_, _<_}
 use native.Mathlib.Omega.{arith}
@@ -21,7 +20,7 @@ use Rattle.table.specs.declared.Table.{Table}
 use Rattle.table.specs.declared.Handle.{Handle}
 use Rattle.sefs.specs.State.{Fs}
 use Rattle.sefs.specs.Ask.{admit, byHandle, start}
-use Rattle.sefs.specs.Nodes.{recAt, opened, getNode}
+use Rattle.sefs.specs.Nodes.{opened, getNode}
 use Rattle.sefs.specs.Slots.{slotAt, lookTo, lookup, findSlot}
 use Rattle.sefs.specs.Create.{After, after}
 use Rattle.sefs.specs.Move.{renamed, notBelow, moveOnto, moveFree, callMove}

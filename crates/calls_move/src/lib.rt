@@ -56,7 +56,7 @@ use table::Handle;
 use table::Table;
 
 // What deciding a move comes to. `Same`: both names are one node's, and nothing changes.
-enum Course {
+pub enum Course {
     Made,
     Same,
     Refused(u8),
@@ -234,12 +234,13 @@ fn plan_node(
     }
 }
 
-// The old name is found first.
+// The old name is found first. `slot` is room for a slot; so below, too.
 fn plan_named(
     arena: &[u8],
     first: &[u16],
     next: &[u16],
     mem: &mut [u8],
+    slot: &mut [u8],
     i: usize,
     j: usize,
     old: &[u8],
@@ -247,11 +248,10 @@ fn plan_named(
     new: u32,
 ) -> Plan
     requires { ⌜ Led (now arena) (now first) (now next) ⌝ }
-    requires { ⌜ Whole (now mem) × ((i < 34) × (j < 34)) ⌝ }
+    requires { ⌜ Whole (now mem) × ((i < 34) × ((j < 34) × (length (now slot) ≡ 264))) ⌝ }
     ensures { λ r. ⌜ ((name : List ℕ) (e : DiskEntry) → Rest (replaceNamed (fsAt (now (arena .entry)) (now (mem .entry))) i j (now (old .entry)) name k new) (planned (fsAt (now (arena .entry)) (now (mem .entry))) (fsAt (now (arena .entry)) (now (mem .exit))) (r .way) (r .row) (r .other) (now (old .entry)) name e (r .place) (r .gone) (r .moved)) (Planned (now (mem .exit)) (r .row) (r .other) (r .gone) (r .moved)) (r .reason)) ⌝ }
 {
-    let mut slot = [0u8; 264];
-    let p = find_slot(arena, first, next, rec_at(&mem[..], i), old, &mut slot);
+    let p = find_slot(arena, first, next, rec_at(&mem[..], i), old, slot);
     if p.reason != 0 {
         return Plan {
             reason: p.reason,
@@ -263,7 +263,7 @@ fn plan_named(
             moved: 0,
         };
     }
-    plan_node(arena, first, next, mem, i, j, k, new, u32_at(&slot, 0))
+    plan_node(arena, first, next, mem, i, j, k, new, u32_at(&slot[..], 0))
 }
 
 // The new name is free. Between two folders the moved node is opened, and a folder does not go into itself or below.
@@ -272,23 +272,23 @@ fn open_moved(
     first: &[u16],
     next: &[u16],
     mem: &mut [u8],
+    slot: &mut [u8],
     i: usize,
     j: usize,
     old: &[u8],
 ) -> u8
     requires { ⌜ Led (now arena) (now first) (now next) ⌝ }
-    requires { ⌜ Whole (now mem) × ((i < 34) × (j < 34)) ⌝ }
+    requires { ⌜ Whole (now mem) × ((i < 34) × ((j < 34) × (length (now slot) ≡ 264))) ⌝ }
     ensures { λ r. ⌜ ((name : List ℕ) → Rest (moveFree (fsAt (now (arena .entry)) (now (mem .entry))) i j (now (old .entry)) name) (ending (moveNamed (fsAt (now (arena .entry)) (now (mem .exit))) i j (now (old .entry)) name Free)) (Whole (now (mem .exit))) r) ⌝ }
 {
     if id_at(&mem[..], i) == id_at(&mem[..], j) {
         return 0;
     }
-    let mut slot = [0u8; 264];
-    let p = find_slot(arena, first, next, rec_at(&mem[..], i), old, &mut slot);
+    let p = find_slot(arena, first, next, rec_at(&mem[..], i), old, slot);
     if p.reason != 0 {
         return p.reason;
     }
-    let o = get_node(arena, first, next, mem, u32_at(&slot, 0));
+    let o = get_node(arena, first, next, mem, u32_at(&slot[..], 0));
     if o.reason != 0 {
         return o.reason;
     }
@@ -351,7 +351,7 @@ fn plan_free(
     requires { ⌜ Whole (now mem) × ((i < 34) × ((j < 34) × ((length (now name) ≤ 255) × (length (now slot) ≡ 264)))) ⌝ }
     ensures { λ r. ⌜ Rest (moveFree (fsAt (now (arena .entry)) (now (mem .entry))) i j (now (old .entry)) (now (name .entry))) (planned (fsAt (now (arena .entry)) (now (mem .entry))) (fsAt (now (arena .entry)) (now (mem .exit))) (r .way) (r .row) (r .other) (now (old .entry)) (now (name .entry)) (entryOf (now (slot .exit))) (r .place) (r .gone) (r .moved)) (Planned (now (mem .exit)) (r .row) (r .other) (r .gone) (r .moved)) (r .reason) ⌝ }
 {
-    let r = open_moved(arena, first, next, mem, i, j, old);
+    let r = open_moved(arena, first, next, mem, slot, i, j, old);
     if r != 0 {
         return Plan {
             reason: r,
@@ -396,7 +396,7 @@ fn plan_found(
     }
     if l.place < index(rec.blocks) {
         let new = u32_at(&slot[..], 0);
-        return plan_named(arena, first, next, mem, i, j, old, l.place, new);
+        return plan_named(arena, first, next, mem, slot, i, j, old, l.place, new);
     }
     plan_free(arena, first, next, mem, slot, i, j, old, name)
 }
@@ -564,11 +564,12 @@ fn decide(
 
 // ---- the steps
 
+// `slot` has the moved slot where the way is 1, and is room for slots then.
 fn move_planned(
     arena: &[u8],
     work: &mut [u8],
     mem: &mut [u8],
-    slot: &[u8],
+    slot: &mut [u8],
     p: Plan,
     old: &[u8],
     name: &[u8],
@@ -578,12 +579,13 @@ fn move_planned(
     ensures { λ r. ⌜ Stepped (planSteps (fsOf (now (arena .entry)) (now (work .entry)) (now (mem .entry))) (p .way) (p .row) (p .other) (now (old .entry)) (now (name .entry)) (entryOf (now (slot .entry))) (p .place) (p .gone) (p .moved)) (now (arena .entry)) (now (work .entry)) (now (work .exit)) (now (mem .exit)) 61 r ⌝ }
 {
     if p.way == 1 {
-        return move_slot(arena, work, mem, p.row, p.other, p.place, slot, Gone::Free);
+        return move_slot(arena, work, mem, slot, p.row, p.other, p.place, Gone::Free);
     }
     move_onto(
         arena,
         work,
         mem,
+        slot,
         p.row,
         p.other,
         old,
@@ -599,7 +601,7 @@ fn move_in(
     arena: &mut [u8],
     work: &mut [u8],
     mem: &mut [u8],
-    slot: &[u8],
+    slot: &mut [u8],
     p: Plan,
     old: &[u8],
     name: &[u8],
@@ -619,7 +621,7 @@ fn move_in(
 pub fn move_rows(
     arena: &mut [u8],
     mem: &mut [u8],
-    slot: &[u8],
+    slot: &mut [u8],
     p: Plan,
     old: &[u8],
     name: &[u8],
@@ -652,11 +654,11 @@ fn move_with(
     if p.way == 0 {
         return Course::Same;
     }
-    as_course(move_rows(arena, mem, &slot[..], p, old, name))
+    as_course(move_rows(arena, mem, slot, p, old, name))
 }
 
 // The call on the table in memory.
-fn move_on(
+pub fn move_on(
     arena: &mut [u8],
     mem: &mut [u8],
     h: Handle,

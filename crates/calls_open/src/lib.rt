@@ -57,7 +57,7 @@ fn open_led(arena: &[u8], chains: &mut [u16], mem: &mut [u8]) -> u8
     open_read(arena, &c[..4096], &c[4096..8192], mem)
 }
 
-fn open_on(arena: &[u8]) -> u8
+pub fn open_on(arena: &[u8]) -> u8
     ensures { λ r. ⌜ Went (callOpen (now (arena .entry))) emptyTable Unit r ⌝ }
 {
     let mut chains = [0u16; 8192];

@@ -137,7 +137,7 @@ pub fn read_led(
 }
 
 // The call on the table in memory.
-fn read_on(arena: &[u8], mem: &[u8], h: Handle, place: u64, out: &mut [u8]) -> Taken
+pub fn read_on(arena: &[u8], mem: &[u8], h: Handle, place: u64, out: &mut [u8]) -> Taken
     requires { ⌜ Whole (now mem) ⌝ }
     ensures { λ r. ⌜ Lays takenOf (callRead (now (arena .entry)) (tableIn (now (mem .entry))) h place (length (now (out .entry)))) (now (out .entry)) (now (out .exit)) r ⌝ }
 {

@@ -168,7 +168,7 @@ fn resize_asked(arena: &[u8], mem: &[u8], h: Handle, n: u64) -> Sizing
 }
 
 // The call on the table in memory.
-fn resize_on(arena: &mut [u8], mem: &mut [u8], h: Handle, n: u64) -> u8
+pub fn resize_on(arena: &mut [u8], mem: &mut [u8], h: Handle, n: u64) -> u8
     requires { ⌜ Whole (now mem) ⌝ }
     ensures { λ r. ⌜ Ended (callResize (now (arena .entry)) (tableIn (now (mem .entry))) h n) (now (arena .entry)) (now (arena .exit)) (tableIn (now (mem .exit))) r ⌝ }
 {

@@ -264,7 +264,7 @@ fn sync_asked(arena: &[u8], mem: &mut [u8]) -> u8
 }
 
 // The call on the table in memory.
-fn sync_on(arena: &mut [u8], mem: &mut [u8]) -> u8
+pub fn sync_on(arena: &mut [u8], mem: &mut [u8]) -> u8
     requires { ⌜ Whole (now mem) ⌝ }
     ensures { λ r. ⌜ Ended (callSync (now (arena .entry)) (tableIn (now (mem .entry)))) (now (arena .entry)) (now (arena .exit)) (tableIn (now (mem .exit))) r ⌝ }
 {

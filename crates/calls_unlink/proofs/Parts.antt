@@ -1,5 +1,5 @@
 -- The questions and steps of unlink, one after another.
-use mathlib.Core.Path.{_≡_, refl, _∙_, ap}
+use mathlib.Core.Path.{_≡_, _∙_, ap}
 use mathlib.Core.Bool.{not, _||_}
 use mathlib.Core.List.{List}
 use Prim.Native.Nat.{ℕ, _≤_, _<_}
@@ -111,10 +111,7 @@ module _ (s d : Fs) (i id k c r : ℕ) {P : Type 0} (g : Went (getNode s id) (op
   unfolding removeId
   id-stop z = rest-off z (rw (went-not g z))
 
-  module _ (z : r ≡ 0) (x : DiskINode) (e : x ≡ recAt d c) (q : ℕ) (f : q ≡ answer (notFull x)) where
-    full-at : q ≡ answer (notFull (recAt d c))
-    full-at = f ∙ ap (λ (y : DiskINode). answer (notFull y)) e
-
+  module _ (z : r ≡ 0) (q : ℕ) (full-at : q ≡ answer (notFull (recAt d c))) where
     pub id-full : {e : Out Fs} {Q : Type 0} → (q ≡ 0 → ⊥) → Rest (removeId s i id k) e Q q
     unfolding removeId
     id-full y = rest-off y (rw (went-is g z, asked-not (notFull (recAt d c)) q full-at y))

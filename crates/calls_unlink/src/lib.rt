@@ -4,6 +4,7 @@ ghost use mathlib.Core.Bool.{true};
 ghost use Prim.Native.Nat.{_<_, _≤_};
 ghost use lib.ListN.{length};
 ghost use Rattle.arena.specs.Blocks.{legal};
+ghost use Rattle.table.specs.Table.{rowAt};
 ghost use Rattle.base.specs.Out.{answer};
 ghost use Rattle.overlay.specs.View.{left, Empty};
 ghost use Rattle.sefs.specs.Unlink.{notFull, callUnlink};
@@ -24,6 +25,8 @@ use chains::slots::find_slot;
 use folders::dirent_node_remove;
 use le::u32_at;
 use mem::MEMORY;
+use mem::blocks_at;
+use mem::kind_at;
 use mem::put_table;
 use mem::rec_at;
 use nodes::sync_row;
@@ -58,19 +61,22 @@ fn unlink_ask(rec: DiskINode, name: &[u8]) -> u8
 }
 
 // The type is looked at. A folder has at least 2 slots, and here no more.
-fn not_full(rec: DiskINode) -> u8
-    ensures { λ r. ⌜ r ≡ answer (notFull rec) ⌝ }
+fn not_full(mem: &[u8], i: usize) -> u8
+    requires { ⌜ Whole (now mem) × (i < 34) ⌝ }
+    ensures { λ r. ⌜ r ≡ answer (notFull (rowAt (tableIn (now (mem .entry))) i .rec)) ⌝ }
 {
-    if rec.kind > 4 {
+    let kind = kind_at(mem, i);
+    if kind > 4 {
         return 19;
     }
-    if rec.kind != 2 {
+    if kind != 2 {
         return 0;
     }
-    if rec.blocks < 2 {
+    let total = blocks_at(mem, i);
+    if total < 2 {
         return 19;
     }
-    if rec.blocks > 2 {
+    if total > 2 {
         return 13;
     }
     0
@@ -107,7 +113,7 @@ fn pick_id(
             place: 0,
         };
     }
-    let r = not_full(rec_at(&mem[..], o.row));
+    let r = not_full(&mem[..], o.row);
     if r != 0 {
         return Picked {
             reason: r,
@@ -218,11 +224,20 @@ fn unlink_asked(arena: &[u8], mem: &mut [u8], h: Handle, name: &[u8]) -> Picked
 
 // ---- the steps
 
-fn remove_node(arena: &[u8], work: &mut [u8], mem: &mut [u8], i: usize, c: usize, k: usize) -> u8
-    requires { ⌜ Ready (now arena) (now work) (now mem) × ((21 ≤ left (now work)) × ((i < 34) × (c < 34))) ⌝ }
+// `slot` is room for a slot.
+fn remove_node(
+    arena: &[u8],
+    work: &mut [u8],
+    mem: &mut [u8],
+    slot: &mut [u8],
+    i: usize,
+    c: usize,
+    k: usize,
+) -> u8
+    requires { ⌜ Ready (now arena) (now work) (now mem) × ((21 ≤ left (now work)) × ((i < 34) × ((c < 34) × (length (now slot) ≡ 264)))) ⌝ }
     ensures { λ r. ⌜ Stepped (removeNode (fsOf (now (arena .entry)) (now (work .entry)) (now (mem .entry))) i c k) (now (arena .entry)) (now (work .entry)) (now (work .exit)) (now (mem .exit)) 21 r ⌝ }
 {
-    let r = dirent_node_remove(arena, work, mem, i, c, k);
+    let r = dirent_node_remove(arena, work, mem, slot, i, c, k);
     if r != 0 {
         return r;
     }
@@ -230,11 +245,19 @@ fn remove_node(arena: &[u8], work: &mut [u8], mem: &mut [u8], i: usize, c: usize
 }
 
 // The workspace has no block yet.
-fn remove_in(arena: &mut [u8], work: &mut [u8], mem: &mut [u8], i: usize, c: usize, k: usize) -> u8
-    requires { ⌜ Empty (now arena) (now work) 31 × (Whole (now mem) × ((i < 34) × (c < 34))) ⌝ }
+fn remove_in(
+    arena: &mut [u8],
+    work: &mut [u8],
+    mem: &mut [u8],
+    slot: &mut [u8],
+    i: usize,
+    c: usize,
+    k: usize,
+) -> u8
+    requires { ⌜ Empty (now arena) (now work) 31 × (Whole (now mem) × ((i < 34) × ((c < 34) × (length (now slot) ≡ 264)))) ⌝ }
     ensures { λ r. ⌜ Ended (ending (removeNode (fsAt (now (arena .entry)) (now (mem .entry))) i c k)) (now (arena .entry)) (now (arena .exit)) (tableIn (now (mem .exit))) r ⌝ }
 {
-    let n = remove_node(&arena[..], work, mem, i, c, k);
+    let n = remove_node(&arena[..], work, mem, slot, i, c, k);
     if n != 0 {
         return n;
     }
@@ -242,18 +265,19 @@ fn remove_in(arena: &mut [u8], work: &mut [u8], mem: &mut [u8], i: usize, c: usi
     0
 }
 
-// The workspace is made.
+// The workspace is made, and the only room for a slot.
 pub fn remove(arena: &mut [u8], mem: &mut [u8], i: usize, c: usize, k: usize) -> u8
     requires { ⌜ (legal (now arena) ≡ true) × (Whole (now mem) × ((i < 34) × (c < 34))) ⌝ }
     ensures { λ r. ⌜ Ended (ending (removeNode (fsAt (now (arena .entry)) (now (mem .entry))) i c k)) (now (arena .entry)) (now (arena .exit)) (tableIn (now (mem .exit))) r ⌝ }
 {
     let mut work = [0u8; 15872];
+    let mut slot = [0u8; 264];
     overlay::begin(&mut work);
-    remove_in(arena, &mut work, mem, i, c, k)
+    remove_in(arena, &mut work, mem, &mut slot, i, c, k)
 }
 
 // The call on the table in memory.
-fn unlink_on(arena: &mut [u8], mem: &mut [u8], h: Handle, name: &[u8]) -> u8
+pub fn unlink_on(arena: &mut [u8], mem: &mut [u8], h: Handle, name: &[u8]) -> u8
     requires { ⌜ Whole (now mem) ⌝ }
     ensures { λ r. ⌜ Ended (callUnlink (now (arena .entry)) (tableIn (now (mem .entry))) h (now (name .entry))) (now (arena .entry)) (now (arena .exit)) (tableIn (now (mem .exit))) r ⌝ }
 {

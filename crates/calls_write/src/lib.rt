@@ -254,7 +254,7 @@ fn write_in(
 }
 
 // The call on the table in memory.
-fn write_on(arena: &mut [u8], mem: &mut [u8], h: Handle, place: u64, src: &[u8]) -> u8
+pub fn write_on(arena: &mut [u8], mem: &mut [u8], h: Handle, place: u64, src: &[u8]) -> u8
     requires { ⌜ Whole (now mem) ⌝ }
     ensures { λ r. ⌜ Ended (callWrite (now (arena .entry)) (tableIn (now (mem .entry))) h place (now (src .entry))) (now (arena .entry)) (now (arena .exit)) (tableIn (now (mem .exit))) r ⌝ }
 {

@@ -1,43 +1,55 @@
--- From what a call's function returns to what the C function leaves.
-use mathlib.Core.Path.{_≡_, _∙_}
-use mathlib.Core.Bool.{false}
+-- From what a call leaves in memory and returns to what the C function leaves.
+use mathlib.Core.Path.{_≡_, refl, sym, _∙_, ap, subst}
 use mathlib.Core.List.{List, [], _∷_}
-use Prim.Native.Nat.{ℕ}
+use Prim.Native.Nat.{ℕ, _+_, _*_, _<_}
+use native.Mathlib.Omega.{arith}
 use lib.IntN.{ℤ}
+use lib.Dec.{eqb}
 use lib.ListN.{length, getD}
 use mir.Syntax.{w64}
 use mir.Val.{SFits, toZ, ofZ}
 use mir.ValLaws.{toZ-ofZ}
 use borrow.Author.Tests.{eq-eqb, ne-eqb}
-use Rattle.base.specs.Out.{Out, done, refused, kept}
+use Rattle.base.specs.Out.{Out, done, refused, Went, well, ill}
+use Rattle.base.specs.Parts.{part}
+use Rattle.base.specs.Search.{pick}
+use Rattle.base.proofs.Lists.{length-part}
+use Rattle.base.proofs.Parts.{part-all}
+use Rattle.le.specs.Le.{Bytes}
 use Rattle.structs.specs.declared.Timespec.{Timespec}
+use Rattle.structs.proofs.Layouts.{recordOf-fits}
+use Rattle.table.specs.declared.Row.{Row}
 use Rattle.table.specs.declared.Table.{Table}
 use Rattle.table.specs.declared.Handle.{Handle}
 use Rattle.table.specs.declared.Added.{Added}
-use Rattle.table_bytes.specs.Layout.{tableBytes}
+use Rattle.table.specs.Table.{rowAt}
+use Rattle.table_bytes.specs.Layout.{rowFrom, tableOf, tableBytes}
 use Rattle.sefs.specs.declared.Metadata.{Metadata}
 use Rattle.sefs.specs.Create.{After, Given}
+use Rattle.sefs.specs.Read.{callListing}
+use Rattle.mem.specs.Mem.{tableIn}
+use Rattle.mem.proofs.Mems.{row-read}
 use Rattle.calls.specs.declared.Answer.{Answer}
-use Rattle.calls.specs.declared.Reply as answered
-use Rattle.calls.specs.declared.Got.{Got}
-use Rattle.calls.specs.declared.Got.the-variants as gots
-use Rattle.calls.specs.declared.HeldReply as given
 use Rattle.calls.specs.declared.Told.{Told}
 use Rattle.calls.specs.declared.Told.the-variants as tolds
 use Rattle.calls.specs.declared.Listed.{Listed}
-use Rattle.calls.specs.declared.Listed.the-variants as listeds
+use Rattle.calls.specs.declared.Listed.the-variants.{Slots}
 use Rattle.calls.specs.declared.Taken.{Taken}
 use Rattle.calls.specs.declared.Taken.the-variants as takens
-use Rattle.calls.specs.Answers.{answerOf, answerNumber, gotOf, gotNumber, heldTable, toldOf, toldNumber, listedNumber, takenOf, takenNumber, laid, Lays}
-use Rattle.steps.specs.Ends.{Returned}
-use Rattle.calls_create.specs.Held.{ReturnedHeld}
+use Rattle.calls.specs.Answers.{addedAs, answerOf, answerNumber, toldOf, toldNumber, listedOf, listedNumber, takenOf, takenNumber, laid, Lays}
+use Rattle.calls_list.proofs.Places.{listing-left, listed-slots}
+use Rattle.steps.specs.Ends.{Ended, went, stopped}
+use Rattle.calls_create.specs.Held.{EndedHeld}
+use Rattle.calls_create.specs.Held as made
 use Rattle.calls_create.specs.declared.New.{New}
-use Rattle.calls_list.specs.declared.Moved.{Moved}
-use Rattle.calls_list.specs.Place.{movedAs}
+use Rattle.calls_move.specs.declared.Course.{Course}
+use Rattle.calls_move.specs.declared.Course.the-variants.{Made, Same}
+use Rattle.calls_move.specs.Courses.{EndedMove}
+use Rattle.calls_move.specs.Courses as course
 use Rattle.fsck.specs.declared.Verdict.{Verdict}
 use Rattle.fsck.specs.declared.Verdict.the-variants.{Pass}
 use Rattle.edge.specs.Words.{timeOf, newOf, handleWords, metadataWords, counted}
-use Rattle.edge.specs.Edge.{sized, Leaves, Makes, Holds, Sets, Tells, Shows, Lists, Takes, Counts, isDone, tableBy, heldTableBy, heldWordsBy, toldWordsBy, movedWordsBy, takenWordsBy}
+use Rattle.edge.specs.Edge.{sized, Leaves, Makes, Holds, Sets, Tells, Shows, Lists, Takes, Counts, toldWordsBy, listedWordsBy, takenWordsBy, courseNumber, courseTableBy}
 
 -- ---- a slice of a fixed size
 
@@ -59,22 +71,26 @@ new-is {kind = kind} {mode = mode} e p q = e ∙ (λ x. newOf kind mode (p x) (q
 
 -- ---- an answer, by its case
 
-module _ (l : List ℕ) (t : Table) where
-  pub not-done : (x : Answer) → isDone x ≡ false → l ≡ tableBy l x t
-  not-done x e = rw e
+-- what is written where the reason is 0
+pub picked : (x y : List ℕ) (r : ℕ) → r ≡ 0 → x ≡ pick (eqb r 0) x y
+picked x y r e = rw e
 
-  pub given-held : (w : List ℕ) {u v : List ℕ} {x : Got} {h : Handle} → x ≡ gots.Held h → u ≡ tableBytes t → v ≡ handleWords h → (0 ≡ gotNumber x) × ((u ≡ heldTableBy l x t) × (v ≡ heldWordsBy w x))
-  given-held w e p q = (rw e, (p ∙ rw e, q ∙ rw e))
+pub passed-over : (x y : List ℕ) (r : ℕ) → (r ≡ 0 → ⊥) → y ≡ pick (eqb r 0) x y
+passed-over x y r z = rw (ne-eqb r 0 z)
 
-  pub given-refused : (w : List ℕ) {x : Got} {n : ℕ} → x ≡ gots.Refused n → (n ≡ gotNumber x) × ((l ≡ heldTableBy l x t) × (w ≡ heldWordsBy w x))
-  given-refused w e = (rw e, (rw e, rw e))
+module _ {k : Course} (l : List ℕ) (u : Table) where
+  pub course-made : {b : List ℕ} → k ≡ Made → b ≡ tableBytes u → (0 ≡ courseNumber k) × (b ≡ courseTableBy l u k)
+  course-made e q = (rw e, q ∙ rw e)
+
+  pub course-same : {b : List ℕ} → k ≡ Same → b ≡ tableBytes (tableOf l) → (0 ≡ courseNumber k) × (b ≡ courseTableBy l u k)
+  course-same e q = (rw e, q ∙ rw e)
 
 module _ (w : List ℕ) where
   pub told-tells : {v : List ℕ} {x : Told} {m : Metadata} → x ≡ tolds.Tells m → v ≡ metadataWords m → (0 ≡ toldNumber x) × (v ≡ toldWordsBy w x)
   told-tells e q = (rw e, q ∙ rw e)
 
-  pub moved-slots : {v : List ℕ} {x : Listed} {n next : ℕ} → x ≡ listeds.Slots n → v ≡ next ∷ [] → (0 ≡ listedNumber x) × (v ≡ movedWordsBy w x next)
-  moved-slots e q = (rw e, q ∙ rw e)
+  pub listed-slots-word : (from : ℕ) {v : List ℕ} {l : Listed} {n : ℕ} → l ≡ Slots n → v ≡ (from + n) ∷ [] → (0 ≡ listedNumber l) × (v ≡ listedWordsBy w from l)
+  listed-slots-word from e q = (rw e, q ∙ rw e)
 
   pub taken-bytes : {v : List ℕ} {x : Taken} {n : ℕ} → x ≡ takens.Bytes n → v ≡ n ∷ [] → (0 ≡ takenNumber x) × (v ≡ takenWordsBy w x)
   taken-bytes e q = (rw e, q ∙ rw e)
@@ -111,23 +127,43 @@ takes-not e = record { number = rw e; output = rw e; words = rw e }
 pub counts-not : {o : Out (List ℕ)} {n : ℕ} {w : List ℕ} → o ≡ refused n → Counts o w w n
 counts-not e = record { number = rw e; words = rw e }
 
--- ---- what the call's contract says, and what the end wrote. p is the outcome with its sizes, o without
+-- ---- what the call leaves, and what the end wrote. p is the outcome with its sizes, o without; u is the table in memory; the table's bytes were t
+-- and are b, words for a result were w and are v
 
-pub leaves : {o p : Out After} {v : Table} {a b t u : List ℕ} {n : ℕ} {r : answered.Reply} → p ≡ o → Returned v o a b r → (n ≡ answerNumber (r .answer)) × (u ≡ tableBy t (r .answer) (r .table)) → Leaves p a b t u n
-leaves {o = done x} e R E = rw e (record { number = E .0 ∙ rw (R .answer); arena = R .arena; table = E .1 ∙ rw (R .answer) })
-leaves {o = refused m} e R E = rw e (record { number = E .0 ∙ rw (R .answer); arena = R .arena; table = E .1 ∙ rw (R .answer) })
+-- sync, close, link, unlink, write, resize, format
+pub leaves : {o p : Out After} {u : Table} {a c t b : List ℕ} {r n : ℕ} → p ≡ o → Ended o a c u r
+    → (n ≡ r) × (b ≡ pick (eqb r 0) (tableBytes u) t) → Leaves p a c t b n
+leaves e (went f) E = rw (e, f) (record { number = E .0; arena = refl; table = E .1 })
+leaves {u = u} {t = t} e (stopped {r = r} l f k) E = rw (e, f) (record { number = E .0; arena = k; table = E .1 ∙ sym (passed-over (tableBytes u) t r (λ q. omega arith)) })
 
-pub makes : {o p : Out Given} {x : Table} {a b t u w v : List ℕ} {n : ℕ} {r : given.HeldReply} → p ≡ o → ReturnedHeld x o a b r → (n ≡ gotNumber (r .answer)) × ((u ≡ heldTableBy t (r .answer) (r .table)) × (v ≡ heldWordsBy w (r .answer))) → Makes p a b t u w v n
-makes {o = done y} e R E = rw e (record { number = E .0 ∙ rw (R .answer); arena = R .arena; table = E .1 .0 ∙ rw (R .answer); words = E .1 .1 ∙ rw (R .answer) })
-makes {o = refused m} e R E = rw e (record { number = E .0 ∙ rw (R .answer); arena = R .arena; table = E .1 .0 ∙ rw (R .answer); words = E .1 .1 ∙ rw (R .answer) })
+-- move: x is the table that it was given
+pub moves : {o p : Out After} {x u : Table} {a c t b : List ℕ} {n : ℕ} {k : Course} → p ≡ o → x ≡ tableOf t → EndedMove o x a c u k
+    → (n ≡ courseNumber k) × (b ≡ courseTableBy t u k) → Leaves p a c t b n
+moves e q (course.moves f) E = rw (e, f) (record { number = E .0; arena = refl; table = E .1 })
+moves e q (course.rests f k) E = rw (e, f) (record { number = E .0; arena = k; table = E .1 ∙ ap tableBytes (sym q) })
+moves e q (course.denied l f k) E = rw (e, f) (record { number = E .0; arena = k; table = E .1 })
 
-pub holds : (x : Table) {o p : Out Added} {t u w v : List ℕ} {n : ℕ} {r : given.HeldReply} → p ≡ o → (r .answer ≡ gotOf o) × (r .table ≡ heldTable x o) → (n ≡ gotNumber (r .answer)) × ((u ≡ heldTableBy t (r .answer) (r .table)) × (v ≡ heldWordsBy w (r .answer))) → Holds p t u w v n
-holds x {o = done y} e G E = rw e (record { number = E .0 ∙ rw (G .0); table = E .1 .0 ∙ rw (G .0, G .1); words = E .1 .1 ∙ rw (G .0) })
-holds x {o = refused m} e G E = rw e (record { number = E .0 ∙ rw (G .0); table = E .1 .0 ∙ rw (G .0); words = E .1 .1 ∙ rw (G .0) })
+-- create
+pub makes : {o p : Out Given} {h : Handle} {u : Table} {a c t b w v : List ℕ} {r n : ℕ} → p ≡ o → EndedHeld o a c (addedAs h u) r
+    → (n ≡ r) × (b ≡ pick (eqb r 0) (tableBytes u) t) → v ≡ pick (eqb r 0) (handleWords h) w → Makes p a c t b w v n
+makes e (made.held f) E k = rw (e, f) (record { number = E .0; arena = refl; table = E .1; words = k })
+makes {h = h} {u = u} {t = t} {w = w} e (made.stopped {r = r} l f q) E k =
+    let z : r ≡ 0 → ⊥ = λ q. omega arith in
+    rw (e, f) (record { number = E .0; arena = q; table = E .1 ∙ sym (passed-over (tableBytes u) t r z); words = k ∙ sym (passed-over (handleWords h) w r z) })
 
-pub sets : (x : Table) {o p : Out Table} {t u : List ℕ} {n : ℕ} {r : answered.Reply} → p ≡ o → (r .answer ≡ answerOf o) × (r .table ≡ kept x o) → (n ≡ answerNumber (r .answer)) × (u ≡ tableBy t (r .answer) (r .table)) → Sets p t u n
-sets x {o = done y} e G E = rw e (record { number = E .0 ∙ rw (G .0); table = E .1 ∙ rw (G .0, G .1) })
-sets x {o = refused m} e G E = rw e (record { number = E .0 ∙ rw (G .0); table = E .1 ∙ rw (G .0) })
+-- root, find
+pub holds : {o p : Out Added} {h : Handle} {u : Table} {t b w v : List ℕ} {P : Type 0} {r n : ℕ} → p ≡ o → Went o (addedAs h u) P r
+    → (n ≡ r) × (b ≡ pick (eqb r 0) (tableBytes u) t) → v ≡ pick (eqb r 0) (handleWords h) w → Holds p t b w v n
+holds e (well f x) E k = rw (e, f) (record { number = E .0; table = E .1; words = k })
+holds {h = h} {u = u} {t = t} {w = w} e (ill {r = r} l f) E k =
+    let z : r ≡ 0 → ⊥ = λ q. omega arith in
+    rw (e, f) (record { number = E .0; table = E .1 ∙ sym (passed-over (tableBytes u) t r z); words = k ∙ sym (passed-over (handleWords h) w r z) })
+
+-- set metadata, open
+pub sets : {o p : Out Table} {u : Table} {t b : List ℕ} {P : Type 0} {r n : ℕ} → p ≡ o → Went o u P r
+    → (n ≡ r) × (b ≡ pick (eqb r 0) (tableBytes u) t) → Sets p t b n
+sets e (well f x) E = rw (e, f) (record { number = E .0; table = E .1 })
+sets {u = u} {t = t} e (ill {r = r} l f) E = rw (e, f) (record { number = E .0; table = E .1 ∙ sym (passed-over (tableBytes u) t r (λ q. omega arith)) })
 
 pub tells : {o p : Out Metadata} {w v : List ℕ} {n : ℕ} {r : Told} → p ≡ o → r ≡ toldOf o → (n ≡ toldNumber r) × (v ≡ toldWordsBy w r) → Tells p w v n
 tells {o = done y} e G E = rw e (record { number = E .0 ∙ rw G; words = E .1 ∙ rw G })
@@ -136,8 +172,9 @@ tells {o = refused m} e G E = rw e (record { number = E .0 ∙ rw G; words = E .
 pub shows : {o p : Out (List ℕ)} {x y : List ℕ} {n : ℕ} {r : Answer} → p ≡ o → (r ≡ answerOf o) × (y ≡ laid x o) → n ≡ answerNumber r → Shows p x y n
 shows e G E = rw e (record { number = E ∙ rw (G .0); output = G .1 })
 
-pub lists : {o p : Out (List ℕ)} {x y w v : List ℕ} {n : ℕ} {r : Moved} → p ≡ o → (r ≡ movedAs (getD w 0 0) o) × (y ≡ laid x o) → (n ≡ listedNumber (r .answer)) × (v ≡ movedWordsBy w (r .answer) (r .next)) → Lists p x y w v n
-lists {o = done l} e G E = rw e (record { number = E .0 ∙ rw (G .0); output = G .1; words = E .1 ∙ rw (G .0) })
+pub lists : {o p : Out (List ℕ)} {x y w v : List ℕ} {n : ℕ} {l : Listed} → p ≡ o → Lays listedOf o x y l
+    → (n ≡ listedNumber l) × (v ≡ listedWordsBy w (getD w 0 0) l) → Lists p x y w v n
+lists {o = done z} e G E = rw e (record { number = E .0 ∙ rw (G .0); output = G .1; words = E .1 ∙ rw (G .0) })
 lists {o = refused m} e G E = rw e (record { number = E .0 ∙ rw (G .0); output = G .1; words = E .1 ∙ rw (G .0) })
 
 pub takes : {o p : Out (List ℕ)} {x y w v : List ℕ} {n : ℕ} {r : Taken} → p ≡ o → Lays takenOf o x y r → (n ≡ takenNumber r) × (v ≡ takenWordsBy w r) → Takes p x y w v n
@@ -146,3 +183,22 @@ takes {o = refused m} e G E = rw e (record { number = E .0 ∙ rw (G .0); output
 
 pub counts : {o p : Out (List ℕ)} {w v : List ℕ} {n : ℕ} → p ≡ o → Counts o w v n → Counts p w v n
 counts e C = rw e C
+
+-- ---- the listing's word
+
+-- a row's count of slots fits its type, so the slot to go on with does
+blocks-in : (t : List ℕ) → Bytes t → length t ≡ 4370 → (i : ℕ) → i < 34 → rowAt (tableOf t) i .rec .blocks < 4294967296
+unfolding rowFrom
+blocks-in t B L i k =
+    let r : List ℕ = part t (117 * i) (117 * i + 117) in
+    let n : length r ≡ 117 = length-part t (117 * i) (117 * i + 117) (omega arith) (omega (arith, L)) ∙ omega arith in
+    let F = recordOf-fits (part r 5 117) (part-all (λ x. x < 256) r (omega arith) (part-all (λ x. x < 256) t (omega arith) B (117 * i) (117 * i + 117)) 5 117) (length-part r 5 117 (omega arith) (omega (arith, n))) in
+    subst (λ (x : Row). x .rec .blocks < 4294967296) (sym (row-read t i k)) (F .blocks)
+
+pub listed-room : (a t m : List ℕ) (h : Handle) (from room : ℕ) (l : Listed) → Bytes t → length t ≡ 4370 → tableIn m ≡ tableOf t → from < 18446744073709551616
+    → l ≡ listedOf (callListing a (tableIn m) h from room) → (n : ℕ) → l ≡ Slots n → from + n < 18446744073709551616
+listed-room a t m h from room l B L e F q n k =
+    let s = listed-slots n (callListing a (tableIn m) h from room) l q k in
+    let f = listing-left a (tableIn m) h from room (s .0) (s .1) in
+    let b : rowAt (tableIn m) (f .0) .rec .blocks < 4294967296 = subst (λ (x : Table). rowAt x (f .0) .rec .blocks < 4294967296) (sym e) (blocks-in t B L (f .0) (f .1)) in
+    omega (arith, s .2, f .2, b, F)

@@ -1,21 +1,15 @@
 -- The calls at the C edge: what a call returns, and what it leaves in the slices that it was lent, by the outcome that its definition gives.
 use mathlib.Core.Path.{_≡_}
-use mathlib.Core.Bool.{Bool, true, false}
 use mathlib.Core.List.{List, [], _∷_}
 use Prim.Native.Nat.{ℕ, _+_, _/_}
 use lib.ListN.{length, getD}
 use lib.Dec.{eqb}
 use Rattle.base.specs.Out.{Out, done, refused, guard, answer, kept}
-use Rattle.base.specs.Search.{pick}
 use Rattle.table.specs.declared.Table.{Table}
 use Rattle.table.specs.declared.Added.{Added}
-use Rattle.table_bytes.specs.Layout.{tableBytes}
+use Rattle.table_bytes.specs.Layout.{tableOf, tableBytes}
 use Rattle.sefs.specs.declared.Metadata.{Metadata}
 use Rattle.sefs.specs.Create.{After, Given}
-use Rattle.calls.specs.declared.Answer.{Answer}
-use Rattle.calls.specs.declared.Answer.the-variants as answers
-use Rattle.calls.specs.declared.Got.{Got}
-use Rattle.calls.specs.declared.Got.the-variants as gots
 use Rattle.calls.specs.declared.Told.{Told}
 use Rattle.calls.specs.declared.Told.the-variants as tolds
 use Rattle.calls.specs.declared.Listed.{Listed}
@@ -25,6 +19,8 @@ use Rattle.calls.specs.declared.Taken.the-variants as takens
 use Rattle.calls.specs.Answers.{answerOf, answerNumber, gotOf, gotNumber, toldOf, toldNumber, listedOf, listedNumber, takenOf, takenNumber, laid}
 use Rattle.steps.specs.Ends.{arenaAfter}
 use Rattle.calls_create.specs.Held.{arenaHeld}
+use Rattle.calls_move.specs.declared.Course.{Course}
+use Rattle.calls_move.specs.declared.Course.the-variants.{Made, Same, Refused}
 use Rattle.edge.specs.Words.{handleWords, metadataWords}
 
 -- "a slice of a wrong fixed size gets 255, and then nothing is called and nothing changes": as if the call were refused with that number
@@ -90,31 +86,29 @@ pub record Counts (o : Out (List ℕ)) (w v : List ℕ) (n : ℕ) : Type 0 where
   pub number : n ≡ answer o
   pub words : v ≡ kept w o
 
--- ---- the same by the answer that the call's function returns
-
-abbrev pub isDone : Answer → Bool
-isDone answers.Done = true
-isDone (answers.Refused n) = false
-
-abbrev pub tableBy : List ℕ → Answer → Table → List ℕ
-tableBy l x t = pick (isDone x) (tableBytes t) l
-
-abbrev pub heldTableBy : List ℕ → Got → Table → List ℕ
-heldTableBy l (gots.Held h) t = tableBytes t
-heldTableBy l (gots.Refused n) t = l
-
-abbrev pub heldWordsBy : List ℕ → Got → List ℕ
-heldWordsBy w (gots.Held h) = handleWords h
-heldWordsBy w (gots.Refused n) = w
+-- ---- words by the answer that the call's function returns: w as they were
 
 abbrev pub toldWordsBy : List ℕ → Told → List ℕ
 toldWordsBy w (tolds.Tells m) = metadataWords m
 toldWordsBy w (tolds.Refused n) = w
 
-abbrev pub movedWordsBy : List ℕ → Listed → ℕ → List ℕ
-movedWordsBy w (listeds.Slots n) next = next ∷ []
-movedWordsBy w (listeds.Refused n) next = w
+-- (the listing began at slot `from`)
+abbrev pub listedWordsBy : List ℕ → ℕ → Listed → List ℕ
+listedWordsBy w from (listeds.Slots n) = (from + n) ∷ []
+listedWordsBy w from (listeds.Refused r) = w
 
 abbrev pub takenWordsBy : List ℕ → Taken → List ℕ
 takenWordsBy w (takens.Bytes n) = n ∷ []
 takenWordsBy w (takens.Refused n) = w
+
+-- ---- move, by what deciding it came to: the number, and the table's bytes, which were l. u is the table that memory has
+
+abbrev pub courseNumber : Course → ℕ
+courseNumber Made = 0
+courseNumber Same = 0
+courseNumber (Refused n) = n
+
+abbrev pub courseTableBy : List ℕ → Table → Course → List ℕ
+courseTableBy l u Made = tableBytes u
+courseTableBy l u Same = tableBytes (tableOf l)
+courseTableBy l u (Refused n) = l

@@ -1,47 +1,102 @@
 // How an answer leaves: its number, and what it changes of the lent bytes and words, on success only.
 ghost use mathlib.Core.Path.{_≡_};
+ghost use Prim.Native.Nat.{ℕ, _+_, _<_};
 ghost use lib.ListN.{length};
+ghost use lib.Dec.{eqb};
 ghost use Rattle.base.specs.Search.{pick};
+ghost use Rattle.table.specs.Table.{emptyTable};
 ghost use Rattle.table_bytes.specs.Layout.{tableBytes};
-ghost use Rattle.calls.specs.Answers.{answerNumber, gotNumber, toldNumber, listedNumber, takenNumber};
-ghost use Rattle.edge.specs.Words.{counted};
-ghost use Rattle.edge.specs.Edge.{isDone, tableBy, heldTableBy, heldWordsBy, toldWordsBy, movedWordsBy, takenWordsBy, Counts};
+ghost use Rattle.mem.specs.Mem.{tableIn, memorySize};
+ghost use Rattle.calls.specs.Answers.{answerNumber, toldNumber, listedNumber, takenNumber};
+ghost use Rattle.calls.specs.declared.Listed.the-variants.{Slots};
+ghost use Rattle.edge.specs.Words.{handleWords, counted};
+ghost use Rattle.edge.specs.Edge.{toldWordsBy, listedWordsBy, takenWordsBy, courseNumber, courseTableBy, Counts};
 use crate::results::put_counts;
 use crate::results::put_handle;
 use crate::results::put_metadata;
 use crate::results::put_next;
 use calls::Answer;
-use calls::Got;
-use calls::HeldReply;
+use calls::Handed;
 use calls::Listed;
-use calls::Reply;
 use calls::Taken;
 use calls::Told;
-use calls_list::Moved;
+use calls_move::Course;
 use fsck::Verdict;
-use table::Table;
-use table_bytes::write_table;
+use mem::write_back;
+use table_bytes::put_empty;
+use table_bytes::settle_marks;
 
-// A refusal writes nothing. (As a branch of the callers this would cost them one more table of stack.) That a table has 4,370 bytes is
-// known of a parameter alone, by its type.
-pub fn put_table(table: &mut [u8], t: Table, done: bool)
-    requires { ⌜ length (now table) ≡ 4370 ⌝ }
-    ensures { λ _. ⌜ now (table .exit) ≡ pick done (tableBytes t) (now (table .entry)) ⌝ }
+// ---- the table: memory's is written back where the reason is 0, and a refusal writes nothing
+
+fn put_back(table: &mut [u8], mem: &[u8], reason: u8)
+    requires { ⌜ (length (now table) ≡ 4370) × (length (now mem) ≡ memorySize) ⌝ }
+    ensures { λ _. ⌜ now (table .exit) ≡ pick (eqb reason 0) (tableBytes (tableIn (now (mem .entry)))) (now (table .entry)) ⌝ }
 {
-    if !done {
+    if reason != 0 {
         return;
     }
-    write_table(table, t);
+    write_back(table, mem);
 }
 
-fn is_done(a: Answer) -> bool
-    ensures { λ r. ⌜ r ≡ isDone a ⌝ }
+pub fn end_after(table: &mut [u8], mem: &[u8], reason: u8) -> u32
+    requires { ⌜ (length (now table) ≡ 4370) × (length (now mem) ≡ memorySize) ⌝ }
+    ensures { λ r. ⌜ (r ≡ reason) × (now (table .exit) ≡ pick (eqb reason 0) (tableBytes (tableIn (now (mem .entry)))) (now (table .entry))) ⌝ }
 {
-    match a {
-        Answer::Done => true,
-        Answer::Refused(_) => false,
+    put_back(table, mem, reason);
+    reason as u32
+}
+
+// The same for format and open, which leave the empty table.
+pub fn end_fresh(table: &mut [u8], reason: u8) -> u32
+    requires { ⌜ length (now table) ≡ 4370 ⌝ }
+    ensures { λ r. ⌜ (r ≡ reason) × (now (table .exit) ≡ pick (eqb reason 0) (tableBytes emptyTable) (now (table .entry))) ⌝ }
+{
+    if reason != 0 {
+        return reason as u32;
+    }
+    put_empty(table);
+    0
+}
+
+// The same for move: where both names are one node's, the table is written as it was given.
+pub fn end_course(table: &mut [u8], mem: &[u8], c: Course) -> u32
+    requires { ⌜ (length (now table) ≡ 4370) × (length (now mem) ≡ memorySize) ⌝ }
+    ensures { λ r. ⌜ (r ≡ courseNumber c) × (now (table .exit) ≡ courseTableBy (now (table .entry)) (tableIn (now (mem .entry))) c) ⌝ }
+{
+    match c {
+        Course::Made => {
+            write_back(table, mem);
+            0
+        }
+        Course::Same => {
+            settle_marks(table);
+            0
+        }
+        Course::Refused(r) => r as u32,
     }
 }
+
+fn put_held(out: &mut [u64], h: Handed)
+    requires { ⌜ length (now out) ≡ 2 ⌝ }
+    ensures { λ _. ⌜ now (out .exit) ≡ pick (eqb (h .reason) 0) (handleWords (h .handle)) (now (out .entry)) ⌝ }
+{
+    let handle = h.handle;
+    if h.reason == 0 {
+        put_handle(out, handle);
+    }
+}
+
+pub fn end_held(table: &mut [u8], out: &mut [u64], mem: &[u8], h: Handed) -> u32
+    requires { ⌜ (length (now table) ≡ 4370) × ((length (now out) ≡ 2) × (length (now mem) ≡ memorySize)) ⌝ }
+    ensures { λ r. ⌜ (r ≡ h .reason) × (now (table .exit) ≡ pick (eqb (h .reason) 0) (tableBytes (tableIn (now (mem .entry)))) (now (table .entry))) ⌝ }
+    ensures { λ _. ⌜ now (out .exit) ≡ pick (eqb (h .reason) 0) (handleWords (h .handle)) (now (out .entry)) ⌝ }
+{
+    let reason = h.reason;
+    put_held(out, h);
+    end_after(table, mem, reason)
+}
+
+// ---- results that are words
 
 pub fn number(a: Answer) -> u32
     ensures { λ r. ⌜ r ≡ answerNumber a ⌝ }
@@ -49,46 +104,6 @@ pub fn number(a: Answer) -> u32
     match a {
         Answer::Done => 0,
         Answer::Refused(n) => n as u32,
-    }
-}
-
-pub fn end_after(table: &mut [u8], a: Reply) -> u32
-    requires { ⌜ length (now table) ≡ 4370 ⌝ }
-    ensures { λ r. ⌜ (r ≡ answerNumber (a .answer)) × (now (table .exit) ≡ tableBy (now (table .entry)) (a .answer) (a .table)) ⌝ }
-{
-    let t = a.table;
-    let r = a.answer;
-    put_table(table, t, is_done(r));
-    number(r)
-}
-
-// The same, for format and open: they are given no table, and so take less stack.
-pub fn end_fresh(table: &mut [u8], a: Reply) -> u32
-    requires { ⌜ length (now table) ≡ 4370 ⌝ }
-    ensures { λ r. ⌜ (r ≡ answerNumber (a .answer)) × (now (table .exit) ≡ tableBy (now (table .entry)) (a .answer) (a .table)) ⌝ }
-{
-    let r = a.answer;
-    if !is_done(r) {
-        return number(r);
-    }
-    end_after(table, a)
-}
-
-pub fn end_given(table: &mut [u8], out: &mut [u64], g: HeldReply) -> u32
-    requires { ⌜ (length (now table) ≡ 4370) × (length (now out) ≡ 2) ⌝ }
-    ensures { λ r. ⌜ r ≡ gotNumber (g .answer) ⌝ }
-    ensures { λ _. ⌜ now (table .exit) ≡ heldTableBy (now (table .entry)) (g .answer) (g .table) ⌝ }
-    ensures { λ _. ⌜ now (out .exit) ≡ heldWordsBy (now (out .entry)) (g .answer) ⌝ }
-{
-    let t = g.table;
-    let a = g.answer;
-    match a {
-        Got::Held(h) => {
-            put_table(table, t, true);
-            put_handle(out, h);
-            0
-        }
-        Got::Refused(n) => n as u32,
     }
 }
 
@@ -102,21 +117,6 @@ pub fn end_told(out: &mut [u64], t: Told) -> u32
             0
         }
         Told::Refused(n) => n as u32,
-    }
-}
-
-pub fn end_moved(out: &mut [u64], m: Moved) -> u32
-    requires { ⌜ length (now out) ≡ 1 ⌝ }
-    ensures { λ r. ⌜ (r ≡ listedNumber (m .answer)) × (now (out .exit) ≡ movedWordsBy (now (out .entry)) (m .answer) (m .next)) ⌝ }
-{
-    let next = m.next;
-    let l = m.answer;
-    match l {
-        Listed::Slots(_) => {
-            put_next(out, next);
-            0
-        }
-        Listed::Refused(n) => n as u32,
     }
 }
 
@@ -147,5 +147,19 @@ pub fn end_verdict(out: &mut [u64], v: Verdict) -> u32
             0
         }
         Verdict::Fail(rule) => rule as u32,
+    }
+}
+
+// The listing began at slot `from`.
+pub fn end_listed(next: &mut [u64], from: u64, l: Listed) -> u32
+    requires { ⌜ (length (now next) ≡ 1) × ((n : ℕ) → l ≡ Slots n → from + n < 18446744073709551616) ⌝ }
+    ensures { λ r. ⌜ (r ≡ listedNumber l) × (now (next .exit) ≡ listedWordsBy (now (next .entry)) from l) ⌝ }
+{
+    match l {
+        Listed::Slots(n) => {
+            put_next(next, from + n as u64);
+            0
+        }
+        Listed::Refused(r) => r as u32,
     }
 }

@@ -1,5 +1,6 @@
 // The calls as C functions (include/dzomrelig.h). A slice is its pointer and its length. Each returns 0, or document 01's number; a table
 // that is not 4,370 bytes, a file's name that is not 16, or words for a result that are not as many as it has: 255, and nothing is called.
+// The table's bytes are copied to the call's memory, and written back on success: no table by value is made.
 pub mod args;
 pub mod ends;
 pub mod results;
@@ -21,33 +22,35 @@ use args::file_of;
 use args::handle;
 use args::new_node;
 use args::time;
-use calls_close::close;
-use calls_create::create;
-use calls_entry::get_entry;
-use calls_find::find;
-use calls_find::root;
-use calls_format::format;
-use calls_link::link;
-use calls_list::list_on;
-use calls_metadata::metadata;
-use calls_metadata::set_metadata;
-use calls_move::move_;
-use calls_open::open;
-use calls_read::read;
-use calls_resize::resize;
-use calls_sync::sync;
-use calls_unlink::unlink;
-use calls_write::write;
+use calls_close::close_on;
+use calls_create::create_on;
+use calls_entry::entry_on;
+use calls_find::find_on;
+use calls_find::root_on;
+use calls_format::format_on;
+use calls_link::link_on;
+use calls_list::listing_on;
+use calls_metadata::metadata_on;
+use calls_metadata::set_on;
+use calls_move::move_on;
+use calls_open::open_on;
+use calls_read::read_on;
+use calls_resize::resize_on;
+use calls_sync::sync_on;
+use calls_unlink::unlink_on;
+use calls_write::write_on;
 use ends::end_after;
+use ends::end_course;
 use ends::end_fresh;
-use ends::end_given;
-use ends::end_moved;
+use ends::end_held;
+use ends::end_listed;
 use ends::end_taken;
 use ends::end_told;
 use ends::end_verdict;
 use ends::number;
-use fsck::check;
-use table_bytes::read_table;
+use fsck::check_on;
+use mem::MEMORY;
+use mem::begin;
 
 // Bytes, words, and what a slice of another size is answered with, as in the header.
 const TABLE: usize = 4370;
@@ -84,8 +87,8 @@ pub extern "C" fn dz_format(
     if file.len() != FILE_NAME {
         return WRONG_SIZE;
     }
-    let a = format(arena, time(sec, nsec), file_of(file));
-    end_fresh(table, a)
+    let r = format_on(arena, time(sec, nsec), file_of(file));
+    end_fresh(table, r)
 }
 
 #[no_mangle]
@@ -95,8 +98,8 @@ pub extern "C" fn dz_open(arena: &[u8], table: &mut [u8]) -> u32
     if table.len() != TABLE {
         return WRONG_SIZE;
     }
-    let a = open(arena);
-    end_fresh(table, a)
+    let r = open_on(arena);
+    end_fresh(table, r)
 }
 
 #[no_mangle]
@@ -106,8 +109,10 @@ pub extern "C" fn dz_sync(arena: &mut [u8], table: &mut [u8]) -> u32
     if table.len() != TABLE {
         return WRONG_SIZE;
     }
-    let a = sync(arena, read_table(&table[..]));
-    end_after(table, a)
+    let mut mem = [0u8; MEMORY];
+    begin(&mut mem, &table[..]);
+    let r = sync_on(arena, &mut mem);
+    end_after(table, &mem, r)
 }
 
 // Nodes, unused ids and free blocks where it passes. A number other than 255 is the rule that fails.
@@ -121,7 +126,9 @@ pub extern "C" fn dz_check(arena: &[u8], table: &[u8], out: &mut [u64]) -> u32
     if out.len() != COUNTS_WORDS {
         return WRONG_SIZE;
     }
-    let v = check(arena, read_table(table));
+    let mut mem = [0u8; MEMORY];
+    begin(&mut mem, table);
+    let v = check_on(arena, &mut mem);
     end_verdict(out, v)
 }
 
@@ -137,8 +144,10 @@ pub extern "C" fn dz_root(arena: &[u8], table: &mut [u8], out: &mut [u64]) -> u3
     if out.len() != HANDLE_WORDS {
         return WRONG_SIZE;
     }
-    let g = root(arena, read_table(&table[..]));
-    end_given(table, out, g)
+    let mut mem = [0u8; MEMORY];
+    begin(&mut mem, &table[..]);
+    let h = root_on(arena, &mut mem);
+    end_held(table, out, &mem, h)
 }
 
 #[no_mangle]
@@ -158,8 +167,10 @@ pub extern "C" fn dz_find(
     if out.len() != HANDLE_WORDS {
         return WRONG_SIZE;
     }
-    let g = find(arena, read_table(&table[..]), handle(hold, stamp), name);
-    end_given(table, out, g)
+    let mut mem = [0u8; MEMORY];
+    begin(&mut mem, &table[..]);
+    let h = find_on(arena, &mut mem, handle(hold, stamp), name);
+    end_held(table, out, &mem, h)
 }
 
 #[no_mangle]
@@ -169,8 +180,10 @@ pub extern "C" fn dz_close(arena: &mut [u8], table: &mut [u8], hold: u32, stamp:
     if table.len() != TABLE {
         return WRONG_SIZE;
     }
-    let a = close(arena, read_table(&table[..]), handle(hold, stamp));
-    end_after(table, a)
+    let mut mem = [0u8; MEMORY];
+    begin(&mut mem, &table[..]);
+    let r = close_on(arena, &mut mem, handle(hold, stamp));
+    end_after(table, &mem, r)
 }
 
 // ---- names
@@ -201,14 +214,10 @@ pub extern "C" fn dz_create(
         return WRONG_SIZE;
     }
     let new = new_node(kind, mode, time(sec, nsec), file_of(file));
-    let g = create(
-        arena,
-        read_table(&table[..]),
-        handle(hold, stamp),
-        name,
-        new,
-    );
-    end_given(table, out, g)
+    let mut mem = [0u8; MEMORY];
+    begin(&mut mem, &table[..]);
+    let h = create_on(arena, &mut mem, handle(hold, stamp), name, new);
+    end_held(table, out, &mem, h)
 }
 
 #[no_mangle]
@@ -227,14 +236,10 @@ pub extern "C" fn dz_link(
         return WRONG_SIZE;
     }
     let child = handle(child_hold, child_stamp);
-    let a = link(
-        arena,
-        read_table(&table[..]),
-        handle(hold, stamp),
-        name,
-        child,
-    );
-    end_after(table, a)
+    let mut mem = [0u8; MEMORY];
+    begin(&mut mem, &table[..]);
+    let r = link_on(arena, &mut mem, handle(hold, stamp), name, child);
+    end_after(table, &mem, r)
 }
 
 #[no_mangle]
@@ -250,8 +255,10 @@ pub extern "C" fn dz_unlink(
     if table.len() != TABLE {
         return WRONG_SIZE;
     }
-    let a = unlink(arena, read_table(&table[..]), handle(hold, stamp), name);
-    end_after(table, a)
+    let mut mem = [0u8; MEMORY];
+    begin(&mut mem, &table[..]);
+    let r = unlink_on(arena, &mut mem, handle(hold, stamp), name);
+    end_after(table, &mem, r)
 }
 
 #[no_mangle]
@@ -271,15 +278,10 @@ pub extern "C" fn dz_move(
         return WRONG_SIZE;
     }
     let to = handle(to_hold, to_stamp);
-    let a = move_(
-        arena,
-        read_table(&table[..]),
-        handle(hold, stamp),
-        old,
-        to,
-        name,
-    );
-    end_after(table, a)
+    let mut mem = [0u8; MEMORY];
+    begin(&mut mem, &table[..]);
+    let c = move_on(arena, &mut mem, handle(hold, stamp), old, to, name);
+    end_course(table, &mem, c)
 }
 
 // ---- metadata
@@ -300,7 +302,9 @@ pub extern "C" fn dz_metadata(
     if out.len() != METADATA_WORDS {
         return WRONG_SIZE;
     }
-    let t = metadata(arena, read_table(table), handle(hold, stamp));
+    let mut mem = [0u8; MEMORY];
+    begin(&mut mem, table);
+    let t = metadata_on(arena, &mem, handle(hold, stamp));
     end_told(out, t)
 }
 
@@ -329,9 +333,10 @@ pub extern "C" fn dz_set_metadata(
     let atime = time(asec, ansec);
     let mtime = time(msec, mnsec);
     let ctime = time(csec, cnsec);
-    let t = read_table(&table[..]);
-    let a = set_metadata(arena, t, h, mode, uid, gid, atime, mtime, ctime);
-    end_after(table, a)
+    let mut mem = [0u8; MEMORY];
+    begin(&mut mem, &table[..]);
+    let r = set_on(arena, &mut mem, h, mode, uid, gid, atime, mtime, ctime);
+    end_after(table, &mem, r)
 }
 
 // ---- contents
@@ -355,7 +360,9 @@ pub extern "C" fn dz_read(
     if count.len() != READ_WORDS {
         return WRONG_SIZE;
     }
-    let t = read(arena, read_table(table), handle(hold, stamp), place, out);
+    let mut mem = [0u8; MEMORY];
+    begin(&mut mem, table);
+    let t = read_on(arena, &mem, handle(hold, stamp), place, out);
     end_taken(count, t)
 }
 
@@ -373,14 +380,10 @@ pub extern "C" fn dz_write(
     if table.len() != TABLE {
         return WRONG_SIZE;
     }
-    let a = write(
-        arena,
-        read_table(&table[..]),
-        handle(hold, stamp),
-        place,
-        src,
-    );
-    end_after(table, a)
+    let mut mem = [0u8; MEMORY];
+    begin(&mut mem, &table[..]);
+    let r = write_on(arena, &mut mem, handle(hold, stamp), place, src);
+    end_after(table, &mem, r)
 }
 
 #[no_mangle]
@@ -396,8 +399,10 @@ pub extern "C" fn dz_resize(
     if table.len() != TABLE {
         return WRONG_SIZE;
     }
-    let a = resize(arena, read_table(&table[..]), handle(hold, stamp), n);
-    end_after(table, a)
+    let mut mem = [0u8; MEMORY];
+    begin(&mut mem, &table[..]);
+    let r = resize_on(arena, &mut mem, handle(hold, stamp), n);
+    end_after(table, &mem, r)
 }
 
 // ---- slots
@@ -416,7 +421,9 @@ pub extern "C" fn dz_get_entry(
     if table.len() != TABLE {
         return WRONG_SIZE;
     }
-    let a = get_entry(arena, read_table(table), handle(hold, stamp), slot, out);
+    let mut mem = [0u8; MEMORY];
+    begin(&mut mem, table);
+    let a = entry_on(arena, &mem, handle(hold, stamp), slot, out);
     number(a)
 }
 
@@ -439,6 +446,8 @@ pub extern "C" fn dz_list(
         return WRONG_SIZE;
     }
     let from = next[0];
-    let m = list_on(arena, read_table(table), handle(hold, stamp), from, out);
-    end_moved(next, m)
+    let mut mem = [0u8; MEMORY];
+    begin(&mut mem, table);
+    let l = listing_on(arena, &mem, handle(hold, stamp), from, out);
+    end_listed(next, from, l)
 }

@@ -1,21 +1,23 @@
 -- Laws that belong to no folder: lists laid over whole lists, and reads and stores by their outcomes.
-use mathlib.Core.Path.{_≡_, refl, sym, ap, _∙_}
+use mathlib.Core.Path.{_≡_, refl, sym, ap, _∙_, subst}
 use mathlib.Core.Bool.{Bool, true, false}
 use mathlib.Core.List.{List}
 use mathlib.Core.Logic.{⊎-elim}
-use Prim.Native.Nat.{ℕ, _+_, _*_, _-_, _≤_, _<_, min}
+use Prim.Native.Nat.{ℕ, _+_, _*_, _≤_, _<_, min}
 use native.Mathlib.Omega.{arith}
 use lib.ListN.{length}
 use lib.Dec.{leb}
 use borrow.Author.Tests.{lt-leb, leb-true}
 use Rattle.base.specs.Out.{done, refused, guard, answer, kept, Went, well, ill}
-use Rattle.base.specs.Parts.{paste, tab}
+use Rattle.base.specs.Parts.{tab}
 use Rattle.base.proofs.Numbers.{lt-or-le}
 use Rattle.base.proofs.Bools.{bool-cases}
 use Rattle.base.proofs.Lists.{length-tab}
-use Rattle.arena.specs.Fields.{File}
+use Rattle.structs.specs.declared.DiskINode.{DiskINode}
+use Rattle.arena.specs.Fields.{File, file}
 use Rattle.files.specs.Read.{there, lengthOf, byteAt, readFile}
 use Rattle.files.specs.Store.{longest, putFile}
+use Rattle.sefs.specs.Nodes.{nodeFile}
 
 read-whole : (a : List ℕ) (f : File) (p n : ℕ) (was is : List ℕ) (r : ℕ) → r ≡ answer (readFile a f p n) → is ≡ kept was (readFile a f p n) → Went (readFile a f p n) is (length is ≡ n) r
 unfolding readFile
@@ -57,3 +59,7 @@ put-held a f k p src h e =
     (λ (l : k < 16777216). ap (λ (x : ℕ). putFile a f (264 * x) src) (let q : p ≡ k = omega arith in q))
     (λ g. put-far a f (264 * p) (264 * k) src (omega arith) (omega arith))
     (lt-or-le k 16777216)
+
+-- a read of a record's file, by the name that the code has of it
+pub read-in : {name is : List ℕ} {n r : ℕ} (a : List ℕ) (p : ℕ) (rec : DiskINode) → name ≡ rec .file → Went (readFile a (file 1 name) p n) is (length is ≡ n) r → Went (readFile a (nodeFile rec) p n) is (length is ≡ n) r
+read-in {is = is} {n = n} {r = r} a p rec e g = subst (λ (x : List ℕ). Went (readFile a (file 1 x) p n) is (length is ≡ n) r) e g

@@ -4,7 +4,7 @@ use mathlib.Core.List.{List, [], _∷_}
 use Prim.Native.Nat.{ℕ, _+_, _≤_}
 use native.Mathlib.Omega.{arith}
 use lib.ListN.{length}
-use Rattle.base.specs.Parts.{part, back, paste}
+use Rattle.base.specs.Parts.{back, paste}
 use Rattle.base.proofs.Lists.{length-paste}
 use Rattle.le.specs.Le.{leBytes, lePut}
 use Rattle.le.proofs.Laws.{length-leBytes, length-lePut}

@@ -12,7 +12,6 @@ use Rattle.base.proofs.Outs.{went-is, went-has, went-next, went-stop, bind-is-d
 use Rattle.le.specs.Le.{Bytes}
 use Rattle.structs.specs.Layout.{entryOf, entryBytes}
 use Rattle.structs.specs.Constants.{typeDir}
-use Rattle.structs.specs.declared.DiskINode.{DiskINode}
 use Rattle.structs.proofs.Layouts.{entryBytes-entryOf}
 use Rattle.arena.specs.Fields.{file}
 use Rattle.overlay.specs.View.{view, Fine}
@@ -34,12 +33,12 @@ use Rattle.folders.proofs.States.{did-stepped}
 
 -- ---- a slot written
 
-pub put-slot-did : (a w u m : List ℕ) (i k p r : ℕ) (l name : List ℕ) (rec : DiskINode) → Whole m → length l ≡ 264 → rec ≡ rowAt (tableIn m) i .rec → name ≡ rec .file → p ≡ min k 16777216
+pub put-slot-did : (a w u m : List ℕ) (i k p r : ℕ) (l name : List ℕ) → Whole m → length l ≡ 264 → name ≡ rowAt (tableIn m) i .rec .file → p ≡ min k 16777216
     → Did (putFile (view a w) (file 1 name) (264 * p) l) a w u (1 + touched (264 * p) (length l)) r → Stepped (putSlot (fsOf a w m) i k l) a w u m 3 r
 unfolding putSlot fsOf
-put-slot-did a w u m i k p r l name rec h s e c q d =
+put-slot-did a w u m i k p r l name h s c q d =
     let f = rowAt (tableIn m) i .rec in
-    let z : putFile (view a w) (file 1 name) (264 * p) l ≡ putFile (view a w) (nodeFile f) (264 * k) l = ap (λ (x : List ℕ). putFile (view a w) (file 1 x) (264 * p) l) (c ∙ ap (λ (x : DiskINode). x .file) e) ∙ put-held (view a w) (nodeFile f) k p l s q in
+    let z : putFile (view a w) (file 1 name) (264 * p) l ≡ putFile (view a w) (nodeFile f) (264 * k) l = ap (λ (x : List ℕ). putFile (view a w) (file 1 x) (264 * p) l) c ∙ put-held (view a w) (nodeFile f) k p l s q in
     let n = touched-few (264 * p) (length l) (omega arith) in
     did-stepped m h (subst (λ (o : Out (List ℕ)). Did o a w u 3 r) z (did-more 3 (omega arith) d))
 
@@ -74,28 +73,28 @@ id-of a w m i x e = e
 abbrev counted : Fs → ℕ → Out Fs
 counted s i = done (setRec s i (withBlocks (recAt s i) (recAt s i .blocks + 1)))
 
-append-is : (a w m : List ℕ) (i k : ℕ) (rec : DiskINode) (l : List ℕ) → Bytes l → length l ≡ 264 → rec ≡ rowAt (tableIn m) i .rec → k ≡ rec .blocks
+append-is : (a w m : List ℕ) (i k : ℕ) (l : List ℕ) → Bytes l → length l ≡ 264 → k ≡ rowAt (tableIn m) i .rec .blocks
     → bind (putSlot (fsOf a w m) i k l) (λ s. counted s i) ≡ direntAppend (fsOf a w m) i (entryOf l)
 unfolding direntAppend fsOf
-append-is a w m i k rec l b h e q =
-    ap (λ (x : ℕ). bind (putSlot (fsOf a w m) i x l) (λ s. counted s i)) (q ∙ ap (λ (x : DiskINode). x .blocks) e)
+append-is a w m i k l b h q =
+    ap (λ (x : ℕ). bind (putSlot (fsOf a w m) i x l) (λ s. counted s i)) q
     ∙ ap (λ (x : List ℕ). bind (putSlot (fsOf a w m) i (recAt (fsOf a w m) i .blocks) x) (λ s. counted s i)) (sym (entryBytes-entryOf l b h))
 
-pub append-stop : (a w u m n : List ℕ) (i k r : ℕ) (rec : DiskINode) (l : List ℕ) → Bytes l → length l ≡ 264 → rec ≡ rowAt (tableIn m) i .rec → k ≡ rec .blocks → (r ≡ 0 → ⊥)
+pub append-stop : (a w u m n : List ℕ) (i k r : ℕ) (l : List ℕ) → Bytes l → length l ≡ 264 → k ≡ rowAt (tableIn m) i .rec .blocks → (r ≡ 0 → ⊥)
     → Stepped (putSlot (fsOf a w m) i k l) a w u m 3 r → Stepped (direntAppend (fsOf a w m) i (entryOf l)) a w u n 3 r
-append-stop a w u m n i k r rec l b h e q z g = rw (← (append-is a w m i k rec l b h e q)) (went-stop _ _ z g)
+append-stop a w u m n i k r l b h q z g = rw (← (append-is a w m i k l b h q)) (went-stop _ _ z g)
 
-again : (a u m n : List ℕ) (i : ℕ) (rec : DiskINode) → rec ≡ rowAt (tableIn m) i .rec → Blocked m n i (rec .blocks + 1) → counted (fsOf a u m) i ≡ done (fsOf a u n)
+again : (a u m n : List ℕ) (i x : ℕ) → x ≡ rowAt (tableIn m) i .rec .blocks → Blocked m n i (x + 1) → counted (fsOf a u m) i ≡ done (fsOf a u n)
 unfolding fsOf
-again a u m n i rec e R =
-    ap (λ (x : DiskINode). done (setRec (fsOf a u m) i (withBlocks (recAt (fsOf a u m) i) (x .blocks + 1)))) (sym e) ∙ ap done (sym (R .is a u))
+again a u m n i x e R =
+    ap (λ (x : ℕ). done (setRec (fsOf a u m) i (withBlocks (recAt (fsOf a u m) i) (x + 1)))) (sym e) ∙ ap done (sym (R .is a u))
 
-pub append-done : (a w u m n : List ℕ) (i k r : ℕ) (rec : DiskINode) (l : List ℕ) → Bytes l → length l ≡ 264 → rec ≡ rowAt (tableIn m) i .rec → k ≡ rec .blocks → r ≡ 0
-    → Stepped (putSlot (fsOf a w m) i k l) a w u m 3 r → Blocked m n i (rec .blocks + 1) → Stepped (direntAppend (fsOf a w m) i (entryOf l)) a w u n 3 0
-append-done a w u m n i k r rec l b h e q z g R =
+pub append-done : (a w u m n : List ℕ) (i k r x : ℕ) (l : List ℕ) → Bytes l → length l ≡ 264 → x ≡ rowAt (tableIn m) i .rec .blocks → k ≡ x → r ≡ 0
+    → Stepped (putSlot (fsOf a w m) i k l) a w u m 3 r → Blocked m n i (x + 1) → Stepped (direntAppend (fsOf a w m) i (entryOf l)) a w u n 3 0
+append-done a w u m n i k r x l b h e q z g R =
     let s = went-has g z in
-    rw (← (append-is a w m i k rec l b h e q))
-    (went-next (λ s. counted s i) (went-is g z) (well (again a u m n i rec e R) (record { fine = s .fine; whole = R .whole; room = s .room })))
+    rw (← (append-is a w m i k l b h (q ∙ e)))
+    (went-next (λ s. counted s i) (went-is g z) (well (again a u m n i x e R) (record { fine = s .fine; whole = R .whole; room = s .room })))
 
 -- ---- a slot removed
 
@@ -106,55 +105,51 @@ hole-none a w m k last o f h e = rw (eq-eqb k last e) (well refl (record { fine 
 pub hole-filled : {o : Out Fs} (a w u m : List ℕ) (k last r : ℕ) → (k ≡ last → ⊥) → Stepped o a w u m 3 r → Stepped (pick (eqb k last) (done (fsOf a w m)) o) a w u m 3 r
 hole-filled a w u m k last r e g = rw (ne-eqb k last e) g
 
-short-is : (a w m : List ℕ) (i p : ℕ) (name : List ℕ) (rec : DiskINode) → rec ≡ rowAt (tableIn m) i .rec → name ≡ rec .file → p ≡ rec .blocks - 1
+short-is : (a w m : List ℕ) (i p : ℕ) (name : List ℕ) → name ≡ rowAt (tableIn m) i .rec .file → p ≡ rowAt (tableIn m) i .rec .blocks - 1
     → bind (cutFile (view a w) (file 1 name) (264 * p)) (λ x. done (setRec (withArena (fsOf a w m) x) i (withBlocks (recAt (fsOf a w m) i) p))) ≡ shortened (fsOf a w m) i
 unfolding fsOf
-short-is a w m i p name rec e c q =
-    ap (λ (x : List ℕ). bind (cutFile (view a w) (file 1 x) (264 * p)) (λ y. done (setRec (withArena (fsOf a w m) y) i (withBlocks (recAt (fsOf a w m) i) p)))) c ∙
-    ap (λ (x : ℕ). bind (cutFile (view a w) (file 1 (rec .file)) (264 * x)) (λ y. done (setRec (withArena (fsOf a w m) y) i (withBlocks (recAt (fsOf a w m) i) x)))) q
-    ∙ ap (λ (x : DiskINode). bind (cutFile (view a w) (nodeFile x) (264 * (x .blocks - 1))) (λ y. done (setRec (withArena (fsOf a w m) y) i (withBlocks (recAt (fsOf a w m) i) (x .blocks - 1))))) e
+short-is a w m i p name c q =
+    ap (λ (x : List ℕ). bind (cutFile (view a w) (file 1 x) (264 * p)) (λ y. done (setRec (withArena (fsOf a w m) y) i (withBlocks (recAt (fsOf a w m) i) p)))) c
+    ∙ ap (λ (x : ℕ). bind (cutFile (view a w) (nodeFile (rowAt (tableIn m) i .rec)) (264 * x)) (λ y. done (setRec (withArena (fsOf a w m) y) i (withBlocks (recAt (fsOf a w m) i) x)))) q
 
-pub short-stop : (a w u m n : List ℕ) (i p r : ℕ) (name : List ℕ) (rec : DiskINode) → rec ≡ rowAt (tableIn m) i .rec → name ≡ rec .file → p ≡ rec .blocks - 1 → (r ≡ 0 → ⊥)
+pub short-stop : (a w u m n : List ℕ) (i p r : ℕ) (name : List ℕ) → name ≡ rowAt (tableIn m) i .rec .file → p ≡ rowAt (tableIn m) i .rec .blocks - 1 → (r ≡ 0 → ⊥)
     → Did (cutFile (view a w) (file 1 name) (264 * p)) a w u 2 r → Stepped (shortened (fsOf a w m) i) a w u n 2 r
-short-stop a w u m n i p r name rec e c q z d = rw (← (short-is a w m i p name rec e c q)) (ill (above-zero r z) (rw (did-ill d z)))
+short-stop a w u m n i p r name c q z d = rw (← (short-is a w m i p name c q)) (ill (above-zero r z) (rw (did-ill d z)))
 
 same : (a w u m : List ℕ) (i p : ℕ) → setRec (withArena (fsOf a w m) (view a u)) i (withBlocks (recAt (fsOf a w m) i) p) ≡ setRec (fsOf a u m) i (withBlocks (recAt (fsOf a u m) i) p)
 unfolding fsOf
 same a w u m i p = refl
 
-pub short-done : (a w u m n : List ℕ) (i p r : ℕ) (name : List ℕ) (rec : DiskINode) → rec ≡ rowAt (tableIn m) i .rec → name ≡ rec .file → p ≡ rec .blocks - 1 → r ≡ 0
-    → Did (cutFile (view a w) (file 1 name) (264 * p)) a w u 2 r → Blocked m n i (rec .blocks - 1) → Stepped (shortened (fsOf a w m) i) a w u n 2 0
-short-done a w u m n i p r name rec e c q z d R =
+pub short-done : (a w u m n : List ℕ) (i p r x : ℕ) (name : List ℕ) → name ≡ rowAt (tableIn m) i .rec .file → x ≡ rowAt (tableIn m) i .rec .blocks - 1 → p ≡ x → r ≡ 0
+    → Did (cutFile (view a w) (file 1 name) (264 * p)) a w u 2 r → Blocked m n i x → Stepped (shortened (fsOf a w m) i) a w u n 2 0
+short-done a w u m n i p r x name c e q z d R =
     let g = did-well d z in
-    rw (← (short-is a w m i p name rec e c q)) (well (rw (g .is) (ap done (same a w u m i p ∙ sym (subst (λ (x : ℕ). Blocked m n i x) (sym q) R .is a u)))) (record { fine = g .fine; whole = R .whole; room = g .room }))
+    rw (← (short-is a w m i p name c (q ∙ e))) (well (rw (g .is) (ap done (same a w u m i p ∙ sym (subst (λ (x : ℕ). Blocked m n i x) (sym q) R .is a u)))) (record { fine = g .fine; whole = R .whole; room = g .room }))
 
 -- a folder without slots
-pub remove-empty : (a w u m n : List ℕ) (i k : ℕ) (rec : DiskINode) → rec ≡ rowAt (tableIn m) i .rec → rec .blocks ≡ 0 → Stepped (direntRemove (fsOf a w m) i k) a w u n 5 19
+pub remove-empty : (a w u m n : List ℕ) (i k x : ℕ) → x ≡ rowAt (tableIn m) i .rec .blocks → x ≡ 0 → Stepped (direntRemove (fsOf a w m) i k) a w u n 5 19
 unfolding direntRemove fsOf
-remove-empty a w u m n i k rec e z = ill {r = 19} (omega arith) (rw (le-ltb 0 (rowAt (tableIn m) i .rec .blocks) (omega (arith, ap (λ (x : DiskINode). x .blocks) e))))
+remove-empty a w u m n i k x e z = ill {r = 19} (omega arith) (rw (le-ltb 0 (rowAt (tableIn m) i .rec .blocks) (omega (arith, e))))
 
-remove-is : (a w m : List ℕ) (i k p : ℕ) (rec : DiskINode) → rec ≡ rowAt (tableIn m) i .rec → (rec .blocks ≡ 0 → ⊥) → p ≡ rec .blocks - 1
-    → bind (slotBytes (view a w) rec p) (λ l. bind (pick (eqb k p) (done (fsOf a w m)) (putSlot (fsOf a w m) i k l)) (λ s. shortened s i)) ≡ direntRemove (fsOf a w m) i k
+remove-is : (a w m : List ℕ) (i k p x : ℕ) → x ≡ rowAt (tableIn m) i .rec .blocks → (x ≡ 0 → ⊥) → p ≡ x - 1
+    → bind (slotBytes (view a w) (rowAt (tableIn m) i .rec) p) (λ l. bind (pick (eqb k p) (done (fsOf a w m)) (putSlot (fsOf a w m) i k l)) (λ s. shortened s i)) ≡ direntRemove (fsOf a w m) i k
 unfolding direntRemove fsOf
-remove-is a w m i k p rec e z q =
-    rw (lt-ltb 0 (rowAt (tableIn m) i .rec .blocks) (let y = ap (λ (x : DiskINode). x .blocks) e in omega (arith, above-zero (rec .blocks) z)))
-    (ap (λ (p : ℕ). bind (slotBytes (view a w) rec p) (λ l. bind (pick (eqb k p) (done (fsOf a w m)) (putSlot (fsOf a w m) i k l)) (λ s. shortened s i))) q
-    ∙ ap (λ (x : DiskINode). bind (slotBytes (view a w) x (x .blocks - 1)) (λ l. bind (pick (eqb k (x .blocks - 1)) (done (fsOf a w m)) (putSlot (fsOf a w m) i k l)) (λ s. shortened s i))) e)
+remove-is a w m i k p x e z q =
+    let rec = rowAt (tableIn m) i .rec in
+    rw (lt-ltb 0 (rec .blocks) (omega (arith, e, above-zero x z)))
+    (ap (λ (p : ℕ). bind (slotBytes (view a w) rec p) (λ l. bind (pick (eqb k p) (done (fsOf a w m)) (putSlot (fsOf a w m) i k l)) (λ s. shortened s i))) (q ∙ ap (λ (n : ℕ). n - 1) e))
 
-pub remove-stop : {l : List ℕ} {P : Type 0} (a w u m n : List ℕ) (i k p r : ℕ) (rec : DiskINode) → rec ≡ rowAt (tableIn m) i .rec → (rec .blocks ≡ 0 → ⊥) → p ≡ rec .blocks - 1 → (r ≡ 0 → ⊥)
-    → Went (slotBytes (view a w) rec p) l P r → Stepped (direntRemove (fsOf a w m) i k) a w u n 5 r
-remove-stop a w u m n i k p r rec e y q z g = rw (← (remove-is a w m i k p rec e y q)) (went-stop _ _ z g)
+pub remove-stop : {l : List ℕ} {P : Type 0} (a w u m n : List ℕ) (i k p r x : ℕ) → x ≡ rowAt (tableIn m) i .rec .blocks → (x ≡ 0 → ⊥) → p ≡ x - 1 → (r ≡ 0 → ⊥)
+    → Went (slotBytes (view a w) (rowAt (tableIn m) i .rec) p) l P r → Stepped (direntRemove (fsOf a w m) i k) a w u n 5 r
+remove-stop a w u m n i k p r x e y q z g = rw (← (remove-is a w m i k p x e y q)) (went-stop _ _ z g)
 
-pub remove-next : {l : List ℕ} {P : Type 0} (a w u m n : List ℕ) (i k p r x : ℕ) (rec : DiskINode) → rec ≡ rowAt (tableIn m) i .rec → (rec .blocks ≡ 0 → ⊥) → p ≡ rec .blocks - 1 → r ≡ 0
-    → Went (slotBytes (view a w) rec p) l P r → Stepped (bind (pick (eqb k p) (done (fsOf a w m)) (putSlot (fsOf a w m) i k l)) (λ s. shortened s i)) a w u n 5 x → Stepped (direntRemove (fsOf a w m) i k) a w u n 5 x
-remove-next a w u m n i k p r x rec e y q z g h = rw (← (remove-is a w m i k p rec e y q)) (went-next _ (went-is g z) h)
+pub remove-next : {l : List ℕ} {P : Type 0} (a w u m n : List ℕ) (i k p r x v : ℕ) → x ≡ rowAt (tableIn m) i .rec .blocks → (x ≡ 0 → ⊥) → p ≡ x - 1 → r ≡ 0
+    → Went (slotBytes (view a w) (rowAt (tableIn m) i .rec) p) l P r → Stepped (bind (pick (eqb k p) (done (fsOf a w m)) (putSlot (fsOf a w m) i k l)) (λ s. shortened s i)) a w u n 5 v → Stepped (direntRemove (fsOf a w m) i k) a w u n 5 v
+remove-next a w u m n i k p r x v e y q z g h = rw (← (remove-is a w m i k p x e y q)) (went-next _ (went-is g z) h)
 
 -- ---- link counts
 
-module _ (m : List ℕ) (i n : ℕ) (rec : DiskINode) (e : rec ≡ rowAt (tableIn m) i .rec) (q : n ≡ rec .nlinks) where
-  links : n ≡ rowAt (tableIn m) i .rec .nlinks
-  links = q ∙ ap (λ (x : DiskINode). x .nlinks) e
-
+module _ (m : List ℕ) (i n : ℕ) (links : n ≡ rowAt (tableIn m) i .rec .nlinks) where
   pub inc-top : (o : List ℕ) → n ≡ 65535 → (a w : List ℕ) → Went (nlinksInc (fsOf a w m) i) (fsOf a w o) (Whole o) 15
   unfolding nlinksInc fsOf
   inc-top o z a w = ill {r = 15} (omega arith) (rw (le-ltb (rowAt (tableIn m) i .rec .nlinks) 65535 (omega (arith, links))))
@@ -182,13 +177,13 @@ unfolding fsOf
 kind a w m c = refl
 
 -- where node c is a folder, and where it is not
-pub dots-folder : (m o : List ℕ) (c r : ℕ) (rec : DiskINode) → rec ≡ rowAt (tableIn m) c .rec → rec .kind ≡ 2 → (f : Fs → Out Fs) → ((a w : List ℕ) → Went (f (fsOf a w m)) (fsOf a w o) (Whole o) r)
+pub dots-folder : (m o : List ℕ) (c r x : ℕ) → x ≡ rowAt (tableIn m) c .rec .kind → x ≡ 2 → (f : Fs → Out Fs) → ((a w : List ℕ) → Went (f (fsOf a w m)) (fsOf a w o) (Whole o) r)
     → (a w : List ℕ) → Went (pick (eqb (recAt (fsOf a w m) c .kind) 2) (f (fsOf a w m)) (done (fsOf a w m))) (fsOf a w o) (Whole o) r
-dots-folder m o c r rec e z f g a w = rw (kind a w m c) (rw (eq-eqb (rowAt (tableIn m) c .rec .kind) 2 (ap (λ (x : DiskINode). x .kind) (sym e) ∙ z)) (g a w))
+dots-folder m o c r x e z f g a w = rw (kind a w m c) (rw (eq-eqb (rowAt (tableIn m) c .rec .kind) 2 (sym e ∙ z)) (g a w))
 
-pub dots-other : (m : List ℕ) (c : ℕ) (rec : DiskINode) → rec ≡ rowAt (tableIn m) c .rec → (rec .kind ≡ 2 → ⊥) → Whole m → (f : Fs → Out Fs)
+pub dots-other : (m : List ℕ) (c x : ℕ) → x ≡ rowAt (tableIn m) c .rec .kind → (x ≡ 2 → ⊥) → Whole m → (f : Fs → Out Fs)
     → (a w : List ℕ) → Went (pick (eqb (recAt (fsOf a w m) c .kind) 2) (f (fsOf a w m)) (done (fsOf a w m))) (fsOf a w m) (Whole m) 0
-dots-other m c rec e z h f a w = rw (kind a w m c) (rw (ne-eqb (rowAt (tableIn m) c .rec .kind) 2 (λ q. z (ap (λ (x : DiskINode). x .kind) e ∙ q))) (well refl h))
+dots-other m c x e z h f a w = rw (kind a w m c) (rw (ne-eqb (rowAt (tableIn m) c .rec .kind) 2 (λ q. z (e ∙ q))) (well refl h))
 
 -- ---- dirent_inode_remove: its two steps on links as one
 

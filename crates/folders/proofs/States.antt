@@ -1,5 +1,5 @@
 -- Steps in a row, on the state that the three slices are.
-use mathlib.Core.Path.{_≡_, sym, ap, _∙_}
+use mathlib.Core.Path.{_≡_, sym, ap}
 use mathlib.Core.Bool.{true}
 use mathlib.Core.List.{List}
 use Prim.Native.Nat.{ℕ, _+_, _≤_}
@@ -11,10 +11,11 @@ use Rattle.overlay.specs.Steps.{Did, went, stopped}
 use Rattle.structs.specs.declared.DiskINode.{DiskINode}
 use Rattle.table.specs.Table.{rowAt, takeRow}
 use Rattle.sefs.specs.State.{Fs, withArena}
+use Rattle.sefs.specs.Records.{withLinks, withBlocks}
 use Rattle.sefs.specs.Nodes.{recAt, setRec}
 use Rattle.mem.specs.Mem.{tableIn, Tabled, Whole}
 use Rattle.mem.specs.State.{fsOf, Ready, Still, Stepped}
-use Rattle.folders.specs.Steps.{Recorded}
+use Rattle.folders.specs.Steps.{Blocked, Linked}
 
 -- ---- chains
 
@@ -43,13 +44,14 @@ did-stepped m h (stopped l e) = ill l (rw e)
 
 -- ---- a record changed
 
-same-state : {m n : List ℕ} {rec : DiskINode} (i : ℕ) (a w : List ℕ) (f : DiskINode → DiskINode) → rec ≡ f (rowAt (tableIn m) i .rec) → Tabled m n (takeRow (tableIn m) i (rowAt (tableIn m) i .id) rec true)
+same-state : {m n : List ℕ} (i : ℕ) (a w : List ℕ) (f : DiskINode → DiskINode) → Tabled m n (takeRow (tableIn m) i (rowAt (tableIn m) i .id) (f (rowAt (tableIn m) i .rec)) true)
     → fsOf a w n ≡ setRec (fsOf a w m) i (f (recAt (fsOf a w m) i))
 unfolding fsOf
-same-state {m} i a w f e t =
-    let q = t .table ∙ ap (λ (r : DiskINode). takeRow (tableIn m) i (rowAt (tableIn m) i .id) r true) e in
-    λ x. record { arena = view a w; table = q x; meta = t .meta x }
+same-state {m} i a w f t = λ x. record { arena = view a w; table = t .table x; meta = t .meta x }
 
--- the memory with another record in row i
-pub recorded : {m n : List ℕ} {i : ℕ} {rec : DiskINode} (f : DiskINode → DiskINode) → rec ≡ f (rowAt (tableIn m) i .rec) → Tabled m n (takeRow (tableIn m) i (rowAt (tableIn m) i .id) rec true) → Recorded m n i f
-recorded {i = i} f e t = record { is = λ a w. same-state i a w f e t; whole = t .whole }
+-- the memory with another number in row i's record
+pub blocked : {m n : List ℕ} {i x : ℕ} → Tabled m n (takeRow (tableIn m) i (rowAt (tableIn m) i .id) (withBlocks (rowAt (tableIn m) i .rec) x) true) → Blocked m n i x
+blocked {i = i} {x = x} t = record { is = λ a w. same-state i a w (λ r. withBlocks r x) t; whole = t .whole }
+
+pub linked : {m n : List ℕ} {i x : ℕ} → Tabled m n (takeRow (tableIn m) i (rowAt (tableIn m) i .id) (withLinks (rowAt (tableIn m) i .rec) x) true) → Linked m n i x
+linked {i = i} {x = x} t = record { is = λ a w. same-state i a w (λ r. withLinks r x) t; whole = t .whole }

@@ -2,7 +2,7 @@
 pub mod slots;
 
 ghost use mathlib.Core.Path.{_≡_};
-ghost use Prim.Native.Nat.{ℕ, _+_, _*_, _-_, _<_, _≤_};
+ghost use Prim.Native.Nat.{ℕ, _<_, _≤_};
 ghost use mathlib.Core.List.{List, [], _∷_};
 ghost use lib.ListN.{length};
 ghost use lib.Dec.{eqb};
@@ -12,23 +12,25 @@ ghost use Rattle.structs.specs.Constants.{typeDir};
 ghost use Rattle.structs.specs.Layout.{entryOf, entryBytes};
 ghost use Rattle.overlay.specs.View.{left};
 ghost use Rattle.table.specs.Table.{rowAt};
-ghost use Rattle.sefs.specs.Records.{withLinks, withBlocks};
 ghost use Rattle.sefs.specs.Nodes.{idAt};
 ghost use Rattle.sefs.specs.Folders.{entry, dotsEntry, putSlot, direntInit, direntAppend, direntRemove, nlinksInc, nlinksDec, unlinkFolder, direntNodeRemove};
 ghost use Rattle.mem.specs.Mem.{tableIn, Whole};
 ghost use Rattle.mem.specs.State.{fsOf, Ready, Stepped};
-ghost use Rattle.folders.specs.Steps.{Blocked, Linked, shortened, unlinkDots};
+ghost use Rattle.folders.specs.Steps.{shortened, unlinkDots};
 use base::index;
 use base::least;
 use files::store::cut;
 use files::store::put;
 use le::put_u32;
+use mem::blocks_at;
+use mem::file_at;
 use mem::id_at;
-use mem::rec_at;
-use mem::set_rec;
+use mem::kind_at;
+use mem::nlinks_at;
+use mem::set_blocks;
+use mem::set_links;
 use nodes::release;
 use slots::slot_bytes;
-use structs::DiskINode;
 use utf8::put_name;
 
 // A slot's bytes: a new one is zero after its name.
@@ -41,52 +43,13 @@ pub fn put_entry(slot: &mut [u8], id: u32, name: &[u8], kind: u32)
     put_u32(slot, 260, kind);
 }
 
-// A node's file, by its name.
-fn file_of(rec: DiskINode) -> [u8; 16]
-    ensures { λ r. ⌜ r ≡ rec .file ⌝ }
-{
-    rec.file
-}
-
 // 264 bytes at slot k of folder i. (The place is held below a bound, so that it does not wrap: no file is so long, and past it every store is refused alike.)
 pub fn put_slot(arena: &[u8], work: &mut [u8], mem: &[u8], i: usize, k: usize, slot: &[u8]) -> u8
     requires { ⌜ Ready (now arena) (now work) (now mem) × ((3 ≤ left (now work)) × ((i < 34) × (length (now slot) ≡ 264))) ⌝ }
     ensures { λ r. ⌜ Stepped (putSlot (fsOf (now (arena .entry)) (now (work .entry)) (now (mem .entry))) i k (now (slot .entry))) (now (arena .entry)) (now (work .entry)) (now (work .exit)) (now (mem .entry)) 3 r ⌝ }
 {
-    let file = file_of(rec_at(mem, i));
-    put(arena, work, 1, &file, 264 * least(k, 16777216), slot)
-}
-
-fn with_blocks(r: DiskINode, n: u32) -> DiskINode
-    ensures { λ c. ⌜ c ≡ withBlocks r n ⌝ }
-{
-    let mut c = r;
-    c.blocks = n;
-    c
-}
-
-fn with_links(r: DiskINode, n: u16) -> DiskINode
-    ensures { λ c. ⌜ c ≡ withLinks r n ⌝ }
-{
-    let mut c = r;
-    c.nlinks = n;
-    c
-}
-
-fn set_blocks(mem: &mut [u8], i: usize, n: u32)
-    requires { ⌜ Whole (now mem) × (i < 34) ⌝ }
-    ensures { λ _. ⌜ Blocked (now (mem .entry)) (now (mem .exit)) i n ⌝ }
-{
-    let r = rec_at(&mem[..], i);
-    set_rec(mem, i, with_blocks(r, n));
-}
-
-fn set_links(mem: &mut [u8], i: usize, n: u16)
-    requires { ⌜ Whole (now mem) × (i < 34) ⌝ }
-    ensures { λ _. ⌜ Linked (now (mem .entry)) (now (mem .exit)) i n ⌝ }
-{
-    let r = rec_at(&mem[..], i);
-    set_rec(mem, i, with_links(r, n));
+    let file = file_at(mem, i);
+    put(arena, work, 1, file, 264 * least(k, 16777216), slot)
 }
 
 // ---- 000's dirent_init: two slots, `.` with the folder's own id and `..` with its parent's
@@ -127,7 +90,7 @@ pub fn dirent_append(arena: &[u8], work: &mut [u8], mem: &mut [u8], i: usize, sl
     requires { ⌜ Ready (now arena) (now work) (now mem) × ((3 ≤ left (now work)) × ((i < 34) × (length (now slot) ≡ 264))) ⌝ }
     ensures { λ r. ⌜ Stepped (direntAppend (fsOf (now (arena .entry)) (now (work .entry)) (now (mem .entry))) i (entryOf (now (slot .entry)))) (now (arena .entry)) (now (work .entry)) (now (work .exit)) (now (mem .exit)) 3 r ⌝ }
 {
-    let total = rec_at(&mem[..], i).blocks;
+    let total = blocks_at(&mem[..], i);
     let r = put_slot(arena, work, &mem[..], i, index(total), slot);
     if r != 0 {
         return r;
@@ -161,10 +124,8 @@ fn shorten(arena: &[u8], work: &mut [u8], mem: &mut [u8], i: usize) -> u8
     requires { ⌜ Ready (now arena) (now work) (now mem) × ((2 ≤ left (now work)) × ((i < 34) × (0 < rowAt (tableIn (now mem)) i .rec .blocks))) ⌝ }
     ensures { λ r. ⌜ Stepped (shortened (fsOf (now (arena .entry)) (now (work .entry)) (now (mem .entry))) i) (now (arena .entry)) (now (work .entry)) (now (work .exit)) (now (mem .exit)) 2 r ⌝ }
 {
-    let rec = rec_at(&mem[..], i);
-    let file = file_of(rec);
-    let last = rec.blocks - 1;
-    let r = cut(arena, work, 1, &file, 264 * index(last));
+    let last = blocks_at(&mem[..], i) - 1;
+    let r = cut(arena, work, 1, file_at(&mem[..], i), 264 * index(last));
     if r != 0 {
         return r;
     }
@@ -192,21 +153,28 @@ fn close_hole(
     shorten(arena, work, mem, i)
 }
 
-pub fn dirent_remove(arena: &[u8], work: &mut [u8], mem: &mut [u8], i: usize, k: usize) -> u8
-    requires { ⌜ Ready (now arena) (now work) (now mem) × ((5 ≤ left (now work)) × (i < 34)) ⌝ }
+// The last slot goes through `slot`, which is room for it.
+pub fn dirent_remove(
+    arena: &[u8],
+    work: &mut [u8],
+    mem: &mut [u8],
+    slot: &mut [u8],
+    i: usize,
+    k: usize,
+) -> u8
+    requires { ⌜ Ready (now arena) (now work) (now mem) × ((5 ≤ left (now work)) × ((i < 34) × (length (now slot) ≡ 264))) ⌝ }
     ensures { λ r. ⌜ Stepped (direntRemove (fsOf (now (arena .entry)) (now (work .entry)) (now (mem .entry))) i k) (now (arena .entry)) (now (work .entry)) (now (work .exit)) (now (mem .exit)) 5 r ⌝ }
 {
-    let rec = rec_at(&mem[..], i);
-    if rec.blocks == 0 {
+    let total = blocks_at(&mem[..], i);
+    if total == 0 {
         return 19;
     }
-    let last = index(rec.blocks - 1);
-    let mut slot = [0u8; 264];
-    let r = slot_bytes(arena, &work[..], rec, last, &mut slot);
+    let last = index(total - 1);
+    let r = slot_bytes(arena, &work[..], &mem[..], i, last, slot);
     if r != 0 {
         return r;
     }
-    close_hole(arena, work, mem, i, k, last, &slot)
+    close_hole(arena, work, mem, i, k, last, &slot[..])
 }
 
 // ---- link counts
@@ -215,7 +183,7 @@ pub fn nlinks_inc(mem: &mut [u8], i: usize) -> u8
     requires { ⌜ Whole (now mem) × (i < 34) ⌝ }
     ensures { λ r. ⌜ ((a w : List ℕ) → Went (nlinksInc (fsOf a w (now (mem .entry))) i) (fsOf a w (now (mem .exit))) (Whole (now (mem .exit))) r) ⌝ }
 {
-    let n = rec_at(&mem[..], i).nlinks;
+    let n = nlinks_at(&mem[..], i);
     if n == 65535 {
         return 15;
     }
@@ -227,7 +195,7 @@ pub fn nlinks_dec(mem: &mut [u8], i: usize) -> u8
     requires { ⌜ Whole (now mem) × (i < 34) ⌝ }
     ensures { λ r. ⌜ ((a w : List ℕ) → Went (nlinksDec (fsOf a w (now (mem .entry))) i) (fsOf a w (now (mem .exit))) (Whole (now (mem .exit))) r) ⌝ }
 {
-    let n = rec_at(&mem[..], i).nlinks;
+    let n = nlinks_at(&mem[..], i);
     if n == 0 {
         return 19;
     }
@@ -251,7 +219,7 @@ fn unlink_dots(mem: &mut [u8], i: usize, c: usize) -> u8
     requires { ⌜ Whole (now mem) × ((i < 34) × (c < 34)) ⌝ }
     ensures { λ r. ⌜ ((a w : List ℕ) → Went (unlinkDots (fsOf a w (now (mem .entry))) i c) (fsOf a w (now (mem .exit))) (Whole (now (mem .exit))) r) ⌝ }
 {
-    if rec_at(&mem[..], c).kind == 2 {
+    if kind_at(&mem[..], c) == 2 {
         return unlink_folder(mem, i, c);
     }
     0
@@ -268,19 +236,20 @@ fn unname(mem: &mut [u8], i: usize, c: usize) -> u8
     unlink_dots(mem, i, c)
 }
 
-// 000's dirent_inode_remove: slot k, which names node c, is removed from folder i, and c's own opening ends.
+// 000's dirent_inode_remove: slot k, which names node c, is removed from folder i, and c's own opening ends. `slot` is room for one.
 pub fn dirent_node_remove(
     arena: &[u8],
     work: &mut [u8],
     mem: &mut [u8],
+    slot: &mut [u8],
     i: usize,
     c: usize,
     k: usize,
 ) -> u8
-    requires { ⌜ Ready (now arena) (now work) (now mem) × ((18 ≤ left (now work)) × ((i < 34) × (c < 34))) ⌝ }
+    requires { ⌜ Ready (now arena) (now work) (now mem) × ((18 ≤ left (now work)) × ((i < 34) × ((c < 34) × (length (now slot) ≡ 264)))) ⌝ }
     ensures { λ r. ⌜ Stepped (direntNodeRemove (fsOf (now (arena .entry)) (now (work .entry)) (now (mem .entry))) i c k) (now (arena .entry)) (now (work .entry)) (now (work .exit)) (now (mem .exit)) 18 r ⌝ }
 {
-    let r = dirent_remove(arena, work, mem, i, k);
+    let r = dirent_remove(arena, work, mem, slot, i, k);
     if r != 0 {
         return r;
     }

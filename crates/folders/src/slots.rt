@@ -1,32 +1,37 @@
-// A folder's slots, read after a store (000's read_direntry and the lookups). A slot's 264 bytes go to a buffer that the caller lends.
+// A folder's slots, read after a store (000's read_direntry and the lookups). The folder is a row of the open nodes, and its record is looked at where
+// it stands in memory; a slot's 264 bytes go to a buffer that the caller lends.
 ghost use mathlib.Core.Path.{_≡_};
 ghost use Prim.Native.Nat.{_<_, _≤_};
 ghost use lib.ListN.{length};
 ghost use Rattle.base.specs.Out.{Went, done};
 ghost use Rattle.structs.specs.Layout.{entryOf};
-ghost use Rattle.overlay.specs.View.{view, Fine};
+ghost use Rattle.overlay.specs.View.{view};
+ghost use Rattle.table.specs.Table.{rowAt};
 ghost use Rattle.sefs.specs.Slots.{slotBytes, slotAt, lookTo, findSlot};
+ghost use Rattle.mem.specs.Mem.{tableIn};
+ghost use Rattle.mem.specs.State.{Ready};
 use base::index;
 use chains::slots::Looked;
 use chains::slots::is_ended;
 use files::read::read;
 use le::u32_at;
-use structs::DiskINode;
+use mem::blocks_at;
+use mem::file_at;
 use utf8::is_named;
 
 // The 264 bytes of slot k. A type above 4 sticks, whoever reads it.
 pub fn slot_bytes<'a>(
     arena: &'a [u8],
     work: &'a [u8],
-    rec: DiskINode,
+    mem: &[u8],
+    i: usize,
     k: usize,
     slot: &mut [u8],
 ) -> u8
-    requires { ⌜ Fine (now arena) (now work) × ((k ≤ 4294967295) × (length (now slot) ≡ 264)) ⌝ }
-    ensures { λ r. ⌜ Went (slotBytes (view (now (arena .entry)) (now (work .entry))) rec k) (now (slot .exit)) (length (now (slot .exit)) ≡ 264) r ⌝ }
+    requires { ⌜ Ready (now arena) (now work) (now mem) × ((i < 34) × ((k ≤ 4294967295) × (length (now slot) ≡ 264))) ⌝ }
+    ensures { λ r. ⌜ Went (slotBytes (view (now (arena .entry)) (now (work .entry))) (rowAt (tableIn (now (mem .entry))) i .rec) k) (now (slot .exit)) (length (now (slot .exit)) ≡ 264) r ⌝ }
 {
-    let file = rec.file;
-    let r = read(arena, work, 1, &file, 264 * k, slot);
+    let r = read(arena, work, 1, file_at(mem, i), 264 * k, slot);
     if r != 0 {
         return r;
     }
@@ -37,11 +42,18 @@ pub fn slot_bytes<'a>(
 }
 
 // Slot k, where its name is looked at: one with no zero or not UTF-8 sticks.
-pub fn slot_at<'a>(arena: &'a [u8], work: &'a [u8], rec: DiskINode, k: usize, slot: &mut [u8]) -> u8
-    requires { ⌜ Fine (now arena) (now work) × ((k ≤ 4294967295) × (length (now slot) ≡ 264)) ⌝ }
-    ensures { λ r. ⌜ Went (slotAt (view (now (arena .entry)) (now (work .entry))) rec k) (entryOf (now (slot .exit))) (length (now (slot .exit)) ≡ 264) r ⌝ }
+pub fn slot_at<'a>(
+    arena: &'a [u8],
+    work: &'a [u8],
+    mem: &[u8],
+    i: usize,
+    k: usize,
+    slot: &mut [u8],
+) -> u8
+    requires { ⌜ Ready (now arena) (now work) (now mem) × ((i < 34) × ((k ≤ 4294967295) × (length (now slot) ≡ 264))) ⌝ }
+    ensures { λ r. ⌜ Went (slotAt (view (now (arena .entry)) (now (work .entry))) (rowAt (tableIn (now (mem .entry))) i .rec) k) (entryOf (now (slot .exit))) (length (now (slot .exit)) ≡ 264) r ⌝ }
 {
-    let r = slot_bytes(arena, work, rec, k, slot);
+    let r = slot_bytes(arena, work, mem, i, k, slot);
     if r != 0 {
         return r;
     }
@@ -55,17 +67,18 @@ pub fn slot_at<'a>(arena: &'a [u8], work: &'a [u8], rec: DiskINode, k: usize, sl
 pub fn lookup<'a>(
     arena: &'a [u8],
     work: &'a [u8],
-    rec: DiskINode,
+    mem: &[u8],
+    i: usize,
     name: &[u8],
     slot: &mut [u8],
 ) -> Looked
-    requires { ⌜ Fine (now arena) (now work) × (length (now slot) ≡ 264) ⌝ }
-    ensures { λ r. ⌜ Went (lookTo (view (now (arena .entry)) (now (work .entry))) rec (now (name .entry)) (rec .blocks)) (r .place) ((r .place < rec .blocks → slotAt (view (now (arena .entry)) (now (work .entry))) rec (r .place) ≡ done (entryOf (now (slot .exit)))) × (r .place ≤ rec .blocks)) (r .reason) ⌝ }
+    requires { ⌜ Ready (now arena) (now work) (now mem) × ((i < 34) × (length (now slot) ≡ 264)) ⌝ }
+    ensures { λ r. ⌜ Went (lookTo (view (now (arena .entry)) (now (work .entry))) (rowAt (tableIn (now (mem .entry))) i .rec) (now (name .entry)) (rowAt (tableIn (now (mem .entry))) i .rec .blocks)) (r .place) ((r .place < rowAt (tableIn (now (mem .entry))) i .rec .blocks → slotAt (view (now (arena .entry)) (now (work .entry))) (rowAt (tableIn (now (mem .entry))) i .rec) (r .place) ≡ done (entryOf (now (slot .exit)))) × (r .place ≤ rowAt (tableIn (now (mem .entry))) i .rec .blocks)) (r .reason) ⌝ }
 {
-    let n = index(rec.blocks);
+    let n = index(blocks_at(mem, i));
     let mut k: usize = 0;
     while k < n {
-        let r = slot_at(arena, work, rec, k, slot);
+        let r = slot_at(arena, work, mem, i, k, slot);
         if r != 0 {
             return Looked {
                 reason: r,
@@ -90,18 +103,19 @@ pub fn lookup<'a>(
 pub fn find_slot<'a>(
     arena: &'a [u8],
     work: &'a [u8],
-    rec: DiskINode,
+    mem: &[u8],
+    i: usize,
     name: &[u8],
     slot: &mut [u8],
 ) -> Looked
-    requires { ⌜ Fine (now arena) (now work) × (length (now slot) ≡ 264) ⌝ }
-    ensures { λ r. ⌜ Went (findSlot (view (now (arena .entry)) (now (work .entry))) rec (now (name .entry))) (record { place = r .place; entry = entryOf (now (slot .exit)) }) (r .place < rec .blocks) (r .reason) ⌝ }
+    requires { ⌜ Ready (now arena) (now work) (now mem) × ((i < 34) × (length (now slot) ≡ 264)) ⌝ }
+    ensures { λ r. ⌜ Went (findSlot (view (now (arena .entry)) (now (work .entry))) (rowAt (tableIn (now (mem .entry))) i .rec) (now (name .entry))) (record { place = r .place; entry = entryOf (now (slot .exit)) }) (r .place < rowAt (tableIn (now (mem .entry))) i .rec .blocks) (r .reason) ⌝ }
 {
-    let l = lookup(arena, work, rec, name, slot);
+    let l = lookup(arena, work, mem, i, name, slot);
     if l.reason != 0 {
         return l;
     }
-    if l.place < index(rec.blocks) {
+    if l.place < index(blocks_at(mem, i)) {
         return l;
     }
     Looked {

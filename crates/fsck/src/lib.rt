@@ -104,7 +104,7 @@ fn check_in(arena: &[u8], chains: &mut [u16], mem: &mut [u8]) -> Verdict
 }
 
 // The call on the table in memory.
-fn check_on(arena: &[u8], mem: &mut [u8]) -> Verdict
+pub fn check_on(arena: &[u8], mem: &mut [u8]) -> Verdict
     requires { ⌜ Whole (now mem) ⌝ }
     ensures { λ r. ⌜ r ≡ verdictOf (now (arena .entry)) (tableIn (now (mem .entry))) ⌝ }
 {

@@ -8,7 +8,6 @@ use native.Mathlib.Omega.{arith}
 use lib.Dec.{eqb}
 use lib.ListN.{length, getD}
 use borrow.Author.Tests.{lt-ltb, ne-eqb, eqb-true, eqb-false}
-use mir.Facts.{sfits-lit}
 use Rattle.base.specs.Out.{done, bind, Ok, went}
 use Rattle.base.proofs.Outs.{ok-bind, ok-weaken}
 use Rattle.base.proofs.Bools.{true-false}
@@ -18,7 +17,6 @@ use Rattle.base.specs.Search.{pick}
 use Rattle.base.specs.declared.Found.{Found}
 use Rattle.base.specs.declared.Found.the-variants.{At, Nothing}
 use Rattle.le.specs.Le.{Bytes}
-use Rattle.structs.specs.Fits.{RecordFits, TimeFits}
 use Rattle.structs.specs.Layout.{superOf, recordOf, recordBytes}
 use Rattle.structs.proofs.Layouts.{superOf-fits, recordOf-recordBytes}
 use Rattle.structs.specs.declared.DiskINode.{DiskINode}
@@ -29,9 +27,10 @@ use Rattle.arena.specs.Fields.{File, file}
 use Rattle.table.specs.declared.Table.{Table}
 use Rattle.table.specs.declared.Row.{Row}
 use Rattle.table.specs.declared.Hold.{Hold}
-use Rattle.table.specs.Zero.{zeroTime, zeroRecord, zeroRow, zeroHold}
+use Rattle.table.specs.Zero.{zeroRow, zeroHold}
 use Rattle.table.specs.Table.{rowAt, holdAt, isRow, rowOf, freeRowAt, rowUsed}
 use Rattle.table_bytes.specs.Fits.{TableFits}
+use Rattle.table_bytes.proofs.Empty.{zero-fits}
 use Rattle.table_laws.specs.Rules.{Formed, also}
 use Rattle.table_laws.proofs.Rules.{row-is, holder-of, of-holder}
 use Rattle.table_laws.proofs.Finds.{row-found}
@@ -39,7 +38,7 @@ use Rattle.table_laws.proofs.Rows.{row-here, row-apart, free-kept, formed-held}
 use Rattle.files.specs.Read.{there, lengthOf, byteAt}
 use Rattle.files.specs.Store.{dropFile}
 use Rattle.files_laws.specs.Laws.{Kept, Drop, DropRefused}
-use Rattle.files_laws.proofs.Bounds.{named-meta, legal-same}
+use Rattle.files_laws.proofs.Bounds.{legal-same}
 use Rattle.sefs.specs.State.{Fs, Meta, withArena, withMeta}
 use Rattle.sefs.specs.Meta.{metaFile, mapAt, freeBlock}
 use Rattle.sefs.specs.Nodes.{nodeFile, recAt, idAt, noRow, freeNode, dropNode, release}
@@ -78,30 +77,6 @@ module _ (a b : List ℕ) (K : Kept a b metaFile) where
   pub stored-kept : (id : ℕ) → storedBytes b id ≡ storedBytes a id
   unfolding storedBytes
   stored-kept id = run-kept (128 * id) 112
-
--- ---- a free row fits
-
-pub zero-fits : RecordFits zeroRecord
-zero-fits = record {
-  size = omega arith;
-  kind = omega arith;
-  mode = omega arith;
-  nlinks = omega arith;
-  blocks = omega arith;
-  uid = omega arith;
-  gid = omega arith;
-  pad = omega arith;
-  atime = time;
-  mtime = time;
-  ctime = time;
-  file = named-meta .size;
-  mac = named-meta .size;
-  fileBytes = named-meta .bytes;
-  macBytes = named-meta .bytes;
-}
-  where
-    time : TimeFits zeroTime
-    time = record { sec = sfits-lit tt; nsec = sfits-lit tt }
 
 -- the record of a row in use is its id's
 pub mid-rec : {own : ℕ → Type 0} (a : List ℕ) (t : Table) → Formed own t → (i : ℕ) → Used t i → recOf a t (rowAt t i .id) ≡ rowAt t i .rec

@@ -7,7 +7,6 @@ use Prim.Native.Nat.{ℕ, zero, suc, _+_, _*_, _≤_, _<_}
 use native.Mathlib.Omega.{arith}
 use borrow.Author.Tests.{eq-eqb}
 use lib.Dec.{eqb, ltb}
-use lib.ListN.{getD-replicate}
 use Rattle.base.specs.Count.{sumTo, countTo}
 use Rattle.base.specs.Search.{pick}
 use Rattle.base.specs.declared.Found.the-variants.{Nothing}
@@ -25,9 +24,7 @@ use Rattle.structs.specs.declared.Timespec.{Timespec}
 use Rattle.maps.specs.Maps.{bitAt, setBits}
 use Rattle.utf8.specs.Names.{nameOf}
 use Rattle.table.specs.declared.Table.{Table}
-use Rattle.table.specs.Zero.{zeroRow, zeroHold}
-use Rattle.table.specs.Table.{emptyTable, offRow, rowAt, isRow, rowOf}
-use Rattle.table_bytes.specs.Fits.{RowFits, HoldFits, TableFits}
+use Rattle.table.specs.Table.{rowAt, isRow, rowOf}
 use Rattle.arena.specs.Blocks.{blk, blocks, legal}
 use Rattle.arena.specs.Fields.{File, file, tagOf, whichOf}
 use Rattle.files.specs.Read.{there}
@@ -43,7 +40,6 @@ use Rattle.image.specs.Midway.{Fair}
 use Rattle.image.proofs.Images.{head-there}
 use Rattle.image.proofs.Freed.{node-clear}
 use Rattle.image.proofs.Stores.{node-apart}
-use Rattle.image.proofs.Drops.{zero-fits}
 use Rattle.image.proofs.TreeOf.{tidy-of}
 use Rattle.image.proofs.Inits.{dot-name, dots-name}
 use Rattle.image.proofs.Roots.{rootMap, rootSuper, root-zero, root-one, root-two, root-high, root-bits}
@@ -228,14 +224,3 @@ module _ (n : ℕ) (time : Timespec) (name b : List ℕ) (fine : legal b ≡ tru
     tidy = tidy-of b t (node-below b) root-node (eq-eqb (recOf b t 2 .kind) 2 (five .root))
         (record { folder = of-folders (Folder b t) folder; size = λ id e f. absurd (true-false (of-nodes (λ (k : ℕ). isFolderAt b t k ≡ true) root-folder id e) f) }) seven eight;
   }
-
--- ---- the empty table
-
-pub empty-fits : TableFits emptyTable
-empty-fits = record {
-  rows-34 = refl;
-  holds-32 = refl;
-  rows = λ i l. subst RowFits (sym (getD-replicate 34 i zeroRow offRow l)) (record { id = omega arith; rec = zero-fits });
-  holds = λ i l. subst HoldFits (sym (getD-replicate 32 i zeroHold zeroHold l)) (record { row = omega arith; stamp = omega arith });
-  next = omega arith;
-}

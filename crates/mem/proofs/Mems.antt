@@ -32,7 +32,7 @@ use Rattle.table_bytes.specs.Fits.{RowFits, TableFits}
 use Rattle.table_bytes.specs.Layout.{rowFrom, rowBytes, holdFrom, rowAtPlace, holdAtPlace, tableOf, tableBytes}
 use Rattle.table_bytes.specs.Runs.{listTo}
 use Rattle.table_bytes.proofs.Layouts.{length-rowBytes, rowFrom-rowBytes, length-fits, tableOf-tableBytes}
-use Rattle.table_bytes.proofs.Runs.{length-list, getD-list, list-is}
+use Rattle.table_bytes.proofs.Runs.{length-list, getD-list, list-is, list-cong}
 use Rattle.sefs.specs.Meta.{superWith}
 use Rattle.mem.specs.Mem.{tableIn, superIn, mapsIn, metaIn, Whole, Tabled, Mapped, memorySize}
 
@@ -50,9 +50,6 @@ part-end l s e q h = take-all (e - s) (drop s l) (omega (arith, length-drop s l)
 -- a part of the front
 part-front : (l : List ℕ) (e s u : ℕ) → u ≤ e → part (part l 0 e) s u ≡ part l s u
 part-front l e s u h = part-part l 0 e s u (omega arith) ∙ (λ x. part l (zero-add s x) (zero-add u x))
-
-list-cong : {A : Type 0} (d : A) (f g : ℕ → A) (n : ℕ) → ((i : ℕ) → i < n → f i ≡ g i) → listTo f n ≡ listTo g n
-list-cong d f g n h = list-is g d (listTo f n) n (length-list f n) (λ i k. getD-list f d n i k ∙ h i k)
 
 -- ---- the table
 
@@ -104,6 +101,22 @@ table-kept m n q =
     (holds-same m n b)
     (next-same m n b)
 
+-- row i became r, and the bytes beside it are as they were
+pub row-changed : (m n : List ℕ) (i : ℕ) (r : Row) → i < 34 → ((t u : ℕ) → (t < 117 * i + 117 → u ≤ 117 * i) → part n t u ≡ part m t u) → rowFrom (part n (117 * i) (117 * i + 117)) ≡ r → tableIn n ≡ withRow (tableIn m) i r
+unfolding tableOf rowAtPlace
+row-changed m n i r inside beside own =
+    let b : part n 3978 4370 ≡ part m 3978 4370 = beside 3978 4370 (λ l. absurd (omega arith)) in
+    let s : length (tableIn m .rows) ≡ 34 = length-list (rowAtPlace m) 34 in
+    table-is n (withRow (tableIn m) i r) (length-set (tableIn m .rows) i r ∙ s)
+    (λ j k.
+    elim (ℕ-discrete j i) [
+      | yes e ↦ rw e (getD-set-same (tableIn m .rows) i r offRow (omega (arith, s)) ∙ sym own)
+      | no ne ↦
+          getD-set-other (tableIn m .rows) i j r offRow ne ∙ row-read m j k ∙ ap rowFrom (sym (beside (117 * j) (117 * j + 117) (λ l. omega (arith, ne))))
+    ])
+    (holds-same m n b)
+    (next-same m n b)
+
 -- a row that is written is in the table, and all else is as it was
 module _ (m : List ℕ) (i : ℕ) (r : Row) (long : 4370 ≤ length m) (inside : i < 34) (F : RowFits r) where
   wide : length (rowBytes r) ≡ 117
@@ -112,27 +125,10 @@ module _ (m : List ℕ) (i : ℕ) (r : Row) (long : 4370 ≤ length m) (inside :
   fit : 117 * i + length (rowBytes r) ≤ length m
   fit = omega (arith, wide)
 
-  row-beside : (j : ℕ) → (j ≡ i → ⊥) → part (paste m (117 * i) (rowBytes r)) (117 * j) (117 * j + 117) ≡ part m (117 * j) (117 * j + 117)
-  row-beside j ne = part-paste-other m (117 * i) (rowBytes r) fit (117 * j) (117 * j + 117) (λ l. let q : 117 * j < 117 * i + 117 = omega (arith, wide, l) in omega arith)
-
   pub row-put : tableIn (paste m (117 * i) (rowBytes r)) ≡ withRow (tableIn m) i r
-  unfolding tableOf rowAtPlace
   row-put =
-      let n : List ℕ = paste m (117 * i) (rowBytes r) in
-      let b : part n 3978 4370 ≡ part m 3978 4370 = part-paste-other m (117 * i) (rowBytes r) fit 3978 4370 (λ l. absurd (omega (arith, wide))) in
-      let s : length (tableIn m .rows) ≡ 34 = length-list (rowAtPlace m) 34 in
-      table-is n (withRow (tableIn m) i r) (length-set (tableIn m .rows) i r ∙ s)
-      (λ j k.
-      elim (ℕ-discrete j i) [
-        | yes e ↦
-            rw e
-            (getD-set-same (tableIn m .rows) i r offRow (omega (arith, s))
-            ∙ sym (ap rowFrom (part-written 117 m (117 * i) (rowBytes r) wide (omega arith)) ∙ rowFrom-rowBytes r F))
-        | no ne ↦
-            getD-set-other (tableIn m .rows) i j r offRow ne ∙ row-read m j k ∙ ap rowFrom (sym (row-beside j ne))
-      ])
-      (holds-same m n b)
-      (next-same m n b)
+      row-changed m (paste m (117 * i) (rowBytes r)) i r inside (λ t u h. part-paste-other m (117 * i) (rowBytes r) fit t u (λ l. h (omega (arith, wide, l))))
+      (ap rowFrom (part-written 117 m (117 * i) (rowBytes r) wide (omega arith)) ∙ rowFrom-rowBytes r F)
 
   pub row-put-rest : part (paste m (117 * i) (rowBytes r)) 4370 memorySize ≡ part m 4370 memorySize
   row-put-rest = part-paste-other m (117 * i) (rowBytes r) fit 4370 memorySize (λ l. absurd (omega (arith, wide)))
@@ -196,6 +192,22 @@ table-start m f n t size F ef en =
     let k : length n ≡ memorySize = ap length en ∙ length-paste f 0 (tableBytes t) fit ∙ h in
     let e : getD n 4370 0 ≡ 0 = ap (λ (k : List ℕ). getD k 4370 0) en ∙ getD-paste-out f 0 (tableBytes t) fit 4370 (λ q. omega (arith, l)) ∙ z in
     (ap tableIn en ∙ table-put f t long F, whole-unread n k e)
+
+-- the flag is cleared, and the table's bytes t are laid over their place
+pub bytes-start : (m f d t : List ℕ) → length m ≡ memorySize → length t ≡ 4370 → f ≡ set m 4370 0 → d ≡ t
+    → (tableIn (back f 0 4370 d) ≡ tableOf t) × Whole (back f 0 4370 d)
+bytes-start m f d t size long ef ed =
+    let h : length f ≡ memorySize = ap length ef ∙ length-set m 4370 0 ∙ size in
+    let n : List ℕ = paste f 0 t in
+    let fit : 0 + length t ≤ length f = omega (arith, h, long) in
+    let b : back f 0 4370 d ≡ n = ap (back f 0 4370) ed ∙ back-paste f 0 4370 t (omega (arith, long)) in
+    let z : getD n 4370 0 ≡ 0 = getD-paste-out f 0 t fit 4370 (λ q. omega (arith, long)) ∙ ap (λ (k : List ℕ). getD k 4370 0) ef ∙ getD-set-same m 4370 0 0 (omega (arith, size)) in
+    let p : part n 0 4370 ≡ part t 0 4370 = part-written 4370 f 0 t long (omega (arith, h)) ∙ sym (take-all (4370 - 0) t (omega (arith, long))) in
+    (ap tableIn b ∙ table-kept t n p, subst Whole (sym b) (whole-unread n (length-paste f 0 t fit ∙ h) z))
+
+-- the table's own bytes alone are the table
+pub table-front : (m : List ℕ) → tableOf (part m 0 4370) ≡ tableIn m
+table-front m = table-kept m (part m 0 4370) (part-front m 4370 0 4370 (omega arith))
 
 -- where the flag is set
 pub meta-is : (m : List ℕ) → getD m 4370 0 ≡ 1 → metaIn m ≡ done (record { super = superIn m; maps = mapsIn m })

@@ -17,12 +17,19 @@ ghost use Rattle.base.specs.Out.{done};
 ghost use Rattle.base.specs.Parts.{part};
 ghost use Rattle.base.specs.Search.{lowest, foundBelow};
 ghost use Rattle.maps.specs.Maps.{bitAt, withBit};
-ghost use Rattle.table.specs.Table.{rowAt, namesRow, rowOf, rowUsed, takeRow, withRow, withDirty, freeRowAt};
+ghost use Rattle.table.specs.Table.{emptyTable, rowAt, namesRow, rowOf, rowUsed, takeRow, withRow, withDirty, freeRowAt};
+ghost use Rattle.table_bytes.specs.Layout.{tableOf, tableBytes};
 ghost use Rattle.sefs.specs.Create.{freshMeta};
 ghost use Rattle.sefs.specs.Meta.{superWith, grown};
+ghost use Rattle.sefs.specs.Records.{withLinks, withBlocks};
 ghost use Rattle.mem.specs.Mem.{tableIn, superIn, mapsIn, metaIn, Whole, Tabled, Mapped, memorySize};
 use base::Found;
+use base::copy;
 use base::index;
+use le::put_u16;
+use le::put_u32;
+use le::u16_at;
+use le::u32_at;
 use structs::DiskINode;
 use structs::SEFS_MAGIC;
 use structs::SuperBlock;
@@ -32,6 +39,7 @@ use table::Row;
 use table::Table;
 use table_bytes::hold_in;
 use table_bytes::row_in;
+use table_bytes::settle_marks;
 
 // How long it is.
 pub const MEMORY: usize = 4899;
@@ -49,14 +57,14 @@ pub fn id_at(mem: &[u8], i: usize) -> u32
     requires { ⌜ Whole (now mem) × (i < 34) ⌝ }
     ensures { λ r. ⌜ r ≡ rowAt (tableIn (now (mem .entry))) i .id ⌝ }
 {
-    row_at(mem, i).id
+    u32_at(mem, 117 * i)
 }
 
 pub fn dirty_at(mem: &[u8], i: usize) -> bool
     requires { ⌜ Whole (now mem) × (i < 34) ⌝ }
     ensures { λ r. ⌜ r ≡ rowAt (tableIn (now (mem .entry))) i .dirty ⌝ }
 {
-    row_at(mem, i).dirty
+    mem[117 * i + 4] != 0
 }
 
 pub fn rec_at(mem: &[u8], i: usize) -> DiskINode
@@ -66,6 +74,40 @@ pub fn rec_at(mem: &[u8], i: usize) -> DiskINode
     let row = row_at(mem, i);
     row.rec
 }
+
+// ---- fields of a row's record, where they stand: the record is copied nowhere
+
+pub fn kind_at(mem: &[u8], i: usize) -> u32
+    requires { ⌜ Whole (now mem) × (i < 34) ⌝ }
+    ensures { λ r. ⌜ r ≡ rowAt (tableIn (now (mem .entry))) i .rec .kind ⌝ }
+{
+    u32_at(mem, 117 * i + 13)
+}
+
+pub fn nlinks_at(mem: &[u8], i: usize) -> u16
+    requires { ⌜ Whole (now mem) × (i < 34) ⌝ }
+    ensures { λ r. ⌜ r ≡ rowAt (tableIn (now (mem .entry))) i .rec .nlinks ⌝ }
+{
+    u16_at(mem, 117 * i + 19)
+}
+
+pub fn blocks_at(mem: &[u8], i: usize) -> u32
+    requires { ⌜ Whole (now mem) × (i < 34) ⌝ }
+    ensures { λ r. ⌜ r ≡ rowAt (tableIn (now (mem .entry))) i .rec .blocks ⌝ }
+{
+    u32_at(mem, 117 * i + 21)
+}
+
+// The name of its file, 16 bytes.
+pub fn file_at(mem: &[u8], i: usize) -> &[u8]
+    requires { ⌜ Whole (now mem) × (i < 34) ⌝ }
+    ensures { λ r. ⌜ (now r ≡ rowAt (tableIn (now (mem .entry))) i .rec .file) × (length (now r) ≡ 16) ⌝ }
+{
+    let o = 117 * i + 85;
+    &mem[o..o + 16]
+}
+
+// ---- rows that change
 
 pub fn put_row(mem: &mut [u8], i: usize, row: Row)
     requires { ⌜ Whole (now mem) × (i < 34) ⌝ }
@@ -89,6 +131,23 @@ pub fn set_rec(mem: &mut [u8], i: usize, rec: DiskINode)
             rec: rec,
         },
     );
+}
+
+// One number of row i's record, which marks it dirty too.
+pub fn set_links(mem: &mut [u8], i: usize, n: u16)
+    requires { ⌜ Whole (now mem) × (i < 34) ⌝ }
+    ensures { λ _. ⌜ Tabled (now (mem .entry)) (now (mem .exit)) (takeRow (tableIn (now (mem .entry))) i (rowAt (tableIn (now (mem .entry))) i .id) (withLinks (rowAt (tableIn (now (mem .entry))) i .rec) n) true) ⌝ }
+{
+    put_u16(mem, 117 * i + 19, n);
+    mem[117 * i + 4] = 1;
+}
+
+pub fn set_blocks(mem: &mut [u8], i: usize, n: u32)
+    requires { ⌜ Whole (now mem) × (i < 34) ⌝ }
+    ensures { λ _. ⌜ Tabled (now (mem .entry)) (now (mem .exit)) (takeRow (tableIn (now (mem .entry))) i (rowAt (tableIn (now (mem .entry))) i .id) (withBlocks (rowAt (tableIn (now (mem .entry))) i .rec) n) true) ⌝ }
+{
+    put_u32(mem, 117 * i + 21, n);
+    mem[117 * i + 4] = 1;
 }
 
 pub fn put_dirty(mem: &mut [u8], i: usize, dirty: bool)
@@ -274,6 +333,33 @@ pub fn put_table(mem: &mut [u8], t: Table)
 {
     put_flag(mem, false);
     table_bytes::write_table(mem, t);
+}
+
+// The same from the table's bytes, with no table by value.
+pub fn begin(mem: &mut [u8], table: &[u8])
+    requires { ⌜ (length (now mem) ≡ memorySize) × (length (now table) ≡ 4370) ⌝ }
+    ensures { λ _. ⌜ (tableIn (now (mem .exit)) ≡ tableOf (now (table .entry))) × Whole (now (mem .exit)) ⌝ }
+{
+    put_flag(mem, false);
+    copy(&mut mem[0..4370], table);
+}
+
+// The end of a call that was given the table's bytes: memory's table, written.
+pub fn write_back(table: &mut [u8], mem: &[u8])
+    requires { ⌜ (length (now table) ≡ 4370) × (length (now mem) ≡ memorySize) ⌝ }
+    ensures { λ _. ⌜ now (table .exit) ≡ tableBytes (tableIn (now (mem .entry))) ⌝ }
+{
+    copy(table, &mem[0..4370]);
+    settle_marks(table);
+}
+
+// No row in use, and no superblock or map read.
+pub fn put_empty(mem: &mut [u8])
+    requires { ⌜ length (now mem) ≡ memorySize ⌝ }
+    ensures { λ _. ⌜ (tableIn (now (mem .exit)) ≡ emptyTable) × Whole (now (mem .exit)) ⌝ }
+{
+    put_flag(mem, false);
+    table_bytes::put_empty(mem);
 }
 
 // What format starts from: one group, with the bits of the superblock's and the map's own block clear.

@@ -8,7 +8,6 @@ use borrow.Author.Tests.{eq-eqb, ne-eqb, le-leb, lt-leb}
 use Rattle.base.specs.Out.{bind, Went, well, ill}
 use Rattle.base.proofs.Outs.{went-is, went-has, went-next, went-stop}
 use Rattle.le.specs.Le.{leAt, Bytes}
-use Rattle.structs.specs.declared.DiskINode.{DiskINode}
 use Rattle.structs.specs.declared.DiskEntry.{DiskEntry}
 use Rattle.structs.specs.Layout.{entryOf, entryBytes}
 use Rattle.structs.specs.Fits.{EntryFits}
@@ -26,7 +25,7 @@ use Rattle.mem.specs.State.{fsOf, Ready, Stepped}
 use Rattle.folders.proofs.Folders.{id-of}
 use Rattle.folders.proofs.States.{stepped-next, stepped-more}
 use Rattle.steps.specs.Steps.{syncTwo}
-use Rattle.steps.proofs.Steps.{rec-of, name-bytes}
+use Rattle.steps.proofs.Steps.{name-bytes}
 use Rattle.move_steps.specs.declared.Gone.{Gone}
 use Rattle.move_steps.specs.declared.Gone.the-variants.{Free, Node}
 use Rattle.move_steps.specs.Steps.{InRow, removeGone, withinFolder, endFolders, endMove, openMoved, restMove, betweenFolders, moveSlot, moveNamed, moveOver}
@@ -64,32 +63,36 @@ module _ {a w u : List ℕ} {r : ℕ} (m l : List ℕ) (i k : ℕ) (g : Gone) (b
     unfolding withinFolder
     within-done o h = stepped-next (λ s. bind (removeGone s i g) (λ s. syncRow s i)) 3 24 (went-is slotted z) (went-has p z) (stepped-next (λ s. syncRow s i) 18 21 (went-is d o) (went-has d o) h (omega arith)) (omega arith)
 
--- ---- the links of both folders, by the moved node's record x
+-- ---- the links of both folders, by the moved node's type x
 
-module _ (m : List ℕ) (i j c : ℕ) (x : DiskINode) (e : x ≡ rowAt (tableIn m) c .rec) where
-  pub links-stuck : (n : List ℕ) → 4 < x .kind → (a w : List ℕ) → Went (moveLinks (fsOf a w m) i j c) (fsOf a w n) (Whole n) 19
-  unfolding moveLinks
-  links-stuck n l a w = ill {r = 19} (omega arith) (rw (← rec-of a w m c x e, lt-leb (x .kind) 4 l))
+kind-of : (a w m : List ℕ) (c x : ℕ) → x ≡ rowAt (tableIn m) c .rec .kind → x ≡ recAt (fsOf a w m) c .kind
+unfolding fsOf
+kind-of a w m c x e = e
 
-  pub links-folder : {n : List ℕ} {r : ℕ} → x .kind ≤ 4 → x .kind ≡ 2 → ((a w : List ℕ) → Went (moveDots (fsOf a w m) i j) (fsOf a w n) (Whole n) r) → (a w : List ℕ) → Went (moveLinks (fsOf a w m) i j c) (fsOf a w n) (Whole n) r
+module _ (m : List ℕ) (i j c x : ℕ) (e : x ≡ rowAt (tableIn m) c .rec .kind) where
+  pub links-stuck : (n : List ℕ) → 4 < x → (a w : List ℕ) → Went (moveLinks (fsOf a w m) i j c) (fsOf a w n) (Whole n) 19
   unfolding moveLinks
-  links-folder l k h a w = rw (← rec-of a w m c x e, le-leb (x .kind) 4 l, eq-eqb (x .kind) 2 k) (h a w)
+  links-stuck n l a w = ill {r = 19} (omega arith) (rw (← kind-of a w m c x e, lt-leb x 4 l))
 
-  pub links-other : x .kind ≤ 4 → (x .kind ≡ 2 → ⊥) → Whole m → (a w : List ℕ) → Went (moveLinks (fsOf a w m) i j c) (fsOf a w m) (Whole m) 0
+  pub links-folder : {n : List ℕ} {r : ℕ} → x ≤ 4 → x ≡ 2 → ((a w : List ℕ) → Went (moveDots (fsOf a w m) i j) (fsOf a w n) (Whole n) r) → (a w : List ℕ) → Went (moveLinks (fsOf a w m) i j c) (fsOf a w n) (Whole n) r
   unfolding moveLinks
-  links-other l k h a w = well (rw (← rec-of a w m c x e, le-leb (x .kind) 4 l, ne-eqb (x .kind) 2 k)) h
+  links-folder l k h a w = rw (← kind-of a w m c x e, le-leb x 4 l, eq-eqb x 2 k) (h a w)
+
+  pub links-other : x ≤ 4 → (x ≡ 2 → ⊥) → Whole m → (a w : List ℕ) → Went (moveLinks (fsOf a w m) i j c) (fsOf a w m) (Whole m) 0
+  unfolding moveLinks
+  links-other l k h a w = well (rw (← kind-of a w m c x e, le-leb x 4 l, ne-eqb x 2 k)) h
 
 -- ---- between folders
 
--- the moved node is in row c, with the record x
-module _ (a w m : List ℕ) (j c : ℕ) (x : DiskINode) (e : x ≡ rowAt (tableIn m) c .rec) where
-  pub parent-folder : {u : List ℕ} {r : ℕ} (y : ℕ) → y ≡ rowAt (tableIn m) j .id → x .kind ≡ 2 → Stepped (putSlot (fsOf a w m) c 1 (entryBytes (dotsEntry y))) a w u m 3 r → Stepped (moveParent (fsOf a w m) j c) a w u m 3 r
+-- the moved node is in row c, and its type is x
+module _ (a w m : List ℕ) (j c x : ℕ) (e : x ≡ rowAt (tableIn m) c .rec .kind) where
+  pub parent-folder : {u : List ℕ} {r : ℕ} (y : ℕ) → y ≡ rowAt (tableIn m) j .id → x ≡ 2 → Stepped (putSlot (fsOf a w m) c 1 (entryBytes (dotsEntry y))) a w u m 3 r → Stepped (moveParent (fsOf a w m) j c) a w u m 3 r
   unfolding moveParent
-  parent-folder y f k h = rw (← rec-of a w m c x e, eq-eqb (x .kind) 2 k, ← id-of a w m j y f) h
+  parent-folder y f k h = rw (← kind-of a w m c x e, eq-eqb x 2 k, ← id-of a w m j y f) h
 
-  pub parent-other : (x .kind ≡ 2 → ⊥) → Ready a w m → Stepped (moveParent (fsOf a w m) j c) a w w m 3 0
+  pub parent-other : (x ≡ 2 → ⊥) → Ready a w m → Stepped (moveParent (fsOf a w m) j c) a w w m 3 0
   unfolding moveParent
-  parent-other k h = rw (← rec-of a w m c x e, ne-eqb (x .kind) 2 k) (well refl (record { fine = h .fine; whole = h .whole; room = omega arith }))
+  parent-other k h = rw (← kind-of a w m c x e, ne-eqb x 2 k) (well refl (record { fine = h .fine; whole = h .whole; room = omega arith }))
 
 module _ {a w u : List ℕ} {r : ℕ} (m : List ℕ) (i j c : ℕ) (g : Stepped (moveParent (fsOf a w m) j c) a w u m 3 r) where
   pub folders-stop : (v q : List ℕ) → (r ≡ 0 → ⊥) → Stepped (endFolders (fsOf a w m) i j c) a w v q 9 r
@@ -173,20 +176,20 @@ renamed-is l v name id kind b h hi hk p q e =
     ap entryOf e ∙ entryOf-entryBytes (entry id name kind) f ∙ rw (p, q)
 
 -- a slot that was found, in the state
-pub find-fs : {v : Slot} {P : Type 0} {r : ℕ} (a w m : List ℕ) (i : ℕ) (name : List ℕ) (x : DiskINode) → x ≡ rowAt (tableIn m) i .rec → Went (findSlot (view a w) x name) v P r → Went (findSlot (fsOf a w m .arena) (recAt (fsOf a w m) i) name) v P r
+pub find-fs : {v : Slot} {P : Type 0} {r : ℕ} (a w m : List ℕ) (i : ℕ) (name : List ℕ) → Went (findSlot (view a w) (rowAt (tableIn m) i .rec) name) v P r → Went (findSlot (fsOf a w m .arena) (recAt (fsOf a w m) i) name) v P r
 unfolding fsOf
-find-fs a w m i name x e f = rw e at f
+find-fs a w m i name f = f
 
 -- found by its name
-module _ (a w m : List ℕ) (i j : ℕ) (old name l : List ℕ) (k r : ℕ) {P : Type 0} (g : Gone) (x : DiskINode) (e : x ≡ rowAt (tableIn m) i .rec) (f : Went (findSlot (view a w) x old) (record { place = k; entry = entryOf l }) P r) where
+module _ (a w m : List ℕ) (i j : ℕ) (old name l : List ℕ) (k r : ℕ) {P : Type 0} (g : Gone) (f : Went (findSlot (view a w) (rowAt (tableIn m) i .rec) old) (record { place = k; entry = entryOf l }) P r) where
   pub named-stop : (v : Fs) {Q : Type 0} → (r ≡ 0 → ⊥) → Went (moveNamed (fsOf a w m) i j old name g) v Q r
   unfolding moveNamed
-  named-stop v z = went-stop (λ f. moveSlot (fsOf a w m) i j (f .place) (renamed (f .entry) name) g) v z (find-fs a w m i old x e f)
+  named-stop v z = went-stop (λ f. moveSlot (fsOf a w m) i j (f .place) (renamed (f .entry) name) g) v z (find-fs a w m i old f)
 
   pub named-next : {v : Fs} {Q : Type 0} {q : ℕ} (t : List ℕ) → entryOf t ≡ renamed (entryOf l) name → r ≡ 0 → Went (moveSlot (fsOf a w m) i j k (entryOf t) g) v Q q → Went (moveNamed (fsOf a w m) i j old name g) v Q q
   unfolding moveNamed
   named-next {v} {Q} {q} t d z h =
-      went-next (λ f. moveSlot (fsOf a w m) i j (f .place) (renamed (f .entry) name) g) (went-is (find-fs a w m i old x e f) z)
+      went-next (λ f. moveSlot (fsOf a w m) i j (f .place) (renamed (f .entry) name) g) (went-is (find-fs a w m i old f) z)
       (subst (λ (y : DiskEntry). Went (moveSlot (fsOf a w m) i j k y g) v Q q) d h)
 
 -- ---- node c in the place of node d

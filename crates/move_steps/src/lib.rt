@@ -21,7 +21,7 @@ use folders::put_slot;
 use folders::slots::find_slot;
 use le::u32_at;
 use mem::id_at;
-use mem::rec_at;
+use mem::kind_at;
 use nodes::get_node;
 use nodes::release;
 use nodes::sync_row;
@@ -35,34 +35,42 @@ pub enum Gone {
 
 // ---- the steps: slots first, then the replaced node, then the folders' records
 
-fn remove_gone(arena: &[u8], work: &mut [u8], mem: &mut [u8], j: usize, gone: Gone) -> u8
-    requires { ⌜ Ready (now arena) (now work) (now mem) × ((18 ≤ left (now work)) × ((j < 34) × (InRow gone))) ⌝ }
+// `slot` is room for a slot of the target; so below, too.
+fn remove_gone(
+    arena: &[u8],
+    work: &mut [u8],
+    mem: &mut [u8],
+    slot: &mut [u8],
+    j: usize,
+    gone: Gone,
+) -> u8
+    requires { ⌜ Ready (now arena) (now work) (now mem) × ((18 ≤ left (now work)) × ((j < 34) × ((length (now slot) ≡ 264) × (InRow gone)))) ⌝ }
     ensures { λ r. ⌜ Stepped (removeGone (fsOf (now (arena .entry)) (now (work .entry)) (now (mem .entry))) j gone) (now (arena .entry)) (now (work .entry)) (now (work .exit)) (now (mem .exit)) 18 r ⌝ }
 {
     match gone {
         Gone::Free => 0,
-        Gone::Node(row, place) => dirent_node_remove(arena, work, mem, j, row, place),
+        Gone::Node(row, place) => dirent_node_remove(arena, work, mem, slot, j, row, place),
     }
 }
 
-// Within one folder the slot gets another name.
+// Within one folder the slot gets another name. `moved` has it with that name, and is room for slots once it is stored; so below, too.
 fn move_within(
     arena: &[u8],
     work: &mut [u8],
     mem: &mut [u8],
+    moved: &mut [u8],
     i: usize,
     k: usize,
-    moved: &[u8],
     gone: Gone,
 ) -> u8
     requires { ⌜ Ready (now arena) (now work) (now mem) × ((24 ≤ left (now work)) × ((i < 34) × ((length (now moved) ≡ 264) × (InRow gone)))) ⌝ }
     ensures { λ r. ⌜ Stepped (withinFolder (fsOf (now (arena .entry)) (now (work .entry)) (now (mem .entry))) i k (entryOf (now (moved .entry))) gone) (now (arena .entry)) (now (work .entry)) (now (work .exit)) (now (mem .exit)) 24 r ⌝ }
 {
-    let r = put_slot(arena, work, &mem[..], i, k, moved);
+    let r = put_slot(arena, work, &mem[..], i, k, &moved[..]);
     if r != 0 {
         return r;
     }
-    let r = remove_gone(arena, work, mem, i, gone);
+    let r = remove_gone(arena, work, mem, moved, i, gone);
     if r != 0 {
         return r;
     }
@@ -86,7 +94,7 @@ fn move_links(mem: &mut [u8], i: usize, j: usize, c: usize) -> u8
     requires { ⌜ Whole (now mem) × ((i < 34) × ((j < 34) × ((c < 34)))) ⌝ }
     ensures { λ r. ⌜ ((a w : List ℕ) → Went (moveLinks (fsOf a w (now (mem .entry))) i j c) (fsOf a w (now (mem .exit))) (Whole (now (mem .exit))) r) ⌝ }
 {
-    let kind = rec_at(&mem[..], c).kind;
+    let kind = kind_at(&mem[..], c);
     if kind > 4 {
         return 19;
     }
@@ -101,7 +109,7 @@ fn move_parent(arena: &[u8], work: &mut [u8], mem: &[u8], j: usize, c: usize) ->
     requires { ⌜ Ready (now arena) (now work) (now mem) × ((3 ≤ left (now work)) × ((j < 34) × (c < 34))) ⌝ }
     ensures { λ r. ⌜ Stepped (moveParent (fsOf (now (arena .entry)) (now (work .entry)) (now (mem .entry))) j c) (now (arena .entry)) (now (work .entry)) (now (work .exit)) (now (mem .entry)) 3 r ⌝ }
 {
-    if rec_at(mem, c).kind == 2 {
+    if kind_at(mem, c) == 2 {
         return put_dots(arena, work, mem, c, id_at(mem, j));
     }
     0
@@ -150,15 +158,16 @@ fn move_rest(
     arena: &[u8],
     work: &mut [u8],
     mem: &mut [u8],
+    slot: &mut [u8],
     i: usize,
     j: usize,
     id: u32,
     gone: Gone,
 ) -> u8
-    requires { ⌜ Ready (now arena) (now work) (now mem) × ((40 ≤ left (now work)) × ((i < 34) × ((j < 34) × (InRow gone)))) ⌝ }
+    requires { ⌜ Ready (now arena) (now work) (now mem) × ((40 ≤ left (now work)) × ((i < 34) × ((j < 34) × ((length (now slot) ≡ 264) × (InRow gone))))) ⌝ }
     ensures { λ r. ⌜ Stepped (restMove (fsOf (now (arena .entry)) (now (work .entry)) (now (mem .entry))) i j id gone) (now (arena .entry)) (now (work .entry)) (now (work .exit)) (now (mem .exit)) 40 r ⌝ }
 {
-    let r = remove_gone(arena, work, mem, j, gone);
+    let r = remove_gone(arena, work, mem, slot, j, gone);
     if r != 0 {
         return r;
     }
@@ -169,43 +178,44 @@ fn move_between(
     arena: &[u8],
     work: &mut [u8],
     mem: &mut [u8],
+    moved: &mut [u8],
     i: usize,
     j: usize,
     k: usize,
-    moved: &[u8],
     gone: Gone,
 ) -> u8
     requires { ⌜ Ready (now arena) (now work) (now mem) × ((48 ≤ left (now work)) × ((i < 34) × ((j < 34) × ((length (now moved) ≡ 264) × (InRow gone))))) ⌝ }
     ensures { λ r. ⌜ Stepped (betweenFolders (fsOf (now (arena .entry)) (now (work .entry)) (now (mem .entry))) i j k (entryOf (now (moved .entry))) gone) (now (arena .entry)) (now (work .entry)) (now (work .exit)) (now (mem .exit)) 48 r ⌝ }
 {
-    let r = dirent_append(arena, work, mem, j, moved);
+    let id = u32_at(&moved[..], 0);
+    let r = dirent_append(arena, work, mem, j, &moved[..]);
     if r != 0 {
         return r;
     }
-    let r = dirent_remove(arena, work, mem, i, k);
+    let r = dirent_remove(arena, work, mem, moved, i, k);
     if r != 0 {
         return r;
     }
-    move_rest(arena, work, mem, i, j, u32_at(moved, 0), gone)
+    move_rest(arena, work, mem, moved, i, j, id, gone)
 }
 
 pub fn move_slot(
     arena: &[u8],
     work: &mut [u8],
     mem: &mut [u8],
+    moved: &mut [u8],
     i: usize,
     j: usize,
     k: usize,
-    moved: &[u8],
     gone: Gone,
 ) -> u8
     requires { ⌜ Ready (now arena) (now work) (now mem) × ((48 ≤ left (now work)) × ((i < 34) × ((j < 34) × ((length (now moved) ≡ 264) × (InRow gone))))) ⌝ }
     ensures { λ r. ⌜ Stepped (moveSlot (fsOf (now (arena .entry)) (now (work .entry)) (now (mem .entry))) i j k (entryOf (now (moved .entry))) gone) (now (arena .entry)) (now (work .entry)) (now (work .exit)) (now (mem .exit)) 48 r ⌝ }
 {
     if id_at(&mem[..], i) == id_at(&mem[..], j) {
-        return move_within(arena, work, mem, i, k, moved, gone);
+        return move_within(arena, work, mem, moved, i, k, gone);
     }
-    move_between(arena, work, mem, i, j, k, moved, gone)
+    move_between(arena, work, mem, moved, i, j, k, gone)
 }
 
 // The moved slot keeps the old slot's id and type.
@@ -222,22 +232,22 @@ fn move_steps(
     arena: &[u8],
     work: &mut [u8],
     mem: &mut [u8],
+    slot: &mut [u8],
     i: usize,
     j: usize,
     old: &[u8],
     name: &[u8],
     gone: Gone,
 ) -> u8
-    requires { ⌜ Ready (now arena) (now work) (now mem) × ((48 ≤ left (now work)) × ((i < 34) × ((j < 34) × ((length (now name) ≤ 255) × (InRow gone))))) ⌝ }
+    requires { ⌜ Ready (now arena) (now work) (now mem) × ((48 ≤ left (now work)) × ((i < 34) × ((j < 34) × ((length (now name) ≤ 255) × ((length (now slot) ≡ 264) × (InRow gone)))))) ⌝ }
     ensures { λ r. ⌜ Stepped (moveNamed (fsOf (now (arena .entry)) (now (work .entry)) (now (mem .entry))) i j (now (old .entry)) (now (name .entry)) gone) (now (arena .entry)) (now (work .entry)) (now (work .exit)) (now (mem .exit)) 48 r ⌝ }
 {
-    let mut slot = [0u8; 264];
-    let p = find_slot(arena, &work[..], rec_at(&mem[..], i), old, &mut slot);
+    let p = find_slot(arena, &work[..], &mem[..], i, old, slot);
     if p.reason != 0 {
         return p.reason;
     }
-    rename(&mut slot, name);
-    move_slot(arena, work, mem, i, j, p.place, &slot, gone)
+    rename(slot, name);
+    move_slot(arena, work, mem, slot, i, j, p.place, gone)
 }
 
 // ---- the new name exists
@@ -247,6 +257,7 @@ pub fn move_onto(
     arena: &[u8],
     work: &mut [u8],
     mem: &mut [u8],
+    slot: &mut [u8],
     i: usize,
     j: usize,
     old: &[u8],
@@ -255,12 +266,12 @@ pub fn move_onto(
     d: usize,
     k: usize,
 ) -> u8
-    requires { ⌜ Ready (now arena) (now work) (now mem) × ((61 ≤ left (now work)) × ((i < 34) × ((j < 34) × ((c < 34) × ((d < 34) × (length (now name) ≤ 255)))))) ⌝ }
+    requires { ⌜ Ready (now arena) (now work) (now mem) × ((61 ≤ left (now work)) × ((i < 34) × ((j < 34) × ((c < 34) × ((d < 34) × ((length (now name) ≤ 255) × (length (now slot) ≡ 264))))))) ⌝ }
     ensures { λ r. ⌜ Stepped (moveOver (fsOf (now (arena .entry)) (now (work .entry)) (now (mem .entry))) i j (now (old .entry)) (now (name .entry)) c d k) (now (arena .entry)) (now (work .entry)) (now (work .exit)) (now (mem .exit)) 61 r ⌝ }
 {
     let r = release(arena, work, mem, c);
     if r != 0 {
         return r;
     }
-    move_steps(arena, work, mem, i, j, old, name, Gone::Node(d, k))
+    move_steps(arena, work, mem, slot, i, j, old, name, Gone::Node(d, k))
 }

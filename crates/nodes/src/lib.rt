@@ -14,9 +14,7 @@ ghost use Rattle.base.specs.Search.{pick};
 ghost use Rattle.table.specs.Table.{rowAt, rowOf, freeRow};
 ghost use Rattle.arena.specs.Fields.{file};
 ghost use Rattle.overlay.specs.View.{view, left, Fine};
-ghost use Rattle.overlay.specs.Steps.{Did};
 ghost use Rattle.files.specs.Read.{there as thereIn};
-ghost use Rattle.files.specs.Store.{dropFile};
 ghost use Rattle.sefs.specs.Records.{newRecord};
 ghost use Rattle.sefs.specs.Nodes.{opened as openedAs, nodeFile, openIn, loadNode, getNode, noRow, newNode, storeRow, syncRow, freeNode, dropNode};
 ghost use Rattle.sefs.specs.Nodes.{release as releaseNode};
@@ -32,12 +30,13 @@ use files::store::make;
 use files::store::put;
 use mem::clear_row;
 use mem::dirty_at;
+use mem::file_at;
 use mem::find_row;
 use mem::has_meta;
 use mem::id_at;
+use mem::nlinks_at;
 use mem::put_dirty;
 use mem::put_row;
-use mem::rec_at;
 use mem::row_held;
 use meta::alloc_block;
 use meta::free_block;
@@ -243,13 +242,6 @@ pub fn sync_row(arena: &[u8], work: &mut [u8], mem: &mut [u8], i: usize) -> u8
 
 // ---- 000's Drop of a node
 
-fn drop_file(arena: &[u8], work: &mut [u8], name: [u8; 16]) -> u8
-    requires { ⌜ Fine (now arena) (now work) ⌝ }
-    ensures { λ r. ⌜ Did (dropFile (view (now (arena .entry)) (now (work .entry))) (file 1 name)) (now (arena .entry)) (now (work .entry)) (now (work .exit)) 0 r ⌝ }
-{
-    drop(arena, work, 1, &name)
-}
-
 // The id is free: superblock and maps are stored, and the file is removed.
 fn remove_node(arena: &[u8], work: &mut [u8], mem: &[u8], i: usize) -> u8
     requires { ⌜ Ready (now arena) (now work) (now mem) × ((10 ≤ left (now work)) × (i < 34)) ⌝ }
@@ -259,8 +251,7 @@ fn remove_node(arena: &[u8], work: &mut [u8], mem: &[u8], i: usize) -> u8
     if r != 0 {
         return r;
     }
-    let file = rec_at(mem, i).file;
-    drop_file(arena, work, file)
+    drop(arena, work, 1, file_at(mem, i))
 }
 
 fn free_node(arena: &[u8], work: &mut [u8], mem: &mut [u8], i: usize) -> u8
@@ -278,7 +269,7 @@ fn free_unlinked(arena: &[u8], work: &mut [u8], mem: &mut [u8], i: usize) -> u8
     requires { ⌜ Ready (now arena) (now work) (now mem) × ((10 ≤ left (now work)) × (i < 34)) ⌝ }
     ensures { λ r. ⌜ Stepped (pick (eqb (rowAt (tableIn (now (mem .entry))) i .rec .nlinks) 0) (freeNode (fsOf (now (arena .entry)) (now (work .entry)) (now (mem .entry))) i) (done (fsOf (now (arena .entry)) (now (work .entry)) (now (mem .entry))))) (now (arena .entry)) (now (work .entry)) (now (work .exit)) (now (mem .exit)) 10 r ⌝ }
 {
-    if rec_at(&mem[..], i).nlinks == 0 {
+    if nlinks_at(&mem[..], i) == 0 {
         return free_node(arena, work, mem, i);
     }
     0

@@ -2,9 +2,9 @@
 -- chains. The functions here have the relations of the C edge; what is defined here stands before and after them.
 use mathlib.Core.Path.{_≡_}
 use mathlib.Core.Bool.{true}
-use mathlib.Core.List.{List, [], _∷_}
+use mathlib.Core.List.{List}
 use mathlib.Core.Logic.{_≢_}
-use Prim.Native.Nat.{ℕ, _+_}
+use Prim.Native.Nat.{ℕ}
 use lib.ListN.{length}
 use Rattle.base.specs.Out.{ensure, Went}
 use Rattle.base.specs.Reasons.{badArena}
@@ -14,8 +14,6 @@ use Rattle.arena.specs.Blocks.{blocks, legal}
 use Rattle.sound.specs.Sound.{sound}
 use Rattle.sound.specs.Chain.{Chains, firsts, nexts}
 use Rattle.calls.specs.Asked.{Admitted}
-use Rattle.calls.specs.declared.Listed.{Listed}
-use Rattle.calls.specs.declared.Listed.the-variants.{Slots, Refused}
 use Rattle.edge.specs.Edge.{sized}
 
 -- the words c are the chains of all blocks of the arena a
@@ -41,8 +39,3 @@ pub record Kept (a c m : List ℕ) : Type 0 where
 pub record Builds (a c d : List ℕ) (n : ℕ) : Type 0 where
   pub went : Went (sized 8192 c (ensure (legal a) badArena)) tt (Chained a d) n
   pub kept : n ≢ 0 → d ≡ c
-
--- a listing's word by its answer: it was w, and the listing began at slot `from`
-abbrev pub listedWordsBy : List ℕ → ℕ → Listed → List ℕ
-listedWordsBy w from (Slots n) = (from + n) ∷ []
-listedWordsBy w from (Refused r) = w

@@ -17,7 +17,6 @@ ghost use Rattle.calls.specs.Answers.{addedAs};
 ghost use Rattle.steps.specs.Ends.{ending, Ended};
 ghost use Rattle.calls_create.specs.Held.{EndedHeld};
 ghost use Rattle.owners.specs.Owned.{Chained, Kept};
-use crate::ends::begin;
 use calls::Handed;
 use calls::not_handed;
 use calls_close::close_led;
@@ -34,6 +33,7 @@ use calls_sync::sync_in;
 use calls_sync::sync_led;
 use calls_unlink::remove;
 use calls_unlink::unlink_led;
+use mem::begin;
 use sound::chain_all;
 use table::Handle;
 
@@ -185,7 +185,7 @@ fn move_slot(
         begin(mem, table);
         return 0;
     }
-    let r = move_rows(arena, mem, &slot[..], p, old, name);
+    let r = move_rows(arena, mem, slot, p, old, name);
     chain_all(&arena[..], chains);
     r
 }

@@ -2,9 +2,7 @@
 // 1, 2 and 3 can't come (`owned`, crates/promised), and nothing tests for them. The owner keeps the chains of all blocks beside the arena: a
 // call that changes the arena makes them again.
 mod changes;
-pub mod ends;
 
-ghost use mathlib.Core.Path.{_≡_};
 ghost use lib.ListN.{length, getD};
 ghost use Rattle.table_bytes.specs.Layout.{tableOf};
 ghost use Rattle.sefs.specs.Close.{callSync, callClose};
@@ -32,12 +30,12 @@ use edge::args::file_of;
 use edge::args::handle;
 use edge::args::new_node;
 use edge::args::time;
+use edge::ends::end_after;
+use edge::ends::end_held;
+use edge::ends::end_listed;
 use edge::ends::end_told;
-use ends::begin;
-use ends::end_after;
-use ends::end_held;
-use ends::end_listed;
 use mem::MEMORY;
+use mem::begin;
 use sound::chain_all;
 
 // Words, and what a slice of another size is answered with, as in the header.

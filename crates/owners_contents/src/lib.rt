@@ -14,10 +14,10 @@ use calls_resize::set_size;
 use calls_write::write_led;
 use calls_write::write_row;
 use edge::args::handle;
+use edge::ends::end_after;
 use edge::ends::end_taken;
 use mem::MEMORY;
-use owners::ends::begin;
-use owners::ends::end_after;
+use mem::begin;
 use sound::chain_all;
 use table::Handle;
 

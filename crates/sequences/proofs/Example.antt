@@ -8,7 +8,7 @@ use Rattle.arena.specs.Blocks.{legal}
 use Rattle.files_laws.proofs.Bounds.{named-meta, named-node}
 use Rattle.sequences.specs.Pairs.{Pair, pair, Passed}
 use Rattle.sequences.specs.Promises.{Fresh}
-use Rattle.image.proofs.Drops.{zero-fits}
+use Rattle.table_bytes.proofs.Empty.{zero-fits}
 use Rattle.image.proofs.Zeros.{zeroArena, zero-bytes}
 use Rattle.sequences.proofs.Fresh.{format-goes, fresh}
 

@@ -27,7 +27,8 @@ use Rattle.sequences.proofs.Passing.{passed}
 use Rattle.sefs_laws.proofs.Says.{is-done}
 use Rattle.image.proofs.Images.{fair-allowed}
 use Rattle.image.proofs.Formats.{format-done}
-use Rattle.image.proofs.Fresh.{made-fair, empty-fits}
+use Rattle.table_bytes.proofs.Empty.{empty-fits}
+use Rattle.image.proofs.Fresh.{made-fair}
 
 -- ---- format
 

@@ -1,30 +1,28 @@
 -- How a call begins and ends: from its handles to its steps, and from its steps' answer to what it returns.
 use mathlib.Core.Path.{_≡_, refl, sym, _∙_, ap}
-use mathlib.Core.Bool.{Bool, true, false}
+use mathlib.Core.Bool.{true}
 use mathlib.Core.List.{List}
-use Prim.Native.Nat.{ℕ, zero, suc, _+_, _*_, _-_, _≤_, _<_}
+use Prim.Native.Nat.{ℕ, _*_, _≤_}
 use native.Mathlib.Omega.{arith}
-use lib.ListN.{length, replicate}
-use Rattle.base.specs.Out.{Out, done, refused, bind, answer, Went, well, ill, said}
-use Rattle.base.proofs.Outs.{went-is, went-has, went-not, went-weaken, above-zero}
-use Rattle.arena.specs.Blocks.{blocks, legal}
+use lib.ListN.{replicate}
+use Rattle.base.specs.Out.{Out, done, refused, bind, answer, Went, ill}
+use Rattle.base.proofs.Outs.{went-is, went-not, went-weaken, above-zero}
+use Rattle.arena.specs.Blocks.{legal}
 use Rattle.arena.proofs.Blocks.{legal-is}
-use Rattle.overlay.specs.View.{view, left, Fine, begun, Empty}
+use Rattle.overlay.specs.View.{view, begun, Empty}
 use Rattle.overlay.proofs.Views.{ready}
 use Rattle.table.specs.declared.Table.{Table}
-use Rattle.table.specs.declared.Handle.{Handle}
-use Rattle.table.specs.Formed.{wellFormed}
 use Rattle.sefs.specs.State.{Fs}
 use Rattle.sefs.specs.Meta.{loadMeta}
-use Rattle.sefs.specs.Ask.{start, admit, byHandle}
-use Rattle.sefs.specs.Create.{After, after}
+use Rattle.sefs.specs.Ask.{start}
+use Rattle.sefs.specs.Create.{After}
 use Rattle.mem.specs.Mem.{tableIn, metaIn, Whole}
-use Rattle.mem.specs.State.{fsOf, Ready, Still, Stepped, fsAt}
+use Rattle.mem.specs.State.{fsOf, fsAt}
 use Rattle.chains.specs.Led.{Led}
 use Rattle.calls.specs.declared.Reply as answered
-use Rattle.calls.specs.Answers.{refusedWith, afterOf}
+use Rattle.calls.specs.Answers.{afterOf}
 use Rattle.calls.proofs.Answers.{after-done, after-refused}
-use Rattle.steps.specs.Ends.{Begun, Rest, on, off, arenaAfter, afterAs, ending, Ended, went, stopped, Returned}
+use Rattle.steps.specs.Ends.{Begun, Rest, on, off, ending, Ended, went, stopped, Returned}
 
 -- ---- the start
 
@@ -98,7 +96,6 @@ ended-done f a b w n q g z e = rw (← q) (went (rw (went-is g z, e)))
 pub ended-is : {o p : Out After} {a b : List ℕ} {u : Table} {n : ℕ} → o ≡ p → Ended p a b u n → Ended o a b u n
 ended-is e g = rw e g
 
--- a call that is refused before its steps
 pub ended-refused : {o : Out After} {a b : List ℕ} {u : Table} {n : ℕ} → (n ≡ 0 → ⊥) → o ≡ refused n → b ≡ a → Ended o a b u n
 ended-refused z e k = stopped (above-zero _ z) e k
 
@@ -110,10 +107,6 @@ returned-ended t {u = u} (stopped {r = n} l e k) q = record { answer = q ∙ sym
 -- the same, where the table that memory was given is known by another name
 pub returned-table : (f : Table → Out After) (t : Table) {x y : Table} {a b : List ℕ} {u : Table} {n : ℕ} {r : answered.Reply} → x ≡ y → Ended (f x) a b u n → r ≡ afterOf t u n → Returned t (f y) a b r
 returned-table f t q g e = rw (← q) (returned-ended t g e)
-
--- a call that is refused before its steps
-pub returned-refused : (t : Table) {o : Out After} {a b : List ℕ} {n : ℕ} {r : answered.Reply} → o ≡ refused n → b ≡ a → r ≡ refusedWith t n → Returned t o a b r
-returned-refused t e k q = record { answer = q ∙ rw e; arena = k ∙ rw e }
 
 -- ---- two results that satisfy a contract are the same
 

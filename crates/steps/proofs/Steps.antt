@@ -7,7 +7,7 @@ use native.Mathlib.Omega.{arith}
 use lib.ListN.{length, getD, replicate}
 use lib.Dec.{eqb, ltb, leb}
 use borrow.Author.Tests.{leb-true}
-use Rattle.base.specs.Out.{Out, done, refused, ensure, answer, Went, well, ill}
+use Rattle.base.specs.Out.{ensure, answer, Went, well, ill}
 use Rattle.base.proofs.Outs.{went-is, went-has, went-stop}
 use Rattle.base.proofs.Searches.{found-at, found-nothing}
 use Rattle.base.proofs.Parts.{getD-zero-list}

@@ -1,2 +1,4 @@
 pub mod Runs
 pub mod Layouts
+pub mod Marks
+pub mod Empty

@@ -122,3 +122,6 @@ module _ {A : Type 0} (f : ℕ → A) where
 
   pub filled-all : (d : A) (n : ℕ) (l : List A) (i : ℕ) → n ≤ i → Filled d n l i → l ≡ listTo f n
   filled-all d n l i h F = list-is d l n (F .size) (λ j k. F .have j (omega arith))
+
+pub list-cong : {A : Type 0} (d : A) (f g : ℕ → A) (n : ℕ) → ((i : ℕ) → i < n → f i ≡ g i) → listTo f n ≡ listTo g n
+list-cong d f g n h = list-is g d (listTo f n) n (length-list f n) (λ i k. getD-list f d n i k ∙ h i k)

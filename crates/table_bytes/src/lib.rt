@@ -6,7 +6,7 @@ ghost use lib.ListN.{length, getD};
 ghost use Rattle.base.specs.Count.{bit};
 ghost use Rattle.base.specs.Parts.{part, paste};
 ghost use Rattle.table.specs.Zero.{zeroHold};
-ghost use Rattle.table.specs.Table.{offRow};
+ghost use Rattle.table.specs.Table.{offRow, emptyTable};
 ghost use Rattle.table_bytes.specs.Runs.{runTo, listTo};
 ghost use Rattle.table_bytes.specs.Layout.{rowFrom, rowBytes, rowAtPlace, holdFrom, holdBytes, holdAtPlace, tableOf, tableBytes};
 use table::Hold;
@@ -148,4 +148,27 @@ pub fn write_table(out: &mut [u8], t: Table)
     put_rows(out, rows);
     put_holds(out, holds);
     le::put_u64(out, 4362, t.next);
+}
+
+// The bytes as they are written: a mark that is neither 0 nor 1 reads as dirty, and becomes 1. No table by value is made for it.
+pub fn settle_marks(table: &mut [u8])
+    requires { ⌜ length (now table) ≡ 4370 ⌝ }
+    ensures { λ _. ⌜ now (table .exit) ≡ tableBytes (tableOf (now (table .entry))) ⌝ }
+{
+    let mut i: usize = 0;
+    while i < 34 {
+        let at = 117 * i + 4;
+        let dirty = table[at] != 0;
+        put_mark(table, at, dirty);
+        i += 1;
+    }
+}
+
+// The table that has no row in use: all zero but the next stamp.
+pub fn put_empty(out: &mut [u8])
+    requires { ⌜ 4370 ≤ length (now out) ⌝ }
+    ensures { λ _. ⌜ now (out .exit) ≡ paste (now (out .entry)) 0 (tableBytes emptyTable) ⌝ }
+{
+    base::clear(&mut out[0..4362]);
+    le::put_u64(out, 4362, 1);
 }

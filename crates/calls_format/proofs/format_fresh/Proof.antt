@@ -5,14 +5,11 @@ use borrow.Author.Needs.{needs}
 use Rattle.calls_format.proofs.format_fresh.Statement.{statement}
 use Rattle.calls_format.proofs.format_fresh.Tie as tie
 
-slice-aggregate-put-table : tie.Need-slice-aggregate-put-table
-slice-aggregate-put-table c = search needs
+slice-aggregate-put-empty : tie.Need-slice-aggregate-put-empty
+slice-aggregate-put-empty c = search needs
 
-empty-requires : tie.Need-empty-requires
-empty-requires c κs = search needs
-
-put-table-requires : tie.Need-put-table-requires
-put-table-requires c κs = search needs
+put-empty-requires : tie.Need-put-empty-requires
+put-empty-requires c κs = search needs
 
 slice-aggregate-fresh-meta : tie.Need-slice-aggregate-fresh-meta
 slice-aggregate-fresh-meta c = search needs
@@ -31,16 +28,18 @@ same-length c = search needs
 
 returns : tie.Need-returns
 returns c =
-    let s = c .before .before .before .before .before .before .before .before .before .before .before .before .before .before in
-    ended-format _ (s .args .file) (s .args .time) _ (s .pre) (c .before .before .before .before .before .before .before .fresh-meta .ensures .1 ∙ c .before .before .before .before .before .before .before .before .before .before .put-table .ensures .0 ∙ c .before .before .before .before .before .before .before .before .before .before .before .empty .ensures) (c .before .before .before .before .before .before .before .fresh-meta .ensures .0) (c .before .before .before .format-over .ensures)
+    let s : tie.Start = search needs in
+    let fresh : tie.After-fresh-meta = search needs in
+    let put : tie.After-put-empty = search needs in
+    let format : tie.After-format-over = search needs in
+    ended-format _ (s .args .file) (s .args .time) _ (s .pre) (fresh .fresh-meta .ensures .1 ∙ put .put-empty .ensures .0) (fresh .fresh-meta .ensures .0) (format .format-over .ensures)
 
 pub format-fresh-spec : {M : Type 1} → statement M
 format-fresh-spec =
     tie.close
     (tie.spec
-    slice-aggregate-put-table
-    empty-requires
-    put-table-requires
+    slice-aggregate-put-empty
+    put-empty-requires
     slice-aggregate-fresh-meta
     fresh-meta-requires
     slice-aggregate-format-over

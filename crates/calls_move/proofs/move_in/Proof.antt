@@ -1,17 +1,18 @@
 -- `calls_move::move_in`: what the steps left is written where they were done.
 use mathlib.Core.Path.{refl}
-use native.Mathlib.Omega.{arith}
 use Rattle.base.proofs.Outs.{went-has}
 use Rattle.structs.specs.Layout.{entryOf}
 use Rattle.calls_move.specs.Parts.{planSteps}
 use Rattle.steps.proofs.Ends.{fs-begun, ended-not, ended-done}
 use borrow.Author.Needs.{needs}
+use native.Mathlib.Omega.{arith}
 use Rattle.calls_move.proofs.move_in.Statement.{statement}
 use Rattle.calls_move.proofs.move_in.Tie as tie
 
 move-planned-requires : tie.Need-move-planned-requires
 move-planned-requires c κs =
-    let p = c .before .before .before .before .before .before .before .before .before .pre in
+    let s : tie.Start = search needs in
+    let p = s .pre in
     ((record { fine = p .0 .fine; whole = p .1 .plan .whole }, omega (arith, p .0 .room)), p .1)
 
 same-length : tie.Need-same-length
@@ -23,16 +24,21 @@ same-length-2 c = search needs
 same-length-3 : tie.Need-same-length-3
 same-length-3 c = search needs
 
-returns : tie.Need-returns
-returns c =
-    let s = c .before .before .before .before .before .before .before .before .before .before .before .before .before .before .before in
-    ended-not (λ x. planSteps x (s .args .p .way) (s .args .p .row) (s .args .p .other) (s .args .old .now) (s .args .name .now) (entryOf (s .args .slot .now)) (s .args .p .place) (s .args .p .gone) (s .args .p .moved)) _ _ _ (fs-begun _ _ _ 71 (s .pre .0)) (c .before .before .before .before .before .move-planned .ensures) (c .if1 .taken) refl
-
-commit-requires : tie.Need-commit-requires
-commit-requires c κs = went-has (c .before .before .before .before .before .before .before .move-planned .ensures) (c .before .before .if1 .left) .fine
-
 same-length-4 : tie.Need-same-length-4
 same-length-4 c = search needs
+
+returns : tie.Need-returns
+returns c =
+    let s : tie.Start = search needs in
+    let move : tie.After-move-planned = search needs in
+    let t1 : tie.Then1 = search needs in
+    ended-not (λ x. planSteps x (s .args .p .way) (s .args .p .row) (s .args .p .other) (s .args .old .now) (s .args .name .now) (entryOf (s .args .slot .now)) (s .args .p .place) (s .args .p .gone) (s .args .p .moved)) _ _ _ (fs-begun _ _ _ 71 (s .pre .0)) (move .move-planned .ensures) (t1 .if1 .taken) refl
+
+commit-requires : tie.Need-commit-requires
+commit-requires c κs =
+    let move : tie.After-move-planned = search needs in
+    let e1 : tie.Else1 = search needs in
+    went-has (move .move-planned .ensures) (e1 .if1 .left) .fine
 
 same-length-5 : tie.Need-same-length-5
 same-length-5 c = search needs
@@ -40,10 +46,19 @@ same-length-5 c = search needs
 same-length-6 : tie.Need-same-length-6
 same-length-6 c = search needs
 
+same-length-7 : tie.Need-same-length-7
+same-length-7 c = search needs
+
+same-length-8 : tie.Need-same-length-8
+same-length-8 c = search needs
+
 returns-2 : tie.Need-returns-2
 returns-2 c =
-    let s = c .before .before .before .before .before .before .before .before .before .before .before .before .before .before .before .before .before .before .before .before in
-    ended-done (λ x. planSteps x (s .args .p .way) (s .args .p .row) (s .args .p .other) (s .args .old .now) (s .args .name .now) (entryOf (s .args .slot .now)) (s .args .p .place) (s .args .p .gone) (s .args .p .moved)) _ _ _ _ (fs-begun _ _ _ 71 (s .pre .0)) (c .before .before .before .before .before .before .before .before .before .before .move-planned .ensures) (c .before .before .before .before .before .if1 .left) (c .before .before .commit .ensures)
+    let s : tie.Start = search needs in
+    let move : tie.After-move-planned = search needs in
+    let e1 : tie.Else1 = search needs in
+    let commit : tie.After-commit = search needs in
+    ended-done (λ x. planSteps x (s .args .p .way) (s .args .p .row) (s .args .p .other) (s .args .old .now) (s .args .name .now) (entryOf (s .args .slot .now)) (s .args .p .place) (s .args .p .gone) (s .args .p .moved)) _ _ _ _ (fs-begun _ _ _ 71 (s .pre .0)) (move .move-planned .ensures) (e1 .if1 .left) (commit .commit .ensures)
 
 pub move-in-spec : {M : Type 1} → statement M
 move-in-spec =
@@ -53,9 +68,11 @@ move-in-spec =
     same-length
     same-length-2
     same-length-3
+    same-length-4
     returns
     commit-requires
-    same-length-4
     same-length-5
     same-length-6
+    same-length-7
+    same-length-8
     returns-2)

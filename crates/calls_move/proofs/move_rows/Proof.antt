@@ -1,7 +1,7 @@
 -- `calls_move::move_rows`: the workspace is ready.
-use native.Mathlib.Omega.{arith}
 use Rattle.steps.proofs.Ends.{started}
 use borrow.Author.Needs.{needs}
+use native.Mathlib.Omega.{arith}
 use Rattle.calls_move.proofs.move_rows.Statement.{statement}
 use Rattle.calls_move.proofs.move_rows.Tie as tie
 
@@ -15,13 +15,18 @@ slice-aggregate-move-in : tie.Need-slice-aggregate-move-in
 slice-aggregate-move-in c = search needs
 
 move-in-requires : tie.Need-move-in-requires
-move-in-requires c κs = (started _ _ 71 (c .before .before .before .before .before .before .before .before .before .before .before .pre .legal) (omega arith) (omega arith) (c .before .before .before .before .begin .ensures), c .before .before .before .before .before .before .before .before .before .before .before .pre)
+move-in-requires c κs =
+    let s : tie.Start = search needs in
+    (started _ _ 71 (s .pre .legal) (omega arith) (omega arith) (let p : tie.After-begin = search needs in p .begin .ensures), s .pre)
 
 same-length : tie.Need-same-length
 same-length c = search needs
 
 same-length-2 : tie.Need-same-length-2
 same-length-2 c = search needs
+
+same-length-3 : tie.Need-same-length-3
+same-length-3 c = search needs
 
 returns : tie.Need-returns
 returns c = search needs
@@ -36,4 +41,5 @@ move-rows-spec =
     move-in-requires
     same-length
     same-length-2
+    same-length-3
     returns)

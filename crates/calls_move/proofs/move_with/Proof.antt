@@ -21,7 +21,10 @@ same-length-3 : tie.Need-same-length-3
 same-length-3 c = search needs
 
 returns : tie.Need-returns
-returns c = moved-refused (c .if1 .taken) (rest-not (c .before .before .before .before .before .before .decide .ensures) (c .if1 .taken)) refl
+returns c =
+    let t1 : tie.Then1 = search needs in
+    let decide : tie.After-decide = search needs in
+    moved-refused (t1 .if1 .taken) (rest-not (decide .decide .ensures) (t1 .if1 .taken)) refl
 
 same-length-4 : tie.Need-same-length-4
 same-length-4 c = search needs
@@ -33,10 +36,17 @@ same-length-6 : tie.Need-same-length-6
 same-length-6 c = search needs
 
 returns-2 : tie.Need-returns-2
-returns-2 c = rests (rest-is (c .before .before .before .before .before .before .before .before .decide .ensures) (c .before .before .if1 .left) ∙ plan-same _ _ _ _ _ _ _ _ _ _ (c .before .before .before .before .before .before .before .before .decide .result .way) (c .if2 .taken)) refl
+returns-2 c =
+    let decide : tie.After-decide = search needs in
+    let e1 : tie.Else1 = search needs in
+    let t2 : tie.Then2 = search needs in
+    rests (rest-is (decide .decide .ensures) (e1 .if1 .left) ∙ plan-same _ _ _ _ _ _ _ _ _ _ (decide .decide .result .way) (t2 .if2 .taken)) refl
 
 move-rows-requires : tie.Need-move-rows-requires
-move-rows-requires c κs = rest-has (c .before .before .before .before .before .before .before .before .before .before .before .decide .ensures) (c .before .before .before .before .before .if1 .left)
+move-rows-requires c κs =
+    let decide : tie.After-decide = search needs in
+    let e1 : tie.Else1 = search needs in
+    rest-has (decide .decide .ensures) (e1 .if1 .left)
 
 as-course-requires : tie.Need-as-course-requires
 as-course-requires c κs = search needs
@@ -51,7 +61,13 @@ same-length-9 : tie.Need-same-length-9
 same-length-9 c = search needs
 
 returns-3 : tie.Need-returns-3
-returns-3 c = moved-ended (rest-is (c .before .before .before .before .before .before .before .before .before .before .before .before .before .before .before .before .before .decide .ensures) (c .before .before .before .before .before .before .before .before .before .before .before .if1 .left) ∙ plan-goes _ _ _ _ _ _ _ _ _ _ (c .before .before .before .before .before .before .before .before .before .before .before .before .before .before .before .before .before .decide .result .way) (c .before .before .before .before .before .before .before .before .before .if2 .left)) (c .before .before .before .before .before .move-rows .ensures) (c .as-course .ensures)
+returns-3 c =
+    let decide : tie.After-decide = search needs in
+    let e1 : tie.Else1 = search needs in
+    let e2 : tie.Else2 = search needs in
+    let move : tie.After-move-rows = search needs in
+    let ac : tie.After-as-course = search needs in
+    moved-ended (rest-is (decide .decide .ensures) (e1 .if1 .left) ∙ plan-goes _ _ _ _ _ _ _ _ _ _ (decide .decide .result .way) (e2 .if2 .left)) (move .move-rows .ensures) (ac .as-course .ensures)
 
 pub move-with-spec : {M : Type 1} → statement M
 move-with-spec =

@@ -1,7 +1,9 @@
 -- `calls_move::open_moved`: the folders' ids, the old name, the moved node, then the climb.
 use Rattle.base.proofs.Outs.{went-has}
 use Rattle.calls_move.proofs.Decisions.{free-within, free-missing, free-unopened, free-below}
+use mathlib.Core.Path.{_∙_}
 use borrow.Author.Needs.{needs}
+use native.Mathlib.Omega.{arith}
 use Rattle.calls_move.proofs.open_moved.Statement.{statement}
 use Rattle.calls_move.proofs.open_moved.Tie as tie
 
@@ -16,58 +18,95 @@ same-length c = search needs
 
 returns : tie.Need-returns
 returns c =
-    let s = c .before .before .before .before .before .before .before .before .before .before in
-    λ name. free-within _ _ (s .args .i) (s .args .j) (s .args .old .now) name _ _ (c .before .before .before .id-at .ensures) (c .before .id-at2 .ensures) (c .if1 .taken) (s .pre .1 .0)
+    let s : tie.Start = search needs in
+    let id : tie.After-id-at = search needs in
+    let id2 : tie.After-id-at2 = search needs in
+    let t1 : tie.Then1 = search needs in
+    λ name. free-within _ _ (s .args .i) (s .args .j) (s .args .old .now) name _ _ (id .id-at .ensures) (id2 .id-at2 .ensures) (t1 .if1 .taken) (s .pre .1 .0)
 
 rec-at-requires : tie.Need-rec-at-requires
 rec-at-requires c κs = search needs
 
-slice-aggregate-find-slot : tie.Need-slice-aggregate-find-slot
-slice-aggregate-find-slot c = search needs
-
 find-slot-requires : tie.Need-find-slot-requires
-find-slot-requires c κs = search needs
+find-slot-requires c κs =
+    let s : tie.Start = search needs in
+    (s .pre .0, s .pre .1 .1 .1 .1)
 
 same-length-2 : tie.Need-same-length-2
 same-length-2 c = search needs
 
-returns-2 : tie.Need-returns-2
-returns-2 c =
-    let s = c .before .before .before .before .before .before .before .before .before .before .before .before .before .before .before .before .before in
-    λ name. free-missing _ _ (s .args .i) (s .args .j) (s .args .old .now) name _ _ (c .before .before .before .before .before .before .before .before .before .before .id-at .ensures) (c .before .before .before .before .before .before .before .before .id-at2 .ensures) (c .before .before .before .before .before .before .before .if1 .left) _ (c .before .before .before .before .before .rec-at .ensures) (c .before .before .before .find-slot .last .1 .1 .1 .1 .1 .0) _ _ (c .before .before .before .find-slot .ensures) (c .if2 .taken)
-
-slice-aggregate-u32-at : tie.Need-slice-aggregate-u32-at
-slice-aggregate-u32-at c = search needs
-
-u32-at-requires : tie.Need-u32-at-requires
-u32-at-requires c κs = search needs
-
-get-node-requires : tie.Need-get-node-requires
-get-node-requires c κs =
-    let s = c .before .before .before .before .before .before .before .before .before .before .before .before .before .before .before .before .before .before .before .before in
-    (s .pre .0, s .pre .1 .0)
-
 same-length-3 : tie.Need-same-length-3
 same-length-3 c = search needs
 
-returns-3 : tie.Need-returns-3
-returns-3 c =
-    let s = c .before .before .before .before .before .before .before .before .before .before .before .before .before .before .before .before .before .before .before .before .before .before .before .before .before in
-    λ name. free-unopened _ _ (s .args .i) (s .args .j) (s .args .old .now) name _ _ (c .before .before .before .before .before .before .before .before .before .before .before .before .before .before .before .before .before .before .id-at .ensures) (c .before .before .before .before .before .before .before .before .before .before .before .before .before .before .before .before .id-at2 .ensures) (c .before .before .before .before .before .before .before .before .before .before .before .before .before .before .before .if1 .left) _ (c .before .before .before .before .before .before .before .before .before .before .before .before .before .rec-at .ensures) (c .before .before .before .before .before .before .before .before .before .before .before .find-slot .last .1 .1 .1 .1 .1 .0) _ _ (c .before .before .before .before .before .before .before .before .before .before .before .find-slot .ensures) (c .before .before .before .before .before .before .before .before .if2 .left) _ (c .before .before .before .before .before .u32-at .ensures) (c .before .before .before .before .get-node .last .1 .1 .1 .0) _ (c .before .before .before .before .get-node .ensures) (c .if3 .taken)
+returns-2 : tie.Need-returns-2
+returns-2 c =
+    let s : tie.Start = search needs in
+    let id : tie.After-id-at = search needs in
+    let id2 : tie.After-id-at2 = search needs in
+    let e1 : tie.Else1 = search needs in
+    let rec : tie.After-rec-at = search needs in
+    let find : tie.After-find-slot = search needs in
+    let t2 : tie.Then2 = search needs in
+    λ name. free-missing _ _ (s .args .i) (s .args .j) (s .args .old .now) name _ _ (id .id-at .ensures) (id2 .id-at2 .ensures) (e1 .if1 .left) _ (rec .rec-at .ensures) (find .find-slot .last .1 .1 .1 .1 .1 .0) _ _ (find .find-slot .ensures) (t2 .if2 .taken)
 
-not-below-requires : tie.Need-not-below-requires
-not-below-requires c κs =
-    let s = c .before .before .before .before .before .before .before .before .before .before .before .before .before .before .before .before .before .before .before .before .before .before .before .before .before .before in
-    let k = went-has (c .before .before .before .before .before .get-node .ensures) (c .before .if3 .left) in
-    (s .pre .0, (k .0, (s .pre .1 .1 .0, (s .pre .1 .1 .1, k .1))))
+u32-at-requires : tie.Need-u32-at-requires
+u32-at-requires c κs =
+    let s = c .before .before .before .before .before .before .before .before .before .before .before .before .before .before .before .before .before .before .before .before .before in
+    omega (arith, c .before .before .before .before .before .before .find-slot .kept .1 .1 .1 .1 .1 .0 ∙ s .pre .1 .1 .1 .1)
+
+get-node-requires : tie.Need-get-node-requires
+get-node-requires c κs =
+    let s : tie.Start = search needs in
+    (s .pre .0, s .pre .1 .0)
 
 same-length-4 : tie.Need-same-length-4
 same-length-4 c = search needs
 
+same-length-5 : tie.Need-same-length-5
+same-length-5 c = search needs
+
+returns-3 : tie.Need-returns-3
+returns-3 c =
+    let s : tie.Start = search needs in
+    let id : tie.After-id-at = search needs in
+    let id2 : tie.After-id-at2 = search needs in
+    let e1 : tie.Else1 = search needs in
+    let rec : tie.After-rec-at = search needs in
+    let find : tie.After-find-slot = search needs in
+    let e2 : tie.Else2 = search needs in
+    let u32 : tie.After-u32-at = search needs in
+    let gn : tie.After-get-node = search needs in
+    let t3 : tie.Then3 = search needs in
+    λ name. free-unopened _ _ (s .args .i) (s .args .j) (s .args .old .now) name _ _ (id .id-at .ensures) (id2 .id-at2 .ensures) (e1 .if1 .left) _ (rec .rec-at .ensures) (find .find-slot .last .1 .1 .1 .1 .1 .0) _ _ (find .find-slot .ensures) (e2 .if2 .left) _ (u32 .u32-at .ensures) (gn .get-node .last .1 .1 .1 .0) _ (gn .get-node .ensures) (t3 .if3 .taken)
+
+not-below-requires : tie.Need-not-below-requires
+not-below-requires c κs =
+    let gn : tie.After-get-node = search needs in
+    let e3 : tie.Else3 = search needs in
+    let s : tie.Start = search needs in
+    let k = went-has (gn .get-node .ensures) (e3 .if3 .left) in
+    (s .pre .0, (k .0, (s .pre .1 .1 .0, (s .pre .1 .1 .1 .0, k .1))))
+
+same-length-6 : tie.Need-same-length-6
+same-length-6 c = search needs
+
+same-length-7 : tie.Need-same-length-7
+same-length-7 c = search needs
+
 returns-4 : tie.Need-returns-4
 returns-4 c =
-    let s = c .before .before .before .before .before .before .before .before .before .before .before .before .before .before .before .before .before .before .before .before .before .before .before .before .before .before .before in
-    λ name. free-below _ _ (s .args .i) (s .args .j) (s .args .old .now) name _ _ (c .before .before .before .before .before .before .before .before .before .before .before .before .before .before .before .before .before .before .before .before .id-at .ensures) (c .before .before .before .before .before .before .before .before .before .before .before .before .before .before .before .before .before .before .id-at2 .ensures) (c .before .before .before .before .before .before .before .before .before .before .before .before .before .before .before .before .before .if1 .left) _ (c .before .before .before .before .before .before .before .before .before .before .before .before .before .before .before .rec-at .ensures) (c .before .before .before .before .before .before .before .before .before .before .before .before .before .find-slot .last .1 .1 .1 .1 .1 .0) _ _ (c .before .before .before .before .before .before .before .before .before .before .before .before .before .find-slot .ensures) (c .before .before .before .before .before .before .before .before .before .before .if2 .left) _ (c .before .before .before .before .before .before .before .u32-at .ensures) (c .before .before .before .before .before .before .get-node .last .1 .1 .1 .0) _ (c .before .before .before .before .before .before .get-node .ensures) (c .before .before .if3 .left) (c .not-below .ensures) (went-has (c .before .before .before .before .before .before .get-node .ensures) (c .before .before .if3 .left) .0)
+    let s : tie.Start = search needs in
+    let id : tie.After-id-at = search needs in
+    let id2 : tie.After-id-at2 = search needs in
+    let e1 : tie.Else1 = search needs in
+    let rec : tie.After-rec-at = search needs in
+    let find : tie.After-find-slot = search needs in
+    let e2 : tie.Else2 = search needs in
+    let u32 : tie.After-u32-at = search needs in
+    let gn : tie.After-get-node = search needs in
+    let e3 : tie.Else3 = search needs in
+    let not : tie.After-not-below = search needs in
+    λ name. free-below _ _ (s .args .i) (s .args .j) (s .args .old .now) name _ _ (id .id-at .ensures) (id2 .id-at2 .ensures) (e1 .if1 .left) _ (rec .rec-at .ensures) (find .find-slot .last .1 .1 .1 .1 .1 .0) _ _ (find .find-slot .ensures) (e2 .if2 .left) _ (u32 .u32-at .ensures) (gn .get-node .last .1 .1 .1 .0) _ (gn .get-node .ensures) (e3 .if3 .left) (not .not-below .ensures) (went-has (gn .get-node .ensures) (e3 .if3 .left) .0)
 
 pub open-moved-spec : {M : Type 1} → statement M
 open-moved-spec =
@@ -78,15 +117,16 @@ open-moved-spec =
     same-length
     returns
     rec-at-requires
-    slice-aggregate-find-slot
     find-slot-requires
     same-length-2
+    same-length-3
     returns-2
-    slice-aggregate-u32-at
     u32-at-requires
     get-node-requires
-    same-length-3
+    same-length-4
+    same-length-5
     returns-3
     not-below-requires
-    same-length-4
+    same-length-6
+    same-length-7
     returns-4)

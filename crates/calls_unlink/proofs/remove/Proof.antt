@@ -1,7 +1,7 @@
 -- `calls_unlink::remove`: the workspace is ready.
-use native.Mathlib.Omega.{arith}
 use Rattle.steps.proofs.Ends.{started}
 use borrow.Author.Needs.{needs}
+use native.Mathlib.Omega.{arith}
 use Rattle.calls_unlink.proofs.remove.Statement.{statement}
 use Rattle.calls_unlink.proofs.remove.Tie as tie
 
@@ -14,8 +14,13 @@ begin-requires c κs = search needs
 slice-aggregate-remove-in : tie.Need-slice-aggregate-remove-in
 slice-aggregate-remove-in c = search needs
 
+slice-aggregate-remove-in-2 : tie.Need-slice-aggregate-remove-in-2
+slice-aggregate-remove-in-2 c = search needs
+
 remove-in-requires : tie.Need-remove-in-requires
-remove-in-requires c κs = (started _ _ 31 (c .before .before .before .before .before .before .before .before .pre .0) (omega arith) (omega arith) (c .before .before .before .before .begin .ensures), c .before .before .before .before .before .before .before .before .pre .1)
+remove-in-requires c κs =
+    let s : tie.Start = search needs in
+    (started _ _ 31 (s .pre .0) (omega arith) (omega arith) (let p : tie.After-begin = search needs in p .begin .ensures), (s .pre .1 .0, (s .pre .1 .1 .0, (s .pre .1 .1 .1, search needs))))
 
 same-length : tie.Need-same-length
 same-length c = search needs
@@ -33,6 +38,7 @@ remove-spec =
     slice-aggregate-begin
     begin-requires
     slice-aggregate-remove-in
+    slice-aggregate-remove-in-2
     remove-in-requires
     same-length
     same-length-2

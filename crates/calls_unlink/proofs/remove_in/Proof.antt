@@ -1,8 +1,8 @@
 -- `calls_unlink::remove_in`: what the steps left is written where they were done.
 use mathlib.Core.Path.{refl}
 use Rattle.base.proofs.Outs.{went-has}
-use Rattle.calls_unlink.specs.Steps.{removeNode}
 use Rattle.steps.proofs.Ends.{fs-begun, ended-not, ended-done}
+use Rattle.calls_unlink.specs.Steps.{removeNode}
 use borrow.Author.Needs.{needs}
 use Rattle.calls_unlink.proofs.remove_in.Statement.{statement}
 use Rattle.calls_unlink.proofs.remove_in.Tie as tie
@@ -19,16 +19,21 @@ same-length-2 c = search needs
 same-length-3 : tie.Need-same-length-3
 same-length-3 c = search needs
 
-returns : tie.Need-returns
-returns c =
-    let s = c .before .before .before .before .before .before .before .before .before .before .before .before in
-    ended-not (λ x. removeNode x (s .args .i) (s .args .c) (s .args .k)) _ _ _ (fs-begun _ _ _ 31 (s .pre .0)) (c .before .before .before .before .before .remove-node .ensures) (c .if1 .taken) refl
-
-commit-requires : tie.Need-commit-requires
-commit-requires c κs = went-has (c .before .before .before .before .before .before .before .remove-node .ensures) (c .before .before .if1 .left) .fine
-
 same-length-4 : tie.Need-same-length-4
 same-length-4 c = search needs
+
+returns : tie.Need-returns
+returns c =
+    let s : tie.Start = search needs in
+    let remove : tie.After-remove-node = search needs in
+    let t1 : tie.Then1 = search needs in
+    ended-not (λ x. removeNode x (s .args .i) (s .args .c) (s .args .k)) _ _ _ (fs-begun _ _ _ 31 (s .pre .0)) (remove .remove-node .ensures) (t1 .if1 .taken) refl
+
+commit-requires : tie.Need-commit-requires
+commit-requires c κs =
+    let remove : tie.After-remove-node = search needs in
+    let e1 : tie.Else1 = search needs in
+    went-has (remove .remove-node .ensures) (e1 .if1 .left) .fine
 
 same-length-5 : tie.Need-same-length-5
 same-length-5 c = search needs
@@ -36,10 +41,19 @@ same-length-5 c = search needs
 same-length-6 : tie.Need-same-length-6
 same-length-6 c = search needs
 
+same-length-7 : tie.Need-same-length-7
+same-length-7 c = search needs
+
+same-length-8 : tie.Need-same-length-8
+same-length-8 c = search needs
+
 returns-2 : tie.Need-returns-2
 returns-2 c =
-    let s = c .before .before .before .before .before .before .before .before .before .before .before .before .before .before .before .before .before in
-    ended-done (λ x. removeNode x (s .args .i) (s .args .c) (s .args .k)) _ _ _ _ (fs-begun _ _ _ 31 (s .pre .0)) (c .before .before .before .before .before .before .before .before .before .before .remove-node .ensures) (c .before .before .before .before .before .if1 .left) (c .before .before .commit .ensures)
+    let s : tie.Start = search needs in
+    let remove : tie.After-remove-node = search needs in
+    let e1 : tie.Else1 = search needs in
+    let commit : tie.After-commit = search needs in
+    ended-done (λ x. removeNode x (s .args .i) (s .args .c) (s .args .k)) _ _ _ _ (fs-begun _ _ _ 31 (s .pre .0)) (remove .remove-node .ensures) (e1 .if1 .left) (commit .commit .ensures)
 
 pub remove-in-spec : {M : Type 1} → statement M
 remove-in-spec =
@@ -49,9 +63,11 @@ remove-in-spec =
     same-length
     same-length-2
     same-length-3
+    same-length-4
     returns
     commit-requires
-    same-length-4
     same-length-5
     same-length-6
+    same-length-7
+    same-length-8
     returns-2)

@@ -1,13 +1,15 @@
 -- `calls_unlink::remove_node`: the removal, then the record; 18 blocks and 3.
-use native.Mathlib.Omega.{arith}
 use Rattle.base.proofs.Outs.{went-has}
 use Rattle.calls_unlink.proofs.Parts.{node-stop, node-next}
 use borrow.Author.Needs.{needs}
+use native.Mathlib.Omega.{arith}
 use Rattle.calls_unlink.proofs.remove_node.Statement.{statement}
 use Rattle.calls_unlink.proofs.remove_node.Tie as tie
 
 dirent-node-remove-requires : tie.Need-dirent-node-remove-requires
-dirent-node-remove-requires c κs = search needs
+dirent-node-remove-requires c κs =
+    let s : tie.Start = search needs in
+    (s .pre .0, (omega (arith, s .pre .1 .0), s .pre .1 .1))
 
 same-length : tie.Need-same-length
 same-length c = search needs
@@ -15,25 +17,36 @@ same-length c = search needs
 same-length-2 : tie.Need-same-length-2
 same-length-2 c = search needs
 
+same-length-3 : tie.Need-same-length-3
+same-length-3 c = search needs
+
 returns : tie.Need-returns
 returns c =
-    node-stop _ _ _ _ _ _ _ _ _ (c .before .before .before .before .before .dirent-node-remove .ensures) (c .if1 .taken)
+    let dirent : tie.After-dirent-node-remove = search needs in
+    let t1 : tie.Then1 = search needs in
+    node-stop _ _ _ _ _ _ _ _ _ (dirent .dirent-node-remove .ensures) (t1 .if1 .taken)
 
 sync-row-requires : tie.Need-sync-row-requires
 sync-row-requires c κs =
-    let k = went-has (c .before .before .before .before .before .before .before .dirent-node-remove .ensures) (c .before .before .if1 .left) in
-    let s = c .before .before .before .before .before .before .before .before .before .before .before .before .before in
+    let s : tie.Start = search needs in
+    let k = went-has (let p : tie.After-dirent-node-remove = search needs in p .dirent-node-remove .ensures) (let p : tie.Else1 = search needs in p .if1 .left) in
     (record { fine = k .fine; whole = k .whole }, (omega (arith, k .room, s .pre .1 .0), s .pre .1 .1 .0))
-
-same-length-3 : tie.Need-same-length-3
-same-length-3 c = search needs
 
 same-length-4 : tie.Need-same-length-4
 same-length-4 c = search needs
 
+same-length-5 : tie.Need-same-length-5
+same-length-5 c = search needs
+
+same-length-6 : tie.Need-same-length-6
+same-length-6 c = search needs
+
 returns-2 : tie.Need-returns-2
 returns-2 c =
-    node-next _ _ _ _ _ _ _ _ _ (c .before .before .before .before .before .before .before .before .before .before .before .before .dirent-node-remove .ensures) _ _ _ (c .before .before .before .before .before .before .before .if1 .left) (c .before .before .before .before .sync-row .ensures)
+    let dirent : tie.After-dirent-node-remove = search needs in
+    let e1 : tie.Else1 = search needs in
+    let sync : tie.After-sync-row = search needs in
+    node-next _ _ _ _ _ _ _ _ _ (dirent .dirent-node-remove .ensures) _ _ _ (e1 .if1 .left) (sync .sync-row .ensures)
 
 pub remove-node-spec : {M : Type 1} → statement M
 remove-node-spec =
@@ -42,8 +55,10 @@ remove-node-spec =
     dirent-node-remove-requires
     same-length
     same-length-2
+    same-length-3
     returns
     sync-row-requires
-    same-length-3
     same-length-4
+    same-length-5
+    same-length-6
     returns-2)

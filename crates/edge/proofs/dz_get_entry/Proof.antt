@@ -1,4 +1,4 @@
--- `edge::dz_get_entry`: 255 where a size is wrong; else the call on what it is given, and how it ends.
+-- `edge::dz_get_entry`: 255 where a size is wrong; else the call on the table in memory, and how it ends.
 use mathlib.Core.Path.{sym, _∙_}
 use lib.ListN.{length}
 use Rattle.sefs.specs.Read.{callEntry}
@@ -9,17 +9,26 @@ use Rattle.edge.proofs.dz_get_entry.Tie as tie
 
 returns : tie.Need-returns
 returns c =
-    let s = c .before .before .before .before in
-    shows-not (sized-not 4370 (s .args .table .now) _ (c .if1 .taken))
+    let s : tie.Start = search needs in
+    let t1 : tie.Then1 = search needs in
+    shows-not (sized-not 4370 (s .args .table .now) _ (t1 .if1 .taken))
 
-read-table-requires : tie.Need-read-table-requires
-read-table-requires c κs = search needs
+slice-aggregate-begin : tie.Need-slice-aggregate-begin
+slice-aggregate-begin c = search needs
+
+begin-requires : tie.Need-begin-requires
+begin-requires c κs = search needs
+
+slice-aggregate-entry-on : tie.Need-slice-aggregate-entry-on
+slice-aggregate-entry-on c = search needs
 
 handle-requires : tie.Need-handle-requires
 handle-requires c κs = search needs
 
-get-entry-requires : tie.Need-get-entry-requires
-get-entry-requires c κs = search needs
+entry-on-requires : tie.Need-entry-on-requires
+entry-on-requires c κs =
+    let b : tie.After-begin = search needs in
+    b .begin .ensures .1
 
 number-requires : tie.Need-number-requires
 number-requires c κs = search needs
@@ -29,21 +38,24 @@ same-length c = search needs
 
 returns-2 : tie.Need-returns-2
 returns-2 c =
-    let f = c .before .before .before in
-    let h = f .before .before in
-    let r = h .before in
-    let i = r .before in
-    let s = i .before .before .before .before in
-    shows (sized-is 4370 (s .args .table .now) _ (i .if1 .left) ∙ (λ x. callEntry (s .args .arena .now) (sym (r .read-table .ensures) x) (sym (h .handle .ensures) x) (s .args .slot) (length (s .args .out .now)))) (f .get-entry .ensures) (c .number .ensures)
+    let s : tie.Start = search needs in
+    let e1 : tie.Else1 = search needs in
+    let b : tie.After-begin = search needs in
+    let handle : tie.After-handle = search needs in
+    let entry : tie.After-entry-on = search needs in
+    let number : tie.After-number = search needs in
+    shows (sized-is 4370 (s .args .table .now) _ (e1 .if1 .left) ∙ (λ x. callEntry (s .args .arena .now) (sym (b .begin .ensures .0) x) (sym (handle .handle .ensures) x) (s .args .slot) (length (s .args .out .now)))) (entry .entry-on .ensures) (number .number .ensures)
 
 pub dz-get-entry-spec : {M : Type 1} → statement M
 dz-get-entry-spec =
     tie.close
     (tie.spec
     returns
-    read-table-requires
+    slice-aggregate-begin
+    begin-requires
+    slice-aggregate-entry-on
     handle-requires
-    get-entry-requires
+    entry-on-requires
     number-requires
     same-length
     returns-2)

@@ -1,4 +1,4 @@
--- `edge::dz_link`: 255 where a size is wrong; else the call on what it is given, and how it ends.
+-- `edge::dz_link`: 255 where a size is wrong; else the call on the table in memory, and how it ends.
 use mathlib.Core.Path.{sym, _∙_}
 use Rattle.sefs.specs.Create.{callLink}
 use Rattle.edge.proofs.Laws.{sized-is, sized-not, leaves-not, leaves}
@@ -8,20 +8,32 @@ use Rattle.edge.proofs.dz_link.Tie as tie
 
 returns : tie.Need-returns
 returns c =
-    let s = c .before .before .before .before in
-    leaves-not (sized-not 4370 (s .args .table .now) _ (c .if1 .taken))
+    let s : tie.Start = search needs in
+    let t1 : tie.Then1 = search needs in
+    leaves-not (sized-not 4370 (s .args .table .now) _ (t1 .if1 .taken))
 
 handle-requires : tie.Need-handle-requires
 handle-requires c κs = search needs
 
-read-table-requires : tie.Need-read-table-requires
-read-table-requires c κs = search needs
+slice-aggregate-begin : tie.Need-slice-aggregate-begin
+slice-aggregate-begin c = search needs
+
+begin-requires : tie.Need-begin-requires
+begin-requires c κs = search needs
+
+slice-aggregate-link-on : tie.Need-slice-aggregate-link-on
+slice-aggregate-link-on c = search needs
 
 handle-requires-2 : tie.Need-handle-requires-2
 handle-requires-2 c κs = search needs
 
-link-requires : tie.Need-link-requires
-link-requires c κs = search needs
+link-on-requires : tie.Need-link-on-requires
+link-on-requires c κs =
+    let b : tie.After-begin = search needs in
+    b .begin .ensures .1
+
+slice-aggregate-end-after : tie.Need-slice-aggregate-end-after
+slice-aggregate-end-after c = search needs
 
 end-after-requires : tie.Need-end-after-requires
 end-after-requires c κs = search needs
@@ -34,14 +46,14 @@ same-length-2 c = search needs
 
 returns-2 : tie.Need-returns-2
 returns-2 c =
-    let e = c .before .before in
-    let f = e .before .before .before .before in
-    let h = f .before in
-    let r = h .before in
-    let g = r .before .before .before in
-    let i = g .before in
-    let s = i .before .before .before .before in
-    leaves (sized-is 4370 (s .args .table .now) _ (i .if1 .left) ∙ (λ x. callLink (s .args .arena .now) (sym (r .read-table .ensures) x) (sym (h .handle2 .ensures) x) (s .args .name .now) (sym (g .handle .ensures) x))) (f .link .ensures) (e .end-after .ensures)
+    let s : tie.Start = search needs in
+    let e1 : tie.Else1 = search needs in
+    let b : tie.After-begin = search needs in
+    let handle2 : tie.After-handle2 = search needs in
+    let handle : tie.After-handle = search needs in
+    let link : tie.After-link-on = search needs in
+    let end : tie.After-end-after = search needs in
+    leaves (sized-is 4370 (s .args .table .now) _ (e1 .if1 .left) ∙ (λ x. callLink (s .args .arena .now) (sym (b .begin .ensures .0) x) (sym (handle2 .handle2 .ensures) x) (s .args .name .now) (sym (handle .handle .ensures) x))) (link .link-on .ensures) (end .end-after .ensures)
 
 pub dz-link-spec : {M : Type 1} → statement M
 dz-link-spec =
@@ -49,9 +61,12 @@ dz-link-spec =
     (tie.spec
     returns
     handle-requires
-    read-table-requires
+    slice-aggregate-begin
+    begin-requires
+    slice-aggregate-link-on
     handle-requires-2
-    link-requires
+    link-on-requires
+    slice-aggregate-end-after
     end-after-requires
     same-length
     same-length-2

@@ -1,5 +1,4 @@
--- `edge::dz_open`: 255 where a size is wrong; else the call on what it is given, and how it ends.
-use Rattle.table.specs.Table.{emptyTable}
+-- `edge::dz_open`: 255 where the size is wrong; else the call, and the empty table.
 use Rattle.edge.proofs.Laws.{sized-is, sized-not, sets-not, sets}
 use borrow.Author.Needs.{needs}
 use Rattle.edge.proofs.dz_open.Statement.{statement}
@@ -7,11 +6,12 @@ use Rattle.edge.proofs.dz_open.Tie as tie
 
 returns : tie.Need-returns
 returns c =
-    let s = c .before .before .before in
-    sets-not (sized-not 4370 (s .args .table .now) _ (c .if1 .taken))
+    let s : tie.Start = search needs in
+    let t1 : tie.Then1 = search needs in
+    sets-not (sized-not 4370 (s .args .table .now) _ (t1 .if1 .taken))
 
-open-requires : tie.Need-open-requires
-open-requires c κs = search needs
+open-on-requires : tie.Need-open-on-requires
+open-on-requires c κs = search needs
 
 end-fresh-requires : tie.Need-end-fresh-requires
 end-fresh-requires c κs = search needs
@@ -21,11 +21,18 @@ same-length c = search needs
 
 returns-2 : tie.Need-returns-2
 returns-2 c =
-    let e = c .before .before in
-    let f = e .before .before in
-    let i = f .before in
-    let s = i .before .before .before in
-    sets emptyTable (sized-is 4370 (s .args .table .now) _ (i .if1 .left)) (f .open .ensures) (e .end-fresh .ensures)
+    let s : tie.Start = search needs in
+    let e1 : tie.Else1 = search needs in
+    let oo : tie.After-open-on = search needs in
+    let end : tie.After-end-fresh = search needs in
+    sets (sized-is 4370 (s .args .table .now) _ (e1 .if1 .left)) (oo .open-on .ensures) (end .end-fresh .ensures)
 
 pub dz-open-spec : {M : Type 1} → statement M
-dz-open-spec = tie.close (tie.spec returns open-requires end-fresh-requires same-length returns-2)
+dz-open-spec =
+    tie.close
+    (tie.spec
+    returns
+    open-on-requires
+    end-fresh-requires
+    same-length
+    returns-2)

@@ -1,4 +1,4 @@
--- `edge::dz_root`: 255 where a size is wrong; else the call on what it is given, and how it ends.
+-- `edge::dz_root`: 255 where a size is wrong; else the call on the table in memory, and how it ends.
 use mathlib.Core.Path.{sym, _∙_}
 use Rattle.sefs.specs.Open.{callRoot}
 use Rattle.edge.proofs.Laws.{sized-is, sized-not, holds-not, holds}
@@ -8,22 +8,41 @@ use Rattle.edge.proofs.dz_root.Tie as tie
 
 returns : tie.Need-returns
 returns c =
-    let s = c .before .before .before .before in
-    holds-not (sized-not 4370 (s .args .table .now) _ (c .if1 .taken))
+    let s : tie.Start = search needs in
+    let t1 : tie.Then1 = search needs in
+    holds-not (sized-not 4370 (s .args .table .now) _ (t1 .if1 .taken))
 
 returns-2 : tie.Need-returns-2
 returns-2 c =
-    let s = c .before .before .before .before .before in
-    holds-not (sized-is 4370 (s .args .table .now) _ (c .before .if1 .left) ∙ sized-not 2 (s .args .out .now) _ (c .if2 .taken))
+    let s : tie.Start = search needs in
+    let e1 : tie.Else1 = search needs in
+    let t2 : tie.Then2 = search needs in
+    holds-not (sized-is 4370 (s .args .table .now) _ (e1 .if1 .left) ∙ sized-not 2 (s .args .out .now) _ (t2 .if2 .taken))
 
-read-table-requires : tie.Need-read-table-requires
-read-table-requires c κs = search needs
+slice-aggregate-begin : tie.Need-slice-aggregate-begin
+slice-aggregate-begin c = search needs
 
-root-requires : tie.Need-root-requires
-root-requires c κs = search needs
+begin-requires : tie.Need-begin-requires
+begin-requires c κs = search needs
 
-end-given-requires : tie.Need-end-given-requires
-end-given-requires c κs = search needs
+slice-aggregate-root-on : tie.Need-slice-aggregate-root-on
+slice-aggregate-root-on c = search needs
+
+root-on-requires : tie.Need-root-on-requires
+root-on-requires c κs =
+    let b : tie.After-begin = search needs in
+    b .begin .ensures .1
+
+slice-aggregate-end-held : tie.Need-slice-aggregate-end-held
+slice-aggregate-end-held c = search needs
+
+end-held-requires : tie.Need-end-held-requires
+end-held-requires c κs =
+    let e1 : tie.Else1 = search needs in
+    let e2 : tie.Else2 = search needs in
+    let root : tie.After-root-on = search needs in
+    let b : tie.After-begin = search needs in
+    (e1 .if1 .left, (e2 .if2 .left, root .root-on .kept .1 .0 ∙ b .begin .ensures .1 .size))
 
 same-length : tie.Need-same-length
 same-length c = search needs
@@ -33,12 +52,13 @@ same-length-2 c = search needs
 
 returns-3 : tie.Need-returns-3
 returns-3 c =
-    let e = c .before .before .before .before in
-    let f = e .before .before .before in
-    let r = f .before in
-    let i = r .before .before in
-    let s = i .before .before .before .before .before in
-    holds (r .read-table .result) (sized-is 4370 (s .args .table .now) _ (i .before .if1 .left) ∙ sized-is 2 (s .args .out .now) _ (i .if2 .left) ∙ (λ x. callRoot (s .args .arena .now) (sym (r .read-table .ensures) x))) (f .root .ensures) (e .end-given .ensures)
+    let s : tie.Start = search needs in
+    let e1 : tie.Else1 = search needs in
+    let e2 : tie.Else2 = search needs in
+    let b : tie.After-begin = search needs in
+    let root : tie.After-root-on = search needs in
+    let end : tie.After-end-held = search needs in
+    holds (sized-is 4370 (s .args .table .now) _ (e1 .if1 .left) ∙ sized-is 2 (s .args .out .now) _ (e2 .if2 .left) ∙ (λ x. callRoot (s .args .arena .now) (sym (b .begin .ensures .0) x))) (root .root-on .ensures) (end .end-held .ensures .0) (end .end-held .ensures .1)
 
 pub dz-root-spec : {M : Type 1} → statement M
 dz-root-spec =
@@ -46,9 +66,12 @@ dz-root-spec =
     (tie.spec
     returns
     returns-2
-    read-table-requires
-    root-requires
-    end-given-requires
+    slice-aggregate-begin
+    begin-requires
+    slice-aggregate-root-on
+    root-on-requires
+    slice-aggregate-end-held
+    end-held-requires
     same-length
     same-length-2
     returns-3)

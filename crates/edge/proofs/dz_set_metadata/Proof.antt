@@ -1,4 +1,4 @@
--- `edge::dz_set_metadata`: 255 where a size is wrong; else the call on what it is given, and how it ends.
+-- `edge::dz_set_metadata`: 255 where a size is wrong; else the call on the table in memory, and how it ends.
 use mathlib.Core.Path.{sym, _∙_}
 use Rattle.sefs.specs.Read.{callSet}
 use Rattle.edge.proofs.Laws.{sized-is, sized-not, time-is, sets-not, sets}
@@ -8,8 +8,9 @@ use Rattle.edge.proofs.dz_set_metadata.Tie as tie
 
 returns : tie.Need-returns
 returns c =
-    let s = c .before .before .before in
-    sets-not (sized-not 4370 (s .args .table .now) _ (c .if1 .taken))
+    let s : tie.Start = search needs in
+    let t1 : tie.Then1 = search needs in
+    sets-not (sized-not 4370 (s .args .table .now) _ (t1 .if1 .taken))
 
 handle-requires : tie.Need-handle-requires
 handle-requires c κs = search needs
@@ -23,11 +24,22 @@ time-requires-2 c κs = search needs
 time-requires-3 : tie.Need-time-requires-3
 time-requires-3 c κs = search needs
 
-read-table-requires : tie.Need-read-table-requires
-read-table-requires c κs = search needs
+slice-aggregate-begin : tie.Need-slice-aggregate-begin
+slice-aggregate-begin c = search needs
 
-set-metadata-requires : tie.Need-set-metadata-requires
-set-metadata-requires c κs = search needs
+begin-requires : tie.Need-begin-requires
+begin-requires c κs = search needs
+
+slice-aggregate-set-on : tie.Need-slice-aggregate-set-on
+slice-aggregate-set-on c = search needs
+
+set-on-requires : tie.Need-set-on-requires
+set-on-requires c κs =
+    let b : tie.After-begin = search needs in
+    b .begin .ensures .1
+
+slice-aggregate-end-after : tie.Need-slice-aggregate-end-after
+slice-aggregate-end-after c = search needs
 
 end-after-requires : tie.Need-end-after-requires
 end-after-requires c κs = search needs
@@ -37,14 +49,16 @@ same-length c = search needs
 
 returns-2 : tie.Need-returns-2
 returns-2 c =
-    let e = c .before .before in
-    let f = e .before .before in
-    let r = f .before in
-    let t = r .before .before in
-    let h = t .before .before .before in
-    let i = h .before in
-    let s = i .before .before .before in
-    sets (r .read-table .result) (sized-is 4370 (s .args .table .now) _ (i .if1 .left) ∙ (λ x. callSet (s .args .arena .now) (sym (r .read-table .ensures) x) (sym (h .handle .ensures) x) (s .args .mode) (s .args .uid) (s .args .gid) (sym (time-is (s .fits .asec) (s .fits .ansec) (t .before .before .time .ensures)) x) (sym (time-is (s .fits .msec) (s .fits .mnsec) (t .before .time2 .ensures)) x) (sym (time-is (s .fits .csec) (s .fits .cnsec) (t .time3 .ensures)) x))) (f .set-metadata .ensures) (e .end-after .ensures)
+    let s : tie.Start = search needs in
+    let e1 : tie.Else1 = search needs in
+    let b : tie.After-begin = search needs in
+    let handle : tie.After-handle = search needs in
+    let time : tie.After-time = search needs in
+    let time2 : tie.After-time2 = search needs in
+    let time3 : tie.After-time3 = search needs in
+    let so : tie.After-set-on = search needs in
+    let end : tie.After-end-after = search needs in
+    sets (sized-is 4370 (s .args .table .now) _ (e1 .if1 .left) ∙ (λ x. callSet (s .args .arena .now) (sym (b .begin .ensures .0) x) (sym (handle .handle .ensures) x) (s .args .mode) (s .args .uid) (s .args .gid) (sym (time-is (s .fits .asec) (s .fits .ansec) (time .time .ensures)) x) (sym (time-is (s .fits .msec) (s .fits .mnsec) (time2 .time2 .ensures)) x) (sym (time-is (s .fits .csec) (s .fits .cnsec) (time3 .time3 .ensures)) x))) (so .set-on .ensures) (end .end-after .ensures)
 
 pub dz-set-metadata-spec : {M : Type 1} → statement M
 dz-set-metadata-spec =
@@ -55,8 +69,11 @@ dz-set-metadata-spec =
     time-requires
     time-requires-2
     time-requires-3
-    read-table-requires
-    set-metadata-requires
+    slice-aggregate-begin
+    begin-requires
+    slice-aggregate-set-on
+    set-on-requires
+    slice-aggregate-end-after
     end-after-requires
     same-length
     returns-2)

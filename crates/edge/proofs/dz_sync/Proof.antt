@@ -1,4 +1,4 @@
--- `edge::dz_sync`: 255 where a size is wrong; else the call on what it is given, and how it ends.
+-- `edge::dz_sync`: 255 where a size is wrong; else the call on the table in memory, and how it ends.
 use mathlib.Core.Path.{sym, _∙_}
 use Rattle.sefs.specs.Close.{callSync}
 use Rattle.edge.proofs.Laws.{sized-is, sized-not, leaves-not, leaves}
@@ -8,14 +8,26 @@ use Rattle.edge.proofs.dz_sync.Tie as tie
 
 returns : tie.Need-returns
 returns c =
-    let s = c .before .before .before in
-    leaves-not (sized-not 4370 (s .args .table .now) _ (c .if1 .taken))
+    let s : tie.Start = search needs in
+    let t1 : tie.Then1 = search needs in
+    leaves-not (sized-not 4370 (s .args .table .now) _ (t1 .if1 .taken))
 
-read-table-requires : tie.Need-read-table-requires
-read-table-requires c κs = search needs
+slice-aggregate-begin : tie.Need-slice-aggregate-begin
+slice-aggregate-begin c = search needs
 
-sync-requires : tie.Need-sync-requires
-sync-requires c κs = search needs
+begin-requires : tie.Need-begin-requires
+begin-requires c κs = search needs
+
+slice-aggregate-sync-on : tie.Need-slice-aggregate-sync-on
+slice-aggregate-sync-on c = search needs
+
+sync-on-requires : tie.Need-sync-on-requires
+sync-on-requires c κs =
+    let b : tie.After-begin = search needs in
+    b .begin .ensures .1
+
+slice-aggregate-end-after : tie.Need-slice-aggregate-end-after
+slice-aggregate-end-after c = search needs
 
 end-after-requires : tie.Need-end-after-requires
 end-after-requires c κs = search needs
@@ -28,20 +40,23 @@ same-length-2 c = search needs
 
 returns-2 : tie.Need-returns-2
 returns-2 c =
-    let e = c .before .before in
-    let f = e .before .before .before .before in
-    let r = f .before in
-    let i = r .before .before .before in
-    let s = i .before .before .before in
-    leaves (sized-is 4370 (s .args .table .now) _ (i .if1 .left) ∙ (λ x. callSync (s .args .arena .now) (sym (r .read-table .ensures) x))) (f .sync .ensures) (e .end-after .ensures)
+    let s : tie.Start = search needs in
+    let e1 : tie.Else1 = search needs in
+    let b : tie.After-begin = search needs in
+    let sync : tie.After-sync-on = search needs in
+    let end : tie.After-end-after = search needs in
+    leaves (sized-is 4370 (s .args .table .now) _ (e1 .if1 .left) ∙ (λ x. callSync (s .args .arena .now) (sym (b .begin .ensures .0) x))) (sync .sync-on .ensures) (end .end-after .ensures)
 
 pub dz-sync-spec : {M : Type 1} → statement M
 dz-sync-spec =
     tie.close
     (tie.spec
     returns
-    read-table-requires
-    sync-requires
+    slice-aggregate-begin
+    begin-requires
+    slice-aggregate-sync-on
+    sync-on-requires
+    slice-aggregate-end-after
     end-after-requires
     same-length
     same-length-2

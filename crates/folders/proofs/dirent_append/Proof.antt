@@ -1,13 +1,15 @@
 -- `folders::dirent_append`: the store, then the count, which can rise since the store was not too long.
+use mathlib.Core.Path.{_∙_}
 use Rattle.base.proofs.Outs.{went-is}
 use Rattle.folders.proofs.Folders.{put-slot-short, append-stop, append-done}
-use native.Mathlib.Omega.{arith}
+use Rattle.folders.proofs.States.{blocked}
 use borrow.Author.Needs.{needs}
+use native.Mathlib.Omega.{arith}
 use Rattle.folders.proofs.dirent_append.Statement.{statement}
 use Rattle.folders.proofs.dirent_append.Tie as tie
 
-rec-at-requires : tie.Need-rec-at-requires
-rec-at-requires c κs = search needs
+blocks-at-requires : tie.Need-blocks-at-requires
+blocks-at-requires c κs = search needs
 
 index-requires : tie.Need-index-requires
 index-requires c κs = search needs
@@ -24,7 +26,7 @@ same-length-2 c = search needs
 returns : tie.Need-returns
 returns c =
     let s = c .before .before .before .before .before .before .before .before .before .before .before .before .before in
-    append-stop _ _ _ _ _ (s .args .i) _ _ (c .before .before .before .before .before .before .before .rec-at .result) _ (λ j. c .before .before .before .before .before .before .before .before .before .shared-slice-known2 .given j .fits) (s .pre .1 .1 .1) (c .before .before .before .before .before .before .before .rec-at .ensures) (c .before .before .before .before .index .ensures) (c .if1 .taken) (c .before .before .before .put-slot .ensures)
+    append-stop _ _ _ _ _ (s .args .i) _ _ _ (λ j. c .before .before .before .before .before .before .before .before .before .shared-slice-known2 .given j .fits) (s .pre .1 .1 .1) (c .before .before .before .before .index .ensures ∙ c .before .before .before .before .before .before .before .blocks-at .ensures) (c .if1 .taken) (c .before .before .before .put-slot .ensures)
 
 add-set-blocks : tie.Need-add-set-blocks
 add-set-blocks c =
@@ -43,13 +45,13 @@ same-length-4 c = search needs
 returns-2 : tie.Need-returns-2
 returns-2 c =
     let s = c .before .before .before .before .before .before .before .before .before .before .before .before .before .before .before .before .before in
-    append-done _ _ _ _ _ (s .args .i) _ _ (c .before .before .before .before .before .before .before .before .before .before .before .rec-at .result) _ (λ j. c .before .before .before .before .before .before .before .before .before .before .before .before .before .shared-slice-known2 .given j .fits) (s .pre .1 .1 .1) (c .before .before .before .before .before .before .before .before .before .before .before .rec-at .ensures) (c .before .before .before .before .before .before .before .before .index .ensures) (c .before .before .before .before .if1 .left) (c .before .before .before .before .before .before .before .put-slot .ensures) (c .before .before .set-blocks .ensures)
+    append-done _ _ _ _ _ (s .args .i) _ _ (c .before .before .before .before .before .before .before .before .before .before .before .blocks-at .result) _ (λ j. c .before .before .before .before .before .before .before .before .before .before .before .before .before .shared-slice-known2 .given j .fits) (s .pre .1 .1 .1) (c .before .before .before .before .before .before .before .before .before .before .before .blocks-at .ensures) (c .before .before .before .before .before .before .before .before .index .ensures) (c .before .before .before .before .if1 .left) (c .before .before .before .before .before .before .before .put-slot .ensures) (blocked (c .before .before .set-blocks .ensures))
 
 pub dirent-append-spec : {M : Type 1} → statement M
 dirent-append-spec =
     tie.close
     (tie.spec
-    rec-at-requires
+    blocks-at-requires
     index-requires
     put-slot-requires
     same-length

@@ -1,13 +1,13 @@
 -- `folders::dirent_init`: the count, then two stores.
+use mathlib.Core.List.{[], _∷_}
 use Rattle.base.proofs.Outs.{went-is, went-has, went-stop}
-use Rattle.folders.proofs.Folders.{init-is}
-use Rattle.folders.proofs.States.{stepped-next, still-ready}
-use Rattle.sefs.specs.Folders.{entry, putSlot}
 use Rattle.structs.specs.Constants.{typeDir}
 use Rattle.structs.specs.Layout.{entryBytes}
-use mathlib.Core.List.{[], _∷_}
-use native.Mathlib.Omega.{arith}
+use Rattle.sefs.specs.Folders.{entry, putSlot}
+use Rattle.folders.proofs.Folders.{init-is}
+use Rattle.folders.proofs.States.{blocked, stepped-next, still-ready}
 use borrow.Author.Needs.{needs}
+use native.Mathlib.Omega.{arith}
 use Rattle.folders.proofs.dirent_init.Statement.{statement}
 use Rattle.folders.proofs.dirent_init.Tie as tie
 
@@ -15,7 +15,9 @@ set-blocks-requires : tie.Need-set-blocks-requires
 set-blocks-requires c κs = search needs
 
 put-dot-requires : tie.Need-put-dot-requires
-put-dot-requires c κs = search needs
+put-dot-requires c κs =
+    let s = c .before .before .before .before .before .before .before .before .before in
+    (record { fine = s .pre .0 .fine; whole = c .before .before .before .before .set-blocks .ensures .whole }, (omega (arith, s .pre .1 .0), s .pre .1 .1))
 
 same-length : tie.Need-same-length
 same-length c = search needs
@@ -26,7 +28,7 @@ same-length-2 c = search needs
 returns : tie.Need-returns
 returns c =
     let s = c .before .before .before .before .before .before .before .before .before .before .before .before .before in
-    rw (← (init-is _ _ _ _ (s .args .i) (s .args .parent) (c .before .before .before .before .before .before .before .before .set-blocks .ensures))) (went-stop _ _ (c .if1 .taken) (c .before .before .before .put-dot .ensures))
+    rw (← (init-is _ _ _ _ (s .args .i) (s .args .parent) (blocked (c .before .before .before .before .before .before .before .before .set-blocks .ensures)))) (went-stop _ _ (c .if1 .taken) (c .before .before .before .put-dot .ensures))
 
 put-dots-requires : tie.Need-put-dots-requires
 put-dots-requires c κs =
@@ -45,7 +47,7 @@ returns-2 c =
     let s = c .before .before .before .before .before .before .before .before .before .before .before .before .before .before .before .before .before .before in
     let g = c .before .before .before .before .before .before .before .before .put-dot .ensures in
     let z = c .before .before .before .before .before .if1 .left in
-    rw (← (init-is _ _ _ _ (s .args .i) (s .args .parent) (c .before .before .before .before .before .before .before .before .before .before .before .before .before .set-blocks .ensures)))
+    rw (← (init-is _ _ _ _ (s .args .i) (s .args .parent) (blocked (c .before .before .before .before .before .before .before .before .before .before .before .before .before .set-blocks .ensures))))
     (stepped-next (λ t. putSlot t (s .args .i) 1 (entryBytes (entry (s .args .parent) (46 ∷ 46 ∷ []) typeDir))) 3 6 (went-is g z) (went-has g z) (c .before .before .put-dots .ensures) (omega arith))
 
 pub dirent-init-spec : {M : Type 1} → statement M

@@ -1,19 +1,21 @@
 -- `folders::nlinks_inc`: the definition's cases.
 use Rattle.folders.proofs.Folders.{inc-top, inc-done}
-use mathlib.Core.Path.{refl}
-use native.Mathlib.Omega.{arith}
+use Rattle.folders.proofs.States.{linked}
 use borrow.Author.Needs.{needs}
+use native.Mathlib.Omega.{arith}
 use Rattle.folders.proofs.nlinks_inc.Statement.{statement}
 use Rattle.folders.proofs.nlinks_inc.Tie as tie
 
-rec-at-requires : tie.Need-rec-at-requires
-rec-at-requires c κs = search needs
+nlinks-at-requires : tie.Need-nlinks-at-requires
+nlinks-at-requires c κs = search needs
 
 same-length : tie.Need-same-length
 same-length c = search needs
 
 returns : tie.Need-returns
-returns c = inc-top _ (c .before .before .before .before .args .i) _ (c .before .rec-at .result) (c .before .rec-at .ensures) refl _ (c .if1 .taken)
+returns c =
+    let s = c .before .before .before .before in
+    inc-top _ (s .args .i) _ (c .before .nlinks-at .ensures) _ (c .if1 .taken)
 
 add-set-links : tie.Need-add-set-links
 add-set-links c = search needs
@@ -25,13 +27,15 @@ same-length-2 : tie.Need-same-length-2
 same-length-2 c = search needs
 
 returns-2 : tie.Need-returns-2
-returns-2 c = inc-done _ (c .before .before .before .before .before .before .before .before .args .i) _ (c .before .before .before .before .before .rec-at .result) (c .before .before .before .before .before .rec-at .ensures) refl _ (omega arith) (c .before .before .set-links .ensures)
+returns-2 c =
+    let s = c .before .before .before .before .before .before .before .before in
+    inc-done _ (s .args .i) _ (c .before .before .before .before .before .nlinks-at .ensures) _ (omega arith) (linked (c .before .before .set-links .ensures))
 
 pub nlinks-inc-spec : {M : Type 1} → statement M
 nlinks-inc-spec =
     tie.close
     (tie.spec
-    rec-at-requires
+    nlinks-at-requires
     same-length
     returns
     add-set-links

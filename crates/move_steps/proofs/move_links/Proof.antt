@@ -1,20 +1,20 @@
 -- `move_steps::move_links`: by the moved node's type.
-use native.Mathlib.Omega.{arith}
 use Rattle.move_steps.proofs.Steps.{links-stuck, links-folder, links-other}
 use borrow.Author.Needs.{needs}
+use native.Mathlib.Omega.{arith}
 use Rattle.move_steps.proofs.move_links.Statement.{statement}
 use Rattle.move_steps.proofs.move_links.Tie as tie
 
-rec-at-requires : tie.Need-rec-at-requires
-rec-at-requires c κs = search needs
+kind-at-requires : tie.Need-kind-at-requires
+kind-at-requires c κs = search needs
 
 same-length : tie.Need-same-length
 same-length c = search needs
 
 returns : tie.Need-returns
 returns c =
-    let s = c .before .before .before .before in
-    links-stuck _ (s .args .i) (s .args .j) (s .args .c) _ (c .before .rec-at .ensures) _ (omega (arith, c .if1 .taken))
+    let s : tie.Start = search needs in
+    links-stuck _ (s .args .i) (s .args .j) (s .args .c) _ (let p : tie.After-kind-at = search needs in p .kind-at .ensures) _ (omega (arith, (let p : tie.Then1 = search needs in p .if1 .taken)))
 
 move-dots-requires : tie.Need-move-dots-requires
 move-dots-requires c κs = search needs
@@ -24,22 +24,22 @@ same-length-2 c = search needs
 
 returns-2 : tie.Need-returns-2
 returns-2 c =
-    let s = c .before .before .before .before .before .before .before .before .before in
-    links-folder _ (s .args .i) (s .args .j) (s .args .c) _ (c .before .before .before .before .before .before .rec-at .ensures) (omega (arith, c .before .before .before .before .before .if1 .left)) (c .before .before .before .before .if2 .taken) (c .before .before .move-dots .ensures)
+    let s : tie.Start = search needs in
+    links-folder _ (s .args .i) (s .args .j) (s .args .c) _ (let p : tie.After-kind-at = search needs in p .kind-at .ensures) (omega (arith, (let p : tie.Else1 = search needs in p .if1 .left))) (let p : tie.Then2 = search needs in p .if2 .taken) (let p : tie.After-move-dots = search needs in p .move-dots .ensures)
 
 same-length-3 : tie.Need-same-length-3
 same-length-3 c = search needs
 
 returns-3 : tie.Need-returns-3
 returns-3 c =
-    let s = c .before .before .before .before .before in
-    links-other _ (s .args .i) (s .args .j) (s .args .c) _ (c .before .before .rec-at .ensures) (omega (arith, c .before .if1 .left)) (c .if2 .left) (s .pre .0)
+    let s : tie.Start = search needs in
+    links-other _ (s .args .i) (s .args .j) (s .args .c) _ (let p : tie.After-kind-at = search needs in p .kind-at .ensures) (omega (arith, (let p : tie.Else1 = search needs in p .if1 .left))) (let p : tie.Else2 = search needs in p .if2 .left) (s .pre .0)
 
 pub move-links-spec : {M : Type 1} → statement M
 move-links-spec =
     tie.close
     (tie.spec
-    rec-at-requires
+    kind-at-requires
     same-length
     returns
     move-dots-requires

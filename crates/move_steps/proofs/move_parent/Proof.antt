@@ -4,8 +4,8 @@ use borrow.Author.Needs.{needs}
 use Rattle.move_steps.proofs.move_parent.Statement.{statement}
 use Rattle.move_steps.proofs.move_parent.Tie as tie
 
-rec-at-requires : tie.Need-rec-at-requires
-rec-at-requires c κs = search needs
+kind-at-requires : tie.Need-kind-at-requires
+kind-at-requires c κs = search needs
 
 id-at-requires : tie.Need-id-at-requires
 id-at-requires c κs = search needs
@@ -18,15 +18,27 @@ same-length c = search needs
 
 returns : tie.Need-returns
 returns c =
-    let s = c .before .before .before .before .before .before .before .before .before .before .before in
-    parent-folder _ _ _ (s .args .j) (s .args .c) _ (c .before .before .before .before .before .before .before .rec-at .ensures) _ (c .before .before .before .id-at .ensures) (c .before .before .before .before .before .if1 .taken) (c .before .before .put-dots .ensures)
+    let s : tie.Start = search needs in
+    let kind : tie.After-kind-at = search needs in
+    let id : tie.After-id-at = search needs in
+    let t1 : tie.Then1 = search needs in
+    let put : tie.After-put-dots = search needs in
+    parent-folder _ _ _ (s .args .j) (s .args .c) _ (kind .kind-at .ensures) _ (id .id-at .ensures) (t1 .if1 .taken) (put .put-dots .ensures)
 
 returns-2 : tie.Need-returns-2
 returns-2 c =
-    let s = c .before .before .before .before .before .before in
-    parent-other _ _ _ (s .args .j) (s .args .c) _ (c .before .before .rec-at .ensures) (c .if1 .left) (s .pre .0)
+    let s : tie.Start = search needs in
+    let kind : tie.After-kind-at = search needs in
+    let e1 : tie.Else1 = search needs in
+    parent-other _ _ _ (s .args .j) (s .args .c) _ (kind .kind-at .ensures) (e1 .if1 .left) (s .pre .0)
 
 pub move-parent-spec : {M : Type 1} → statement M
 move-parent-spec =
     tie.close
-    (tie.spec rec-at-requires id-at-requires put-dots-requires same-length returns returns-2)
+    (tie.spec
+    kind-at-requires
+    id-at-requires
+    put-dots-requires
+    same-length
+    returns
+    returns-2)

@@ -1,6 +1,7 @@
 -- `move_steps::move_slot`: by the folders' ids.
 use Rattle.move_steps.proofs.Steps.{slot-within, slot-between}
 use borrow.Author.Needs.{needs}
+use native.Mathlib.Omega.{arith}
 use Rattle.move_steps.proofs.move_slot.Statement.{statement}
 use Rattle.move_steps.proofs.move_slot.Tie as tie
 
@@ -11,7 +12,9 @@ id-at-requires-2 : tie.Need-id-at-requires-2
 id-at-requires-2 c κs = search needs
 
 move-within-requires : tie.Need-move-within-requires
-move-within-requires c κs = search needs
+move-within-requires c κs =
+    let s : tie.Start = search needs in
+    (s .pre .0, (omega (arith, s .pre .1 .0), (s .pre .1 .1 .0, (s .pre .1 .1 .1 .1 .0, s .pre .1 .1 .1 .1 .1))))
 
 same-length : tie.Need-same-length
 same-length c = search needs
@@ -19,24 +22,40 @@ same-length c = search needs
 same-length-2 : tie.Need-same-length-2
 same-length-2 c = search needs
 
-returns : tie.Need-returns
-returns c =
-    let s = c .before .before .before .before .before .before .before .before .before .before .before .before .before .before .before .before in
-    slot-within _ _ _ (s .args .i) (s .args .j) (s .args .k) _ (s .args .gone) _ _ (c .before .before .before .before .before .before .before .before .before .before .id-at .ensures) (c .before .before .before .before .before .before .before .before .id-at2 .ensures) (c .before .before .before .before .before .before .before .if1 .taken) (c .before .before .before .before .move-within .ensures)
-
-move-between-requires : tie.Need-move-between-requires
-move-between-requires c κs = search needs
-
 same-length-3 : tie.Need-same-length-3
 same-length-3 c = search needs
+
+returns : tie.Need-returns
+returns c =
+    let s : tie.Start = search needs in
+    let id : tie.After-id-at = search needs in
+    let id2 : tie.After-id-at2 = search needs in
+    let t1 : tie.Then1 = search needs in
+    let move : tie.After-move-within = search needs in
+    slot-within _ _ _ (s .args .i) (s .args .j) (s .args .k) _ (s .args .gone) _ _ (id .id-at .ensures) (id2 .id-at2 .ensures) (t1 .if1 .taken) (move .move-within .ensures)
+
+move-between-requires : tie.Need-move-between-requires
+move-between-requires c κs =
+    let s : tie.Start = search needs in
+    s .pre
 
 same-length-4 : tie.Need-same-length-4
 same-length-4 c = search needs
 
+same-length-5 : tie.Need-same-length-5
+same-length-5 c = search needs
+
+same-length-6 : tie.Need-same-length-6
+same-length-6 c = search needs
+
 returns-2 : tie.Need-returns-2
 returns-2 c =
-    let s = c .before .before .before .before .before .before .before .before .before .before .before .before .before .before .before .before in
-    slot-between _ _ _ (s .args .i) (s .args .j) (s .args .k) _ (s .args .gone) _ _ (c .before .before .before .before .before .before .before .before .before .before .id-at .ensures) (c .before .before .before .before .before .before .before .before .id-at2 .ensures) (c .before .before .before .before .before .before .before .if1 .left) (c .before .before .before .before .move-between .ensures)
+    let s : tie.Start = search needs in
+    let id : tie.After-id-at = search needs in
+    let id2 : tie.After-id-at2 = search needs in
+    let e1 : tie.Else1 = search needs in
+    let move : tie.After-move-between = search needs in
+    slot-between _ _ _ (s .args .i) (s .args .j) (s .args .k) _ (s .args .gone) _ _ (id .id-at .ensures) (id2 .id-at2 .ensures) (e1 .if1 .left) (move .move-between .ensures)
 
 pub move-slot-spec : {M : Type 1} → statement M
 move-slot-spec =
@@ -47,8 +66,10 @@ move-slot-spec =
     move-within-requires
     same-length
     same-length-2
+    same-length-3
     returns
     move-between-requires
-    same-length-3
     same-length-4
+    same-length-5
+    same-length-6
     returns-2)

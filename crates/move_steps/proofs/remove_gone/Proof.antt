@@ -12,12 +12,15 @@ enum-known-gone c = search needs
 
 dirent-node-remove-requires : tie.Need-dirent-node-remove-requires
 dirent-node-remove-requires c κs =
-    let s = c .before .before .before .before .before .before .before .before in
-    (s .pre .0, (s .pre .1 .0, (s .pre .1 .1 .0, gone-row _ _ _ (c .before .before .before .gone .given .1) (s .pre .1 .1 .1))))
+    let s : tie.Start = search needs in
+    let gone : tie.After-gone = search needs in
+    (s .pre .0, (s .pre .1 .0, (s .pre .1 .1 .0, (gone-row _ _ _ (gone .gone .given .1) (s .pre .1 .1 .1 .1), s .pre .1 .1 .1 .0))))
 
 returns : tie.Need-returns
 returns c =
-    gone-free _ _ _ _ _ (c .enum-told .given .1) (c .before .before .before .before .before .pre .0)
+    let enum : tie.After-enum-told = search needs in
+    let s : tie.Start = search needs in
+    gone-free _ _ _ _ _ (enum .enum-told .given .1) (s .pre .0)
 
 same-length : tie.Need-same-length
 same-length c = search needs
@@ -25,9 +28,14 @@ same-length c = search needs
 same-length-2 : tie.Need-same-length-2
 same-length-2 c = search needs
 
+same-length-3 : tie.Need-same-length-3
+same-length-3 c = search needs
+
 returns-2 : tie.Need-returns-2
 returns-2 c =
-    gone-node _ _ _ _ _ _ _ (c .before .before .before .before .before .before .before .before .gone .given .1) (c .before .before .before .before .dirent-node-remove .ensures)
+    let gone : tie.After-gone = search needs in
+    let dirent : tie.After-dirent-node-remove = search needs in
+    gone-node _ _ _ _ _ _ _ (gone .gone .given .1) (dirent .dirent-node-remove .ensures)
 
 pub remove-gone-spec : {M : Type 1} → statement M
 remove-gone-spec =
@@ -39,4 +47,5 @@ remove-gone-spec =
     returns
     same-length
     same-length-2
+    same-length-3
     returns-2)

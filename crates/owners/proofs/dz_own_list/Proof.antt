@@ -3,8 +3,8 @@ use mathlib.Core.Path.{sym, _∙_}
 use lib.ListN.{length, getD}
 use Rattle.sound.proofs.Chains.{length-firsts}
 use Rattle.sefs.specs.Read.{callListing}
-use Rattle.edge.proofs.Laws.{sized-is, sized-not, lists-not}
-use Rattle.owners.proofs.Laws.{admitted, own-lists, listed-room}
+use Rattle.edge.proofs.Laws.{sized-is, sized-not, lists-not, lists, listed-room}
+use Rattle.owners.proofs.Laws.{admitted}
 use borrow.Author.Needs.{needs}
 use Rattle.owners.proofs.dz_own_list.Statement.{statement}
 use Rattle.owners.proofs.dz_own_list.Tie as tie
@@ -62,7 +62,7 @@ returns-2 c =
     let l = e .before .before .before .before in
     let b = l .before .before .before .before .before .before .before in
     let s = b .before .before .before .before .before .before .before .before .before in
-    own-lists (sized-is 1 (s .args .next .now) _ (b .before .before .before .if1 .left) ∙ (λ x. callListing (s .args .arena .now) (sym (b .begin .ensures .0) x) (sym (l .before .before .handle .ensures) x) (getD (s .args .next .now) 0 0) (length (s .args .out .now)))) (l .list-led .ensures) (e .end-listed .ensures)
+    lists (sized-is 1 (s .args .next .now) _ (b .before .before .before .if1 .left) ∙ (λ x. callListing (s .args .arena .now) (sym (b .begin .ensures .0) x) (sym (l .before .before .handle .ensures) x) (getD (s .args .next .now) 0 0) (length (s .args .out .now)))) (l .list-led .ensures) (e .end-listed .ensures)
 
 pub dz-own-list-spec : {M : Type 1} → statement M
 dz-own-list-spec =

@@ -1,7 +1,8 @@
 -- `owners::dz_own_unlink`: the call on the table in memory; the chains are its own.
 use mathlib.Core.Path.{sym}
 use Rattle.sefs.specs.Unlink.{callUnlink}
-use Rattle.owners.proofs.Laws.{keeps, own-leaves}
+use Rattle.edge.proofs.Laws.{leaves}
+use Rattle.owners.proofs.Laws.{keeps}
 use borrow.Author.Needs.{needs}
 use Rattle.owners.proofs.dz_own_unlink.Statement.{statement}
 use Rattle.owners.proofs.dz_own_unlink.Tie as tie
@@ -42,7 +43,7 @@ returns c =
     let o = e .before .before .before .before .before .before .before .before in
     let b = o .before .before .before .before .before .before in
     let s = b .before .before .before .before .before .before .before in
-    (own-leaves (λ x. callUnlink (s .args .arena .now) (sym (b .begin .ensures .0) x) (sym (o .before .handle .ensures) x) (s .args .name .now)) (o .unlink-on .ensures .0) (e .end-after .ensures), o .unlink-on .ensures .1)
+    (leaves (λ x. callUnlink (s .args .arena .now) (sym (b .begin .ensures .0) x) (sym (o .before .handle .ensures) x) (s .args .name .now)) (o .unlink-on .ensures .0) (e .end-after .ensures), o .unlink-on .ensures .1)
 
 pub dz-own-unlink-spec : {M : Type 1} → statement M
 dz-own-unlink-spec =

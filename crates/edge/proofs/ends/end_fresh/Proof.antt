@@ -1,31 +1,34 @@
--- `edge::ends::end_fresh`: refused, and nothing is written; or as `end_after` ends.
-use mathlib.Core.Path.{sym, _∙_}
-use Rattle.edge.proofs.Laws.{not-done}
+-- `edge::ends::end_fresh`: the empty table, laid over all of the slice, where the reason is 0.
+use mathlib.Core.Path.{_≡_, refl, sym, _∙_}
+use lib.ListN.{length}
+use Rattle.base.proofs.Parts.{paste-whole}
+use Rattle.table.specs.Table.{emptyTable}
+use Rattle.table_bytes.specs.Layout.{tableBytes}
+use Rattle.table_bytes.proofs.Layouts.{length-fits}
+use Rattle.table_bytes.proofs.Empty.{empty-fits}
+use Rattle.edge.proofs.Laws.{picked, passed-over}
 use borrow.Author.Needs.{needs}
-use borrow.Author.Tests.{not-true}
 use Rattle.edge.proofs.ends.end_fresh.Statement.{statement}
 use Rattle.edge.proofs.ends.end_fresh.Tie as tie
 
-is-done-requires : tie.Need-is-done-requires
-is-done-requires c κs = search needs
-
-number-requires : tie.Need-number-requires
-number-requires c κs = search needs
-
 returns : tie.Need-returns
 returns c =
-    let d = c .before .before in
-    let s = d .before .before in
-    (c .number .ensures, not-done (s .args .table .now) (s .args .a .table) (s .args .a .answer) (sym (d .is-done .ensures) ∙ not-true _ (c .before .if1 .taken)))
+    let s : tie.Start = search needs in
+    let t1 : tie.Then1 = search needs in
+    (refl, passed-over _ _ (s .args .reason) (t1 .if1 .taken))
 
-end-after-requires : tie.Need-end-after-requires
-end-after-requires c κs = search needs
+put-empty-requires : tie.Need-put-empty-requires
+put-empty-requires c κs = search needs
 
 same-length : tie.Need-same-length
 same-length c = search needs
 
 returns-2 : tie.Need-returns-2
-returns-2 c = c .before .before .end-after .ensures
+returns-2 c =
+    let e1 : tie.Else1 = search needs in
+    let put : tie.After-put-empty = search needs in
+    let s : tie.Start = search needs in
+    (sym (e1 .if1 .left), put .put-empty .ensures ∙ paste-whole (s .args .table .now) (tableBytes emptyTable) (s .pre ∙ sym (length-fits emptyTable empty-fits)) ∙ picked _ _ (s .args .reason) (e1 .if1 .left))
 
 pub end-fresh-spec : {M : Type 1} → statement M
-end-fresh-spec = tie.close (tie.spec is-done-requires number-requires returns end-after-requires same-length returns-2)
+end-fresh-spec = tie.close (tie.spec returns put-empty-requires same-length returns-2)

@@ -1,9 +1,12 @@
 -- `folders::slots::find_slot`: by what the lookup found.
 use Prim.Native.Nat.{_<_}
+use mathlib.Core.Path.{_∙_}
 use Rattle.base.proofs.Outs.{went-has}
+use Rattle.table.specs.Table.{rowAt}
+use Rattle.mem.specs.Mem.{tableIn}
 use Rattle.chains.proofs.Lookups.{find-stop, find-none, find-at}
-use native.Mathlib.Omega.{arith}
 use borrow.Author.Needs.{needs}
+use native.Mathlib.Omega.{arith}
 use Rattle.folders.proofs.slots.find_slot.Statement.{statement}
 use Rattle.folders.proofs.slots.find_slot.Tie as tie
 
@@ -15,8 +18,13 @@ same-length c = search needs
 
 returns : tie.Need-returns
 returns c =
-    let s = c .before .before .before .before .before .before .before .before .before .before in
-    find-stop _ (s .args .rec) (s .args .name .now) _ _ (c .if1 .taken) (c .before .before .before .before .lookup .ensures)
+    let s : tie.Start = search needs in
+    let t1 : tie.Then1 = search needs in
+    let lookup : tie.After-lookup = search needs in
+    find-stop _ (rowAt (tableIn (s .args .mem .now)) (s .args .i) .rec) (s .args .name .now) _ _ (t1 .if1 .taken) (lookup .lookup .ensures)
+
+blocks-at-requires : tie.Need-blocks-at-requires
+blocks-at-requires c κs = search needs
 
 index-requires : tie.Need-index-requires
 index-requires c κs = search needs
@@ -26,19 +34,29 @@ same-length-2 c = search needs
 
 returns-2 : tie.Need-returns-2
 returns-2 c =
-    let s = c .before .before .before .before .before .before .before .before .before .before .before .before .before in
-    let g = c .before .before .before .before .before .before .before .lookup .ensures in
-    let z = c .before .before .before .if1 .left in
-    let l : c .before .before .before .before .before .before .before .lookup .result .place < s .args .rec .blocks = omega (arith, c .if2 .taken, c .before .before .index .ensures) in
-    find-at _ (s .args .rec) (s .args .name .now) _ g z l (went-has g z .0 l)
+    let lookup : tie.After-lookup = search needs in
+    let e1 : tie.Else1 = search needs in
+    let s : tie.Start = search needs in
+    let t2 : tie.Then2 = search needs in
+    let index : tie.After-index = search needs in
+    let blocks : tie.After-blocks-at = search needs in
+    let g = lookup .lookup .ensures in
+    let z = e1 .if1 .left in
+    let l : lookup .lookup .result .place < rowAt (tableIn (s .args .mem .now)) (s .args .i) .rec .blocks = omega (arith, t2 .if2 .taken, index .index .ensures, blocks .blocks-at .ensures) in
+    find-at _ (rowAt (tableIn (s .args .mem .now)) (s .args .i) .rec) (s .args .name .now) _ g z l (went-has g z .0 l)
 
 same-length-3 : tie.Need-same-length-3
 same-length-3 c = search needs
 
 returns-3 : tie.Need-returns-3
 returns-3 c =
-    let s = c .before .before .before .before .before .before .before .before .before .before .before .before .before in
-    find-none _ (s .args .rec) (s .args .name .now) _ _ (c .before .before .before .before .before .before .before .lookup .ensures) (c .before .before .before .if1 .left) (omega (arith, c .if2 .left, c .before .before .index .ensures))
+    let s : tie.Start = search needs in
+    let lookup : tie.After-lookup = search needs in
+    let e1 : tie.Else1 = search needs in
+    let e2 : tie.Else2 = search needs in
+    let index : tie.After-index = search needs in
+    let blocks : tie.After-blocks-at = search needs in
+    find-none _ (rowAt (tableIn (s .args .mem .now)) (s .args .i) .rec) (s .args .name .now) _ _ (lookup .lookup .ensures) (e1 .if1 .left) (omega (arith, e2 .if2 .left, index .index .ensures, blocks .blocks-at .ensures))
 
 pub find-slot-spec : {M : Type 1} → statement M
 find-slot-spec =
@@ -47,6 +65,7 @@ find-slot-spec =
     lookup-requires
     same-length
     returns
+    blocks-at-requires
     index-requires
     same-length-2
     returns-2

@@ -1,8 +1,8 @@
--- `owners::ends::begin`: nothing of the superblock is read yet, and the table's bytes are in their place.
-use Rattle.owners.proofs.Laws.{begun}
+-- `mem::begin`: nothing of the superblock is read yet, and the table's bytes are in their place.
+use Rattle.mem.proofs.Mems.{bytes-start}
 use borrow.Author.Needs.{needs}
-use Rattle.owners.proofs.ends.begin.Statement.{statement}
-use Rattle.owners.proofs.ends.begin.Tie as tie
+use Rattle.mem.proofs.begin.Statement.{statement}
+use Rattle.mem.proofs.begin.Tie as tie
 
 put-flag-requires : tie.Need-put-flag-requires
 put-flag-requires c κs = search needs
@@ -27,7 +27,7 @@ returns c =
     let k = c .before .before in
     let f = k .before .before .before .before in
     let s = f .before .before .before .before in
-    begun (s .args .mem .now) (f .put-flag .last .0) (k .copy .last .0) (s .args .table .now) (s .pre .0) (s .pre .1) (f .put-flag .ensures) (k .copy .ensures)
+    bytes-start (s .args .mem .now) (f .put-flag .last .0) (k .copy .last .0) (s .args .table .now) (s .pre .0) (s .pre .1) (f .put-flag .ensures) (k .copy .ensures)
 
 pub begin-spec : {M : Type 1} → statement M
 begin-spec =

@@ -1,15 +1,17 @@
--- `owners::ends::end_listed`: the slots that were written are counted. The sum fits, as its caller knows.
-use native.Mathlib.Omega.{arith}
-use Rattle.owners.proofs.Laws.{listed-slots-word}
+-- `edge::ends::end_listed`: the slots that were written are counted. The sum fits, as its caller knows.
+use Rattle.edge.proofs.Laws.{listed-slots-word}
 use borrow.Author.Needs.{needs}
-use Rattle.owners.proofs.ends.end_listed.Statement.{statement}
-use Rattle.owners.proofs.ends.end_listed.Tie as tie
+use native.Mathlib.Omega.{arith}
+use Rattle.edge.proofs.ends.end_listed.Statement.{statement}
+use Rattle.edge.proofs.ends.end_listed.Tie as tie
 
 enum-known-l : tie.Need-enum-known-l
 enum-known-l c = search needs
 
 add-put-next : tie.Need-add-put-next
-add-put-next c = let s = c .before .before .before .before .before in omega (arith, s .pre .1 _ (c .before .before .l .given .1))
+add-put-next c =
+    let s : tie.Start = search needs in
+    omega (arith, s .pre .1 _ (let p : tie.After-l = search needs in p .l .given .1))
 
 put-next-requires : tie.Need-put-next-requires
 put-next-requires c κs = search needs
@@ -25,8 +27,10 @@ same-length c = search needs
 
 returns : tie.Need-returns
 returns c =
-    let s = c .before .before .before .before .before .before .before .before in
-    listed-slots-word (s .args .next .now) (s .args .from) (c .before .before .before .before .before .l .given .1) (c .before .before .put-next .ensures)
+    let s : tie.Start = search needs in
+    let l : tie.After-l = search needs in
+    let put : tie.After-put-next = search needs in
+    listed-slots-word (s .args .next .now) (s .args .from) (l .l .given .1) (put .put-next .ensures)
 
 returns-2 : tie.Need-returns-2
 returns-2 c = search needs
