@@ -29,7 +29,7 @@ extern "C" {
 #define DZ_TABLE 4370         /* the table's bytes */
 #define DZ_SLOT 264           /* a slot of a folder, as get entry and listing write it */
 #define DZ_FILE_NAME 16       /* the name of a node's own file, new for every node */
-#define DZ_NAME_LONGEST 255   /* a name in a folder: UTF-8, with no zero byte */
+#define DZ_NAME_LONGEST 255   /* a name in a folder: UTF-8, with no zero byte; a new one with no slash */
 #define DZ_FILE_LONGEST 4294967295 /* the contents of a file, symlink or socket */
 
 /* ---- types */
@@ -46,7 +46,7 @@ extern "C" {
 #define DZ_DAMAGED 2          /* the arena is not sound */
 #define DZ_BAD_TABLE 3        /* the table is not well formed */
 #define DZ_BAD_HANDLE 4       /* not a live hold with that stamp */
-#define DZ_BAD_NAME 5         /* a zero byte inside, or not UTF-8 */
+#define DZ_BAD_NAME 5         /* a zero byte inside, or not UTF-8; in create, link and move's new name also a slash */
 #define DZ_INVALID_PARAM 6    /* a type that is not 1 to 4, or a folder into itself or below */
 #define DZ_NOT_DIR 7
 #define DZ_DIR_REMOVED 8      /* the folder has no links left */
@@ -168,15 +168,15 @@ uint32_t dz_close(uint8_t *arena, size_t arena_len, uint8_t *table, size_t table
 /* ---- names */
 
 /* A new node of that type in the folder, and a hold on it. `file` is its own file's name, which no other node has.
- * Changes: arena, table, handle. Reasons: BadArena, Damaged, BadTable, BadHandle, BadName, InvalidParam, NotDir, DirRemoved, NameTooLong,
- * EntryExist, FileTaken, TooManyLinks, TableFull; NoDeviceSpace, Stuck. */
+ * Changes: arena, table, handle. Reasons: BadArena, Damaged, BadTable, BadHandle, BadName (a slash too), InvalidParam, NotDir, DirRemoved,
+ * NameTooLong, EntryExist, FileTaken, TooManyLinks, TableFull; NoDeviceSpace, Stuck. */
 uint32_t dz_create(uint8_t *arena, size_t arena_len, uint8_t *table, size_t table_len,
                    uint32_t hold, uint64_t stamp, const uint8_t *name, size_t name_len, uint32_t type, uint16_t mode,
                    int64_t sec, int64_t nsec, const uint8_t *file, size_t file_len, uint64_t *handle, size_t words);
 
 /* Another name for the node `child`, which is no folder.
- * Changes: arena, table. Reasons: BadArena, Damaged, BadTable, BadHandle (folder, then child), BadName, NotDir, DirRemoved, NameTooLong,
- * EntryExist, IsDir, TooManyLinks; NoDeviceSpace, Stuck. */
+ * Changes: arena, table. Reasons: BadArena, Damaged, BadTable, BadHandle (folder, then child), BadName (a slash too), NotDir, DirRemoved,
+ * NameTooLong, EntryExist, IsDir, TooManyLinks; NoDeviceSpace, Stuck. */
 uint32_t dz_link(uint8_t *arena, size_t arena_len, uint8_t *table, size_t table_len,
                  uint32_t hold, uint64_t stamp, const uint8_t *name, size_t name_len, uint32_t child_hold, uint64_t child_stamp);
 
@@ -188,8 +188,8 @@ uint32_t dz_unlink(uint8_t *arena, size_t arena_len, uint8_t *table, size_t tabl
 
 /* The node `old_name` of a folder becomes `new_name` of the folder `to`. A node that has that name is replaced; the same node: nothing changes.
  * The `..` of a folder that goes to another folder names that one. It can't go into itself or below.
- * Changes: arena, table. Reasons: BadArena, Damaged, BadTable, BadHandle (source, then target), BadName (old, then new), NotDir and DirRemoved
- * (source), IsDir (either name `.`, `..`, empty), NameTooLong, NotDir and DirRemoved (target), EntryNotFound; where the new name exists,
+ * Changes: arena, table. Reasons: BadArena, Damaged, BadTable, BadHandle (source, then target), BadName (old, then new; a slash in the new
+ * one too), NotDir and DirRemoved (source), IsDir (either name `.`, `..`, empty), NameTooLong, NotDir and DirRemoved (target), EntryNotFound; where the new name exists,
  * NotDir (a folder onto another type), IsDir (another type onto a folder), DirNotEmpty; InvalidParam (a folder into itself or below); then
  * TooManyLinks; NoDeviceSpace, Stuck. */
 uint32_t dz_move(uint8_t *arena, size_t arena_len, uint8_t *table, size_t table_len,

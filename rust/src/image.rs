@@ -171,7 +171,7 @@ impl Image {
 impl Image {
     /// A new node in the folder, and a hold on it. `file` is the name of its own file, which no other node has.
     ///
-    /// Reasons: `BadHandle`, `BadName`, `NotDir`, `DirRemoved`, `NameTooLong`, `EntryExist`, `FileTaken`, `TooManyLinks`, `TableFull`;
+    /// Reasons: `BadHandle`, `BadName` (a slash too), `NotDir`, `DirRemoved`, `NameTooLong`, `EntryExist`, `FileTaken`, `TooManyLinks`, `TableFull`;
     /// `NoDeviceSpace`, `Stuck`.
     pub fn create(
         &mut self,
@@ -202,8 +202,8 @@ impl Image {
 
     /// Another name for a node that is no folder.
     ///
-    /// Reasons: `BadHandle` (folder, then node), `BadName`, `NotDir`, `DirRemoved`, `NameTooLong`, `EntryExist`, `IsDir`, `TooManyLinks`;
-    /// `NoDeviceSpace`, `Stuck`.
+    /// Reasons: `BadHandle` (folder, then node), `BadName` (a slash too), `NotDir`, `DirRemoved`, `NameTooLong`, `EntryExist`, `IsDir`,
+    /// `TooManyLinks`; `NoDeviceSpace`, `Stuck`.
     pub fn link(&mut self, folder: Handle, name: impl AsRef<[u8]>, node: Handle) -> Result<(), Reason> {
         self.pair.link(folder, name.as_ref(), node)
     }
@@ -223,9 +223,10 @@ impl Image {
     ///
     /// The `..` of a folder that goes to another folder leads there from then on. A folder can't go into itself or below.
     ///
-    /// Reasons: `BadHandle` (source, then target), `BadName` (old, then new), `NotDir`, `DirRemoved` (source), `IsDir` (either name `.`, `..`, empty),
-    /// `NameTooLong`, `NotDir`, `DirRemoved` (target), `EntryNotFound`; where the new name is there, `NotDir` (a folder onto another kind), `IsDir`
-    /// (another kind onto a folder), `DirNotEmpty`; `InvalidParam` (a folder into itself or below); `TooManyLinks`; `NoDeviceSpace`, `Stuck`.
+    /// Reasons: `BadHandle` (source, then target), `BadName` (old, then new; a slash in the new one too), `NotDir`, `DirRemoved` (source), `IsDir`
+    /// (either name `.`, `..`, empty), `NameTooLong`, `NotDir`, `DirRemoved` (target), `EntryNotFound`; where the new name is there, `NotDir` (a folder
+    /// onto another kind), `IsDir` (another kind onto a folder), `DirNotEmpty`; `InvalidParam` (a folder into itself or below); `TooManyLinks`;
+    /// `NoDeviceSpace`, `Stuck`.
     pub fn rename(&mut self, folder: Handle, old: impl AsRef<[u8]>, to: Handle, new: impl AsRef<[u8]>) -> Result<(), Reason> {
         self.pair.rename(folder, old.as_ref(), to, new.as_ref())
     }

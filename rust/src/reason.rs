@@ -16,7 +16,7 @@ pub enum Reason {
     BadTable,
     /// 4: not a live hold with that stamp.
     BadHandle,
-    /// 5: a name has a zero byte inside, or is not UTF-8.
+    /// 5: a name has a zero byte inside, or is not UTF-8; or a new one, of a create, link or rename, has a slash.
     BadName,
     /// 6: a type that is not 1 to 4, or a folder that would go into itself or below.
     InvalidParam,
@@ -62,7 +62,7 @@ const REASONS: [(Reason, &str, &str); 22] = [
     (Reason::Damaged, "Damaged", "the image is not sound"),
     (Reason::BadTable, "BadTable", "the table of open nodes is not well formed"),
     (Reason::BadHandle, "BadHandle", "not a live hold with that stamp"),
-    (Reason::BadName, "BadName", "a name has a zero byte inside, or is not UTF-8"),
+    (Reason::BadName, "BadName", "a name has a zero byte inside, is not UTF-8, or is new and has a slash"),
     (Reason::InvalidParam, "InvalidParam", "a type that is not 1 to 4, or a folder into itself or below"),
     (Reason::NotDir, "NotDir", "not a folder"),
     (Reason::DirRemoved, "DirRemoved", "the folder has no links left"),

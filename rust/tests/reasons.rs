@@ -2,7 +2,7 @@
 mod common;
 
 use common::damage::{self, record, superblock, table};
-use common::{create, file, fresh, ROOT_FILE, TIME};
+use common::{create, file, fresh, names, ROOT_FILE, TIME};
 use dzomrelig::{
     Attributes, FailedRule, Handle, Image, Kind, NoReason, Place, Reason, Unfit, BLOCK, FILE_LONGEST, NAME_LONGEST, SLOT, TABLE,
 };
@@ -124,6 +124,44 @@ fn bad_name() {
         image.unlink(root, name).unwrap();
         image.close(made).unwrap();
     }
+}
+
+/// A slash in a new name, before all that follows; stored ones are found, listed, renamed and unlinked.
+#[test]
+fn slashes() {
+    let (mut image, root) = fresh(32);
+    let i = &mut image;
+    let a = create(i, root, "a", Kind::File).unwrap();
+    for name in ["/", "a/b", &"/".repeat(300)] {
+        no(i, Reason::BadName, |i| create(i, root, name, Kind::File));
+        no(i, Reason::BadName, |i| i.create_numbered(a, name, 5, 0, TIME, file(1)));
+        no(i, Reason::BadName, |i| i.link(root, name, a));
+        no(i, Reason::BadName, |i| i.rename(root, "none", a, name));
+    }
+    for name in ["a/b", "/"] {
+        no(i, Reason::EntryNotFound, |i| i.find(root, name));
+        no(i, Reason::EntryNotFound, |i| i.unlink(root, name));
+        no(i, Reason::EntryNotFound, |i| i.rename(root, name, root, "b"));
+    }
+    for name in ["c-d", "e-f"] {
+        let made = create(i, root, name, Kind::File).unwrap();
+        i.close(made).unwrap();
+    }
+    // an older release stored these
+    let mut bytes = i.bytes().to_vec();
+    for slot in [3, 4] {
+        damage::write(&mut bytes, Some(ROOT_FILE), SLOT * slot + 5, b"/");
+    }
+    let i = &mut Image::from_parts(bytes, *i.table());
+    assert!(i.check().is_ok());
+    assert_eq!(names(i, root), ["a", "c/d", "e/f"]);
+    no(i, Reason::BadName, |i| i.rename(root, "c/d", root, "c/d"));
+    let found = i.find(root, "c/d").unwrap();
+    i.close(found).unwrap();
+    i.rename(root, "c/d", root, "cd").unwrap();
+    i.unlink(root, "e/f").unwrap();
+    assert_eq!(names(i, root), ["a", "cd"]);
+    assert!(i.check().is_ok());
 }
 
 #[test]

@@ -1,24 +1,17 @@
-#!/usr/bin/env python3
-"""refusals.py [--write]: the last part of crates/replay/stdin, in which every reason of document 01 and of orders 1 and 2 is answered, contents
-are written, read and resized, and folders are moved to other folders, and its lines.
+"""The last part of the gate's script (gate.py), in which every reason of document 01 and of document 02's orders so far is answered, contents are
+written, read and resized, and folders are moved to other folders, and its lines.
 
 Each step below says the reason that the documents give, or the bytes that a read finds; the lines, sums and all, are the independent
-model's (replay_model.py), and the port is not asked. Without --write it says whether stdin and stdout end as made here (exit status 1 where not).
+model's (replay_model.py), and the port is not asked.
 """
 import pathlib
 import struct
 import sys
 
-HERE = pathlib.Path(__file__).resolve().parent
-sys.path.insert(0, str(HERE.parent / "beside_rust"))
+sys.path.insert(0, str(pathlib.Path(__file__).resolve().parent.parent / "beside_rust"))
 from arena_model import LIMIT, sealed, sum_of
 from scripts import FILE, FOLDER, META, SOCKET, SYMLINK, TIME, Builder, model, table_bytes
 
-GATE = HERE.parent.parent / "crates" / "replay"
-# What stands before this part: the course examples, the Rust's own lines (beside_rust/sample), and each rule of the checker broken.
-BYTES, LINES = 196_164, 5_473
-# The longest script that crates/replay takes.
-MOST = 262_144
 ROOT_FILE = bytes([200] * 16)
 NOBODY = (7, 7)
 # Zero bytes, and what RFC 3629 does not allow: a tail alone, a lead alone, overlong, a surrogate, beyond U+10FFFF.
@@ -194,6 +187,36 @@ def bad_name(b):
     for name in BAD_NAMES:
         b.no(5, *takes_name(root, name))
     b.no(5, create(root, b"\0", 5))
+
+
+def slashes(b):
+    """Order 4: 5 for a slash in a new name, in its old place. Stored ones are found, listed, unlinked and moved away, and the pair passes."""
+    root = b.fresh(32)
+    a = b.ok(b.create(root, "a"))
+    b.no(4, create(NOBODY, b"/"), ("link", root, b"/", NOBODY), ("move", root, b"a", NOBODY, b"/"))
+    for name in (b"/", b"a/b", b"/" * 300, "é/".encode()):
+        b.no(5, create(root, name), create(root, name, 5), create(a, name), ("link", root, name, a), ("link", a, name, root),
+             ("move", root, b"a", root, name), ("move", root, b"none", root, name), ("move", root, b"..", a, name))
+    b.no(11, ("find", root, b"a/b"), ("unlink", root, b"a/b"), ("move", root, b"a/b", root, b"b"))
+    b.no(10, ("find", root, b"/" * 256), ("unlink", root, b"/" * 256), ("move", root, b"/" * 256, root, b"b"))
+    b.no(7, ("find", a, b"a/b"), ("unlink", a, b"a/b"))
+    for name, way in (("c-d", "unlink"), ("e-f", "move")):
+        b.close(b.ok(b.create(root, name)))
+        b.change((1, ROOT_FILE), 264 * 3 + 5, b"/", "set a slash in slot 3's name")
+        name = name.replace("-", "/")
+        b.check()
+        b.ok()
+        b.close(b.ok(b.find(root, name)))
+        b.no(5, ("move", root, name.encode(), root, name.encode()))
+        b.call("entry", root, 3, 264)
+        b.ok()
+        b.list(root)
+        b.ok()
+        b.call(way, *((root, name.encode()) if way == "unlink" else (root, name.encode(), root, b"b")))
+        b.ok()
+        b.no(11, ("find", root, name.encode()))
+    b.check()
+    b.ok()
 
 
 def by_call(b):
@@ -575,7 +598,7 @@ def no_way_up(b):
 
 def made():
     b = Script()
-    for part in (bad_arena, damaged, bad_table, bad_handle, bad_name, by_call, taken, links, table_full, last_stamp, no_space, stuck,
+    for part in (bad_arena, damaged, bad_table, bad_handle, bad_name, slashes, by_call, taken, links, table_full, last_stamp, no_space, stuck,
                  contents, held_on, limits, device_full, torn, no_contents, carried, no_way_up):
         part(b)
     b.fresh()
@@ -583,22 +606,4 @@ def made():
     b.ok()
     text = "".join(line + "\n" for line in b.lines)
     assert list(model.lines(bytes(b.data))) == b.lines
-    assert BYTES + len(b.data) <= MOST, len(b.data)
     return bytes(b.data), text.encode()
-
-
-def main():
-    script, text = made()
-    files = GATE / "stdin", GATE / "stdout"
-    before = files[0].read_bytes()[:BYTES], b"".join(files[1].read_bytes().splitlines(keepends=True)[:LINES])
-    new = before[0] + script, before[1] + text
-    if "--write" in sys.argv:
-        for file, data in zip(files, new):
-            file.write_bytes(data)
-    same = all(file.read_bytes() == data for file, data in zip(files, new))
-    print(f"{len(script)} bytes, {text.count(bytes([10]))} lines: the stored script {'ends' if same else 'does not end'} with them")
-    return 0 if same else 1
-
-
-if __name__ == "__main__":
-    sys.exit(main())

@@ -1,5 +1,5 @@
 #!/usr/bin/env python3
-"""An independent model of document 01's calls and of document 02's orders up to 2, for tests: a call script in, the lines a right port
+"""An independent model of document 01's calls and of document 02's orders up to 4, for tests: a call script in, the lines a right port
 prints out.
 
 Written from the documents and the readings of them in docs/DECISIONS.md, on top of arena_model.py; it shares nothing with crates/. A call
@@ -414,6 +414,12 @@ def good_names(*names):
     need(all(0 not in n and utf8(n) for n in names), 5)
 
 
+def new_name(name):
+    """Order 4: a name that is about to be stored has no slash either."""
+    good_names(name)
+    need(b"/" not in name, 5)
+
+
 DOTS = (b".", b"..", b"")
 
 
@@ -441,7 +447,7 @@ def do_find(s, h, name):
 
 def do_create(s, h, name, kind, mode, time, file):
     row = s.handle(h)
-    good_names(name)
+    new_name(name)
     need(1 <= kind <= 4, 6)
     folder_to_change(row)
     need(len(name) <= 255, 10)
@@ -469,7 +475,7 @@ def do_create(s, h, name, kind, mode, time, file):
 
 def do_link(s, h, name, other):
     row, child = s.handle(h), s.handle(other)
-    good_names(name)
+    new_name(name)
     folder_to_change(row)
     need(len(name) <= 255, 10)
     need(not s.lookup(row, name), 12)
@@ -535,7 +541,8 @@ def replaced_by(s, row, target, found, taken):
 
 def do_move(s, h, old, to, new):
     row, target = s.handle(h), s.handle(to)
-    good_names(old, new)
+    good_names(old)
+    new_name(new)
     folder_to_change(row)
     need(old not in DOTS and new not in DOTS, 9)
     need(len(old) <= 255 and len(new) <= 255, 10)

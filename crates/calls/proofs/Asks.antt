@@ -13,9 +13,9 @@ use Rattle.base.proofs.Outs.{ok-bind, above-zero, went-is, went-has, went-not}
 use Rattle.base.proofs.Searches.{at-found}
 use Rattle.structs.specs.Types.{isFolder, isType}
 use Rattle.structs.specs.declared.DiskINode.{DiskINode}
-use Rattle.utf8.specs.Names.{earlyReason}
+use Rattle.utf8.specs.Names.{earlyReason, newReason}
 use Rattle.utf8.specs.declared.NameVerdict.{NameVerdict}
-use Rattle.utf8.specs.declared.NameVerdict.the-variants.{Good, Bad}
+use Rattle.utf8.specs.declared.NameVerdict.the-variants.{Good, Slashed, Bad}
 use Rattle.table.specs.declared.Table.{Table}
 use Rattle.table.specs.declared.Handle.{Handle}
 use Rattle.table.specs.Table.{holdAt, isLive, liveRow}
@@ -128,7 +128,13 @@ module _ (r : DiskINode) where
 -- a name is bad by reason 5, or by none
 pub early : (v : NameVerdict) → earlyReason v ≡ answer (ensure (eqb (earlyReason v) 0) 5)
 early (Good long) = refl
+early (Slashed long) = refl
 early Bad = refl
+
+pub newly : (v : NameVerdict) → newReason v ≡ answer (ensure (eqb (newReason v) 0) 5)
+newly (Good long) = refl
+newly (Slashed long) = refl
+newly Bad = refl
 
 -- ---- handles
 

@@ -7,7 +7,7 @@ ghost use Prim.Native.Nat.{_<_};
 ghost use lib.ListN.{length};
 ghost use Rattle.base.specs.Out.{Went, answer};
 ghost use Rattle.table.specs.Table.{addHold};
-ghost use Rattle.sefs.specs.Ask.{admit, byHandle, goodName, notLong, notSpecial, liveFolder, notRemoved};
+ghost use Rattle.sefs.specs.Ask.{admit, byHandle, goodName, newName, notLong, notSpecial, liveFolder, notRemoved};
 ghost use Rattle.sefs.specs.Ask.{known as knownType, folder as isFolder};
 ghost use Rattle.sefs.specs.Read.{readable as readableAs};
 ghost use Rattle.sefs.specs.Contents.{hasContents};
@@ -157,6 +157,13 @@ pub fn good_name(name: &[u8]) -> u8
     ensures { λ r. ⌜ r ≡ answer (goodName (now (name .entry))) ⌝ }
 {
     utf8::early_reason(utf8::name_verdict(name))
+}
+
+// 5 for a new name: also where it has a slash.
+pub fn new_name(name: &[u8]) -> u8
+    ensures { λ r. ⌜ r ≡ answer (newName (now (name .entry))) ⌝ }
+{
+    utf8::new_reason(utf8::name_verdict(name))
 }
 
 // 10: over 255 bytes.

@@ -22,14 +22,14 @@ use Rattle.sefs.specs.Meta.{syncMeta}
 use Rattle.sefs.specs.Nodes.{recAt, idAt, newNode, syncRow, Opened, opened}
 use Rattle.sefs.specs.Slots.{lookup}
 use Rattle.sefs.specs.Folders.{entry, direntInit, direntAppend, nlinksInc}
-use Rattle.sefs.specs.Ask.{admit, byHandle, goodName, notLong, liveFolder, orExists, start}
+use Rattle.sefs.specs.Ask.{admit, byHandle, newName, notLong, liveFolder, orExists, start}
 use Rattle.sefs.specs.Create.{Given, birth, nameFolder, named, given, createSteps, callCreate}
 use Rattle.mem.specs.Mem.{tableIn, Whole}
 use Rattle.mem.specs.State.{fsOf, Ready, Still, Stepped, fsAt}
 use Rattle.folders.proofs.States.{stepped-next}
 use Rattle.calls.proofs.Asks.{asks-live, asked-done, asked-went, call-stop, call-next}
 use Rattle.steps.specs.Steps.{noSlot, syncTwo}
-use Rattle.steps.proofs.Steps.{asks-good, long}
+use Rattle.steps.proofs.Steps.{asks-new, long}
 use Rattle.steps.specs.Ends.{Begun, Rest, on, off}
 use Rattle.steps.proofs.Ends.{bind-same, begun-start, rest-off, rest-as, rest-then}
 use Rattle.calls_create.specs.Create.{createAsk, createFree, createSync, createRest, createMoves, createWork, Asked}
@@ -65,14 +65,14 @@ moves-is s i name kind mode time uuid =
     ∙ holding-bind (createRest (o .state) i (o .row) name kind) (λ s. done (opened s (o .row))) (λ s. done (given s (addHold (s .table) (o .row)))) (λ s. refl))
 
 work-is : (s : Fs) (i : ℕ) (name : List ℕ) (kind mode : ℕ) (time : Timespec) (uuid : List ℕ) (room : Bool)
-    → bind (goodName name) (λ _. bind (ensure (ltb 0 kind && leb kind 4) 6) (λ _. bind (liveFolder (recAt s i)) (λ _. bind (notLong name) (λ _. bind (lookup (s .arena) (recAt s i) name) (λ f. bind (orExists f) (λ _. bind (ensure (not (there (s .arena) (file 1 uuid))) 14) (λ _. bind (ensure (not (isFolder kind && eqb (recAt s i .nlinks) 65535)) 15) (λ _. bind (ensure room 16) (λ _. createSteps s i name kind mode time uuid))))))))) ≡ holding (createWork s i name kind mode time uuid room)
+    → bind (newName name) (λ _. bind (ensure (ltb 0 kind && leb kind 4) 6) (λ _. bind (liveFolder (recAt s i)) (λ _. bind (notLong name) (λ _. bind (lookup (s .arena) (recAt s i) name) (λ f. bind (orExists f) (λ _. bind (ensure (not (there (s .arena) (file 1 uuid))) 14) (λ _. bind (ensure (not (isFolder kind && eqb (recAt s i .nlinks) 65535)) 15) (λ _. bind (ensure room 16) (λ _. createSteps s i name kind mode time uuid))))))))) ≡ holding (createWork s i name kind mode time uuid room)
 unfolding createWork createAsk createFree noSlot
 work-is s i name kind mode time uuid room =
     let k : Unit → Out Opened = λ _. createMoves s i name kind mode time uuid in
     let f : Unit → Out Opened = λ _. bind (createFree (s .arena) (recAt s i) name kind uuid room) k in
     let links : Unit → Out Unit = λ _. bind (ensure (not (isFolder kind && eqb (recAt s i .nlinks) 65535)) 15) (λ _. ensure room 16) in
     let taken : Unit → Out Unit = λ _. bind (ensure (not (there (s .arena) (file 1 uuid))) 14) links in
-    holding-both (goodName name) (λ _. bind (ensure (ltb 0 kind && leb kind 4) 6) (λ _. bind (liveFolder (recAt s i)) (λ _. notLong name))) f _ (λ _.
+    holding-both (newName name) (λ _. bind (ensure (ltb 0 kind && leb kind 4) 6) (λ _. bind (liveFolder (recAt s i)) (λ _. notLong name))) f _ (λ _.
     holding-both (ensure (ltb 0 kind && leb kind 4) 6) (λ _. bind (liveFolder (recAt s i)) (λ _. notLong name)) f _ (λ _.
     holding-both (liveFolder (recAt s i)) (λ _. notLong name) f _ (λ _.
     holding-bind (notLong name) f _ (λ _.
@@ -109,20 +109,20 @@ module _ (a first next m n : List ℕ) (h : Handle) (name : List ℕ) (kind mode
 
 -- ---- the folder, the name and the type
 
-module _ (r : DiskINode) (name : List ℕ) (kind : ℕ) {m : ℕ} (e : m ≡ answer (goodName name)) where
+module _ (r : DiskINode) (name : List ℕ) (kind : ℕ) {m : ℕ} (e : m ≡ answer (newName name)) where
   pub ask-name : (m ≡ 0 → ⊥) → Went (createAsk r name kind) tt (length name ≤ 255) m
   unfolding createAsk
-  ask-name z = went-stop _ tt z (asked-went (goodName name) (asks-good name) m e)
+  ask-name z = went-stop _ tt z (asked-went (newName name) (asks-new name) m e)
 
   module _ (z : m ≡ 0) (b : Bool) (k : b ≡ (ltb 0 kind && leb kind 4)) where
     pub ask-kind : b ≡ false → Went (createAsk r name kind) tt (length name ≤ 255) 6
     unfolding createAsk
-    ask-kind q = ill {r = 6} (omega arith) (rw (asked-done (goodName name) (asks-good name) m e z, ← k, q))
+    ask-kind q = ill {r = 6} (omega arith) (rw (asked-done (newName name) (asks-new name) m e z, ← k, q))
 
     module _ {n : ℕ} (q : b ≡ true) (f : n ≡ answer (liveFolder r)) where
       rest-is : createAsk r name kind ≡ bind (liveFolder r) (λ _. notLong name)
       unfolding createAsk
-      rest-is = rw (asked-done (goodName name) (asks-good name) m e z, ← k, q)
+      rest-is = rw (asked-done (newName name) (asks-new name) m e z, ← k, q)
 
       pub ask-live : (n ≡ 0 → ⊥) → Went (createAsk r name kind) tt (length name ≤ 255) n
       ask-live y = rw rest-is (went-stop _ tt y (asked-went (liveFolder r) (asks-live r) n f))

@@ -17,7 +17,7 @@ use Rattle.sefs.specs.State.{Fs}
 use Rattle.sefs.specs.Meta.{syncMeta}
 use Rattle.sefs.specs.Nodes.{recAt, idAt, newNode, Opened, opened}
 use Rattle.sefs.specs.Folders.{entry, direntAppend}
-use Rattle.sefs.specs.Ask.{goodName, notLong, liveFolder}
+use Rattle.sefs.specs.Ask.{newName, notLong, liveFolder}
 use Rattle.sefs.specs.Create.{birth, named}
 use Rattle.mem.specs.Mem.{Whole}
 use Rattle.steps.specs.Steps.{noSlot, syncTwo}
@@ -25,7 +25,7 @@ use Rattle.steps.specs.Steps.{noSlot, syncTwo}
 -- 5, 6, 7, 8, 10: of the folder's record, the name and the type
 unfoldable pub createAsk : DiskINode → List ℕ → ℕ → Out Unit
 createAsk r name kind = do
-  _ ← goodName name
+  _ ← newName name
   _ ← ensure (isType kind) invalidParam
   _ ← liveFolder r
   notLong name

@@ -18,10 +18,10 @@ ghost use Rattle.calls_create.specs.Held.{holding, EndedOpen, EndedHeld,
 use calls::ByHandle;
 use calls::Handed;
 use calls::HeldReply;
-use calls::good_name;
 use calls::hand;
 use calls::led::admit;
 use calls::live_folder;
+use calls::new_name;
 use calls::not_handed;
 use calls::not_long;
 use calls::settle_held;
@@ -60,7 +60,7 @@ pub struct New {
 fn create_ask(rec: DiskINode, name: &[u8], kind: u32) -> u8
     ensures { λ r. ⌜ Went (createAsk rec (now (name .entry)) kind) tt (length (now (name .entry)) ≤ 255) r ⌝ }
 {
-    let r = good_name(name);
+    let r = new_name(name);
     if r != 0 {
         return r;
     }

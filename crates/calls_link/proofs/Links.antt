@@ -19,7 +19,7 @@ use Rattle.sefs.specs.State.{Fs}
 use Rattle.sefs.specs.Nodes.{recAt, idAt, syncRow}
 use Rattle.sefs.specs.Slots.{lookup}
 use Rattle.sefs.specs.Folders.{entry, direntAppend, nlinksInc}
-use Rattle.sefs.specs.Ask.{admit, byHandle, goodName, notLong, known, liveFolder, orExists, start}
+use Rattle.sefs.specs.Ask.{admit, byHandle, newName, notLong, known, liveFolder, orExists, start}
 use Rattle.sefs.specs.Create.{After, after, linkSteps, callLink}
 use Rattle.mem.specs.State.{fsOf, Stepped, fsAt}
 use Rattle.calls.proofs.Asks.{asks-live, asked-done, asked-went}
@@ -28,7 +28,7 @@ use Rattle.steps.specs.Ends.{Begun, Rest, on, off, ending}
 use Rattle.calls_link.specs.Link.{linkAsk, linkChild, linkMoves, linkWork, Asked}
 use Rattle.steps.specs.Steps.{noSlot, syncTwo}
 use Rattle.steps.proofs.Ends.{ending-bind, ending-both, bind-same, begun-start, rest-off, rest-as, rest-then}
-use Rattle.steps.proofs.Steps.{asks-good, asks-known, long}
+use Rattle.steps.proofs.Steps.{asks-new, asks-known, long}
 
 -- ---- the call is its questions and its steps
 
@@ -39,11 +39,11 @@ moves-is s i name c =
     ending-bind (nlinksInc s c) (λ s. bind (syncRow s c) (λ s. syncRow s i)) _ (λ s.
     ending-bind (syncRow s c) (λ s. syncRow s i) _ (λ s. refl)))
 
-work-is : (s : Fs) (i : ℕ) (name : List ℕ) (c : ℕ) → bind (goodName name) (λ _. bind (liveFolder (recAt s i)) (λ _. bind (notLong name) (λ _. bind (lookup (s .arena) (recAt s i) name) (λ f. bind (orExists f) (λ _. bind (known (recAt s c)) (λ _. bind (ensure (not (isFolder (recAt s c .kind))) 9) (λ _. bind (ensure (ltb (recAt s c .nlinks) 65535) 15) (λ _. linkSteps s i name c)))))))) ≡ ending (linkWork s i name c)
+work-is : (s : Fs) (i : ℕ) (name : List ℕ) (c : ℕ) → bind (newName name) (λ _. bind (liveFolder (recAt s i)) (λ _. bind (notLong name) (λ _. bind (lookup (s .arena) (recAt s i) name) (λ f. bind (orExists f) (λ _. bind (known (recAt s c)) (λ _. bind (ensure (not (isFolder (recAt s c .kind))) 9) (λ _. bind (ensure (ltb (recAt s c .nlinks) 65535) 15) (λ _. linkSteps s i name c)))))))) ≡ ending (linkWork s i name c)
 unfolding linkWork linkAsk noSlot linkChild
 work-is s i name c =
     let d = linkChild (recAt s c) in
-    ending-both (goodName name) (λ _. bind (liveFolder (recAt s i)) (λ _. notLong name)) (λ _. bind (noSlot (s .arena) (recAt s i) name) (λ _. bind d (λ _. linkMoves s i name c))) _ (λ _.
+    ending-both (newName name) (λ _. bind (liveFolder (recAt s i)) (λ _. notLong name)) (λ _. bind (noSlot (s .arena) (recAt s i) name) (λ _. bind d (λ _. linkMoves s i name c))) _ (λ _.
     ending-both (liveFolder (recAt s i)) (λ _. notLong name) (λ _. bind (noSlot (s .arena) (recAt s i) name) (λ _. bind d (λ _. linkMoves s i name c))) _ (λ _.
     ending-bind (notLong name) (λ _. bind (noSlot (s .arena) (recAt s i) name) (λ _. bind d (λ _. linkMoves s i name c))) _ (λ _.
     ending-both (lookup (s .arena) (recAt s i) name) orExists (λ _. bind d (λ _. linkMoves s i name c)) _ (λ f.
@@ -61,19 +61,19 @@ link-is a t h name child =
 
 -- ---- the folder and the name
 
-module _ (r : DiskINode) (name : List ℕ) {m : ℕ} (e : m ≡ answer (goodName name)) where
+module _ (r : DiskINode) (name : List ℕ) {m : ℕ} (e : m ≡ answer (newName name)) where
   pub ask-name : (m ≡ 0 → ⊥) → Went (linkAsk r name) tt (length name ≤ 255) m
   unfolding linkAsk
-  ask-name z = went-stop _ tt z (asked-went (goodName name) (asks-good name) m e)
+  ask-name z = went-stop _ tt z (asked-went (newName name) (asks-new name) m e)
 
   module _ {n : ℕ} (z : m ≡ 0) (f : n ≡ answer (liveFolder r)) where
     pub ask-live : (n ≡ 0 → ⊥) → Went (linkAsk r name) tt (length name ≤ 255) n
     unfolding linkAsk
-    ask-live y = went-next _ (asked-done (goodName name) (asks-good name) m e z) (went-stop _ tt y (asked-went (liveFolder r) (asks-live r) n f))
+    ask-live y = went-next _ (asked-done (newName name) (asks-new name) m e z) (went-stop _ tt y (asked-went (liveFolder r) (asks-live r) n f))
 
     pub ask-long : {x : ℕ} → n ≡ 0 → x ≡ answer (notLong name) → Went (linkAsk r name) tt (length name ≤ 255) x
     unfolding linkAsk
-    ask-long y d = went-next _ (asked-done (goodName name) (asks-good name) m e z) (went-next _ (asked-done (liveFolder r) (asks-live r) n f y) (long name _ d))
+    ask-long y d = went-next _ (asked-done (newName name) (asks-new name) m e z) (went-next _ (asked-done (liveFolder r) (asks-live r) n f y) (long name _ d))
 
 -- ---- the child
 

@@ -13,14 +13,14 @@ use Rattle.arena.specs.Blocks.{legal}
 use Rattle.sefs.specs.State.{Fs}
 use Rattle.sefs.specs.Nodes.{recAt, idAt}
 use Rattle.sefs.specs.Folders.{entry, direntAppend, nlinksInc}
-use Rattle.sefs.specs.Ask.{goodName, notLong, known, liveFolder}
+use Rattle.sefs.specs.Ask.{newName, notLong, known, liveFolder}
 use Rattle.mem.specs.Mem.{Whole}
 use Rattle.steps.specs.Steps.{noSlot, syncTwo}
 
 -- 5, 7, 8, 10: of the folder's record, and of the name
 unfoldable pub linkAsk : DiskINode → List ℕ → Out Unit
 linkAsk r name = do
-  _ ← goodName name
+  _ ← newName name
   _ ← liveFolder r
   notLong name
 

@@ -12,10 +12,10 @@ ghost use Rattle.steps.specs.Ends.{Rest, ending, Ended, Returned};
 ghost use Rattle.calls_link.specs.Link.{linkAsk, linkChild, linkMoves, linkWork, Asked};
 use calls::ByTwo;
 use calls::Reply;
-use calls::good_name;
 use calls::known;
 use calls::led::admit;
 use calls::live_folder;
+use calls::new_name;
 use calls::not_long;
 use calls::settle;
 use folders::nlinks_inc;
@@ -35,7 +35,7 @@ use table::Table;
 fn link_ask(rec: DiskINode, name: &[u8]) -> u8
     ensures { λ r. ⌜ Went (linkAsk rec (now (name .entry))) tt (length (now (name .entry)) ≤ 255) r ⌝ }
 {
-    let r = good_name(name);
+    let r = new_name(name);
     if r != 0 {
         return r;
     }

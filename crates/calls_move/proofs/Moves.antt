@@ -11,7 +11,7 @@ use Rattle.table.specs.declared.Handle.{Handle}
 use Rattle.sefs.specs.State.{Fs}
 use Rattle.sefs.specs.Nodes.{recAt, getNode}
 use Rattle.sefs.specs.Slots.{slotAt, findSlot}
-use Rattle.sefs.specs.Ask.{admit, byHandle, goodName, notLong, notSpecial, known, liveFolder, start}
+use Rattle.sefs.specs.Ask.{admit, byHandle, goodName, newName, notLong, notSpecial, known, liveFolder, start}
 use Rattle.sefs.specs.Create.{After, after}
 use Rattle.sefs.specs.Move.{moveOnto, replace, callMove}
 use Rattle.steps.proofs.Ends.{bind-same}
@@ -57,10 +57,10 @@ asks-is (done v) (done a) (done b) (done c) (done d) (done e) (done f) (refused 
 asks-is (done v) (done a) (done b) (done c) (done d) (done e) (done f) (done k) r = refl
 
 work-is : (a : List ℕ) (t : Table) (i j : ℕ) (old name : List ℕ)
-    → bind (goodName old) (λ _. bind (goodName name) (λ _. bind (liveFolder (recAt (start a t) i)) (λ _. bind (notSpecial old) (λ _. bind (notSpecial name) (λ _. bind (notLong old) (λ _. bind (notLong name) (λ _. bind (liveFolder (recAt (start a t) j)) (λ _. moveFound (start a t) i j old name)))))))) ≡ moveWork (start a t) i j old name
+    → bind (goodName old) (λ _. bind (newName name) (λ _. bind (liveFolder (recAt (start a t) i)) (λ _. bind (notSpecial old) (λ _. bind (notSpecial name) (λ _. bind (notLong old) (λ _. bind (notLong name) (λ _. bind (liveFolder (recAt (start a t) j)) (λ _. moveFound (start a t) i j old name)))))))) ≡ moveWork (start a t) i j old name
 unfolding moveWork moveAsks lateAsks goodTwo plainTwo shortTwo
 work-is a t i j old name =
-    asks-is (goodName old) (goodName name) (liveFolder (recAt (start a t) i)) (notSpecial old) (notSpecial name) (notLong old) (notLong name) (liveFolder (recAt (start a t) j)) (moveFound (start a t) i j old name)
+    asks-is (goodName old) (newName name) (liveFolder (recAt (start a t) i)) (notSpecial old) (notSpecial name) (notLong old) (notLong name) (liveFolder (recAt (start a t) j)) (moveFound (start a t) i j old name)
 
 pub move-is : (a : List ℕ) (t : Table) (h : Handle) (old : List ℕ) (target : Handle) (name : List ℕ) → callMove a t h old target name ≡ bind (admit a t) (λ _. bind (byHandle t h) (λ i. bind (byHandle t target) (λ j. moveWork (start a t) i j old name)))
 unfolding callMove moveFound

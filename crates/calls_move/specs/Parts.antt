@@ -13,7 +13,7 @@ use Rattle.arena.specs.Blocks.{legal}
 use Rattle.sefs.specs.State.{Fs}
 use Rattle.sefs.specs.Nodes.{recAt, getNode}
 use Rattle.sefs.specs.Slots.{lookup, findSlot}
-use Rattle.sefs.specs.Ask.{goodName, notLong, notSpecial, known, liveFolder}
+use Rattle.sefs.specs.Ask.{goodName, newName, notLong, notSpecial, known, liveFolder}
 use Rattle.sefs.specs.Create.{After, after}
 use Rattle.sefs.specs.Move.{moveOnto, moveTo}
 use Rattle.steps.specs.Ends.{ending}
@@ -70,7 +70,7 @@ moveFound s i j old name = do
 unfoldable pub goodTwo : List ℕ → List ℕ → Out Unit
 goodTwo old name = do
   _ ← goodName old
-  goodName name
+  newName name
 
 unfoldable pub plainTwo : List ℕ → List ℕ → Out Unit
 plainTwo old name = do

@@ -32,6 +32,7 @@ use calls::good_name;
 use calls::known;
 use calls::led::admit;
 use calls::live_folder;
+use calls::new_name;
 use calls::not_long;
 use calls::not_special;
 use calls::refused;
@@ -408,7 +409,7 @@ fn good_names(old: &[u8], name: &[u8]) -> u8
     if r != 0 {
         return r;
     }
-    good_name(name)
+    new_name(name)
 }
 
 fn not_specials(old: &[u8], name: &[u8]) -> u8

@@ -28,7 +28,7 @@ use Rattle.sefs.specs.Meta.{metaFile, isUsed}
 use Rattle.sefs.specs.Nodes.{Opened, nodeFile, recAt, setRec, openIn, openAt, loadNode, getNode, syncRow, release}
 use Rattle.sefs.specs.Slots.{orNotFound}
 use Rattle.sefs.specs.Folders.{putSlot, direntRemove, nlinksDec, unlinkFolder, direntNodeRemove}
-use Rattle.sefs.specs.Ask.{admit, byHandle, goodName, notLong, notSpecial, known, folder, liveFolder, orExists, start}
+use Rattle.sefs.specs.Ask.{admit, byHandle, goodName, newName, notLong, notSpecial, known, folder, liveFolder, orExists, start}
 use Rattle.sefs.specs.Open.{holdNode, callRoot, callFind}
 use Rattle.sefs.specs.Create.{After, after, Given, createSteps, callCreate}
 use Rattle.sefs.specs.Unlink.{notFull, unlinkSteps, callUnlink}
@@ -126,7 +126,7 @@ find-call-near a t h name ok =
 unfoldable pub createNear : List ℕ → Table → Handle → List ℕ → ℕ → ℕ → Timespec → List ℕ → Out Given
 createNear a t h name kind mode time uuid = do
   i ← byHandle t h
-  _ ← goodName name
+  _ ← newName name
   _ ← ensure (isType kind) invalidParam
   _ ← liveFolder (rowAt t i .rec)
   _ ← notLong name
@@ -143,7 +143,7 @@ unfolding callCreate createNear
 create-near a t h name kind mode time uuid ok =
     λ j. bind (ok j)
     (λ _. bind (byHandle t h)
-    (λ i. bind (goodName name)
+    (λ i. bind (newName name)
     (λ _. bind (ensure (isType kind) invalidParam)
     (λ _. bind (liveFolder (rowAt t i .rec))
     (λ _. bind (notLong name)

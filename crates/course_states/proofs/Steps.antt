@@ -14,7 +14,7 @@ use Rattle.le.specs.Signed.{signed, bitsOf}
 use Rattle.structs.specs.Constants.{typeFile, typeDir}
 use Rattle.structs.specs.Layout.{superOf, superBytes, recordOf, join, superFields, recordFields, recordBytes, timeOf, timeFields, timeBytes, entryOf, entryFields, entryBytes}
 use Rattle.maps.specs.Maps.{bitOf, putBit, bitAt, withBit}
-use Rattle.utf8.specs.Names.{zeroAt, hasZero, nameVerdict, isDot, isDots, isSpecial, storedName, isNamed, nameBytes}
+use Rattle.utf8.specs.Names.{zeroAt, hasZero, hasSlash, nameVerdict, isDot, isDots, isSpecial, storedName, isNamed, nameBytes}
 use Rattle.utf8.specs.Utf8.{within, lead, tail, step, after, utf8}
 use Rattle.table.specs.Formed.{liveOk, holdOk, rowOk, holdsOk, rowsOk, shaped, wellFormed}
 use Rattle.table.specs.Table.{emptyTable, rowOf, holdOf, liveRow, liveHolds, canHold, addHold, rowUsed}
@@ -39,7 +39,7 @@ use Rattle.course_states.proofs.States.{headBlk, dataBlk, freeBlks, rec
 
 -- what is opened so that a call is computed: below the calls, and the states
 unfoldable pub computed : ℕ
-unfolding countTo sumTo allTo lowest foundBelow paste tab same every leOf leBytes leAt lePut signed bitsOf join superOf superFields superBytes recordOf recordFields recordBytes timeOf timeFields timeBytes entryOf entryFields entryBytes bitOf putBit bitAt withBit within lead tail step after utf8 zeroAt hasZero nameVerdict isDot isDots isSpecial storedName isNamed nameBytes rowOf holdOf liveRow liveHolds canHold addHold rowUsed liveOk holdOk rowOk holdsOk rowsOk shaped wellFormed bytesZero numbersZero timeZero recordZero blk putBlk legal checkOf seal sameFile isFree isHead isData zeros freshBlock freeOf headOf dataOf freeCount allZero headOnce dataOnce withinLength under there lengthOf present byteAt readFile claim writeBlk setLength raise putBlock putTo touched putFile makeFile clearTo clearAll isPast zeroTail cutFile isOf dropFile storeMaps syncMeta firstBit isUsed addGroup takeBit allocBlock freeBlock newNode storeRow syncRow freeNode dropNode release putSlot direntInit direntAppend nlinksInc nlinksDec unlinkFolder liveFolder formatSteps birth nameFolder named createSteps notFull byteOf near byteNear runNear readNear mapsNear metaNear slotBytesNear slotNear lookToNear lookNear findNear weigh layoutBy soundBy startNear loadNear openNear getNear holdNear removeNear unlinkStepsNear headBlk dataBlk freeBlks recordsOf metaBytes folderBytes rowsOf holdsOf
+unfolding countTo sumTo allTo lowest foundBelow paste tab same every leOf leBytes leAt lePut signed bitsOf join superOf superFields superBytes recordOf recordFields recordBytes timeOf timeFields timeBytes entryOf entryFields entryBytes bitOf putBit bitAt withBit within lead tail step after utf8 zeroAt hasZero hasSlash nameVerdict isDot isDots isSpecial storedName isNamed nameBytes rowOf holdOf liveRow liveHolds canHold addHold rowUsed liveOk holdOk rowOk holdsOk rowsOk shaped wellFormed bytesZero numbersZero timeZero recordZero blk putBlk legal checkOf seal sameFile isFree isHead isData zeros freshBlock freeOf headOf dataOf freeCount allZero headOnce dataOnce withinLength under there lengthOf present byteAt readFile claim writeBlk setLength raise putBlock putTo touched putFile makeFile clearTo clearAll isPast zeroTail cutFile isOf dropFile storeMaps syncMeta firstBit isUsed addGroup takeBit allocBlock freeBlock newNode storeRow syncRow freeNode dropNode release putSlot direntInit direntAppend nlinksInc nlinksDec unlinkFolder liveFolder formatSteps birth nameFolder named createSteps notFull byteOf near byteNear runNear readNear mapsNear metaNear slotBytesNear slotNear lookToNear lookNear findNear weigh layoutBy soundBy startNear loadNear openNear getNear holdNear removeNear unlinkStepsNear headBlk dataBlk freeBlks recordsOf metaBytes folderBytes rowsOf holdsOf
 computed = 0
 
 -- ---- the fresh image

@@ -1,4 +1,5 @@
 -- The first two steps of a move between folders: the slot is put at the end of the one and removed from the other.
+use Rattle.tree.specs.Tree.{Spelling}
 use mathlib.Core.Path.{_≡_, refl, sym, ap, _∙_, subst}
 use mathlib.Core.Bool.{true}
 use mathlib.Core.List.{List}
@@ -43,7 +44,7 @@ pub record Carrying (own : ℕ → Type 0) (s : Fs) (i j : ℕ) (old : Slot) (na
   pub rows : Counts (owns own r) (s .arena) (s .table) (at (idAt s i) (recAt s i .blocks - 1) (at (idAt s j) (recAt s j .blocks + 1) (slotsOf s))) (linksOf s) (x .table)
   pub meta : x .meta ≡ s .meta
 
-module _ {own : ℕ → Type 0} (s : Fs) (i j : ℕ) (old : Slot) (name : List ℕ) (r : Replaced) (M : Moving own s i j old name r) (apart : idAt s i ≢ idAt s j) where
+module _ {style : Spelling} {own : ℕ → Type 0} (s : Fs) (i j : ℕ) (old : Slot) (name : List ℕ) (r : Replaced) (M : Moving style own s i j old name r) (apart : idAt s i ≢ idAt s j) where
   abbrev e : DiskEntry
   e = renamed (old .entry) name
 

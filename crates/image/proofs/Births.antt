@@ -35,7 +35,7 @@ use Rattle.sefs.specs.Folders.{entry}
 use Rattle.rules.specs.Image.{storedSuper, idsIn, isNode, recOf, isOpen, slotIn}
 use Rattle.image.specs.Midway.{Used, Fair, treeOf, storedMeta, Midway}
 use Rattle.image.proofs.Images.{Like, root-node, head-there, there-head}
-use Rattle.tree.specs.Tree.{Tree, Tidy}
+use Rattle.tree.specs.Tree.{Spelling, Tree, Tidy}
 use Rattle.tree.proofs.Trees.{folder-is}
 use Rattle.tree.proofs.Naming.{Names, May, names-tidy}
 use Rattle.tree.proofs.Born.{Born, born-tidy}
@@ -69,7 +69,7 @@ withNode v n c kind blocks size long slots = record {
   opened = upd (v .opened) c true;
 }
 
-module _ (a b : List ℕ) (t u : Table) (M : Midway none a t) (i : ℕ) (ui : Used t i)
+module _ {style : Spelling} (a b : List ℕ) (t u : Table) (M : Midway style none a t) (i : ℕ) (ui : Used t i)
     (dir : isFolder (rowAt t i .rec .kind) ≡ true) (lives : rowAt t i .rec .nlinks ≢ 0)
     (c : ℕ) (free : freeRow t ≡ At c) (id : ℕ) (m : Meta) (K : Taken (storedMeta a) m id)
     (r s : DiskINode) (R : Rowed a t c i id r s u)
@@ -88,7 +88,7 @@ module _ (a b : List ℕ) (t u : Table) (M : Midway none a t) (i : ℕ) (ui : Us
   abbrev e : DiskEntry
   e = entry id name (r .kind)
 
-  A : Fair a t
+  A : Fair style a t
   A = M .fair
 
   -- ---- nodes
@@ -294,12 +294,13 @@ module _ (a b : List ℕ) (t u : Table) (M : Midway none a t) (i : ℕ) (ui : Us
     some = N .some;
     no-dot = N .no-dot;
     no-dots = N .no-dots;
+    no-slash = N .no-slash;
     fresh = λ k x y q. N .fresh k x (omega (arith, blocks-d, ap (λ (z : DiskINode). z .blocks) rec-d)) (ap (λ (z : DiskEntry). nameOf (z .name)) (sym (slots-d k)) ∙ q);
     loose = λ y. upd-same (v .links) id 0;
     under = λ y. ap (λ (z : DiskEntry). z .id) (w-slot 1 ∙ B .young .dots (w-kind y) r refl);
   }
 
-  tidy : Tidy (treeOf b u)
+  tidy : Tidy style (treeOf b u)
   tidy = names-tidy w (treeOf b u) d id e (born-tidy v w id (A .tidy) born) tree may
 
   -- ---- the other rules
@@ -342,7 +343,7 @@ module _ (a b : List ℕ) (t u : Table) (M : Midway none a t) (i : ℕ) (ui : Us
       let y : rowAt u j .id ≡ rowAt t j .id = ids-else a t M c i id free ui (K .some) r s u R j q in
       ap (isNode a) y ∙ A .rule4 .node j l (λ x. z (y ∙ x))
 
-  pub bred-fair : Fair b u
+  pub bred-fair : Fair style b u
   bred-fair = record {
     rule1 = B .fine;
     rule3 = record {

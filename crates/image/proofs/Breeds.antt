@@ -31,6 +31,7 @@ use Rattle.sefs.specs.Meta.{metaFile}
 use Rattle.sefs.specs.Nodes.{nodeFile, recAt, idAt, setRec}
 use Rattle.sefs.specs.Folders.{entry, direntInit, direntAppend, nlinksInc}
 use Rattle.sefs.specs.Create.{birth, nameFolder, named}
+use Rattle.tree.specs.Tree.{Spelling}
 use Rattle.image.specs.Midway.{Used, Midway}
 use Rattle.image.proofs.Images.{Like}
 use Rattle.image.proofs.Metas.{kept-then, node-other}
@@ -66,7 +67,7 @@ pub record Settled (a f : List ℕ) (kind id up : ℕ) (s : DiskINode) (e : Disk
   pub housed : Housed a s e b
   pub others : (g : List ℕ) → g ≢ f → g ≢ s .file → Kept a b (file 1 g)
 
-module _ (a : List ℕ) (t : Table) (M : Midway none a t) (i : ℕ) (ui : Used t i) (c : ℕ) (free : freeRow t ≡ At c) (id : ℕ) (m : Meta) (some : id ≢ 0) where
+module _ {style : Spelling} (a : List ℕ) (t : Table) (M : Midway style none a t) (i : ℕ) (ui : Used t i) (c : ℕ) (free : freeRow t ≡ At c) (id : ℕ) (m : Meta) (some : id ≢ 0) where
   abbrev d : ℕ
   d = rowAt t i .id
 

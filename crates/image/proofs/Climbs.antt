@@ -27,13 +27,13 @@ use Rattle.sefs.specs.Move.{recordBy, recordOn, dotsOf, climb, notBelow}
 use Rattle.rules.specs.Image.{run, isNode, storedBytes, recBy, recOf, slotIn}
 use Rattle.rules.proofs.Files.{node-below}
 use Rattle.image.specs.Midway.{storedMeta, Fair, treeOf}
-use Rattle.tree.specs.Tree.{Tree, Tidy, parent, up, Lives}
+use Rattle.tree.specs.Tree.{Spelling, Tree, Tidy, parent, up, Lives}
 use Rattle.tree.proofs.Trees.{folder-is, parent-lives, up-first}
 use Rattle.tree.proofs.Ways.{up-stays, climbs-soon}
 use Rattle.image.proofs.Nodes.{meta-read, used-is}
 use Rattle.image.proofs.Movings.{slot-read}
 
-module _ (s : Fs) (A : Fair (s .arena) (s .table)) (meta : s .meta ≡ done (storedMeta (s .arena))) where
+module _ {style : Spelling} (s : Fs) (A : Fair style (s .arena) (s .table)) (meta : s .meta ≡ done (storedMeta (s .arena))) where
   abbrev a : List ℕ
   a = s .arena
 
@@ -43,7 +43,7 @@ module _ (s : Fs) (A : Fair (s .arena) (s .table)) (meta : s .meta ≡ done (sto
   abbrev v : Tree
   v = treeOf (s .arena) (s .table)
 
-  I : Tidy v
+  I : Tidy style v
   I = A .tidy
 
   -- a node's record

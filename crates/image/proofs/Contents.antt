@@ -37,7 +37,7 @@ use Rattle.sefs.specs.Records.{withSize}
 use Rattle.sefs.specs.Nodes.{nodeFile, recAt}
 use Rattle.sefs.specs.Contents.{resizeSteps, writeSteps}
 use Rattle.rules.specs.Image.{isNode, recOf, isOpen, isFolderAt, slotIn}
-use Rattle.tree.specs.Tree.{Tidy, folderAt}
+use Rattle.tree.specs.Tree.{Spelling, Tidy, folderAt}
 use Rattle.tree.proofs.Trees.{folder-is}
 use Rattle.tree.proofs.Contents.{withContents, contents-tidy}
 use Rattle.image.specs.Midway.{Used, Fair, treeOf, plain, Midway}
@@ -104,7 +104,7 @@ size-fits r n R l = record {
   macBytes = R .macBytes;
 }
 
-module _ {own : ℕ → Type 0} (a : List ℕ) (t : Table) (M : Midway own a t) (i : ℕ) (used : Used t i) where
+module _ {style : Spelling} {own : ℕ → Type 0} (a : List ℕ) (t : Table) (M : Midway style own a t) (i : ℕ) (used : Used t i) where
   rec-is : recOf a t (rowAt t i .id) ≡ rowAt t i .rec
   rec-is = mid-rec a t (M .formed) i used
 
@@ -143,7 +143,7 @@ module _ {own : ℕ → Type 0} (a : List ℕ) (t : Table) (M : Midway own a t) 
     abbrev d : ℕ
     d = rowAt t i .id
 
-    A : Fair a t
+    A : Fair style a t
     A = M .fair
 
     node-d : isNode a d ≡ true
@@ -191,9 +191,9 @@ module _ {own : ℕ → Type 0} (a : List ℕ) (t : Table) (M : Midway own a t) 
           opened = λ k. S .opens k x;
         }
 
-    tidy : Tidy (treeOf b u)
+    tidy : Tidy style (treeOf b u)
     tidy =
-        subst Tidy (sym tree-is)
+        subst (Tidy style) (sym tree-is)
         (contents-tidy (treeOf a t) (treeOf b u .size) (treeOf b u .long) (treeOf b u .slot) I
         (λ x f. long x (folder-is (treeOf a t) x f) (apart x f))
         (λ x f k. slot-kept a b (recOf b u x) (recOf a t x) (files x) (kept x (folder-is (treeOf a t) x f) (apart x f)) k)
@@ -203,7 +203,7 @@ module _ {own : ℕ → Type 0} (a : List ℕ) (t : Table) (M : Midway own a t) 
         (λ z. long x m z ∙ I .sized x m f ∙ sym (ap (λ (r : DiskINode). r .size) (rec-b x) ∙ S .else x z))
         (eq-cases x d)))
       where
-        I : Tidy (treeOf a t)
+        I : Tidy style (treeOf a t)
         I = M .fair .tidy
 
     theirs : (f : List ℕ) → there b (file 1 f) ≡ there a (file 1 f)
@@ -213,9 +213,9 @@ module _ {own : ℕ → Type 0} (a : List ℕ) (t : Table) (M : Midway own a t) 
         (λ z. B .others (file 1 f) z .exists)
         (file-cases (nodeFile (rowAt t i .rec)) (file 1 f))
 
-    rewritten-mid : Midway own b u
+    rewritten-mid : Midway style own b u
     rewritten-mid = record {
-      fair = fair-by-tree plain a b t u A
+      fair = fair-by-tree (plain style) a b t u A
           (record { length = legal-same a b (B .size) ∙ A .rule1 .length; sound = B .sound })
           K theirs (S .ids) (S .clean) (λ x m. kinds x) (λ x m. files x) tidy;
       formed = S .formed;
@@ -225,7 +225,7 @@ module _ {own : ℕ → Type 0} (a : List ℕ) (t : Table) (M : Midway own a t) 
 
 -- ---- the steps
 
-module _ {own : ℕ → Type 0} (s : Fs) (M : Midway own (s .arena) (s .table)) (i : ℕ) (used : Used (s .table) i) (no-dir : isFolder (recAt s i .kind) ≡ false) where
+module _ {style : Spelling} {own : ℕ → Type 0} (s : Fs) (M : Midway style own (s .arena) (s .table)) (i : ℕ) (used : Used (s .table) i) (no-dir : isFolder (recAt s i .kind) ≡ false) where
   abbrev a : List ℕ
   a = s .arena
 
@@ -252,7 +252,7 @@ module _ {own : ℕ → Type 0} (s : Fs) (M : Midway own (s .arena) (s .table)) 
       why (laws.missing q) = absurd (true-false e q)
       why (laws.far _ g) = absurd (omega arith)
 
-  pub resize-mid : (n : ℕ) → n ≤ longest → Ok (λ (d : Fs). Midway own (d .arena) (d .table)) (λ r. r ≡ 17) (resizeSteps s i n)
+  pub resize-mid : (n : ℕ) → n ≤ longest → Ok (λ (d : Fs). Midway style own (d .arena) (d .table)) (λ r. r ≡ 17) (resizeSteps s i n)
   unfolding resizeSteps
   resize-mid n l =
       ok-bind (cut-near a n is-there l) λ b C.
@@ -276,7 +276,7 @@ module _ {own : ℕ → Type 0} (s : Fs) (M : Midway own (s .arena) (s .table)) 
 
     -- past the size the length becomes the end, and so does the size; else both stay
     rest : (b : List ℕ) → Put a f place src b → (g : Bool) → ltb (recAt s i .size) (place + length src) ≡ g
-        → Ok (λ (d : Fs). Midway own (d .arena) (d .table)) (λ r. r ≡ 17) (pick g (resizeSteps (withArena s b) i (place + length src)) (done (withArena s b)))
+        → Ok (λ (d : Fs). Midway style own (d .arena) (d .table)) (λ r. r ≡ 17) (pick g (resizeSteps (withArena s b) i (place + length src)) (done (withArena s b)))
     unfolding resizeSteps
     rest b P true e =
         let X = put-in b P in
@@ -287,6 +287,6 @@ module _ {own : ℕ → Type 0} (s : Fs) (M : Midway own (s .arena) (s .table)) 
         let z : max (lengthOf a f) end ≡ recAt s i .size = omega (arith, long-is, ltb-false (recAt s i .size) end e) in
         went (rewritten-mid a (s .table) M i used no-dir (recAt s i .size) b (subst (λ (n : ℕ). Rewritten a f n b) z (put-in b P)) (s .table) (sized-none a (s .table) M i used))
 
-    pub write-mid : Ok (λ (d : Fs). Midway own (d .arena) (d .table)) (λ r. r ≡ 17) (writeSteps s i place src)
+    pub write-mid : Ok (λ (d : Fs). Midway style own (d .arena) (d .table)) (λ r. r ≡ 17) (writeSteps s i place src)
     unfolding writeSteps
     write-mid = ok-bind put-near λ b P. rest b P (ltb (recAt s i .size) end) refl

@@ -36,6 +36,7 @@ use Rattle.rules.specs.Image.{storedSuper, mapsTo, storedMaps, idsIn, isNode, s
 use Rattle.rules.specs.Rules.{Rule3, Rule4, Rule5, Folder, Linked, Removed, Rule7, Rule8}
 use Rattle.rules.proofs.Files.{node-below}
 use Rattle.rules.proofs.Folders.{folder-node}
+use Rattle.tree.specs.Tree.{Spelling}
 use Rattle.image.specs.Midway.{Fair}
 use Rattle.image.proofs.Images.{head-there}
 use Rattle.image.proofs.Freed.{node-clear}
@@ -215,12 +216,13 @@ module _ (n : ℕ) (time : Timespec) (name b : List ℕ) (fine : legal b ≡ tru
     climbs = λ id f l. (0, only-root id (folder-node b t id f));
   }
 
-  pub made-fair : Fair b t
+  pub made-fair : {style : Spelling} → Fair style b t
   made-fair = record {
     rule1 = record { length = fine; sound = M .sound };
     rule3 = three;
     rule4 = four;
     rule5 = five;
     tidy = tidy-of b t (node-below b) root-node (eq-eqb (recOf b t 2 .kind) 2 (five .root))
-        (record { folder = of-folders (Folder b t) folder; size = λ id e f. absurd (true-false (of-nodes (λ (k : ℕ). isFolderAt b t k ≡ true) root-folder id e) f) }) seven eight;
+        (record { folder = of-folders (Folder b t) folder; size = λ id e f. absurd (true-false (of-nodes (λ (k : ℕ). isFolderAt b t k ≡ true) root-folder id e) f) }) seven eight
+        (λ i k f x y. absurd (omega (arith, of-folders (λ (j : ℕ). recOf b t j .blocks ≡ 2) (ap (λ (r : DiskINode). r .blocks) rec-is) i f)));
   }

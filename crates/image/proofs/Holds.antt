@@ -24,6 +24,7 @@ use Rattle.table_laws.proofs.Holds.{Gives, heldAs, new, add-cases, add-kept}
 use Rattle.sefs.specs.Nodes.{noRow}
 use Rattle.rules.specs.Image.{isNode, storedBytes, recBy, recOf, isOpen}
 use Rattle.image.proofs.Images.{like-same, alike-same, image-fair}
+use Rattle.tree.specs.Tree.{Spelling}
 use Rattle.image.specs.Midway.{Midway, Used}
 use Rattle.table_laws.specs.Rules.{none, also}
 
@@ -73,7 +74,7 @@ fits-hold t row T can l = add-cases TableFits t row T (λ g. put g)
     }
 
 -- a hold on the call's own row: then it is nobody's own
-pub hold-mid : (a : List ℕ) (u : Table) (c : ℕ) → Midway (also none c) a u → canHold u ≡ true → Used u c → Midway none a (addHold u c .table)
+pub hold-mid : {style : Spelling} (a : List ℕ) (u : Table) (c : ℕ) → Midway style (also none c) a u → canHold u ≡ true → Used u c → Midway style none a (addHold u c .table)
 hold-mid a u c M can used =
     let e : addHold u c .table .rows ≡ u .rows = add-rows u c in
     record {

@@ -31,11 +31,11 @@ use Rattle.table.specs.Formed.{wellFormed}
 use Rattle.rules.specs.Image.{run, storedSuper, storedMaps, idsIn, isNode, storedBytes, recOf, isOpen, slotIn}
 use Rattle.rules.specs.Rules.{Rule1, Rule3, Rule4, Rule5, Allowed}
 use Rattle.rules.proofs.Files.{node-below}
-use Rattle.tree.specs.Tree.{Tree}
+use Rattle.tree.specs.Tree.{Spelling, any, Tree}
 use Rattle.tree.proofs.Trees.{folder-is}
 use Rattle.tree.proofs.Stays.{Stays, stays-turned, stays-tidy}
-use Rattle.image.specs.Midway.{treeOf, Look, plain, turning, look, Fairly, Fair}
-use Rattle.image.proofs.TreeOf.{tidy-of, tidy-six, tidy-seven, tidy-eight}
+use Rattle.image.specs.Midway.{treeOf, Spells, Look, plain, turning, look, Fairly, Fair}
+use Rattle.image.proofs.TreeOf.{tidy-of, tidy-spells, tidy-six, tidy-seven, tidy-eight}
 use Rattle.arena.specs.Fields as block
 
 -- the fields that the rules speak of
@@ -92,17 +92,17 @@ slot-like a b same r s l k =
 
 -- what stays of a tree stays of it as it is looked at
 pub stays-look : (k : Look) {gone : ℕ → Bool} {v w : Tree} → Stays gone v w → Stays gone (look k v) (look k w)
-stays-look plain R = R
-stays-look (turning c f g) R = stays-turned c f g (dotsEntry g) R
+stays-look (plain style) R = R
+stays-look (turning style c f g) R = stays-turned c f g (dotsEntry g) R
 
 -- the parts of a tree that look the same
 pub look-node : (k : Look) (v : Tree) (i : ℕ) → look k v .node i ≡ v .node i
-look-node plain v i = refl
-look-node (turning c f g) v i = refl
+look-node (plain style) v i = refl
+look-node (turning style c f g) v i = refl
 
 pub look-opened : (k : Look) (v : Tree) (i : ℕ) → look k v .opened i ≡ v .opened i
-look-opened plain v i = refl
-look-opened (turning c f g) v i = refl
+look-opened (plain style) v i = refl
+look-opened (turning style c f g) v i = refl
 
 -- a node's links look as they are
 abbrev pub Off : Look → ℕ → Type 0
@@ -168,16 +168,19 @@ root-two a t R S = and-both (lt-ltb 2 (idsIn a) (omega (arith, R .some))) (ap no
 pub root-node : {k : Look} (a : List ℕ) (t : Table) → Fairly k a t → isNode a 2 ≡ true
 root-node a t A = root-two a t (A .rule3) (A .rule4)
 
-pub fair : (a : List ℕ) (t : Table) → Allowed a t → Fair a t
-fair a t A = record {
+pub fair-spelt : {style : Spelling} (a : List ℕ) (t : Table) → Allowed a t → Spells style a t → Fair style a t
+fair-spelt a t A N = record {
   rule1 = A .rule1;
   rule3 = A .rule3;
   rule4 = A .rule4;
   rule5 = A .rule5;
-  tidy = tidy-of a t (node-below a) (root-two a t (A .rule3) (A .rule4)) (eq-eqb (recOf a t 2 .kind) 2 (A .rule5 .root)) (A .rule6) (A .rule7) (A .rule8);
+  tidy = tidy-of a t (node-below a) (root-two a t (A .rule3) (A .rule4)) (eq-eqb (recOf a t 2 .kind) 2 (A .rule5 .root)) (A .rule6) (A .rule7) (A .rule8) N;
 }
 
-pub fair-allowed : (a : List ℕ) (t : Table) → Fair a t → wellFormed t ≡ true → Allowed a t
+pub fair : (a : List ℕ) (t : Table) → Allowed a t → Fair any a t
+fair a t A = fair-spelt a t A (λ i k f x y. tt)
+
+pub fair-allowed : {style : Spelling} (a : List ℕ) (t : Table) → Fair style a t → wellFormed t ≡ true → Allowed a t
 fair-allowed a t A f = record {
   rule1 = A .rule1;
   rule2 = record { formed = f };
@@ -222,5 +225,5 @@ module _ (a : List ℕ) (t u : Table) (A : Allowed a t)
     (clean : (i : ℕ) → i < 34 → rowAt u i .id ≢ 0 → rowAt u i .dirty ≡ false → recordBytes (rowAt u i .rec) ≡ storedBytes a (rowAt u i .id))
     (like : (id : ℕ) → isNode a id ≡ true → Like (recOf a u id) (recOf a t id))
     (opens : (id : ℕ) → isNode a id ≡ true → recOf a t id .nlinks ≡ 0 → isOpen t id ≡ true → isOpen u id ≡ true) where
-  pub table-allowed : Allowed a u
-  table-allowed = fair-allowed a u (image-fair a a t u (fair a t A) (alike-same a) (A .rule1) node clean like opens) formed
+  pub table-allowed : (style : Spelling) → Spells style a t → Allowed a u × Spells style a u
+  table-allowed style N = let F : Fair style a u = image-fair a a t u (fair-spelt {style = style} a t A N) (alike-same a) (A .rule1) node clean like opens in (fair-allowed a u F formed, tidy-spells a u (F .tidy))

@@ -16,7 +16,7 @@ use Rattle.structs.specs.Layout.{entryBytes}
 use Rattle.structs.specs.declared.DiskEntry.{DiskEntry}
 use Rattle.structs.specs.declared.DiskINode.{DiskINode}
 use Rattle.utf8.specs.Utf8.{within, lead, tail, step, after, utf8}
-use Rattle.utf8.specs.Names.{zeroAt, hasZero, nameOf, nameBytes, nameVerdict}
+use Rattle.utf8.specs.Names.{zeroAt, hasZero, hasSlash, nameOf, nameBytes, nameVerdict}
 use Rattle.utf8.proofs.Names.{nameOf-nameBytes}
 use Rattle.arena.specs.Fields.{File, file}
 use Rattle.sound.specs.Sound.{sound}
@@ -38,12 +38,12 @@ use Rattle.image.proofs.NewNames.{good-name, entry-fits}
 -- ---- the two names
 
 pub dot-name : nameOf (nameBytes (46 ∷ [])) ≡ 46 ∷ []
-unfolding nameVerdict hasZero zeroAt lowest within lead tail step after utf8
-dot-name = nameOf-nameBytes (46 ∷ []) (good-name (46 ∷ []) refl) (omega arith)
+unfolding nameVerdict hasZero hasSlash zeroAt lowest within lead tail step after utf8
+dot-name = nameOf-nameBytes (46 ∷ []) (good-name (46 ∷ []) refl .0) (omega arith)
 
 pub dots-name : nameOf (nameBytes (46 ∷ 46 ∷ [])) ≡ 46 ∷ 46 ∷ []
-unfolding nameVerdict hasZero zeroAt lowest within lead tail step after utf8
-dots-name = nameOf-nameBytes (46 ∷ 46 ∷ []) (good-name (46 ∷ 46 ∷ []) refl) (omega arith)
+unfolding nameVerdict hasZero hasSlash zeroAt lowest within lead tail step after utf8
+dots-name = nameOf-nameBytes (46 ∷ 46 ∷ []) (good-name (46 ∷ 46 ∷ []) refl .0) (omega arith)
 
 -- their slots fit
 pub dot-fits : (id : ℕ) → id < 2 ^ 32 → EntryFits (entry id (46 ∷ []) typeDir)

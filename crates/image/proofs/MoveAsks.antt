@@ -29,6 +29,7 @@ use Rattle.sefs.specs.Slots.{slotAt}
 use Rattle.sefs.specs.Ask.{start}
 use Rattle.sefs.specs.Move.{readSlots, judge}
 use Rattle.rules.specs.Image.{isNode, recOf, isFolderAt, slotIn}
+use Rattle.tree.specs.Tree.{Spelling}
 use Rattle.image.specs.Midway.{Used, plain, Midway}
 use Rattle.image.proofs.Slots.{slot-is}
 use Rattle.image.proofs.Drops.{mid-rec}
@@ -37,7 +38,7 @@ use Rattle.image.proofs.Releases.{LetGo, let-go}
 use Rattle.rules.specs.Rules as rules
 
 -- the type of a row in use
-pub mid-type : {own : ℕ → Type 0} (a : List ℕ) (t : Table) → Midway own a t → (i : ℕ) → Used t i → isType (rowAt t i .rec .kind) ≡ true
+pub mid-type : {style : Spelling} {own : ℕ → Type 0} (a : List ℕ) (t : Table) → Midway style own a t → (i : ℕ) → Used t i → isType (rowAt t i .rec .kind) ≡ true
 mid-type a t M i u =
     let n : isNode a (rowAt t i .id) ≡ true = M .fair .rule4 .node i (u .below) (u .node) in
     subst (λ (r : DiskINode). isType (r .kind) ≡ true) (mid-rec a t (M .formed) i u)
@@ -80,16 +81,16 @@ module _ (a : List ℕ) (t : Table) (A : rules.Allowed a t) (y : Bytes a) (u : T
 -- ---- two nodes are opened, and the second opening ends
 
 -- the table has the rows of t, row d for node id as well, and every node's record
-pub record Ended (a : List ℕ) (t : Table) (d id : ℕ) (x : Fs) : Type 0 where
+pub record Ended (style : Spelling) (a : List ℕ) (t : Table) (d id : ℕ) (x : Fs) : Type 0 where
   pub table : Table
   pub is : x ≡ start a table
-  pub mid : Midway (also none d) a table
+  pub mid : Midway style (also none d) a table
   pub rows : (j : ℕ) → Used t j → rowAt table j ≡ rowAt t j
   pub recs : (k : ℕ) → isNode a k ≡ true → recOf a table k ≡ recOf a t k
   pub used : Used table d
   pub same : rowAt table d .id ≡ id
 
-module _ (a : List ℕ) (t : Table) (idd idc : ℕ) (o : Opened) (D : Got a t idd o) (w : Opened) (C : Gets plain (also none (D .row)) a (D .table) idc w) (apart : idc ≢ idd)
+module _ {style : Spelling} (a : List ℕ) (t : Table) (idd idc : ℕ) (o : Opened) (D : Got style a t idd o) (w : Opened) (C : Gets (plain style) (also none (D .row)) a (D .table) idc w) (apart : idc ≢ idd)
     (links : rowAt (C .table) (C .row) .rec .nlinks ≢ 0) where
   -- the row is held, or is new
   held : Holder (C .table) (C .row) ⊎ ((rowAt (C .table) (C .row) .dirty ≡ false) × (rowAt (D .table) (C .row) .id ≡ 0))
@@ -103,7 +104,7 @@ module _ (a : List ℕ) (t : Table) (idd idc : ℕ) (o : Opened) (D : Got a t id
           (λ h. h)
           (D .mid .formed .held (C .row) (C .used .below) (λ z. C .used .node (ap (λ (v : Table). rowAt v (C .row) .id) e ∙ z)))
 
-  kept : (x : Fs) (G : LetGo (also none (D .row)) (start a (C .table)) (C .row) x) → (j : ℕ) → Used (D .table) j → rowAt (G .table) j ≡ rowAt (D .table) j
+  kept : (x : Fs) (G : LetGo style (also none (D .row)) (start a (C .table)) (C .row) x) → (j : ℕ) → Used (D .table) j → rowAt (G .table) j ≡ rowAt (D .table) j
   kept x G j u =
       G .rows j (⊎-elim (λ h. inl h) (λ (h : (rowAt (C .table) (C .row) .dirty ≡ false) × (rowAt (D .table) (C .row) .id ≡ 0)). inr (λ q. u .node (ap (λ (m : ℕ). rowAt (D .table) m .id) q ∙ h .1))) held)
       ∙ C .rows j u
@@ -111,7 +112,7 @@ module _ (a : List ℕ) (t : Table) (idd idc : ℕ) (o : Opened) (D : Got a t id
   still : (j : ℕ) → Used t j → Used (D .table) j
   still j u = record { below = u .below; node = λ z. u .node (ap (λ (x : Row). x .id) (sym (D .rows j u)) ∙ z) }
 
-  pub ends-law : Ok (Ended a t (D .row) idd) Clear (release (start a (C .table)) (C .row))
+  pub ends-law : Ok (Ended style a t (D .row) idd) Clear (release (start a (C .table)) (C .row))
   ends-law =
       ok-weaken
       (λ x G.

@@ -9,13 +9,14 @@ use lib.ListN.{length}
 use Rattle.base.specs.Out.{done}
 use Rattle.le.specs.Le.{Bytes}
 use Rattle.structs.specs.Types.{isFolder}
-use Rattle.utf8.specs.Names.{nameOf, GoodName, isSpecial}
+use Rattle.utf8.specs.Names.{hasSlash, nameOf, GoodName, isSpecial}
 use Rattle.table.specs.Table.{rowAt}
 use Rattle.sefs.specs.State.{Fs}
 use Rattle.sefs.specs.Nodes.{recAt, idAt}
 use Rattle.sefs.specs.Slots.{Slot}
 use Rattle.sefs.specs.Move.{Replaced, none, node}
 use Rattle.rules.specs.Image.{recOf, slotIn}
+use Rattle.tree.specs.Tree.{Spelling}
 use Rattle.image.specs.Midway.{Used, storedMeta, Midway}
 use Rattle.image.proofs.NewNames.{NewName}
 use Rattle.table_laws.specs.Rules as rows
@@ -49,8 +50,8 @@ Onto s j old name none = NewName (s .arena) (recAt s j) name
 Onto s j old name (node d k) = Replaces s j old name d k
 
 -- before the slot `old` of folder i moves to folder j, to be named `name` there
-pub record Moving (own : ℕ → Type 0) (s : Fs) (i j : ℕ) (old : Slot) (name : List ℕ) (r : Replaced) : Type 0 where
-  pub mid : Midway (owns own r) (s .arena) (s .table)
+pub record Moving (style : Spelling) (own : ℕ → Type 0) (s : Fs) (i j : ℕ) (old : Slot) (name : List ℕ) (r : Replaced) : Type 0 where
+  pub mid : Midway style (owns own r) (s .arena) (s .table)
   -- a row that the call has of its own is that of the node that moves
   pub mine : (m : ℕ) → own m → Used (s .table) m × (rowAt (s .table) m .id ≡ old .entry .id)
   pub meta : s .meta ≡ done (storedMeta (s .arena))
@@ -60,6 +61,7 @@ pub record Moving (own : ℕ → Type 0) (s : Fs) (i j : ℕ) (old : Slot) (name
   pub inside : old .place < recAt s i .blocks
   pub is : old .entry ≡ slotIn (s .arena) (recAt s i) (old .place)
   pub good : GoodName name
+  pub no-slash : hasSlash name ≡ false
   pub plain : isSpecial name ≡ false
   pub short : length name ≤ 255
   pub bytes : Bytes name

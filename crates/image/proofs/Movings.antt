@@ -30,7 +30,7 @@ use Rattle.rules.specs.Image.{run, isNode, recOf, isFolderAt, slotIn, named}
 use Rattle.rules.specs.Rules.{Folder, Later}
 use Rattle.rules.proofs.Files.{node-below}
 use Rattle.image.specs.Midway.{Fair, treeOf, Midway}
-use Rattle.tree.specs.Tree.{Tidy, LinkedIn, RemovedIn, Lives}
+use Rattle.tree.specs.Tree.{Spelling, Tidy, LinkedIn, RemovedIn, Lives}
 use Rattle.tree.proofs.Trees.{lives-linked}
 use Rattle.image.proofs.TreeOf.{named-tree, tidy-six}
 use Rattle.image.proofs.Freed.{slot-counts}
@@ -47,10 +47,10 @@ slot-read a r k h l m =
     rw (e, decided-yes (decides-leb (entryOf (run a (nodeFile r) (264 * k) 264) .kind) 4) m)
 
 -- a node that a slot names has the links that go with a slot
-pub named-links : (a : List ℕ) (t : Table) → Fair a t → (x : ℕ) → isNode a x ≡ true → 1 ≤ named a t x → 1 + bit (isFolder (recOf a t x .kind)) ≤ recOf a t x .nlinks
-named-links a t A x n counted = by (isFolder (recOf a t x .kind)) refl
+pub named-links : {style : Spelling} (a : List ℕ) (t : Table) → Fair style a t → (x : ℕ) → isNode a x ≡ true → 1 ≤ named a t x → 1 + bit (isFolder (recOf a t x .kind)) ≤ recOf a t x .nlinks
+named-links {style = style} a t A x n counted = by (isFolder (recOf a t x .kind)) refl
   where
-    I : Tidy (treeOf a t)
+    I : Tidy style (treeOf a t)
     I = A .tidy
 
     by : (b : Bool) → isFolder (recOf a t x .kind) ≡ b → 1 + bit (isFolder (recOf a t x .kind)) ≤ recOf a t x .nlinks
@@ -63,7 +63,7 @@ named-links a t A x n counted = by (isFolder (recOf a t x .kind)) refl
 
 -- ---- a folder with links
 
-module _ {own : ℕ → Type 0} (s : Fs) (M : Midway own (s .arena) (s .table)) (i : ℕ) (G : LiveFolder s i) where
+module _ {style : Spelling} {own : ℕ → Type 0} (s : Fs) (M : Midway style own (s .arena) (s .table)) (i : ℕ) (G : LiveFolder s i) where
   pub live-rec : recOf (s .arena) (s .table) (idAt s i) ≡ recAt s i
   live-rec = mid-rec (s .arena) (s .table) (M .formed) i (G .used)
 
@@ -105,7 +105,7 @@ module _ {own : ℕ → Type 0} (s : Fs) (M : Midway own (s .arena) (s .table)) 
 
 -- ---- the slot that moves
 
-module _ {own : ℕ → Type 0} (s : Fs) (i j : ℕ) (old : Slot) (name : List ℕ) (r : Replaced) (M : Moving own s i j old name r) where
+module _ {style : Spelling} {own : ℕ → Type 0} (s : Fs) (i j : ℕ) (old : Slot) (name : List ℕ) (r : Replaced) (M : Moving style own s i j old name r) where
   L : Later (s .arena) (s .table) (slotIn (s .arena) (recAt s i) (old .place))
   L = live-later s (M .mid) i (M .from) (old .place) (M .later) (M .inside)
 

@@ -26,6 +26,7 @@ use Rattle.table_laws.proofs.Rows.{row-here, row-apart, take-kept}
 use Rattle.table_laws.proofs.Holds.{can-row}
 use Rattle.sefs.specs.Nodes.{noRow}
 use Rattle.rules.specs.Image.{storedBytes, recBy, recOf, isOpen}
+use Rattle.tree.specs.Tree.{Spelling}
 use Rattle.image.specs.Midway.{Used, Midway}
 use Rattle.image.proofs.Images.{Like, like-same}
 use Rattle.image.proofs.Records.{fits-row}
@@ -45,7 +46,7 @@ pub record Rowed (a : List ℕ) (t : Table) (c i id : ℕ) (r s : DiskINode) (u 
   pub child-like : Like (rowAt u c .rec) r
   pub own-like : Like (rowAt u i .rec) s
 
-module _ (a : List ℕ) (t : Table) (M : Midway none a t) (c i id : ℕ) (free : freeRow t ≡ At c) (ui : Used t i) (some : id ≢ 0) where
+module _ {style : Spelling} (a : List ℕ) (t : Table) (M : Midway style none a t) (c i id : ℕ) (free : freeRow t ≡ At c) (ui : Used t i) (some : id ≢ 0) where
   in34 : c < 34
   in34 = row-found t 0 c free .0
 

@@ -17,7 +17,8 @@ use Rattle.table_bytes.specs.Fits.{TableFits, RowFits}
 use Rattle.sefs.specs.Records.{withLinks, withBlocks}
 use Rattle.rules.specs.Image.{recOf, isOpen, storedBytes, recBy}
 use Rattle.rules.specs.Rules.{Allowed}
-use Rattle.image.specs.Midway.{Used}
+use Rattle.tree.specs.Tree.{Spelling}
+use Rattle.image.specs.Midway.{Spells, Used}
 use lib.ListN.{length-set}
 use Rattle.structs.specs.Layout.{recordBytes}
 use Rattle.table_laws.proofs.Rules.{well-formed}
@@ -112,7 +113,7 @@ module _ (a : List ℕ) (t : Table) (A : Allowed a t) (i : ℕ) (used : Used t i
   unfolding isOpen
   open-all id e = rw (same-row id) e
 
-  pub row-allowed : Allowed a (takeRow t i (rowAt t i .id) r d)
+  pub row-allowed : (style : Spelling) → Spells style a t → Allowed a (takeRow t i (rowAt t i .id) r d) × Spells style a (takeRow t i (rowAt t i .id) r d)
   row-allowed =
       table-allowed a t u A
       (well-formed u .1 (change-row t (formed a t A) i (used .below) new (used .node) refl))

@@ -17,23 +17,24 @@ use Rattle.table_laws.proofs.Rows.{row-apart, formed-held}
 use Rattle.sefs.specs.State.{Fs, withTable}
 use Rattle.sefs.specs.Nodes.{syncRow, dropNode, release}
 use Rattle.rules.specs.Image.{isNode, recOf}
+use Rattle.tree.specs.Tree.{Spelling}
 use Rattle.image.specs.Midway.{Used, Midway}
 use Rattle.image.proofs.Drops.{Unheld, row-recs, row-dropped}
 
 -- the arena is as it was, and so are all other rows; also this one, where it is held
-pub record LetGo (own : ℕ → Type 0) (s : Fs) (i : ℕ) (d : Fs) : Type 0 where
+pub record LetGo (style : Spelling) (own : ℕ → Type 0) (s : Fs) (i : ℕ) (d : Fs) : Type 0 where
   pub table : Table
   pub is : d ≡ withTable s table
-  pub mid : Midway own (s .arena) table
+  pub mid : Midway style own (s .arena) table
   pub rows : (j : ℕ) → Holder (s .table) i ⊎ (j ≢ i) → rowAt table j ≡ rowAt (s .table) j
   pub recs : (k : ℕ) → isNode (s .arena) k ≡ true → recOf (s .arena) table k ≡ recOf (s .arena) (s .table) k
 
-pub let-go : {own : ℕ → Type 0} (s : Fs) (i : ℕ) → Midway (also own i) (s .arena) (s .table) → Used (s .table) i → Holder (s .table) i ⊎ (rowAt (s .table) i .dirty ≡ false)
-    → rowAt (s .table) i .rec .nlinks ≢ 0 → Ok (LetGo own s i) Clear (release s i)
+pub let-go : {style : Spelling} {own : ℕ → Type 0} (s : Fs) (i : ℕ) → Midway style (also own i) (s .arena) (s .table) → Used (s .table) i → Holder (s .table) i ⊎ (rowAt (s .table) i .dirty ≡ false)
+    → rowAt (s .table) i .rec .nlinks ≢ 0 → Ok (LetGo style own s i) Clear (release s i)
 unfolding release dropNode syncRow
-let-go {own = own} s i M u how links = go (rowUsed (s .table) i) refl
+let-go {style = style} {own = own} s i M u how links = go (rowUsed (s .table) i) refl
   where
-    go : (b : Bool) → rowUsed (s .table) i ≡ b → Ok (LetGo own s i) Clear (pick b (done s) (dropNode s i))
+    go : (b : Bool) → rowUsed (s .table) i ≡ b → Ok (LetGo style own s i) Clear (pick b (done s) (dropNode s i))
     go true q = went (record {
       table = s .table;
       is = refl;

@@ -25,7 +25,7 @@ use Rattle.sefs.specs.Slots.{Slot, slotBytes}
 use Rattle.sefs.specs.Folders.{nlinksDec, unlinkFolder, direntNodeRemove}
 use Rattle.sefs.specs.Move.{node, renamed}
 use Rattle.rules.specs.Image.{run, recOf, slotIn, named}
-use Rattle.tree.specs.Tree.{Tidy, folderAt, LinkedIn, RemovedIn}
+use Rattle.tree.specs.Tree.{Spelling, Tidy, folderAt, LinkedIn, RemovedIn}
 use Rattle.tree.specs.Moves.{over, Over}
 use Rattle.tree.proofs.Naming.{none-subs}
 use Rattle.image.specs.Midway.{treeOf, Amid}
@@ -43,7 +43,7 @@ use Rattle.image.proofs.Turning.{turning-mid}
 use Rattle.image.proofs.BetweenSlots.{slotsOf, linksOf, Carrying}
 use Rattle.image.proofs.Settling.{movedKind, Avoids, wayBy, wayOf, Settled, may-move, rec-d, d-not-i, d-not-j, node-d, settle-node}
 
-module _ {own : ℕ → Type 0} (s : Fs) (i j : ℕ) (old : Slot) (name : List ℕ) (d k : ℕ) (M : Moving own s i j old name (node d k)) (apart : idAt s i ≢ idAt s j) (avoids : Avoids s j old)
+module _ {style : Spelling} {own : ℕ → Type 0} (s : Fs) (i j : ℕ) (old : Slot) (name : List ℕ) (d k : ℕ) (M : Moving style own s i j old name (node d k)) (apart : idAt s i ≢ idAt s j) (avoids : Avoids s j old)
     (x : Fs) (X : Carrying own s i j old name (node d k) x) where
   abbrev a : List ℕ
   a = s .arena
@@ -177,9 +177,9 @@ module _ {own : ℕ → Type 0} (s : Fs) (i j : ℕ) (old : Slot) (name : List �
       name = moves-name s i j old name (node d k) M ∙ sym (M .onto .named) ∙ ap (λ (y : DiskINode). nameOf (slotIn a y k .name)) (sym rec-j);
     }
 
-    tidy : isFolder (movedKind s old) ≡ false → Tidy (onto (treeOf a t) (idAt s j) k (recAt s j .blocks) e (at c (linksOf s c + 1) L2))
+    tidy : isFolder (movedKind s old) ≡ false → Tidy style (onto (treeOf a t) (idAt s j) k (recAt s j .blocks) e (at c (linksOf s c + 1) L2))
     tidy no-dir =
-        subst (λ (n : ℕ). Tidy (onto (treeOf a t) (idAt s j) k n e (at c (linksOf s c + 1) L2))) (ap (λ (y : DiskINode). y .blocks) rec-j)
+        subst (λ (n : ℕ). Tidy style (onto (treeOf a t) (idAt s j) k n e (at c (linksOf s c + 1) L2))) (ap (λ (y : DiskINode). y .blocks) rec-j)
         (turned-tidy (treeOf a t) (idAt s j) k (idAt s d) c e (M .mid .fair .tidy) (turns no-dir) (at c (linksOf s c + 1) L2)
         (at-here c (linksOf s c + 1) L2)
         (omega (arith, at-else c (linksOf s c + 1) L2 (idAt s d) (λ q. d-not-c (sym q)), at-here (idAt s d) (recAt y1 d .nlinks - 1) (linksOf s), at-1, links-d))
@@ -194,9 +194,9 @@ module _ {own : ℕ → Type 0} (s : Fs) (i j : ℕ) (old : Slot) (name : List �
     b-else : (y : ℕ) → y ≢ idAt s i → y ≢ idAt s j → B y ≡ slotsOf s y
     b-else y n m = at-else (idAt s j) (recAt x j .blocks - 1) slots y m ∙ at-else (idAt s i) (recAt s i .blocks - 1) to-slots y n ∙ at-else (idAt s j) (recAt s j .blocks + 1) (slotsOf s) y m
 
-    file-mid : isFolder (movedKind s old) ≡ false → Amid (wayOf s i j old) (owns own (node d k)) b (y2 .table)
+    file-mid : isFolder (movedKind s old) ≡ false → Amid (wayOf style s i j old) (owns own (node d k)) b (y2 .table)
     file-mid no-dir =
-        subst (λ (q : Bool). Amid (wayBy q s i j old) (owns own (node d k)) b (y2 .table)) (sym no-dir)
+        subst (λ (q : Bool). Amid (wayBy style q s i j old) (owns own (node d k)) b (y2 .table)) (sym no-dir)
         (transferred s i j old name (node d k) M apart no-dir k (recAt s j .blocks) (λ y l n. l) b C B L2 (y2 .table) S2 b-from b-to b-else
         (else-2 (idAt s i) (λ q. d-not-i s i j old name d k M (sym q)))
         (else-2 c d-not-c)
@@ -238,23 +238,23 @@ module _ {own : ℕ → Type 0} (s : Fs) (i j : ℕ) (old : Slot) (name : List �
           ap L4 (sym (eqb-true (idAt s d) y q)) ∙ at-else (idAt s j) (recAt y3 j .nlinks - 1) L3 (idAt s d) (d-not-j s i j old name d k M)
           ∙ at-here (idAt s d) (recAt y2 d .nlinks - 1) L2 ∙ omega (arith, at-2, at-1, two-links)
 
-      folder-mid : Amid (wayOf s i j old) (owns own (node d k)) b (y4 .table)
+      folder-mid : Amid (wayOf style s i j old) (owns own (node d k)) b (y4 .table)
       folder-mid =
-          subst (λ (q : Bool). Amid (wayBy q s i j old) (owns own (node d k)) b (y4 .table)) (sym dir)
+          subst (λ (q : Bool). Amid (wayBy style q s i j old) (owns own (node d k)) b (y4 .table)) (sym dir)
           (turning-mid s i j old name (node d k) M apart k (recAt s j .blocks) (over (idAt s d))
           (may-move s i j old name (node d k) M apart avoids dir k (over (idAt s d)) fresh over-d)
           (λ y l n. l) (omega arith) b C B L4 (y4 .table) S4 b-from b-to b-else
           (else-4 (idAt s i) (λ q. d-not-i s i j old name d k M (sym q)) apart)
           here-4 gone-4 (λ y n q. else-4 y (λ z. eqb-false (idAt s d) y q (sym z)) n))
 
-    falls : Ok (Settled own s i j old) (λ n. n ≡ 17) (bind (nlinksDec y1 d) (λ s. bind (pick (isFolder (recAt s d .kind)) (unlinkFolder s j d) (done s)) (λ s. release s d)))
+    falls : Ok (Settled style own s i j old) (λ n. n ≡ 17) (bind (nlinksDec y1 d) (λ s. bind (pick (isFolder (recAt s d .kind)) (unlinkFolder s j d) (done s)) (λ s. release s d)))
     unfolding unlinkFolder
     falls = rw (dec-is y1 d (omega (arith, at-1, links-d))) (go (isFolder (recAt y2 d .kind)) refl)
       where
         i-not-d : idAt s i ≢ idAt s d
         i-not-d q = d-not-i s i j old name d k M (sym q)
 
-        go : (f : Bool) → isFolder (recAt y2 d .kind) ≡ f → Ok (Settled own s i j old) (λ n. n ≡ 17) (bind (pick f (bind (nlinksDec y2 d) (λ s. nlinksDec s j)) (done y2)) (λ s. release s d))
+        go : (f : Bool) → isFolder (recAt y2 d .kind) ≡ f → Ok (Settled style own s i j old) (λ n. n ≡ 17) (bind (pick f (bind (nlinksDec y2 d) (λ s. nlinksDec s j)) (done y2)) (λ s. release s d))
         go false q =
             settle-node s i j old name d k M y2 (recAt s j .blocks) C B L2 S2 (X .meta)
             (omega (arith, else-2 (idAt s i) i-not-d, links-i))
@@ -276,10 +276,10 @@ module _ {own : ℕ → Type 0} (s : Fs) (i j : ℕ) (old : Slot) (name : List �
       is-there : there (x .arena) (nodeFile (recAt x j)) ≡ true
       is-there = ap (λ (f : List ℕ). there (x .arena) (file 1 f)) file-x ∙ X .files .exists (recAt s j .file) ∙ live-there s (M .mid) j (M .to)
 
-  pub replace-law : Ok (Settled own s i j old) (λ n. n ≡ 17) (direntNodeRemove x j d k)
+  pub replace-law : Ok (Settled style own s i j old) (λ n. n ≡ 17) (direntNodeRemove x j d k)
   unfolding direntNodeRemove
   replace-law =
       ok-bind (remove-law x j k (omega (arith, blocks-x, M .onto .inside)) (X .files .bytes) (X .files .sound)
       (ap (λ (f : List ℕ). there (x .arena) (file 1 f)) file-x ∙ X .files .exists (recAt s j .file) ∙ live-there s (M .mid) j (M .to)) last) λ y R.
-      subst (λ (z : Fs). Ok (Settled own s i j old) (λ n. n ≡ 17) (bind (nlinksDec z d) (λ s. bind (pick (isFolder (recAt s d .kind)) (unlinkFolder s j d) (done s)) (λ s. release s d)))) (sym (R .is))
+      subst (λ (z : Fs). Ok (Settled style own s i j old) (λ n. n ≡ 17) (bind (nlinksDec z d) (λ s. bind (pick (isFolder (recAt s d .kind)) (unlinkFolder s j d) (done s)) (λ s. release s d)))) (sym (R .is))
       (falls (R .arena) (R .gone))

@@ -32,7 +32,7 @@ use Rattle.sefs.specs.Meta.{metaFile}
 use Rattle.sefs.specs.Nodes.{noRow}
 use Rattle.rules.specs.Image.{storedSuper, storedMaps, idsIn, isNode, storedBytes, recBy, recOf, isOpen}
 use Rattle.rules.specs.Rules.{Rule1}
-use Rattle.image.specs.Midway.{Used, treeOf, Look, look, Fairly}
+use Rattle.image.specs.Midway.{Used, treeOf, Look, look, styleOf, Fairly}
 use Rattle.image.proofs.Images.{root-node, head-there, there-head}
 use Rattle.tree.specs.Tree.{Tidy}
 use Rattle.image.proofs.Records.{fits-row}
@@ -116,7 +116,7 @@ module _ {was-way : Look} (way : Look) (a b : List ℕ) (t u : Table) (A : Fairl
     (clean : Cleans a u)
     (kinds : (k : ℕ) → isNode a k ≡ true → recOf b u k .kind ≡ recOf a t k .kind)
     (names : (k : ℕ) → isNode a k ≡ true → recOf b u k .file ≡ recOf a t k .file)
-    (I : Tidy (look way (treeOf b u))) where
+    (I : Tidy (styleOf way) (look way (treeOf b u))) where
   super : storedSuper b ≡ storedSuper a
   super = super-kept a b K
 

@@ -16,7 +16,7 @@ use Rattle.base.proofs.Numbers.{lt-or-le}
 use Rattle.structs.specs.Types.{isFolder}
 use Rattle.structs.specs.declared.DiskINode.{DiskINode}
 use Rattle.structs.specs.declared.DiskEntry.{DiskEntry}
-use Rattle.utf8.specs.Names.{nameOf, nameBytes}
+use Rattle.utf8.specs.Names.{hasSlash, nameOf, nameBytes}
 use Rattle.utf8.proofs.Names.{not-special}
 use Rattle.table.specs.Table.{rowAt}
 use Rattle.sefs.specs.State.{Fs}
@@ -25,7 +25,7 @@ use Rattle.sefs.specs.Slots.{Slot}
 use Rattle.sefs.specs.Move.{Replaced, none, node, renamed}
 use Rattle.rules.specs.Image.{isNode, recOf, slotIn}
 use Rattle.image.specs.Midway.{storedMeta, treeOf, Look, plain, turning, Amid}
-use Rattle.tree.specs.Tree.{Tree, Tidy, up}
+use Rattle.tree.specs.Tree.{Spelling, Tree, Tidy, up}
 use Rattle.tree.specs.Moves.{Spot, end, Takes, MayMove}
 use Rattle.tree.proofs.Naming.{May}
 use Rattle.tree.proofs.Trees.{at, at-here, at-else}
@@ -51,14 +51,14 @@ abbrev pub Avoids : Fs → ℕ → Slot → Type 0
 Avoids s j old = isFolder (movedKind s old) ≡ true → (n : ℕ) → up (treeOf (s .arena) (s .table)) (idAt s j) n ≢ old .entry .id
 
 -- the image is fair as it is where a file moved, and as it will be where a folder did
-abbrev pub wayBy : Bool → Fs → ℕ → ℕ → Slot → Look
-wayBy dir s i j old = pick dir (turning (old .entry .id) (idAt s i) (idAt s j)) plain
+abbrev pub wayBy : Spelling → Bool → Fs → ℕ → ℕ → Slot → Look
+wayBy style dir s i j old = pick dir (turning style (old .entry .id) (idAt s i) (idAt s j)) (plain style)
 
-abbrev pub wayOf : Fs → ℕ → ℕ → Slot → Look
-wayOf s i j old = wayBy (isFolder (movedKind s old)) s i j old
+abbrev pub wayOf : Spelling → Fs → ℕ → ℕ → Slot → Look
+wayOf style s i j old = wayBy style (isFolder (movedKind s old)) s i j old
 
-pub record Settled (own : ℕ → Type 0) (s : Fs) (i j : ℕ) (old : Slot) (z : Fs) : Type 0 where
-  pub mid : Amid (wayOf s i j old) own (z .arena) (z .table)
+pub record Settled (style : Spelling) (own : ℕ → Type 0) (s : Fs) (i j : ℕ) (old : Slot) (z : Fs) : Type 0 where
+  pub mid : Amid (wayOf style s i j old) own (z .arena) (z .table)
   pub mine : (m : ℕ) → own m → rowAt (z .table) m .id ≡ old .entry .id
   pub meta : z .meta ≡ done (storedMeta (z .arena))
   pub from : rowAt (z .table) i .id ≡ idAt s i
@@ -68,13 +68,13 @@ pub record Settled (own : ℕ → Type 0) (s : Fs) (i j : ℕ) (old : Slot) (z :
   pub links : 2 ≤ recOf (z .arena) (z .table) (idAt s i) .nlinks
 
 -- the links of other nodes look as they are
-off-way : (dir : Bool) (s : Fs) (i j : ℕ) (old : Slot) (x : ℕ) → x ≢ idAt s i → x ≢ idAt s j → Off (wayBy dir s i j old) x
-off-way false s i j old x n m v = refl
-off-way true s i j old x n m v =
+off-way : (style : Spelling) (dir : Bool) (s : Fs) (i j : ℕ) (old : Slot) (x : ℕ) → x ≢ idAt s i → x ≢ idAt s j → Off (wayBy style dir s i j old) x
+off-way style false s i j old x n m v = refl
+off-way style true s i j old x n m v =
     ap (λ (b : Bool). pick b (v .links x - 1) (pick (eqb x (idAt s j)) (v .links x + 1) (v .links x))) (ne-eqb x (idAt s i) n)
     ∙ ap (λ (b : Bool). pick b (v .links x + 1) (v .links x)) (ne-eqb x (idAt s j) m)
 
-module _ {own : ℕ → Type 0} (s : Fs) (i j : ℕ) (old : Slot) (name : List ℕ) (r : Replaced) (M : Moving own s i j old name r) (apart : idAt s i ≢ idAt s j) (avoids : Avoids s j old) where
+module _ {style : Spelling} {own : ℕ → Type 0} (s : Fs) (i j : ℕ) (old : Slot) (name : List ℕ) (r : Replaced) (M : Moving style own s i j old name r) (apart : idAt s i ≢ idAt s j) (avoids : Avoids s j old) where
   abbrev v : Tree
   v = treeOf (s .arena) (s .table)
 
@@ -104,13 +104,14 @@ module _ {own : ℕ → Type 0} (s : Fs) (i j : ℕ) (old : Slot) (name : List �
         some = λ z. n .0 (ap length (sym q ∙ z));
         no-dot = λ z. n .1 .0 (sym q ∙ z);
         no-dots = λ z. n .1 .1 (sym q ∙ z);
+        no-slash = ap hasSlash q ∙ M .no-slash;
         fresh = fresh;
         takes = takes;
       }
 
 -- ---- nothing was replaced
 
-module _ {own : ℕ → Type 0} (s : Fs) (i j : ℕ) (old : Slot) (name : List ℕ) (M : Moving own s i j old name none) (apart : idAt s i ≢ idAt s j) (avoids : Avoids s j old)
+module _ {style : Spelling} {own : ℕ → Type 0} (s : Fs) (i j : ℕ) (old : Slot) (name : List ℕ) (M : Moving style own s i j old name none) (apart : idAt s i ≢ idAt s j) (avoids : Avoids s j old)
     (x : Fs) (X : Carrying own s i j old name none x) where
   abbrev c : ℕ
   c = old .entry .id
@@ -138,15 +139,16 @@ module _ {own : ℕ → Type 0} (s : Fs) (i j : ℕ) (old : Slot) (name : List �
     some = M .onto .some;
     no-dot = M .onto .no-dot;
     no-dots = M .onto .no-dots;
+    no-slash = M .onto .no-slash;
     fresh = new .fresh;
     loose = λ y. absurd (true-false y no-dir);
     under = λ y. absurd (true-false y no-dir);
   }
 
   tidy : isFolder (movedKind s old) ≡ false
-      → Tidy (onto (treeOf (s .arena) (s .table)) (idAt s j) (recAt s j .blocks) (recAt s j .blocks + 1) (renamed (old .entry) name) (at c (linksOf s c + 1) (linksOf s)))
+      → Tidy style (onto (treeOf (s .arena) (s .table)) (idAt s j) (recAt s j .blocks) (recAt s j .blocks + 1) (renamed (old .entry) name) (at c (linksOf s c + 1) (linksOf s)))
   tidy no-dir =
-      subst (λ (n : ℕ). Tidy (onto (treeOf (s .arena) (s .table)) (idAt s j) n (n + 1) (renamed (old .entry) name) (at c (linksOf s c + 1) (linksOf s)))) (ap (λ (y : DiskINode). y .blocks) rec-j)
+      subst (λ (n : ℕ). Tidy style (onto (treeOf (s .arena) (s .table)) (idAt s j) n (n + 1) (renamed (old .entry) name) (at c (linksOf s c + 1) (linksOf s)))) (ap (λ (y : DiskINode). y .blocks) rec-j)
       (longer-tidy (treeOf (s .arena) (s .table)) (idAt s j) c (renamed (old .entry) name) (M .mid .fair .tidy) (may no-dir) no-dir)
 
   within : (y : ℕ) → y < recAt s j .blocks + 1 → y ≢ recAt s j .blocks → y < recAt s j .blocks
@@ -161,7 +163,7 @@ module _ {own : ℕ → Type 0} (s : Fs) (i j : ℕ) (old : Slot) (name : List �
   b-else : (y : ℕ) → y ≢ idAt s i → y ≢ idAt s j → slots y ≡ slotsOf s y
   b-else y d n = at-else (idAt s i) (recAt s i .blocks - 1) to-slots y d ∙ at-else (idAt s j) (recAt s j .blocks + 1) (slotsOf s) y n
 
-  mid-by : (dir : Bool) → isFolder (movedKind s old) ≡ dir → Amid (wayBy dir s i j old) own (x .arena) (x .table)
+  mid-by : (dir : Bool) → isFolder (movedKind s old) ≡ dir → Amid (wayBy style dir s i j old) own (x .arena) (x .table)
   mid-by false q =
       transferred s i j old name none M apart q (recAt s j .blocks) (recAt s j .blocks + 1) within (x .arena) (X .files) slots (linksOf s) (x .table) (X .rows)
       b-from b-to b-else refl refl (tidy q)
@@ -174,7 +176,7 @@ module _ {own : ℕ → Type 0} (s : Fs) (i j : ℕ) (old : Slot) (name : List �
   rec-x : (y : ℕ) → recOf (x .arena) (x .table) y ≡ recOf (s .arena) (x .table) y
   rec-x = recs-kept (s .arena) (x .arena) (x .table) (X .files .meta)
 
-  pub settle-none : Settled own s i j old x
+  pub settle-none : Settled style own s i j old x
   settle-none = record {
     mid = mid-by (isFolder (movedKind s old)) refl;
     mine = λ m o. X .rows .ids m ∙ M .mine m o .1;
@@ -194,7 +196,7 @@ module _ {own : ℕ → Type 0} (s : Fs) (i j : ℕ) (old : Slot) (name : List �
 
 -- ---- the replaced node is let go
 
-module _ {own : ℕ → Type 0} (s : Fs) (i j : ℕ) (old : Slot) (name : List ℕ) (d k : ℕ) (M : Moving own s i j old name (node d k)) where
+module _ {style : Spelling} {own : ℕ → Type 0} (s : Fs) (i j : ℕ) (old : Slot) (name : List ℕ) (d k : ℕ) (M : Moving style own s i j old name (node d k)) where
   -- it is neither folder: they have more than two slots
   blocks-apart : (x m : ℕ) → 2 ≤ m → m < recAt s x .blocks → isFolder (recAt s x .kind) ≡ true → recAt s d ≡ recAt s x → ⊥
   blocks-apart x m l h f q = omega (arith, ap (λ (y : DiskINode). y .blocks) q, M .onto .small (ap (λ (y : DiskINode). isFolder (y .kind)) q ∙ f))
@@ -214,11 +216,11 @@ module _ {own : ℕ → Type 0} (s : Fs) (i j : ℕ) (old : Slot) (name : List �
   module _ (y : Fs) (l : ℕ)
       (C : Carried (s .arena) (recAt s i .file) (recAt s i .blocks - 1) (old .place) (recAt s j .file) (recAt s j .blocks) k l (renamed (old .entry) name) (y .arena))
       (B L : ℕ → ℕ) (S : Counts (owns own (node d k)) (s .arena) (s .table) B L (y .table)) (meta : y .meta ≡ s .meta) (links : 2 ≤ L (idAt s i))
-      (fair : Amid (wayOf s i j old) (owns own (node d k)) (y .arena) (y .table)) where
+      (fair : Amid (wayOf style s i j old) (owns own (node d k)) (y .arena) (y .table)) where
     rec-y : (x : ℕ) → recOf (y .arena) (y .table) x ≡ recOf (s .arena) (y .table) x
     rec-y = recs-kept (s .arena) (y .arena) (y .table) (C .meta)
 
-    ends : (z : Fs) → Dropped (wayOf s i j old) own y d z → Settled own s i j old z
+    ends : (z : Fs) → Dropped (wayOf style s i j old) own y d z → Settled style own s i j old z
     ends z D =
         let node-c = nodes-kept (s .arena) (y .arena) (C .meta) (old .entry .id) ∙ moves-node s i j old name (node d k) M in
         let c-still = D .others (old .entry .id) node-c (λ q. M .onto .apart (sym (S .ids d) ∙ sym q)) in
@@ -234,9 +236,9 @@ module _ {own : ℕ → Type 0} (s : Fs) (i j : ℕ) (old : Slot) (name : List �
           links = omega (arith, ap (λ (x : DiskINode). x .nlinks) (i-still .rec ∙ rec-y (idAt s i)), S .links (idAt s i));
         }
 
-    pub settle-node : Ok (Settled own s i j old) (λ n. n ≡ 17) (release y d)
+    pub settle-node : Ok (Settled style own s i j old) (λ n. n ≡ 17) (release y d)
     settle-node =
         ok-weaken ends (λ n q. q)
         (release-law y d fair (counts-used (s .arena) (s .table) B L (y .table) S d (M .onto .used))
-        (subst (Off (wayOf s i j old)) (sym (S .ids d)) (off-way (isFolder (movedKind s old)) s i j old (idAt s d) d-not-i d-not-j))
+        (subst (Off (wayOf style s i j old)) (sym (S .ids d)) (off-way style (isFolder (movedKind s old)) s i j old (idAt s d) d-not-i d-not-j))
         (meta ∙ M .meta ∙ λ x. done (record { super = sym (super-kept (s .arena) (y .arena) (C .meta)) x; maps = sym (maps-kept (s .arena) (y .arena) (C .meta)) x })))

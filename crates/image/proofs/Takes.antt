@@ -34,6 +34,7 @@ use Rattle.sefs.specs.Nodes.{Opened, opened, getNode, noRow}
 use Rattle.sefs.specs.Ask.{start}
 use Rattle.rules.specs.Image.{isNode, storedBytes, recBy, recOf, isOpen}
 use Rattle.rules.proofs.Files.{node-below}
+use Rattle.tree.specs.Tree.{Spelling}
 use Rattle.image.specs.Midway.{Used, Look, plain, Amid}
 use Rattle.image.proofs.Slots.{run-bytes}
 use Rattle.image.proofs.Images.{like-same, alike-same, image-fair}
@@ -54,8 +55,8 @@ pub record Gets (way : Look) (own : ℕ → Type 0) (a : List ℕ) (t : Table) (
   pub can : canHold table ≡ canHold t
 
 -- the first that a call opens
-abbrev pub Got : List ℕ → Table → ℕ → Opened → Type 0
-Got a t id o = Gets plain none a t id o
+abbrev pub Got : Spelling → List ℕ → Table → ℕ → Opened → Type 0
+Got style a t id o = Gets (plain style) none a t id o
 
 module _ {way : Look} {own : ℕ → Type 0} (a : List ℕ) (t : Table) (M : Amid way own a t) (id : ℕ) (n : isNode a id ≡ true) (i : ℕ) (new : rowOf t id ≡ Nothing) (free : freeRow t ≡ At i) where
   abbrev rec : DiskINode

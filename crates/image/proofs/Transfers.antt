@@ -22,7 +22,7 @@ use Rattle.sefs.specs.Slots.{Slot}
 use Rattle.sefs.specs.Move.{Replaced, renamed}
 use Rattle.rules.specs.Image.{isNode, recOf, slotIn}
 use Rattle.image.specs.Midway.{Fair, treeOf, plain, Midway}
-use Rattle.tree.specs.Tree.{Tree, Tidy, folderAt}
+use Rattle.tree.specs.Tree.{Spelling, Tree, Tidy, folderAt}
 use Rattle.tree.proofs.Trees.{folder-is, at, at-here, at-else}
 use Rattle.tree.proofs.Unnaming.{Unnames, MayGo, unnames-tidy}
 use Rattle.image.proofs.Resets.{recs-kept, nodes-kept, ids-kept, fair-by-tree}
@@ -33,7 +33,7 @@ use Rattle.image.proofs.Counts.{Counts}
 use Rattle.image.proofs.Carries.{Carried}
 use Rattle.tree.proofs.Redirects.{onto, onto-here, onto-apart, onto-other}
 
-module _ {own : ℕ → Type 0} (s : Fs) (i j : ℕ) (old : Slot) (name : List ℕ) (r : Replaced) (M : Moving own s i j old name r) (apart : idAt s i ≢ idAt s j)
+module _ {style : Spelling} {own : ℕ → Type 0} (s : Fs) (i j : ℕ) (old : Slot) (name : List ℕ) (r : Replaced) (M : Moving style own s i j old name r) (apart : idAt s i ≢ idAt s j)
     (no-dir : isFolder (recOf (s .arena) (s .table) (old .entry .id) .kind) ≡ false)
     (k l : ℕ) (within : (x : ℕ) → x < l → x ≢ k → x < recAt s j .blocks)
     (b : List ℕ) (C : Carried (s .arena) (recAt s i .file) (recAt s i .blocks - 1) (old .place) (recAt s j .file) (recAt s j .blocks) k l (renamed (old .entry) name) b)
@@ -42,7 +42,7 @@ module _ {own : ℕ → Type 0} (s : Fs) (i j : ℕ) (old : Slot) (name : List �
     (b-else : (x : ℕ) → x ≢ idAt s i → x ≢ idAt s j → B x ≡ recOf (s .arena) (s .table) x .blocks)
     (l-from : L (idAt s i) ≡ recOf (s .arena) (s .table) (idAt s i) .nlinks)
     (l-own : L (old .entry .id) ≡ recOf (s .arena) (s .table) (old .entry .id) .nlinks)
-    (I : Tidy (onto (treeOf (s .arena) (s .table)) (idAt s j) k l (renamed (old .entry) name) (at (old .entry .id) (recOf (s .arena) (s .table) (old .entry .id) .nlinks + 1) L))) where
+    (I : Tidy style (onto (treeOf (s .arena) (s .table)) (idAt s j) k l (renamed (old .entry) name) (at (old .entry .id) (recOf (s .arena) (s .table) (old .entry .id) .nlinks + 1) L))) where
   abbrev a : List ℕ
   a = s .arena
 
@@ -67,7 +67,7 @@ module _ {own : ℕ → Type 0} (s : Fs) (i j : ℕ) (old : Slot) (name : List �
   abbrev v : Tree
   v = onto (treeOf a t) g k l e (at c n L)
 
-  A : Fair a t
+  A : Fair style a t
   A = M .mid .fair
 
   rec-f : recOf a t f ≡ recAt s i
@@ -182,9 +182,9 @@ module _ {own : ℕ → Type 0} (s : Fs) (i j : ℕ) (old : Slot) (name : List �
     small = λ y. absurd (true-false y no-dir);
   }
 
-  pub transferred : Midway (owns own r) b u
+  pub transferred : Midway style (owns own r) b u
   transferred = record {
-    fair = fair-by-tree plain a b t u A
+    fair = fair-by-tree (plain style) a b t u A
         (record { length = legal-same a b (C .size) ∙ A .rule1 .length; sound = C .sound })
         (C .meta) (C .exists) (S .ids) (S .clean) (λ x m. kinds x) (λ x m. files x)
         (unnames-tidy v (treeOf b u) f c (old .place) I tree may);

@@ -9,8 +9,8 @@ use Rattle.structs.specs.Types.{isFolder}
 use Rattle.table.specs.declared.Table.{Table}
 use Rattle.rules.specs.Image.{idsIn, isNode, recOf, isFolderAt, namesIn, named, subfolders, parentOf, climb}
 use Rattle.rules.specs.Rules.{Rule6, Linked, Removed, Rule7, Rule8}
-use Rattle.tree.specs.Tree.{namesOf, allNames, subsOf, parent, up, LinkedIn, RemovedIn, Lives, Tidy}
-use Rattle.image.specs.Midway.{treeOf}
+use Rattle.tree.specs.Tree.{Spelling, namesOf, allNames, subsOf, parent, up, LinkedIn, RemovedIn, Lives, Tidy}
+use Rattle.image.specs.Midway.{treeOf, Spells}
 
 module _ (a : List ℕ) (t : Table) where
   pub named-tree : (x : ℕ) → named a t x ≡ allNames (treeOf a t) x
@@ -27,9 +27,9 @@ module _ (a : List ℕ) (t : Table) where
   climb-tree i (suc n) = ap (parent (treeOf a t)) (climb-tree i n)
 
   -- from the rules
-  pub tidy-of : ((i : ℕ) → isNode a i ≡ true → i < idsIn a) → isNode a 2 ≡ true → isFolder (recOf a t 2 .kind) ≡ true → Rule6 a t → Rule7 a t → Rule8 a t → Tidy (treeOf a t)
+  pub tidy-of : {style : Spelling} → ((i : ℕ) → isNode a i ≡ true → i < idsIn a) → isNode a 2 ≡ true → isFolder (recOf a t 2 .kind) ≡ true → Rule6 a t → Rule7 a t → Rule8 a t → Spells style a t → Tidy style (treeOf a t)
   unfolding isFolderAt parentOf
-  tidy-of below two dir S L E = record {
+  tidy-of below two dir S L E N = record {
     below = below;
     two = root-lives;
     folder = λ i f. let F = S .folder i f in record {
@@ -40,7 +40,7 @@ module _ (a : List ℕ) (t : Table) where
       dot-kind = F .dot-kind;
       dots = F .dots;
       dots-kind = F .dots-kind;
-      later = λ k x y. let e = F .later k x y in record { ended = e .ended; some = e .some; no-dot = e .no-dot; no-dots = e .no-dots; node = e .node; kind = e .kind };
+      later = λ k x y. let e = F .later k x y in record { ended = e .ended; some = e .some; no-dot = e .no-dot; no-dots = e .no-dots; spelt = N i k f x y; node = e .node; kind = e .kind };
       distinct = F .distinct;
     };
     sized = S .size;
@@ -66,7 +66,11 @@ module _ (a : List ℕ) (t : Table) where
       }
 
   -- and back
-  module _ (I : Tidy (treeOf a t)) where
+  module _ {style : Spelling} (I : Tidy style (treeOf a t)) where
+    pub tidy-spells : Spells style a t
+    unfolding isFolderAt
+    tidy-spells i k f x y = I .folder i f .later k x y .spelt
+
     pub tidy-six : Rule6 a t
     unfolding isFolderAt
     tidy-six = record {

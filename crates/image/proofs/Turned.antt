@@ -33,7 +33,7 @@ use Rattle.sefs.specs.Move.{moveDots, moveParent}
 use Rattle.rules.specs.Image.{isNode, recOf, slotIn}
 use Rattle.rules.proofs.Files.{node-below}
 use Rattle.image.specs.Midway.{Used, storedMeta, treeOf, Look, plain, turning, Fairly, Amid}
-use Rattle.tree.specs.Tree.{FolderIn}
+use Rattle.tree.specs.Tree.{Spelling, FolderIn}
 use Rattle.tree.specs.Moves.{turned}
 use Rattle.tree.proofs.Trees.{folder-is, at, at-here, at-else}
 use Rattle.tree.proofs.Stays.{Stays, stays-tidy}
@@ -65,8 +65,8 @@ pub record Relinked (f g row : ℕ) (x y : Fs) : Type 0 where
   pub rows : Counts (also none row) (x .arena) (x .table) (λ n. recOf (x .arena) (x .table) n .blocks) L table
   pub links : (n : ℕ) → L n ≡ pick (eqb n f) (recOf (x .arena) (x .table) n .nlinks - 1) (pick (eqb n g) (recOf (x .arena) (x .table) n .nlinks + 1) (recOf (x .arena) (x .table) n .nlinks))
 
-module _ (c f g kd i j row : ℕ) (below-i : i < 34) (below-j : j < 34) (some-f : f ≢ 0) (some-g : g ≢ 0) (apart : f ≢ g)
-    (x : Fs) (R : Ready (turning c f g) c f g kd i j row x) where
+module _ {style : Spelling} (c f g kd i j row : ℕ) (below-i : i < 34) (below-j : j < 34) (some-f : f ≢ 0) (some-g : g ≢ 0) (apart : f ≢ g)
+    (x : Fs) (R : Ready (turning style c f g) c f g kd i j row x) where
   abbrev a : List ℕ
   a = x .arena
 
@@ -79,7 +79,7 @@ module _ (c f g kd i j row : ℕ) (below-i : i < 34) (below-j : j < 34) (some-f 
   abbrev slots-of : ℕ → ℕ
   slots-of n = recOf (x .arena) (x .table) n .blocks
 
-  A : Fairly (turning c f g) a t
+  A : Fairly (turning style c f g) a t
   A = R .mid .fair
 
   used-i : Used t i
@@ -189,7 +189,7 @@ module _ (c f g kd i j row : ℕ) (below-i : i < 34) (below-j : j < 34) (some-f 
     is-there : there a (file 1 own) ≡ true
     is-there = A .rule5 .own c node-c
 
-    C : FolderIn (turned c f g (dotsEntry g) (treeOf a t)) c
+    C : FolderIn style (turned c f g (dotsEntry g) (treeOf a t)) c
     C = A .tidy .folder c (and-both node-c (ap (λ (z : DiskINode). isFolder (z .kind)) rec-c ∙ ap isFolder (R .kind) ∙ dir))
 
     room : 264 * 1 + 264 ≤ lengthOf a (file 1 own)
@@ -238,9 +238,9 @@ module _ (c f g kd i j row : ℕ) (below-i : i < 34) (below-j : j < 34) (some-f 
         slot = λ n z m l. slots n m (was n (folder-is (treeOf b u) n z));
       }
 
-      turned-mid : Amid plain (also none row) b u
+      turned-mid : Amid (plain style) (also none row) b u
       turned-mid = record {
-        fair = fair-by-tree plain a b t u A
+        fair = fair-by-tree (plain style) a b t u A
             (record { length = legal-same a b (P .size) ∙ A .rule1 .length; sound = P .keeps (R .mid .bytes) (entry-bytes a own 1 (dotsEntry g) fits is-there) (A .rule1 .sound) })
             M (put-there a own 1 (dotsEntry g) fits is-there b P) (S .ids) (S .clean)
             (λ n z. ap (λ (r : DiskINode). r .kind) (recs n) ∙ S .kinds n) (λ n z. files n)
@@ -250,7 +250,7 @@ module _ (c f g kd i j row : ℕ) (below-i : i < 34) (below-j : j < 34) (some-f 
         fits = S .fits;
       }
 
-      ready : Ready plain c f g kd i j row (record { arena = b; table = u; meta = x .meta })
+      ready : Ready (plain style) c f g kd i j row (record { arena = b; table = u; meta = x .meta })
       ready = record {
         mid = turned-mid;
         meta = R .meta ∙ λ z. done (record { super = sym (super-kept a b M) z; maps = sym (maps-kept a b M) z });
@@ -263,7 +263,7 @@ module _ (c f g kd i j row : ℕ) (below-i : i < 34) (below-j : j < 34) (some-f 
 
     -- what is stored, and where
     pub record Rewritten (d : Fs) : Type 0 where
-      pub ready : Ready plain c f g kd i j row d
+      pub ready : Ready (plain style) c f g kd i j row d
       pub table : d .table ≡ y .table
       pub others : (h : List ℕ) → rowAt (y .table) row .rec .file ≢ h → Kept (y .arena) (d .arena) (file 1 h)
 
@@ -275,7 +275,7 @@ module _ (c f g kd i j row : ℕ) (below-i : i < 34) (below-j : j < 34) (some-f 
       where
         ends : (d : Fs) → Overwritten (withTable x (K .table)) row 1 (dotsEntry g) d → Rewritten d
         ends d O = record {
-          ready = subst (Ready plain c f g kd i j row) (sym (O .is)) (ready (O .arena) (subst (λ (h : List ℕ). Put a (file 1 h) (264 * 1) (entryBytes (dotsEntry g)) (O .arena)) file-c (O .put)));
+          ready = subst (Ready (plain style) c f g kd i j row) (sym (O .is)) (ready (O .arena) (subst (λ (h : List ℕ). Put a (file 1 h) (264 * 1) (entryBytes (dotsEntry g)) (O .arena)) file-c (O .put)));
           table = ap (λ (z : Fs). z .table) (O .is) ∙ ap (λ (z : Fs). z .table) (sym (K .is));
           others = subst (λ (z : Fs). (h : List ℕ) → rowAt (z .table) row .rec .file ≢ h → Kept (z .arena) (d .arena) (file 1 h)) (sym (K .is))
               (λ h n. subst (λ (z : Fs). Kept a (z .arena) (file 1 h)) (sym (O .is)) (O .put .others (file 1 h) (file-apart (rowAt u row .rec .file) h n)));

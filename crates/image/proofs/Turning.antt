@@ -25,7 +25,7 @@ use Rattle.sefs.specs.Move.{Replaced, renamed}
 use Rattle.rules.specs.Image.{isNode, recOf, slotIn}
 use Rattle.utf8.specs.Names.{nameOf}
 use Rattle.image.specs.Midway.{treeOf, turning, Amid, Fair}
-use Rattle.tree.specs.Tree.{Tree, up}
+use Rattle.tree.specs.Tree.{Spelling, Tree, up}
 use Rattle.tree.specs.Moves.{Spot, lost, goes, turned, Moves, MayMove, MovesTidy}
 use Rattle.tree.proofs.Trees.{folder-is}
 use Rattle.tree.proofs.Ways.{not-itself}
@@ -38,7 +38,7 @@ use Rattle.image.proofs.Movings.{live-rec, live-node, live-links}
 use Rattle.image.proofs.Counts.{Counts}
 use Rattle.image.proofs.Carries.{Carried}
 
-module _ {own : ℕ → Type 0} (s : Fs) (i j : ℕ) (old : Slot) (name : List ℕ) (r : Replaced) (M : Moving own s i j old name r) (apart : idAt s i ≢ idAt s j)
+module _ {style : Spelling} {own : ℕ → Type 0} (s : Fs) (i j : ℕ) (old : Slot) (name : List ℕ) (r : Replaced) (M : Moving style own s i j old name r) (apart : idAt s i ≢ idAt s j)
     (k l : ℕ) (o : Spot) (P : MayMove (treeOf (s .arena) (s .table)) (idAt s i) (old .place) (idAt s j) k (old .entry .id) o (renamed (old .entry) name))
     (within : (x : ℕ) → x < l → x ≢ k → x < recAt s j .blocks) (more : l + lost o ≡ recAt s j .blocks + 1)
     (b : List ℕ) (C : Carried (s .arena) (recAt s i .file) (recAt s i .blocks - 1) (old .place) (recAt s j .file) (recAt s j .blocks) k l (renamed (old .entry) name) b)
@@ -70,7 +70,7 @@ module _ {own : ℕ → Type 0} (s : Fs) (i j : ℕ) (old : Slot) (name : List �
   abbrev w : Tree
   w = turned c f g (dotsEntry g) (treeOf b u)
 
-  A : Fair a t
+  A : Fair style a t
   A = M .mid .fair
 
   rec-f : recOf a t f ≡ recAt s i
@@ -181,13 +181,13 @@ module _ {own : ℕ → Type 0} (s : Fs) (i j : ℕ) (old : Slot) (name : List �
     none = λ x q. let z = gone-apart (treeOf a t) f (old .place) g k c o e (A .tidy) P x q in links-else x (z .0) (z .1) ∙ links x ∙ l-gone x q;
   }
 
-  pub turning-mid : Amid (turning (old .entry .id) (idAt s i) (idAt s j)) (owns own r) b u
+  pub turning-mid : Amid (turning style (old .entry .id) (idAt s i) (idAt s j)) (owns own r) b u
   unfolding MovesTidy
   turning-mid = record {
-    fair = fair-by-tree (turning c f g) a b t u A
+    fair = fair-by-tree (turning style c f g) a b t u A
         (record { length = legal-same a b (C .size) ∙ A .rule1 .length; sound = C .sound })
         (C .meta) (C .exists) (S .ids) (S .clean) (λ x m. kinds x) (λ x m. files x)
-        (moves-tidy (treeOf a t) w f (old .place) g k c o e (A .tidy) P tree);
+        (moves-tidy style (treeOf a t) w f (old .place) g k c o e (A .tidy) P tree);
     formed = S .formed;
     bytes = C .bytes;
     fits = S .fits;

@@ -35,7 +35,7 @@ use Rattle.sefs.specs.Folders.{nlinksDec, unlinkFolder, direntNodeRemove}
 use Rattle.rules.specs.Image.{run, isNode, recOf, isOpen, slotIn}
 use Rattle.image.specs.Midway.{Used, storedMeta, Fair, treeOf, plain, Midway}
 use Rattle.image.proofs.Metas.{node-other, kept-then}
-use Rattle.tree.specs.Tree.{Tidy}
+use Rattle.tree.specs.Tree.{Spelling, Tidy}
 use Rattle.tree.proofs.Trees.{folder-is}
 use Rattle.tree.proofs.Unnaming.{Unnames, MayGo}
 use Rattle.image.proofs.Drops.{mid-rec, super-kept, maps-kept, stored-kept, release-law}
@@ -252,13 +252,13 @@ module _ {own : ℕ → Type 0} (a : List ℕ) (t : Table) (O : Formed own t) (y
   }
 
   -- a0 is an arena before, with the same metadata and the same files
-  module _ (a0 : List ℕ) (A : Fair a0 t) (size : length a ≡ length a0) (K0 : Kept a0 a metaFile) (theirs : (f : List ℕ) → there a (file 1 f) ≡ there a0 (file 1 f)) (I : Tidy (treeOf b u)) where
+  module _ {style : Spelling} (a0 : List ℕ) (A : Fair style a0 t) (size : length a ≡ length a0) (K0 : Kept a0 a metaFile) (theirs : (f : List ℕ) → there a (file 1 f) ≡ there a0 (file 1 f)) (I : Tidy style (treeOf b u)) where
     same0 : (x : ℕ) → recOf a t x ≡ recOf a0 t x
     same0 = recs-kept a0 a t K0
 
-    pub unnamed-mid : Midway own b u
+    pub unnamed-mid : Midway style own b u
     unnamed-mid = record {
-      fair = fair-by-tree plain a0 b t u A
+      fair = fair-by-tree (plain style) a0 b t u A
           (record { length = legal-same a0 b (B .size ∙ size) ∙ A .rule1 .length; sound = B .sound })
           (kept-then a0 a b metaFile K0 K)
           (λ f. gone-there a (ri .file) (ri .blocks - 1) pl below y so is-there b B f ∙ theirs f)
@@ -279,7 +279,7 @@ unfolding nlinksDec
 dec-is s i l = rw (lt-ltb 0 (recAt s i .nlinks) l)
 
 -- a slot goes with its node, where the image is fair again once links have fallen
-module _ (s : Fs) (i c pl : ℕ) (O : Formed (also none c) (s .table)) (T : TableFits (s .table)) (C : Cleans (s .arena) (s .table)) (y : Bytes (s .arena)) (so : sound (s .arena) ≡ true)
+module _ {style : Spelling} (s : Fs) (i c pl : ℕ) (O : Formed (also none c) (s .table)) (T : TableFits (s .table)) (C : Cleans (s .arena) (s .table)) (y : Bytes (s .arena)) (so : sound (s .arena) ≡ true)
     (ui : Used (s .table) i) (uc : Used (s .table) c)
     (rows : c ≡ i → ⊥)
     (links : 1 + bit (isFolder (rowAt (s .table) c .rec .kind)) ≤ rowAt (s .table) c .rec .nlinks)
@@ -290,7 +290,7 @@ module _ (s : Fs) (i c pl : ℕ) (O : Formed (also none c) (s .table)) (T : Tabl
     (meta : s .meta ≡ done (storedMeta (s .arena)))
     (mid : (b : List ℕ) → Gone (s .arena) (rowAt (s .table) i .rec .file) (rowAt (s .table) i .rec .blocks - 1) pl b → (u : Table)
     → Less (also none c) (s .arena) (s .table) i c (rowAt (s .table) i .rec .blocks - 1) (bit (isFolder (rowAt (s .table) c .rec .kind))) (1 + bit (isFolder (rowAt (s .table) c .rec .kind))) u
-    → Midway (also none c) b u) where
+    → Midway style (also none c) b u) where
   abbrev a : List ℕ
   a = s .arena
 
@@ -301,7 +301,7 @@ module _ (s : Fs) (i c pl : ℕ) (O : Formed (also none c) (s .table)) (T : Tabl
   n = rowAt (s .table) i .rec .blocks - 1
 
   Ends : Fs → Type 0
-  Ends d = Midway none (d .arena) (d .table) × Used (d .table) i
+  Ends d = Midway style none (d .arena) (d .table) × Used (d .table) i
 
   small : n < 4294967296
   small = omega (arith, T .rows i (ui .below) .rec .blocks)
@@ -342,7 +342,7 @@ module _ (s : Fs) (i c pl : ℕ) (O : Formed (also none c) (s .table)) (T : Tabl
         ok-weaken
         (λ d D. (D .mid, record { below = ui .below; node = λ z. ui .node (sym (S .ids i) ∙ sym (D .ids i (λ q. rows (sym q))) ∙ z) }))
         (λ r q. q)
-        (release-law x c (subst (λ (y : List ℕ). Midway (also none c) y (x .table)) (sym e) (mid b B (x .table) S))
+        (release-law x c (subst (λ (y : List ℕ). Midway style (also none c) y (x .table)) (sym e) (mid b B (x .table) S))
         (used-in t (x .table) (S .ids) c uc) (λ v. refl) (m ∙ metas ∙ ap (λ (y : List ℕ). done (storedMeta y)) (sym e)))
 
     falls : Ok Ends (λ r. r ≡ 17) (bind (nlinksDec x1 c) (λ s. bind (pick (isFolder (recAt s c .kind)) (unlinkFolder s i c) (done s)) (λ s. release s c)))
@@ -362,7 +362,7 @@ module _ (s : Fs) (i c pl : ℕ) (O : Formed (also none c) (s .table)) (T : Tabl
             rw (dec-is x2 c pos2, dec-is x3 i pos3)
             (lets-go x4 refl refl (subst (λ (z : Bool). Less (also none c) a t i c n (bit z) (1 + bit z) (x4 .table)) (sym f) l4))
 
-  pub removes : Ok (λ (d : Fs). Midway none (d .arena) (d .table) × Used (d .table) i) (λ r. r ≡ 17) (direntNodeRemove s i c pl)
+  pub removes : Ok (λ (d : Fs). Midway style none (d .arena) (d .table) × Used (d .table) i) (λ r. r ≡ 17) (direntNodeRemove s i c pl)
   unfolding direntNodeRemove Ends
   removes =
       ok-bind (remove-law s i pl inside y so is-there last) λ x R.

@@ -1,7 +1,9 @@
 -- What holds of an image in the middle of a call, and the words in which the laws of the steps are said.
+use mathlib.Core.Bool.{true}
 use mathlib.Core.List.{List}
+use mathlib.Core.Path.{_≡_}
 use mathlib.Core.Logic.{_≢_}
-use Prim.Native.Nat.{ℕ, _<_}
+use Prim.Native.Nat.{ℕ, _≤_, _<_}
 use Rattle.le.specs.Le.{Bytes}
 use Rattle.table.specs.declared.Table.{Table}
 use Rattle.table.specs.Table.{rowAt}
@@ -10,10 +12,11 @@ use Rattle.files.specs.Read.{lengthOf}
 use Rattle.sefs.specs.State.{Meta}
 use Rattle.sefs.specs.Nodes.{nodeFile}
 use Rattle.sefs.specs.Folders.{dotsEntry}
-use Rattle.rules.specs.Image.{storedSuper, storedMaps, idsIn, isNode, recOf, isOpen, slotIn}
+use Rattle.rules.specs.Image.{storedSuper, storedMaps, idsIn, isNode, recOf, isOpen, isFolderAt, slotIn}
+use Rattle.utf8.specs.Names.{nameOf}
 use Rattle.rules.specs.Rules.{Rule1, Rule3, Rule4, Rule5}
 use Rattle.table_laws.specs.Rules.{Formed}
-use Rattle.tree.specs.Tree.{Tree, Tidy}
+use Rattle.tree.specs.Tree.{Tree, Spelling, Spelt, Tidy}
 use Rattle.tree.specs.Moves.{turned}
 
 -- ---- superblock and maps
@@ -43,15 +46,24 @@ treeOf a t = record {
   opened = isOpen t;
 }
 
--- ---- how an image's tree is looked at: as it is, or, from a folder's slot to its `..`, as it will be (folder c goes from folder f to folder g)
+-- an image's later names are spelt so
+abbrev pub Spells : Spelling → List ℕ → Table → Type 0
+Spells style a t = (i k : ℕ) → isFolderAt a t i ≡ true → 2 ≤ k → k < recOf a t i .blocks → Spelt style (nameOf (slotIn a (recOf a t i) k .name))
+
+-- ---- how an image's tree is looked at: as it is, or, from a folder's slot to its `..`, as it will be (folder c goes from folder f to folder g);
+-- and how its later names are spelt
 
 pub data Look : Type 0 where
-  plain : Look
-  turning : (c f g : ℕ) → Look
+  plain : Spelling → Look
+  turning : Spelling → (c f g : ℕ) → Look
 
 abbrev pub look : Look → Tree → Tree
-look plain v = v
-look (turning c f g) v = turned c f g (dotsEntry g) v
+look (plain style) v = v
+look (turning style c f g) v = turned c f g (dotsEntry g) v
+
+abbrev pub styleOf : Look → Spelling
+styleOf (plain style) = style
+styleOf (turning style c f g) = style
 
 -- ---- what holds of the image in the middle of a call too: all rules but that the table is well formed, and rules 6 to 8 of its tree as it is
 -- looked at
@@ -61,10 +73,10 @@ pub record Fairly (k : Look) (a : List ℕ) (t : Table) : Type 0 where
   pub rule3 : Rule3 a
   pub rule4 : Rule4 a t
   pub rule5 : Rule5 a t
-  pub tidy : Tidy (look k (treeOf a t))
+  pub tidy : Tidy (styleOf k) (look k (treeOf a t))
 
-abbrev pub Fair : List ℕ → Table → Type 0
-Fair a t = Fairly plain a t
+abbrev pub Fair : Spelling → List ℕ → Table → Type 0
+Fair style a t = Fairly (plain style) a t
 
 -- ---- in the middle of a call: the table is well formed but for the call's own rows
 
@@ -74,5 +86,5 @@ pub record Amid (k : Look) (own : ℕ → Type 0) (a : List ℕ) (t : Table) : T
   pub bytes : Bytes a
   pub fits : TableFits t
 
-abbrev pub Midway : (ℕ → Type 0) → List ℕ → Table → Type 0
-Midway own a t = Amid plain own a t
+abbrev pub Midway : Spelling → (ℕ → Type 0) → List ℕ → Table → Type 0
+Midway style own a t = Amid (plain style) own a t

@@ -10,7 +10,7 @@ use Rattle.base.specs.Reasons.{badArena, damaged, badTable, badHandle, badName,
 use Rattle.base.specs.declared.Found.{Found}
 use Rattle.base.specs.declared.Found.the-variants.{At, Nothing}
 use Rattle.structs.specs.declared.DiskINode.{DiskINode}
-use Rattle.utf8.specs.Names.{nameVerdict, earlyReason, isSpecial}
+use Rattle.utf8.specs.Names.{nameVerdict, earlyReason, newReason, isSpecial}
 use Rattle.table.specs.declared.Table.{Table}
 use Rattle.table.specs.declared.Handle.{Handle}
 use Rattle.table.specs.Table.{liveRow}
@@ -43,6 +43,10 @@ byHandle t h = orBadHandle (liveRow t h)
 -- reason 5: "zero byte inside, or not UTF-8"
 abbrev pub goodName : List ℕ → Out Unit
 goodName name = ensure (eqb (earlyReason (nameVerdict name)) 0) badName
+
+-- order 4, of a new name: "5 also for a slash in those three, in its old place"
+abbrev pub newName : List ℕ → Out Unit
+newName name = ensure (eqb (newReason (nameVerdict name)) 0) badName
 
 -- reason 10: "over 255 bytes"
 abbrev pub notLong : List ℕ → Out Unit

@@ -25,7 +25,7 @@ use Rattle.sefs.specs.Meta.{metaFile, syncMeta}
 use Rattle.sefs.specs.Nodes.{recAt, idAt, newNode, syncRow, Opened}
 use Rattle.sefs.specs.Slots.{lookup}
 use Rattle.sefs.specs.Folders.{entry, direntInit, direntAppend, nlinksInc}
-use Rattle.sefs.specs.Ask.{admit, byHandle, goodName, notLong, known, liveFolder, orExists, start}
+use Rattle.sefs.specs.Ask.{admit, byHandle, newName, notLong, known, liveFolder, orExists, start}
 
 -- the arena and the table afterwards
 pub record After : Type 0 where
@@ -103,7 +103,7 @@ unfoldable pub callCreate : List ℕ → Table → Handle → List ℕ → ℕ �
 callCreate a t h name kind mode time uuid = do
   _ ← admit a t
   i ← byHandle t h
-  _ ← goodName name
+  _ ← newName name
   _ ← ensure (isType kind) invalidParam
   _ ← liveFolder (rowAt t i .rec)
   _ ← notLong name
@@ -129,7 +129,7 @@ callLink a t h name child = do
   _ ← admit a t
   i ← byHandle t h
   c ← byHandle t child
-  _ ← goodName name
+  _ ← newName name
   _ ← liveFolder (rowAt t i .rec)
   _ ← notLong name
   f ← lookup a (rowAt t i .rec) name

@@ -23,7 +23,7 @@ use Rattle.sefs.specs.Meta.{metaFile, isUsed}
 use Rattle.sefs.specs.Nodes.{recAt, idAt, getNode, syncRow, release, Opened}
 use Rattle.sefs.specs.Slots.{slotBytes, lookup, slotAt, Slot, findSlot}
 use Rattle.sefs.specs.Folders.{entry, dotsEntry, putSlot, direntAppend, direntRemove, direntNodeRemove, nlinksInc, nlinksDec}
-use Rattle.sefs.specs.Ask.{admit, byHandle, goodName, notLong, notSpecial, known, liveFolder, start}
+use Rattle.sefs.specs.Ask.{admit, byHandle, goodName, newName, notLong, notSpecial, known, liveFolder, start}
 use Rattle.sefs.specs.Create.{After, after}
 
 -- the first n slots can be read
@@ -171,7 +171,7 @@ callMove a t h old target name = do
   i ← byHandle t h
   j ← byHandle t target
   _ ← goodName old
-  _ ← goodName name
+  _ ← newName name
   _ ← liveFolder (rowAt t i .rec)
   _ ← notSpecial old
   _ ← notSpecial name

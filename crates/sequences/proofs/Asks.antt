@@ -16,7 +16,6 @@ use Rattle.base.specs.declared.Found.the-variants.{Nothing}
 use Rattle.le.specs.Le.{Bytes}
 use Rattle.structs.specs.Types.{isFolder}
 use Rattle.structs.specs.declared.DiskINode.{DiskINode}
-use Rattle.utf8.specs.Names.{GoodName}
 use Rattle.table.specs.declared.Table.{Table}
 use Rattle.table.specs.Table.{rowAt}
 use Rattle.sefs.specs.Slots.{lookup}
@@ -27,7 +26,7 @@ use Rattle.sefs_laws.proofs.Says.{ok-is, ensure-yes, ensure-asks}
 use Rattle.image.specs.Midway.{Used}
 use Rattle.image.proofs.Handles.{row-rec, row-type, row-folder}
 use Rattle.image.proofs.Lookups.{lookup-is}
-use Rattle.image.proofs.NewNames.{NewName, new-name}
+use Rattle.image.proofs.NewNames.{NewName, NewGood, new-name}
 
 -- ---- the call
 
@@ -41,7 +40,7 @@ live-folder a t A i u =
     (ensure-asks (ltb 0 (rowAt t i .rec .nlinks)) 8 (clear 8 refl))
 
 -- a name that is not there yet
-pub new-law : (a : List ℕ) (t : Table) (A : Allowed a t) → Bytes a → (i : ℕ) → Used t i → isFolder (rowAt t i .rec .kind) ≡ true → (name : List ℕ) → GoodName name → length name ≤ 255
+pub new-law : (a : List ℕ) (t : Table) (A : Allowed a t) → Bytes a → (i : ℕ) → Used t i → isFolder (rowAt t i .rec .kind) ≡ true → (name : List ℕ) → NewGood name → length name ≤ 255
     → Ok (λ (f : Found). f ≡ Nothing → NewName a (recOf a t (rowAt t i .id)) name) Clear (lookup a (rowAt t i .rec) name)
 new-law a t A b i u f name g s =
     ok-weaken (λ x q z. new-name a t (rowAt t i .id) (A .rule6 .folder (rowAt t i .id) (row-folder a t A i u f)) name g s (sym q ∙ z)) (λ n r. r)

@@ -14,6 +14,7 @@ use Rattle.files_laws.specs.Laws.{Kept}
 use Rattle.sefs.specs.State.{Fs}
 use Rattle.rules.specs.Image.{recOf}
 use Rattle.sefs_laws.proofs.Rows.{Changes, Takes, Frees, Stores, Drops}
+use Rattle.tree.specs.Tree.{Spelling}
 use Rattle.image.specs.Midway.{turning}
 use Rattle.image.proofs.Turned.{Ready, Relinked}
 
@@ -26,7 +27,7 @@ pub record Bears (P : List ℕ → Table → Type 0) : Type 0 where
 
 -- the file of a folder that moves changes, once the links have: c was a folder in the image of a and t
 abbrev pub Turns : (List ℕ → Table → Type 0) → List ℕ → Table → Type 0
-Turns P a t = (c f g kd i j row : ℕ) (x y : Fs) → isFolder (recOf a t c .kind) ≡ true → Ready (turning c f g) c f g kd i j row x → Relinked f g row x y
+Turns P a t = (style : Spelling) (c f g kd i j row : ℕ) (x y : Fs) → isFolder (recOf a t c .kind) ≡ true → Ready (turning style c f g) c f g kd i j row x → Relinked f g row x y
     → (b : List ℕ) → ((h : List ℕ) → rowAt (y .table) row .rec .file ≢ h → Kept (y .arena) b (file 1 h)) → P (y .arena) (y .table) → P b (y .table)
 
 -- two things that are known of an outcome

@@ -24,11 +24,12 @@ use Rattle.sefs.specs.Create.{After, after}
 use Rattle.base.specs.Search.{pick}
 use Rattle.sefs.specs.Move.{Replaced, none, node, removeReplaced, renamed, moveDots, moveLinks, moveParent, moveBetween}
 use Rattle.rules.specs.Image.{isNode, recOf}
-use Rattle.sequences.specs.Pairs.{pair, Passed}
+use Rattle.sequences.specs.Pairs.{pair}
 use Rattle.sefs_laws.proofs.Rows.{Fills, leaves-node, leaves-append, leaves-remove, leaves-dots, leaves-sync, leaves-release, leaves-replaced}
+use Rattle.tree.specs.Tree.{Spelling}
 use Rattle.image.specs.Midway.{Used}
 use Rattle.image.proofs.Nodes.{meta-is}
-use Rattle.sequences.proofs.Passing.{midway-passed}
+use Rattle.sequences.proofs.Passing.{Spelled, midway-spelled}
 use Rattle.sequences.proofs.Bears.{Bears, ok-and}
 use Rattle.image.proofs.Stores.{sync-mid}
 use Rattle.image.proofs.Drops.{mid-rec, release-law}
@@ -44,15 +45,15 @@ use Rattle.files_laws.specs.Laws.{Kept}
 use Rattle.arena.specs.Fields.{file}
 
 -- the replaced node goes, if there is one
-replaced-law : {own : ℕ → Type 0} (s : Fs) (i j : ℕ) (old : Slot) (name : List ℕ) (r : Replaced) → Moving own s i j old name r → idAt s i ≢ idAt s j → Avoids s j old → (x : Fs) → Carrying own s i j old name r x
-    → Ok (Settled own s i j old) (λ n. n ≡ 17) (removeReplaced x j r)
+replaced-law : {style : Spelling} {own : ℕ → Type 0} (s : Fs) (i j : ℕ) (old : Slot) (name : List ℕ) (r : Replaced) → Moving style own s i j old name r → idAt s i ≢ idAt s j → Avoids s j old → (x : Fs) → Carrying own s i j old name r x
+    → Ok (Settled style own s i j old) (λ n. n ≡ 17) (removeReplaced x j r)
 replaced-law s i j old name none M apart avoids x X = went (settle-none s i j old name M apart avoids x X)
 replaced-law s i j old name (node d k) M apart avoids x X = replace-law s i j old name d k M apart avoids x X
 
-module _ (P : List ℕ → Table → Type 0) (K : Bears P) {own : ℕ → Type 0} (k : ℕ) (only : (m : ℕ) → own m → m ≡ k)
-    (s : Fs) (i j : ℕ) (old : Slot) (name : List ℕ) (r : Replaced) (M : Moving own s i j old name r) (apart : rowAt (s .table) i .id ≢ rowAt (s .table) j .id) (avoids : Avoids s j old)
+module _ {style : Spelling} (P : List ℕ → Table → Type 0) (K : Bears P) {own : ℕ → Type 0} (k : ℕ) (only : (m : ℕ) → own m → m ≡ k)
+    (s : Fs) (i j : ℕ) (old : Slot) (name : List ℕ) (r : Replaced) (M : Moving style own s i j old name r) (apart : rowAt (s .table) i .id ≢ rowAt (s .table) j .id) (avoids : Avoids s j old)
     (fills-i : Fills P i) (fills-j : Fills P j)
-    (turns : (row : ℕ) (x y : Fs) → isFolder (movedKind s old) ≡ true → Ready (wayBy true s i j old) (old .entry .id) (idAt s i) (idAt s j) (movedKind s old) i j row x → Relinked (idAt s i) (idAt s j) row x y
+    (turns : (row : ℕ) (x y : Fs) → isFolder (movedKind s old) ≡ true → Ready (wayBy style true s i j old) (old .entry .id) (idAt s i) (idAt s j) (movedKind s old) i j row x → Relinked (idAt s i) (idAt s j) row x y
     → (b : List ℕ) → ((h : List ℕ) → rowAt (y .table) row .rec .file ≢ h → Kept (y .arena) b (file 1 h)) → P (y .arena) (y .table) → P b (y .table)) where
   abbrev c : ℕ
   c = old .entry .id
@@ -64,28 +65,28 @@ module _ (P : List ℕ → Table → Type 0) (K : Bears P) {own : ℕ → Type 0
   Left x = P (x .arena) (x .table)
 
   abbrev Q : After → Type 0
-  Q x = Passed (pair (x .arena) (x .table)) × P (x .arena) (x .table)
+  Q x = Spelled style (pair (x .arena) (x .table)) × P (x .arena) (x .table)
 
   -- the row is open, and the image is as it is looked at
   abbrev Open : Bool → ℕ → Fs → Type 0
-  Open dir row x = Ready (wayBy dir s i j old) (old .entry .id) (idAt s i) (idAt s j) (movedKind s old) i j row x
+  Open dir row x = Ready (wayBy style dir s i j old) (old .entry .id) (idAt s i) (idAt s j) (movedKind s old) i j row x
 
   -- ---- the moved node is open
 
-  module _ (z : Fs) (Z : Settled own s i j old z) where
+  module _ (z : Fs) (Z : Settled style own s i j old z) where
     used : (m n : ℕ) → Used (s .table) m → rowAt (z .table) m .id ≡ rowAt (s .table) m .id → Used (z .table) m
     used m n w q = record { below = w .below; node = λ e. w .node (sym q ∙ e) }
 
     used-i : Used (z .table) i
     used-i = used i 0 (M .from .used) (Z .from)
 
-    gets : Ok (Gets (wayOf s i j old) own (z .arena) (z .table) c) Clear (getNode z c)
+    gets : Ok (Gets (wayOf style s i j old) own (z .arena) (z .table) c) Clear (getNode z c)
     gets =
-        subst (λ (y : Fs). Ok (Gets (wayOf s i j old) own (z .arena) (z .table) c) Clear (getNode y c))
+        subst (λ (y : Fs). Ok (Gets (wayOf style s i j old) own (z .arena) (z .table) c) Clear (getNode y c))
         (λ y. record { arena = z .arena; table = z .table; meta = (meta-is (z .arena) (z .table) (Z .mid .fair) ∙ sym (Z .meta)) y })
         (get-more (z .arena) (z .table) (Z .mid) k only c (Z .node))
 
-    module _ (o : Opened) (G : Gets (wayOf s i j old) own (z .arena) (z .table) c o) where
+    module _ (o : Opened) (G : Gets (wayOf style s i j old) own (z .arena) (z .table) c o) where
       abbrev x : Fs
       x = withTable (start (z .arena) (z .table)) (G .table)
 
@@ -182,10 +183,10 @@ module _ (P : List ℕ → Table → Type 0) (K : Bears P) {own : ℕ → Type 0
     ends x R h =
         ok-bind (sync-law x R h i (from-used x R)) λ x e.
         ok-bind (sync-law x (e .0) (e .1) j (to-used x (e .0))) λ x e.
-        ok-bind (ok-and (ok-weaken (λ d D. midway-passed (d .arena) (d .table) (D .mid)) clear-17 (release-law x row (e .0 .mid) (e .0 .used) (λ v. refl) (e .0 .meta)))
+        ok-bind (ok-and (ok-weaken (λ d D. midway-spelled (d .arena) (d .table) (D .mid)) clear-17 (release-law x row (e .0 .mid) (e .0 .used) (λ v. refl) (e .0 .meta)))
         (leaves-release P (K .changes) (K .stores) (K .takes) (K .frees) (K .drops) x row (e .1))) λ x q. went q
 
-  rest : (z : Fs) → Settled own s i j old z → P (z .arena) (z .table)
+  rest : (z : Fs) → Settled style own s i j old z → P (z .arena) (z .table)
       → Ok Q Clear (bind (getNode z c) (λ o. bind (moveLinks (o .state) i j (o .row)) (λ s. bind (moveParent s j (o .row)) (λ s. bind (syncRow s i) (λ s. bind (syncRow s j) (λ s. bind (release s (o .row)) (λ s. done (after s))))))))
   rest z Z h =
       ok-bind (ok-and (gets z Z) (leaves-node P (K .takes) z c h)) λ o e.
@@ -197,7 +198,7 @@ module _ (P : List ℕ → Table → Type 0) (K : Bears P) {own : ℕ → Type 0
       (ok-bind (turn-by (G .row) (x z Z o G) (links z Z o G) p (isFolder kd) refl (ready z Z o G)) λ d w. ends (G .row) d (w .0) (w .1)))
       (e .1)
 
-  pub between-law : P (s .arena) (s .table) → Ok (λ (x : After). Passed (pair (x .arena) (x .table)) × P (x .arena) (x .table)) Clear (moveBetween s i j old name r)
+  pub between-law : P (s .arena) (s .table) → Ok (λ (x : After). Spelled style (pair (x .arena) (x .table)) × P (x .arena) (x .table)) Clear (moveBetween s i j old name r)
   unfolding moveBetween
   between-law h =
       ok-bind (ok-and (ok-weaken (λ x A. A) clear-17 (append-law s j (renamed (old .entry) name) (moves-fits s i j old name r M) (live-there s (M .mid) j (M .to)))) (leaves-append P j fills-j (K .changes) s _ h)) λ x e.

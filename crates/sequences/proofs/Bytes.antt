@@ -37,6 +37,7 @@ use Rattle.rules.specs.Rules.{Allowed}
 use Rattle.sefs_laws.proofs.Rows.{Any, any, ok-both, Changes, Takes, Frees, Stores, Drops, Fills, Makes, leaves-meta, leaves-sync, leaves-append, leaves-birth, leaves-named, leaves-new}
 use Rattle.sefs.specs.State.{Fs}
 use Rattle.table_laws.specs.Rules.{also, none}
+use Rattle.tree.specs.Tree.{Spelling}
 use Rattle.image.specs.Midway.{Used, turning}
 use Rattle.image.proofs.Counts.{Counts, counts-rec}
 use Rattle.image.proofs.Turned.{Ready, Relinked}
@@ -46,7 +47,7 @@ use Rattle.image.proofs.Appends.{file-apart}
 use Rattle.sequences.specs.Pairs.{Pair, Passed}
 use Rattle.sequences.specs.Calls.{Call, root, find, create, link, unlink, move, metadata, setMetadata, getEntry, listing, read, write, resize, sync, close, check, Fits, does, next}
 use Rattle.sequences.specs.Promises.{On, SameFile, Through, writes, resizes}
-use Rattle.sequences.proofs.Passing.{allowed}
+use Rattle.sequences.proofs.Passing.{allowed, spelled-any}
 use Rattle.sequences.proofs.Tables.{FillsFolders, keeps-create, keeps-link, keeps-unlink, keeps-write, keeps-resize, keeps-sync, keeps-close}
 use Rattle.sequences.proofs.Bears.{Bears, Turns}
 use Rattle.sequences.proofs.Moves.{move-call}
@@ -231,7 +232,7 @@ module _ (p : Pair) (y : Passed p) (h : Handle) (n : ℕ) (f : List ℕ) (on : O
     frees = λ b u i e w. (calm-frees a t f b u i e (w .0), on-frees h n f b u i e (w .1));
   }
 
-  module _ (c e g kd i j row : ℕ) (x z : Fs) (dir : isFolder (recOf (p .arena) (p .table) c .kind) ≡ true) (R : Ready (turning c e g) c e g kd i j row x) (L : Relinked e g row x z) (o : On (z .table) h n f) where
+  module _ (style : Spelling) (c e g kd i j row : ℕ) (x z : Fs) (dir : isFolder (recOf (p .arena) (p .table) c .kind) ≡ true) (R : Ready (turning style c e g) c e g kd i j row x) (L : Relinked e g row x z) (o : On (z .table) h n f) where
     S : Counts (also none row) (x .arena) (x .table) (λ m. recOf (x .arena) (x .table) m .blocks) (L .L) (L .table)
     S = L .rows
 
@@ -261,8 +262,8 @@ module _ (p : Pair) (y : Passed p) (h : Handle) (n : ℕ) (f : List ℕ) (on : O
         true-false (ap (λ (k : ℕ). isFolder (recOf a t k .kind)) d ∙ dir) no-dir
 
   moved : Turns (λ b u. Calm (p .arena) (p .table) f b u × On u h n f) (p .arena) (p .table)
-  moved c e g kd i j row x z dir R L b k w =
-      (record { stays = stays-kept a t f (z .arena) b (k f (moved-off c e g kd i j row x z dir R L (w .1))) (w .0 .stays); firm = w .0 .firm }, w .1)
+  moved style c e g kd i j row x z dir R L b k w =
+      (record { stays = stays-kept a t f (z .arena) b (k f (moved-off style c e g kd i j row x z dir R L (w .1))) (w .0 .stays); firm = w .0 .firm }, w .1)
 
   calls : (c : Call) → Fits c → (Through n (p .table) c → ⊥) → Ok (λ (q : Pair). Stays (p .arena) f (q .arena)) Any (does c p)
   unfolding does
@@ -275,7 +276,7 @@ module _ (p : Pair) (y : Passed p) (h : Handle) (n : ℕ) (f : List ℕ) (on : O
   calls (unlink g name) F z =
       ok-bind (keeps-unlink C (calm-stores a t f) (calm-drops a t f) (calm-changes a t f) (calm-takes a t f) (calm-frees a t f) a t folders g name (calm-start a t f)) λ x k. went (k .stays)
   calls (move g old target name) F z =
-      ok-bind (ok-weaken (λ x k. k) (λ m r. tt) (move-call (λ b u. Calm a t f b u × On u h n f) watched p y (λ g i l dir b d u k w. (folders g i l dir b d u k (w .0), w .1)) moved (calm-start a t f, on) g old target name (F .3))) λ x k. went (k .1 .0 .stays)
+      ok-bind (ok-weaken (λ x k. k) (λ m r. tt) (move-call (λ b u. Calm a t f b u × On u h n f) watched p (spelled-any p y) (λ g i l dir b d u k w. (folders g i l dir b d u k (w .0), w .1)) moved (calm-start a t f, on) g old target name (F .3))) λ x k. went (k .1 .0 .stays)
   calls (metadata g) F z = ok-bind (any (callMetadata a t g)) λ x _. went (λ e. kept-same a (file 1 f))
   calls (setMetadata g mode uid gid at mt ct) F z = ok-bind (any (callSet a t g mode uid gid at mt ct)) λ x _. went (λ e. kept-same a (file 1 f))
   calls (getEntry g k room) F z = ok-bind (any (callEntry a t g k room)) λ x _. went (λ e. kept-same a (file 1 f))

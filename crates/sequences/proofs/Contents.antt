@@ -24,13 +24,13 @@ use Rattle.sefs.specs.Contents.{hasContents, readBytes, callRead, callWrite, ca
 use Rattle.rules.specs.Rules.{Allowed}
 use Rattle.sefs_laws.proofs.Clear.{Clear, clear, clear-17}
 use Rattle.sefs_laws.proofs.Says.{Says, says-done, says-then, says-is, says-end, ensure-yes, ensure-asks}
+use Rattle.tree.specs.Tree.{Spelling}
 use Rattle.image.specs.Midway.{Used}
 use Rattle.image.proofs.Handles.{admitted, handle-law, row-rec, row-node, row-most}
 use Rattle.image.proofs.Contents.{resize-mid, write-mid}
-use Rattle.sequences.specs.Pairs.{Pair, pair, Passed}
+use Rattle.sequences.specs.Pairs.{Pair, pair}
 use Rattle.sequences.specs.Calls.{read, write, resize, does}
-use Rattle.sequences.specs.Promises.{Well}
-use Rattle.sequences.proofs.Passing.{allowed, well, midway-passed, passed-midway}
+use Rattle.sequences.proofs.Passing.{Spelled, allowed, midway-spelled, spelled-midway}
 
 module _ (a : List ℕ) (t : Table) (A : Allowed a t) (i : ℕ) (u : Used t i) where
   -- a row in use is no folder's, or the reason is 21
@@ -46,9 +46,9 @@ module _ (a : List ℕ) (t : Table) (A : Allowed a t) (i : ℕ) (u : Used t i) w
   unfolding readBytes
   read-law place n = rw (ap (λ (r : DiskINode). there a (nodeFile r)) (sym (row-rec a t A i u)) ∙ A .rule5 .own (rowAt t i .id) (row-node a t A i u)) says-done
 
-module _ (p : Pair) (y : Passed p) (h : Handle) where
+module _ {style : Spelling} (p : Pair) (y : Spelled style p) (h : Handle) where
   A : Allowed (p .arena) (p .table)
-  A = allowed p y
+  A = allowed p (y .passes)
 
   read-call : (place room : ℕ) → Says Clear (callRead (p .arena) (p .table) h place room)
   unfolding callRead
@@ -58,34 +58,34 @@ module _ (p : Pair) (y : Passed p) (h : Handle) where
       ok-bind (contents-law (p .arena) (p .table) A i (u .used)) λ _ _.
       read-law (p .arena) (p .table) A i (u .used) place _
 
-  write-call : (place : ℕ) (bytes : List ℕ) → Bytes bytes → Ok (λ (x : After). Passed (pair (x .arena) (x .table))) Clear (callWrite (p .arena) (p .table) h place bytes)
+  write-call : (place : ℕ) (bytes : List ℕ) → Bytes bytes → Ok (λ (x : After). Spelled style (pair (x .arena) (x .table))) Clear (callWrite (p .arena) (p .table) h place bytes)
   unfolding callWrite
   write-call place bytes b =
       ok-bind (says-is (admitted (p .arena) (p .table) A)) λ _ _.
       ok-bind (handle-law (p .arena) (p .table) A h) λ i u.
       ok-bind (contents-law (p .arena) (p .table) A i (u .used)) λ _ f.
       ok-bind (says-end (clear 22 refl) (place + length bytes)) λ _ l.
-      ok-bind (ok-weaken (λ s m. m) clear-17 (write-mid (start (p .arena) (p .table)) (passed-midway (p .arena) (p .table) y) i (u .used) f place bytes b l)) λ s m.
-      went (midway-passed (s .arena) (s .table) m)
+      ok-bind (ok-weaken (λ s m. m) clear-17 (write-mid (start (p .arena) (p .table)) (spelled-midway (p .arena) (p .table) y) i (u .used) f place bytes b l)) λ s m.
+      went (midway-spelled (s .arena) (s .table) m)
 
-  resize-call : (n : ℕ) → Ok (λ (x : After). Passed (pair (x .arena) (x .table))) Clear (callResize (p .arena) (p .table) h n)
+  resize-call : (n : ℕ) → Ok (λ (x : After). Spelled style (pair (x .arena) (x .table))) Clear (callResize (p .arena) (p .table) h n)
   unfolding callResize
   resize-call n =
       ok-bind (says-is (admitted (p .arena) (p .table) A)) λ _ _.
       ok-bind (handle-law (p .arena) (p .table) A h) λ i u.
       ok-bind (contents-law (p .arena) (p .table) A i (u .used)) λ _ f.
       ok-bind (says-end (clear 22 refl) n) λ _ l.
-      ok-bind (ok-weaken (λ s m. m) clear-17 (resize-mid (start (p .arena) (p .table)) (passed-midway (p .arena) (p .table) y) i (u .used) f n l)) λ s m.
-      went (midway-passed (s .arena) (s .table) m)
+      ok-bind (ok-weaken (λ s m. m) clear-17 (resize-mid (start (p .arena) (p .table)) (spelled-midway (p .arena) (p .table) y) i (u .used) f n l)) λ s m.
+      went (midway-spelled (s .arena) (s .table) m)
 
-pub keeps-read : (p : Pair) (h : Handle) (place room : ℕ) → Passed p → Well (read h place room) p
+pub keeps-read : {style : Spelling} (p : Pair) (h : Handle) (place room : ℕ) → Spelled style p → Ok (Spelled style) Clear (does (read h place room) p)
 unfolding does
-keeps-read p h place room y = well (read h place room) p y (ok-bind (read-call p y h place room) λ _ _. went y)
+keeps-read p h place room y = ok-bind (read-call p y h place room) λ _ _. went y
 
-pub keeps-write : (p : Pair) (h : Handle) (place : ℕ) (bytes : List ℕ) → Passed p → Bytes bytes → Well (write h place bytes) p
+pub keeps-write : {style : Spelling} (p : Pair) (h : Handle) (place : ℕ) (bytes : List ℕ) → Spelled style p → Bytes bytes → Ok (Spelled style) Clear (does (write h place bytes) p)
 unfolding does
-keeps-write p h place bytes y b = well (write h place bytes) p y (ok-bind (write-call p y h place bytes b) λ x q. went q)
+keeps-write p h place bytes y b = ok-bind (write-call p y h place bytes b) λ x q. went q
 
-pub keeps-resize : (p : Pair) (h : Handle) (n : ℕ) → Passed p → Well (resize h n) p
+pub keeps-resize : {style : Spelling} (p : Pair) (h : Handle) (n : ℕ) → Spelled style p → Ok (Spelled style) Clear (does (resize h n) p)
 unfolding does
-keeps-resize p h n y = well (resize h n) p y (ok-bind (resize-call p y h n) λ x q. went q)
+keeps-resize p h n y = ok-bind (resize-call p y h n) λ x q. went q

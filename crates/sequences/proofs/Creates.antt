@@ -22,7 +22,7 @@ use Rattle.structs.specs.Types.{isFolder, isType}
 use Rattle.structs.specs.declared.DiskEntry.{DiskEntry}
 use Rattle.structs.specs.declared.DiskINode.{DiskINode}
 use Rattle.structs.specs.declared.Timespec.{Timespec}
-use Rattle.utf8.specs.Names.{nameVerdict, earlyReason}
+use Rattle.utf8.specs.Names.{nameVerdict, newReason}
 use Rattle.maps.proofs.Bits.{setBits-le}
 use Rattle.arena.specs.Fields.{file}
 use Rattle.table.specs.declared.Table.{Table}
@@ -43,11 +43,11 @@ use Rattle.sefs.specs.Create.{Given, given, createSteps, callCreate}
 use Rattle.rules.specs.Image.{storedSuper, storedMaps, isNode, storedBytes, recOf, isFolderAt}
 use Rattle.rules.specs.Rules.{Allowed}
 use Rattle.rules.proofs.Files.{node-below}
-use Rattle.sequences.specs.Pairs.{Pair, pair, Passed}
+use Rattle.sequences.specs.Pairs.{Pair, pair}
 use Rattle.sequences.specs.Calls.{NewFits, create, does}
-use Rattle.sequences.specs.Promises.{Well}
-use Rattle.sequences.proofs.Passing.{allowed, well, midway-passed, passed-midway}
+use Rattle.sequences.proofs.Passing.{Spelled, allowed, midway-spelled, spelled-midway}
 use Rattle.sefs_laws.proofs.Says.{says-is, ensure-asks}
+use Rattle.tree.specs.Tree.{Spelling}
 use Rattle.image.specs.Midway.{Used, Fair, storedMeta, Midway}
 use Rattle.image.proofs.Handles.{admitted, handle-law}
 use Rattle.sefs_laws.proofs.Rows.{tabled-stores, leaves-sync}
@@ -67,7 +67,7 @@ use Rattle.image.proofs.Births.{bred-fair}
 use Rattle.image.proofs.Breeds.{Stage, Bare, Settled, named-law, birth-law, slot-law}
 
 -- superblock and maps of a fair image
-fair-sane : (a : List ℕ) (t : Table) → Fair a t → Bytes a → Sane (storedMeta a)
+fair-sane : {style : Spelling} (a : List ℕ) (t : Table) → Fair style a t → Bytes a → Sane (storedMeta a)
 unfolding storedMaps
 fair-sane a t A b = record {
   magic = A .rule3 .magic;
@@ -114,7 +114,7 @@ new-fits kind mode time f F = record {
   macBytes = named-meta .bytes;
 }
 
-module _ (a : List ℕ) (t : Table) (M : Midway none a t) (i : ℕ) (ui : Used t i)
+module _ {style : Spelling} (a : List ℕ) (t : Table) (M : Midway style none a t) (i : ℕ) (ui : Used t i)
     (dir : isFolder (rowAt t i .rec .kind) ≡ true) (lives : rowAt t i .rec .nlinks ≢ 0)
     (name : List ℕ) (N : NewName a (recOf a t (rowAt t i .id)) name) (short : length name ≤ 255) (nb : Bytes name)
     (kind mode : ℕ) (time : Timespec) (uuid : List ℕ) (F : NewFits kind mode time uuid) (least : 1 ≤ kind) (most : kind ≤ 4)
@@ -135,7 +135,7 @@ module _ (a : List ℕ) (t : Table) (M : Midway none a t) (i : ℕ) (ui : Used t
   abbrev rd : DiskINode
   rd = withLinks (withBlocks ri (ri .blocks + 1)) (ri .nlinks + bit (isFolder kind))
 
-  A : Fair a t
+  A : Fair style a t
   A = M .fair
 
   rec-d : recOf a t d ≡ ri
@@ -223,7 +223,7 @@ module _ (a : List ℕ) (t : Table) (M : Midway none a t) (i : ℕ) (ui : Used t
         others = λ g n z. kept-then a (x .arena) b (file 1 g) (S .files .others g n z) (P .within .files g);
       }
 
-      bred-mid : (b : List ℕ) → MetaPut (x .arena) m b → Midway (also none c) b (x .table)
+      bred-mid : (b : List ℕ) → MetaPut (x .arena) m b → Midway style (also none c) b (x .table)
       bred-mid b P = record {
         fair = bred-fair a b t (x .table) M i ui dir lives c (Q .free) id m (Q .taken) rc rd (S .rows) name N least most (λ f. omega (arith, ap bit f)) refl refl refl refl refl refl refl absent (bred b P);
         formed = S .rows .formed;
@@ -235,11 +235,11 @@ module _ (a : List ℕ) (t : Table) (M : Midway none a t) (i : ℕ) (ui : Used t
       keeps-can y j h = leaves-sync (λ a u. canHold u ≡ true) (λ a u k r p q g. can-row u k r ∙ g) (tabled-stores (λ u. canHold u ≡ true)) y j h
 
       last : (y : Fs) → y .table ≡ x .table → MetaPut (x .arena) m (y .arena)
-          → Ok (λ (g : Given). Passed (pair (g .arena) (g .table))) (λ r. r ≡ 17) (bind (syncRow y c) (λ z. bind (syncRow z i) (λ w. done (given w (addHold (w .table) c)))))
+          → Ok (λ (g : Given). Spelled style (pair (g .arena) (g .table))) (λ r. r ≡ 17) (bind (syncRow y c) (λ z. bind (syncRow z i) (λ w. done (given w (addHold (w .table) c)))))
       last y q P =
-          ok-bind (both (sync-mid y (subst (Midway (also none c) (y .arena)) (sym q) (bred-mid (y .arena) P)) c uc) (keeps-can y c (ap canHold q ∙ S .rows .can ∙ can))) λ z Z.
+          ok-bind (both (sync-mid y (subst (Midway style (also none c) (y .arena)) (sym q) (bred-mid (y .arena) P)) c uc) (keeps-can y c (ap canHold q ∙ S .rows .can ∙ can))) λ z Z.
           ok-bind (both (sync-mid z (Z .0 .mid) i (record { below = ui .below; node = λ n. ud .node (sym (Z .0 .ids i) ∙ n) })) (keeps-can z i (Z .1))) λ w W.
-          went (midway-passed (w .arena) (addHold (w .table) c .table)
+          went (midway-spelled (w .arena) (addHold (w .table) c .table)
           (hold-mid (w .arena) (w .table) c (W .0 .mid) (W .1) (record { below = uc .below; node = λ n. uc .node (sym (W .0 .ids c ∙ Z .0 .ids c) ∙ n) })))
         where
           uc : Used (y .table) c
@@ -248,7 +248,7 @@ module _ (a : List ℕ) (t : Table) (M : Midway none a t) (i : ℕ) (ui : Used t
           ud : Used (y .table) i
           ud = subst (λ (u : Table). Used u i) (sym q) (used-own a t M c i id (Q .free) ui some rc rd (x .table) (S .rows))
 
-  pub create-law : Ok (λ (g : Given). Passed (pair (g .arena) (g .table))) (λ r. r ≡ 17) (createSteps (start a t) i name kind mode time uuid)
+  pub create-law : Ok (λ (g : Given). Spelled style (pair (g .arena) (g .table))) (λ r. r ≡ 17) (createSteps (start a t) i name kind mode time uuid)
   unfolding createSteps
   create-law =
       ok-bind make λ o Q.
@@ -260,23 +260,23 @@ module _ (a : List ℕ) (t : Table) (M : Midway none a t) (i : ℕ) (ui : Used t
 
 -- ---- the call
 
-create-call : (p : Pair) → Passed p → (h : Handle) (name : List ℕ) (kind mode : ℕ) (time : Timespec) (uuid : List ℕ) → Bytes name → NewFits kind mode time uuid
-    → Ok (λ (g : Given). Passed (pair (g .arena) (g .table))) Clear (callCreate (p .arena) (p .table) h name kind mode time uuid)
+create-call : {style : Spelling} (p : Pair) → Spelled style p → (h : Handle) (name : List ℕ) (kind mode : ℕ) (time : Timespec) (uuid : List ℕ) → Bytes name → NewFits kind mode time uuid
+    → Ok (λ (g : Given). Spelled style (pair (g .arena) (g .table))) Clear (callCreate (p .arena) (p .table) h name kind mode time uuid)
 unfolding callCreate
 create-call p y h name kind mode time uuid nb F =
     ok-bind (says-is (admitted a t A)) λ _ _.
     ok-bind (handle-law a t A h) λ i u.
-    ok-bind (ensure-asks (eqb (earlyReason (nameVerdict name)) 0) 5 (clear 5 refl)) λ _ good.
+    ok-bind (ensure-asks (eqb (newReason (nameVerdict name)) 0) 5 (clear 5 refl)) λ _ good.
     ok-bind (ensure-asks (isType kind) 6 (clear 6 refl)) λ _ type.
     ok-bind (live-folder a t A i (u .used)) λ _ l.
     ok-bind (ensure-asks (leb (length name) 255) 10 (clear 10 refl)) λ _ short.
-    ok-bind (new-law a t A (y .typed .bytes) i (u .used) (l .0) name (good-name name good) (is-most (length name) 255 short)) λ f new.
+    ok-bind (new-law a t A (y .passes .typed .bytes) i (u .used) (l .0) name (good-name name good) (is-most (length name) 255 short)) λ f new.
     ok-bind (exists-law f) λ _ none.
     ok-bind (ensure-asks (not (there a (file 1 uuid))) 14 (clear 14 refl)) λ _ absent.
     ok-bind (ensure-asks (not (isFolder kind && eqb (rowAt t i .rec .nlinks) 65535)) 15 (clear 15 refl)) λ _ few.
     ok-bind (ensure-asks (canHold t) 16 (clear 16 refl)) λ _ can.
     ok-weaken (λ x q. q) clear-17
-    (create-law a t (passed-midway a t y) i (u .used) (l .0) (l .1) name (new none) (is-most (length name) 255 short) nb kind mode time uuid F
+    (create-law a t (spelled-midway a t y) i (u .used) (l .0) (l .1) name (new none) (is-most (length name) 255 short) nb kind mode time uuid F
     (ltb-true 0 kind (and-parts (ltb 0 kind) (leb kind 4) type .0)) (is-most kind 4 (and-parts (ltb 0 kind) (leb kind 4) type .1))
     (not-true (there a (file 1 uuid)) absent) (below i (u .used) few) can)
   where
@@ -287,7 +287,7 @@ create-call p y h name kind mode time uuid nb F =
     t = p .table
 
     A : Allowed (p .arena) (p .table)
-    A = allowed p y
+    A = allowed p (y .passes)
 
     is-most : (n k : ℕ) → leb n k ≡ true → n ≤ k
     is-most n k e = decides-leb n k .right (true-T (leb n k) e)
@@ -296,10 +296,10 @@ create-call p y h name kind mode time uuid nb F =
     below i u e f =
         let z : eqb (rowAt (p .table) i .rec .nlinks) 65535 ≡ false = ap (λ (b : Bool). b && eqb (rowAt (p .table) i .rec .nlinks) 65535) (sym f) ∙ not-true (isFolder kind && eqb (rowAt (p .table) i .rec .nlinks) 65535) e in
         let n : rowAt (p .table) i .rec .nlinks ≢ 65535 = eqb-false (rowAt (p .table) i .rec .nlinks) 65535 z in
-        let l : rowAt (p .table) i .rec .nlinks < 2 ^ 16 = y .typed .fits .rows i (u .below) .rec .nlinks in
+        let l : rowAt (p .table) i .rec .nlinks < 2 ^ 16 = y .passes .typed .fits .rows i (u .below) .rec .nlinks in
         ⊎-elim (λ q. q) (λ q. absurd (n (omega arith))) (lt-or-le (rowAt (p .table) i .rec .nlinks) 65535)
 
-pub keeps-create : (p : Pair) (h : Handle) (name : List ℕ) (kind mode : ℕ) (time : Timespec) (file : List ℕ)
-    → Passed p → Bytes name → NewFits kind mode time file → Well (create h name kind mode time file) p
+pub keeps-create : {style : Spelling} (p : Pair) (h : Handle) (name : List ℕ) (kind mode : ℕ) (time : Timespec) (file : List ℕ)
+    → Spelled style p → Bytes name → NewFits kind mode time file → Ok (Spelled style) Clear (does (create h name kind mode time file) p)
 unfolding does
-keeps-create p h name kind mode time file y nb F = well (create h name kind mode time file) p y (ok-bind (create-call p y h name kind mode time file nb F) λ x q. went q)
+keeps-create p h name kind mode time file y nb F = ok-bind (create-call p y h name kind mode time file nb F) λ x q. went q

@@ -17,7 +17,7 @@ use Rattle.le.specs.Le.{Bytes}
 use Rattle.structs.specs.Types.{isFolder}
 use Rattle.structs.specs.declared.DiskINode.{DiskINode}
 use Rattle.structs.specs.declared.DiskEntry.{DiskEntry}
-use Rattle.utf8.specs.Names.{nameOf, GoodName, isNamed, isSpecial}
+use Rattle.utf8.specs.Names.{nameOf, isNamed, isSpecial}
 use Rattle.utf8.proofs.Names.{named-decides, not-special, asked-own}
 use Rattle.table.specs.declared.Table.{Table}
 use Rattle.table.specs.declared.Row.{Row}
@@ -30,8 +30,8 @@ use Rattle.sefs.specs.Create.{After, after}
 use Rattle.sefs.specs.Move.{Replaced, none, node, notBelow, moveWithin, moveBetween, moveSteps, moveOnto, replace, moveFree}
 use Rattle.rules.specs.Image.{isNode, recOf, slotIn}
 use Rattle.rules.specs.Rules.{Allowed}
-use Rattle.sequences.specs.Pairs.{pair, Passed}
-use Rattle.tree.specs.Tree.{parent, up}
+use Rattle.sequences.specs.Pairs.{pair}
+use Rattle.tree.specs.Tree.{Spelling, parent, up}
 use Rattle.tree.proofs.Trees.{folder-is, lives-linked}
 use Rattle.tree.proofs.Ways.{lives-up}
 use Rattle.image.specs.Midway.{Used, treeOf, plain, Midway}
@@ -46,9 +46,9 @@ use Rattle.sefs_laws.proofs.Says.{ensure-yes}
 use Rattle.image.proofs.Images.{fair}
 use Rattle.image.proofs.Lookups.{Hit}
 use Rattle.image.proofs.Nodes.{meta-is}
-use Rattle.sequences.proofs.Passing.{passed-midway}
+use Rattle.sequences.proofs.Passing.{Spelled, spelled-midway}
 use Rattle.image.proofs.Drops.{mid-rec}
-use Rattle.image.proofs.NewNames.{NewName}
+use Rattle.image.proofs.NewNames.{NewGood, NewName}
 use Rattle.image.proofs.Hits.{later-place, row-hit}
 use Rattle.image.proofs.Movings.{named-links, live-rec, live-lives, live-later, live-named}
 use Rattle.image.proofs.Takes.{Gets, Got, get-law, get-more}
@@ -64,33 +64,33 @@ ok-own : {A : Type 0} {Q : A → Type 0} {R : ℕ → Type 0} {m : Out A} → Ok
 ok-own (went q) = went (q, refl)
 ok-own (said r) = said r
 
-module _ (a : List ℕ) (t : Table) (A : Allowed a t) (y : Passed (pair a t)) (i j : ℕ) (from : LiveFolder (start a t) i) (to : LiveFolder (start a t) j)
-    (old name : List ℕ) (plain-old : isSpecial old ≡ false) (good : GoodName name) (plain-new : isSpecial name ≡ false) (short : length name ≤ 255) (nb : Bytes name)
+module _ {style : Spelling} (a : List ℕ) (t : Table) (A : Allowed a t) (y : Spelled style (pair a t)) (i j : ℕ) (from : LiveFolder (start a t) i) (to : LiveFolder (start a t) j)
+    (old name : List ℕ) (plain-old : isSpecial old ≡ false) (good : NewGood name) (plain-new : isSpecial name ≡ false) (short : length name ≤ 255) (nb : Bytes name)
     (P : List ℕ → Table → Type 0) (K : Bears P) (fills-i : Fills P i) (fills-j : Fills P j) (turns : Turns P a t) (start-p : P a t) where
   abbrev Q : After → Type 0
-  Q x = Passed (pair (x .arena) (x .table)) × P (x .arena) (x .table)
+  Q x = Spelled style (pair (x .arena) (x .table)) × P (x .arena) (x .table)
 
   -- a slot with a plain name is a later one, and names a node
   place : (k : ℕ) → LiveFolder (start a t) k → (l : List ℕ) → isSpecial l ≡ false → (m : ℕ) → isNamed (slotIn a (rowAt t k .rec) m .name) l ≡ true → 2 ≤ m
   place k f l sp m e = later-place a t (rowAt t k .id) (A .rule6 .folder (rowAt t k .id) (row-folder a t A k (f .used) (f .folder))) l sp m (ap (λ (r : DiskINode). isNamed (slotIn a r m .name) l) (row-rec a t A k (f .used)) ∙ e)
 
   node-at : (k : ℕ) → LiveFolder (start a t) k → (m : ℕ) → 2 ≤ m → m < rowAt t k .rec .blocks → isNode a (slotIn a (rowAt t k .rec) m .id) ≡ true
-  node-at k f m x l = live-later (start a t) (passed-midway a t y) k f m x l .node
+  node-at k f m x l = live-later (start a t) (spelled-midway a t y) k f m x l .node
 
   hit-node : (e : Slot) → Hit a (rowAt t i .rec) old e → isNode a (e .entry .id) ≡ true
   hit-node e h = ap (λ (x : DiskEntry). isNode a (x .id)) (h .is) ∙ node-at i from (e .place) (place i from old plain-old (e .place) (h .named)) (h .inside)
 
   hits : Ok (λ (e : Slot). Hit a (rowAt t i .rec) old e × (findSlot a (rowAt t i .rec) old ≡ done e)) Clear (findSlot a (rowAt t i .rec) old)
-  hits = ok-own (row-hit a t A (y .typed .bytes) i (from .used) (from .folder) old)
+  hits = ok-own (row-hit a t A (y .passes .typed .bytes) i (from .used) (from .folder) old)
 
   -- the moved node has links, and is not node 2
   hit-named : (e : Slot) → Hit a (rowAt t i .rec) old e → 1 ≤ image.named a t (e .entry .id)
   hit-named e h =
-      subst (λ (x : DiskEntry). 1 ≤ image.named a t (x .id)) (sym (h .is)) (live-named (start a t) (passed-midway a t y) i from (e .place) (place i from old plain-old (e .place) (h .named)) (h .inside))
+      subst (λ (x : DiskEntry). 1 ≤ image.named a t (x .id)) (sym (h .is)) (live-named (start a t) (spelled-midway a t y) i from (e .place) (place i from old plain-old (e .place) (h .named)) (h .inside))
 
   not-root : (e : Slot) → Hit a (rowAt t i .rec) old e → e .entry .id ≢ 2
   not-root e h q =
-      let I = passed-midway a t y .fair .tidy in
+      let I = spelled-midway a t y .fair .tidy in
       omega (arith, hit-named e h, ap (image.named a t) q, named-tree a t 2, lives-linked (treeOf a t) I 2 (I .two) .root refl)
 
   -- a row that is as it was
@@ -103,11 +103,11 @@ module _ (a : List ℕ) (t : Table) (A : Allowed a t) (y : Passed (pair a t)) (i
 
   -- ---- the steps, from a table with the same two rows
 
-  module _ {own : ℕ → Type 0} (k : ℕ) (only : (m : ℕ) → own m → m ≡ k) (r : Replaced) (u : Table) (M : Midway (owns own r) a u) (row-i : rowAt u i ≡ rowAt t i) (row-j : rowAt u j ≡ rowAt t j)
+  module _ {own : ℕ → Type 0} (k : ℕ) (only : (m : ℕ) → own m → m ≡ k) (r : Replaced) (u : Table) (M : Midway style (owns own r) a u) (row-i : rowAt u i ≡ rowAt t i) (row-j : rowAt u j ≡ rowAt t j)
       (recs : (k : ℕ) → isNode a k ≡ true → recOf a u k ≡ recOf a t k)
       (e : Slot) (mine : (m : ℕ) → own m → Used u m × (rowAt u m .id ≡ e .entry .id))
       (hit : Hit a (rowAt t i .rec) old e) (onto : Onto (start a u) j e name r) where
-    begins : Moving own (start a u) i j e name r
+    begins : Moving style own (start a u) i j e name r
     begins = record {
       mid = M;
       mine = mine;
@@ -117,7 +117,8 @@ module _ (a : List ℕ) (t : Table) (A : Allowed a t) (y : Passed (pair a t)) (i
       later = place i from old plain-old (e .place) (hit .named);
       inside = subst (λ (x : Row). e .place < x .rec .blocks) (sym row-i) (hit .inside);
       is = hit .is ∙ ap (λ (x : Row). slotIn a (x .rec) (e .place)) (sym row-i);
-      good = good;
+      good = good .0;
+      no-slash = good .1;
       plain = plain-new;
       short = short;
       bytes = nb;
@@ -127,23 +128,23 @@ module _ (a : List ℕ) (t : Table) (A : Allowed a t) (y : Passed (pair a t)) (i
     between : P a u → rowAt u i .id ≢ rowAt u j .id → Avoids (start a u) j e → Ok Q Clear (moveBetween (start a u) i j e name r)
     between p d avoids =
         between-law P K k only (start a u) i j e name r begins d avoids fills-i fills-j
-        (λ row x z f R L b w. turns (e .entry .id) (rowAt u i .id) (rowAt u j .id) (movedKind (start a u) e) i j row x z (ap (λ (q : DiskINode). isFolder (q .kind)) (sym (recs (e .entry .id) (hit-node e hit))) ∙ f) R L b w)
+        (λ row x z f R L b w. turns style (e .entry .id) (rowAt u i .id) (rowAt u j .id) (movedKind (start a u) e) i j row x z (ap (λ (q : DiskINode). isFolder (q .kind)) (sym (recs (e .entry .id) (hit-node e hit))) ∙ f) R L b w)
         p
 
   -- one folder: no row of the call's own
-  within : (r : Replaced) (u : Table) → Midway (owns rows.none r) a u → rowAt u i ≡ rowAt t i → rowAt u j ≡ rowAt t j → ((k : ℕ) → isNode a k ≡ true → recOf a u k ≡ recOf a t k)
+  within : (r : Replaced) (u : Table) → Midway style (owns rows.none r) a u → rowAt u i ≡ rowAt t i → rowAt u j ≡ rowAt t j → ((k : ℕ) → isNode a k ≡ true → recOf a u k ≡ recOf a t k)
       → (e : Slot) → Hit a (rowAt t i .rec) old e → Onto (start a u) j e name r → P a u → rowAt u i .id ≡ rowAt u j .id → Ok Q Clear (moveWithin (start a u) i e name r)
   within r u M row-i row-j recs e hit onto p q =
       let B = begins 0 (λ m o. absurd o) r u M row-i row-j recs e (λ m o. absurd o) hit onto in
       let z : i ≡ j = M .formed .one-row i j (from .used .below) (to .used .below) (B .from .used .node) q in
-      ok-and (within-law (start a u) i e name r (subst (λ (x : ℕ). Moving rows.none (start a u) i x e name r) (sym z) B))
+      ok-and (within-law (start a u) i e name r (subst (λ (x : ℕ). Moving style rows.none (start a u) i x e name r) (sym z) B))
       (leaves-within P (K .changes) (K .stores) (K .takes) (K .frees) (K .drops) (start a u) i fills-i e name r p)
 
   -- ---- the new name is not there
 
   -- the moved node is open, in a row of the call's own
   module _ (apart : rowAt t i .id ≢ rowAt t j .id) (N : NewName a (rowAt t j .rec) name) (e : Slot) (hit : Hit a (rowAt t i .rec) old e) (found : findSlot a (rowAt t i .rec) old ≡ done e)
-      (w : Opened) (W : Got a t (e .entry .id) w) where
+      (w : Opened) (W : Got style a t (e .entry .id) w) where
     free-i : rowAt (W .table) i ≡ rowAt t i
     free-i = W .rows i (from .used)
 
@@ -166,17 +167,17 @@ module _ (a : List ℕ) (t : Table) (A : Allowed a t) (y : Passed (pair a t)) (i
         hit (subst (λ (x : Row). NewName a (x .rec) name) (sym free-j) N) p free-apart
         (λ f n q. h free-apart (ap (λ (x : DiskINode). isFolder (x .kind)) (sym (mid-rec a (W .table) (W .mid .formed) (W .row) (W .used)) ∙ ap (recOf a (W .table)) (W .same)) ∙ f) n (q ∙ sym (W .same))))
 
-  pub none-law : NewName a (rowAt t j .rec) name → Ok (λ (x : After). Passed (pair (x .arena) (x .table)) × P (x .arena) (x .table)) Clear (moveFree (start a t) i j old name)
+  pub none-law : NewName a (rowAt t j .rec) name → Ok (λ (x : After). Spelled style (pair (x .arena) (x .table)) × P (x .arena) (x .table)) Clear (moveFree (start a t) i j old name)
   unfolding moveFree moveSteps
   none-law N = go (eqb (rowAt t i .id) (rowAt t j .id)) refl
     where
       go : (b : Bool) → eqb (rowAt t i .id) (rowAt t j .id) ≡ b
           → Ok Q Clear (pick b (bind (findSlot a (rowAt t i .rec) old) (λ e. pick (eqb (rowAt t i .id) (rowAt t j .id)) (moveWithin (start a t) i e name none) (moveBetween (start a t) i j e name none)))
           (bind (findSlot a (rowAt t i .rec) old) (λ was. bind (getNode (start a t) (was .entry .id)) (λ c. bind (notBelow (c .state) i j (c .row)) (λ _. moveSteps (c .state) i j old name none)))))
-      go true q = ok-bind hits λ e h. rw q (within none t (passed-midway a t y) refl refl (λ k n. refl) e (h .0) N start-p (eqb-true (rowAt t i .id) (rowAt t j .id) q))
+      go true q = ok-bind hits λ e h. rw q (within none t (spelled-midway a t y) refl refl (λ k n. refl) e (h .0) N start-p (eqb-true (rowAt t i .id) (rowAt t j .id) q))
       go false q =
           ok-bind hits λ e h.
-          ok-bind (ok-and (get-law a t (passed-midway a t y) (e .entry .id) (hit-node e (h .0))) (leaves-node P (K .takes) (start a t) (e .entry .id) start-p)) λ w g.
+          ok-bind (ok-and (get-law a t (spelled-midway a t y) (e .entry .id) (hit-node e (h .0))) (leaves-node P (K .takes) (start a t) (e .entry .id) start-p)) λ w g.
           subst (λ (z : Opened). P (z .state .arena) (z .state .table) → Ok Q Clear (bind (notBelow (z .state) i j (z .row)) (λ _. moveSteps (z .state) i j old name none))) (sym (g .0 .is))
           (free-law (eqb-false (rowAt t i .id) (rowAt t j .id) q) N e (h .0) (h .1) w (g .0)) (g .1)
 
@@ -197,12 +198,12 @@ module _ (a : List ℕ) (t : Table) (A : Allowed a t) (y : Passed (pair a t)) (i
         named-decides (slotIn a (rowAt t j .rec) k .name) name .right (true-T (isNamed (slotIn a (rowAt t j .rec) k .name) name) named) ∙ asked-own name (not-special name plain-new .0)
 
     -- the record of a row, by its id
-    row-is : {own : ℕ → Type 0} (u : Table) → Midway own a u → (d : ℕ) → Used u d → (id : ℕ) → rowAt u d .id ≡ id → recOf a u id ≡ recOf a t id → rowAt u d .rec ≡ recOf a t id
+    row-is : {own : ℕ → Type 0} (u : Table) → Midway style own a u → (d : ℕ) → Used u d → (id : ℕ) → rowAt u d .id ≡ id → recOf a u id ≡ recOf a t id → rowAt u d .rec ≡ recOf a t id
     row-is u M d w id q e = sym (mid-rec a u (M .formed) d w) ∙ ap (recOf a u) q ∙ e
 
     -- both nodes are open
-    module _ (e : Slot) (hit : Hit a (rowAt t i .rec) old e) (found : findSlot a (rowAt t i .rec) old ≡ done e) (o : Opened) (D : Got a t (slotIn a (rowAt t j .rec) k .id) o)
-        (w : Opened) (W : Gets plain (rows.also rows.none (D .row)) a (D .table) (e .entry .id) w) where
+    module _ (e : Slot) (hit : Hit a (rowAt t i .rec) old e) (found : findSlot a (rowAt t i .rec) old ≡ done e) (o : Opened) (D : Got style a t (slotIn a (rowAt t j .rec) k .id) o)
+        (w : Opened) (W : Gets (plain style) (rows.also rows.none (D .row)) a (D .table) (e .entry .id) w) where
       abbrev d : ℕ
       d = D .row
 
@@ -228,7 +229,7 @@ module _ (a : List ℕ) (t : Table) (A : Allowed a t) (y : Passed (pair a t)) (i
       links : rowAt u c .rec .nlinks ≢ 0
       links z = omega (arith, z, ap (λ (x : DiskINode). x .nlinks) rec-c, named-links a t (fair a t A) (e .entry .id) (hit-node e hit) (hit-named e hit))
 
-      replaces : e .entry .id ≢ idd → (x : Fs) (E : Ended a t d idd x) → isFolder (rowAt u c .rec .kind) ≡ isFolder (rowAt u d .rec .kind)
+      replaces : e .entry .id ≢ idd → (x : Fs) (E : Ended style a t d idd x) → isFolder (rowAt u c .rec .kind) ≡ isFolder (rowAt u d .rec .kind)
           → (isFolder (rowAt u d .rec .kind) ≡ true → rowAt u d .rec .blocks ≤ 2) → Replaces (start a (E .table)) j e name d k
       replaces apart x E kinds small =
           let row-j : rowAt (E .table) j ≡ rowAt t j = E .rows j (to .used) in
@@ -261,14 +262,14 @@ module _ (a : List ℕ) (t : Table) (A : Allowed a t) (y : Passed (pair a t)) (i
       unfolding up
       ups v same zero = refl
       ups v same (suc n) =
-          let I = passed-midway a t y .fair .tidy in
-          let l = lives-up (treeOf a t) I (rowAt t j .id) (live-lives (start a t) (passed-midway a t y) j to) n in
+          let I = spelled-midway a t y .fair .tidy in
+          let l = lives-up (treeOf a t) I (rowAt t j .id) (live-lives (start a t) (spelled-midway a t y) j to) n in
           ap (parent (treeOf a v)) (ups v same n) ∙ ap (λ (x : DiskINode). slotIn a x 1 .id) (same (up (treeOf a t) (rowAt t j .id) n) (folder-is (treeOf a t) (up (treeOf a t) (rowAt t j .id) n) (l .folder)))
 
       onto-law : e .entry .id ≢ idd → P a u → Ok Q Clear (moveOnto (start a u) i j old name c d k)
       unfolding moveOnto moveSteps
       onto-law apart p =
-          ok-bind (judge-law a t A (y .typed .bytes) u d idd rec-d node-d (rowAt u c .rec .kind)) λ x J.
+          ok-bind (judge-law a t A (y .passes .typed .bytes) u d idd rec-d node-d (rowAt u c .rec .kind)) λ x J.
           subst (λ (z : Fs). Ok Q Clear (bind (notBelow z i j c) (λ _. bind (release z c) (λ s. moveSteps s i j old name (node d k))))) (sym (J .is))
           (ok-bind (below-law (start a u) (W .mid .fair) (meta-is a u (W .mid .fair)) i j c (λ q. not-root e hit (sym (W .same) ∙ q)) (live-lives (start a u) (W .mid) j to-u) (live-rec (start a u) (W .mid) j to-u)) λ _ h.
           ok-bind (ok-and (ends-law a t idd (e .entry .id) o D w W apart links) (leaves-release P (K .changes) (K .stores) (K .takes) (K .frees) (K .drops) (start a u) c p)) λ x g.
@@ -278,7 +279,7 @@ module _ (a : List ℕ) (t : Table) (A : Allowed a t) (y : Passed (pair a t)) (i
           (steps (E .table) (E .mid) (E .rows i (from .used)) (E .rows j (to .used)) (E .recs) (replaces apart x E (J .kinds) (J .small)) m h))
           (g .1))
         where
-          steps : (v : Table) → Midway (rows.also rows.none (D .row)) a v → rowAt v i ≡ rowAt t i → rowAt v j ≡ rowAt t j → ((k : ℕ) → isNode a k ≡ true → recOf a v k ≡ recOf a t k)
+          steps : (v : Table) → Midway style (rows.also rows.none (D .row)) a v → rowAt v i ≡ rowAt t i → rowAt v j ≡ rowAt t j → ((k : ℕ) → isNode a k ≡ true → recOf a v k ≡ recOf a t k)
               → Replaces (start a v) j e name (D .row) k → P a v
               → (rowAt (W .table) i .id ≢ rowAt (W .table) j .id → isFolder (rowAt (W .table) (W .row) .rec .kind) ≡ true → (n : ℕ) → up (treeOf a (W .table)) (rowAt (W .table) j .id) n ≢ rowAt (W .table) (W .row) .id)
               → Ok Q Clear (pick (eqb (rowAt v i .id) (rowAt v j .id)) (moveWithin (start a v) i e name (node (D .row) k)) (moveBetween (start a v) i j e name (node (D .row) k)))
@@ -302,12 +303,12 @@ module _ (a : List ℕ) (t : Table) (A : Allowed a t) (y : Passed (pair a t)) (i
           go true q = went (y, start-p)
           go false q = onto-law (eqb-false (e .entry .id) idd q) p
 
-    pub node-law : Ok (λ (x : After). Passed (pair (x .arena) (x .table)) × P (x .arena) (x .table)) Clear (replace (start a t) i j old name k)
+    pub node-law : Ok (λ (x : After). Spelled style (pair (x .arena) (x .table)) × P (x .arena) (x .table)) Clear (replace (start a t) i j old name k)
     unfolding replace
     node-law =
         rw is-slot
         (ok-bind hits λ e h.
-        ok-bind (ok-and (get-law a t (passed-midway a t y) idd node-d) (leaves-node P (K .takes) (start a t) idd start-p)) λ o f.
+        ok-bind (ok-and (get-law a t (spelled-midway a t y) idd node-d) (leaves-node P (K .takes) (start a t) idd start-p)) λ o f.
         let D = f .0 in
         subst (λ (z : Opened). P (z .state .arena) (z .state .table) → Ok Q Clear (bind (getNode (z .state) (e .entry .id)) (λ c. bind (known (recAt (c .state) (c .row))) (λ _. bind (known (recAt (c .state) (z .row)))
         (λ _. pick (eqb (e .entry .id) idd) (done (after (start a t))) (moveOnto (c .state) i j old name (c .row) (z .row) k)))))) (sym (D .is))
@@ -320,4 +321,4 @@ module _ (a : List ℕ) (t : Table) (A : Allowed a t) (y : Passed (pair a t)) (i
         both e (h .0) (h .1) o D w W p) (g .1)) (f .1))
       where
         is-slot : slotAt a (rowAt t j .rec) k ≡ done (slotIn a (rowAt t j .rec) k)
-        is-slot = subst (λ (r : DiskINode). k < r .blocks → slotAt a r k ≡ done (slotIn a r k)) (row-rec a t A j (to .used)) (slot-is a t A (y .typed .bytes) (rowAt t j .id) (row-folder a t A j (to .used) (to .folder)) k) inside
+        is-slot = subst (λ (r : DiskINode). k < r .blocks → slotAt a r k ≡ done (slotIn a r k)) (row-rec a t A j (to .used)) (slot-is a t A (y .passes .typed .bytes) (rowAt t j .id) (row-folder a t A j (to .used) (to .folder)) k) inside

@@ -18,7 +18,7 @@ use Rattle.base.specs.declared.Found.the-variants.{At, Nothing}
 use Rattle.le.specs.Le.{Bytes}
 use Rattle.structs.specs.Types.{isFolder}
 use Rattle.structs.specs.declared.DiskINode.{DiskINode}
-use Rattle.utf8.specs.Names.{GoodName, isNamed, isSpecial, nameVerdict, earlyReason}
+use Rattle.utf8.specs.Names.{isNamed, isSpecial, nameVerdict, earlyReason, newReason}
 use Rattle.table.specs.declared.Table.{Table}
 use Rattle.table.specs.declared.Handle.{Handle}
 use Rattle.table.specs.Table.{rowAt}
@@ -28,19 +28,19 @@ use Rattle.sefs.specs.Create.{After}
 use Rattle.sefs.specs.Move.{moveTo, callMove}
 use Rattle.rules.specs.Image.{recOf, slotIn}
 use Rattle.rules.specs.Rules.{Allowed}
-use Rattle.sequences.specs.Pairs.{Pair, pair, Passed}
+use Rattle.tree.specs.Tree.{Spelling}
+use Rattle.sequences.specs.Pairs.{Pair, pair}
 use Rattle.sequences.specs.Calls.{move, does}
-use Rattle.sequences.specs.Promises.{Well}
 use Rattle.sefs_laws.proofs.Rows.{Fills}
 use Rattle.table_laws.proofs.Handles.{live-means}
 use Rattle.sequences.proofs.Bears.{Bears, Turns}
 use Rattle.sequences.proofs.Tables.{FillsFolders}
 use Rattle.sefs_laws.proofs.Says.{says-ensure, says-is, ok-is, ensure-asks}
-use Rattle.sequences.proofs.Passing.{allowed, well}
+use Rattle.sequences.proofs.Passing.{Spelled, allowed}
 use Rattle.image.specs.Midway.{Used}
 use Rattle.image.proofs.Handles.{admitted, handle-law, row-rec, row-folder}
 use Rattle.image.proofs.Lookups.{lookup-is}
-use Rattle.image.proofs.NewNames.{good-name, NewName, new-name}
+use Rattle.image.proofs.NewNames.{NewGood, good-name, NewName, new-name}
 use Rattle.sequences.proofs.Asks.{live-folder}
 use Rattle.image.proofs.Moving.{LiveFolder}
 use Rattle.sequences.proofs.MoveSteps.{none-law, node-law}
@@ -50,7 +50,7 @@ data Looked (a : List ℕ) (r : DiskINode) (name : List ℕ) : Found → Type 0 
   here : (k : ℕ) → k < r .blocks → isNamed (slotIn a r k .name) name ≡ true → Looked a r name (At k)
   new : NewName a r name → Looked a r name Nothing
 
-look-law : (a : List ℕ) (t : Table) (A : Allowed a t) → Bytes a → (j : ℕ) → Used t j → isFolder (rowAt t j .rec .kind) ≡ true → (name : List ℕ) → GoodName name → length name ≤ 255
+look-law : (a : List ℕ) (t : Table) (A : Allowed a t) → Bytes a → (j : ℕ) → Used t j → isFolder (rowAt t j .rec .kind) ≡ true → (name : List ℕ) → NewGood name → length name ≤ 255
     → Ok (Looked a (rowAt t j .rec) name) Clear (lookup a (rowAt t j .rec) name)
 look-law a t A b j u f name g s =
     subst (λ (r : DiskINode). Ok (Looked a r name) Clear (lookup a r name)) (row-rec a t A j u)
@@ -63,23 +63,23 @@ look-law a t A b j u f name g s =
     by Nothing e = new (new-name a t (rowAt t j .id) (A .rule6 .folder (rowAt t j .id) (row-folder a t A j u f)) name g s (sym e))
 
 -- P holds of arena and table through all of it
-pub move-call : (P : List ℕ → Table → Type 0) → Bears P → (p : Pair) → Passed p → FillsFolders P (p .table) → Turns P (p .arena) (p .table) → P (p .arena) (p .table)
+pub move-call : {style : Spelling} (P : List ℕ → Table → Type 0) → Bears P → (p : Pair) → Spelled style p → FillsFolders P (p .table) → Turns P (p .arena) (p .table) → P (p .arena) (p .table)
     → (h : Handle) (old : List ℕ) (target : Handle) (name : List ℕ) → Bytes name
-    → Ok (λ (x : After). Passed (pair (x .arena) (x .table)) × P (x .arena) (x .table)) Clear (callMove (p .arena) (p .table) h old target name)
+    → Ok (λ (x : After). Spelled style (pair (x .arena) (x .table)) × P (x .arena) (x .table)) Clear (callMove (p .arena) (p .table) h old target name)
 unfolding callMove
-move-call P K p y fills turns start-p h old target name nb =
+move-call {style = style} P K p y fills turns start-p h old target name nb =
     ok-bind (says-is (admitted a t A)) λ _ _.
     ok-bind (handle-law a t A h) λ i u.
     ok-bind (handle-law a t A target) λ j v.
     ok-bind (says-ensure (eqb (earlyReason (nameVerdict old)) 0) 5 (clear 5 refl)) λ _ _.
-    ok-bind (ensure-asks (eqb (earlyReason (nameVerdict name)) 0) 5 (clear 5 refl)) λ _ good.
+    ok-bind (ensure-asks (eqb (newReason (nameVerdict name)) 0) 5 (clear 5 refl)) λ _ good.
     ok-bind (live-folder a t A i (u .used)) λ _ from.
     ok-bind (ensure-asks (not (isSpecial old)) 9 (clear 9 refl)) λ _ plain-old.
     ok-bind (ensure-asks (not (isSpecial name)) 9 (clear 9 refl)) λ _ plain.
     ok-bind (says-ensure (leb (length old) 255) 10 (clear 10 refl)) λ _ _.
     ok-bind (ensure-asks (leb (length name) 255) 10 (clear 10 refl)) λ _ short.
     ok-bind (live-folder a t A j (v .used)) λ _ to.
-    ok-bind (look-law a t A (y .typed .bytes) j (v .used) (to .0) name (good-name name good) (is-short short)) λ f l.
+    ok-bind (look-law a t A (y .passes .typed .bytes) j (v .used) (to .0) name (good-name name good) (is-short short)) λ f l.
     goes i j (record { used = u .used; folder = from .0; links = from .1 }) (record { used = v .used; folder = to .0; links = to .1 })
     (not-true (isSpecial old) plain-old) (good-name name good) (not-true (isSpecial name) plain) (is-short short)
     (fills h i (live-means t h i .0 (u .live)) (from .0)) (fills target j (live-means t target j .0 (v .live)) (to .0)) f l
@@ -91,22 +91,21 @@ move-call P K p y fills turns start-p h old target name nb =
     t = p .table
 
     A : Allowed (p .arena) (p .table)
-    A = allowed p y
+    A = allowed p (y .passes)
 
     is-short : leb (length name) 255 ≡ true → length name ≤ 255
     is-short e = decides-leb (length name) 255 .right (true-T (leb (length name) 255) e)
 
     goes : (i j : ℕ) → LiveFolder (start (p .arena) (p .table)) i → LiveFolder (start (p .arena) (p .table)) j
-        → isSpecial old ≡ false → GoodName name → isSpecial name ≡ false → length name ≤ 255 → Fills P i → Fills P j → (f : Found) → Looked (p .arena) (rowAt (p .table) j .rec) name f
-        → Ok (λ (x : After). Passed (pair (x .arena) (x .table)) × P (x .arena) (x .table)) Clear (moveTo (start (p .arena) (p .table)) i j old name f)
+        → isSpecial old ≡ false → NewGood name → isSpecial name ≡ false → length name ≤ 255 → Fills P i → Fills P j → (f : Found) → Looked (p .arena) (rowAt (p .table) j .rec) name f
+        → Ok (λ (x : After). Spelled style (pair (x .arena) (x .table)) × P (x .arena) (x .table)) Clear (moveTo (start (p .arena) (p .table)) i j old name f)
     goes i j from to plain-old good plain short fills-i fills-j f (here k l e) =
         node-law (p .arena) (p .table) A y i j from to old name plain-old good plain short nb P K fills-i fills-j turns start-p k l e
     goes i j from to plain-old good plain short fills-i fills-j f (new N) =
         none-law (p .arena) (p .table) A y i j from to old name plain-old good plain short nb P K fills-i fills-j turns start-p N
 
-pub keeps-move : (p : Pair) (h : Handle) (old : List ℕ) (target : Handle) (name : List ℕ) → Passed p → Bytes name → Well (move h old target name) p
+pub keeps-move : {style : Spelling} (p : Pair) (h : Handle) (old : List ℕ) (target : Handle) (name : List ℕ) → Spelled style p → Bytes name → Ok (Spelled style) Clear (does (move h old target name) p)
 unfolding does
 keeps-move p h old target name y nb =
-    well (move h old target name) p y
-    (ok-bind (move-call (λ b u. Unit) (record { stores = λ b c u k o. o; drops = λ b c u g d o. o; changes = λ b u i r e q o. o; takes = λ b u i r e o. o; frees = λ b u i e o. o }) p y
-    (λ g i l f b c u k o. o) (λ c f g kd i j row x z d R L b k o. o) tt h old target name nb) λ x q. went (q .0))
+    ok-bind (move-call (λ b u. Unit) (record { stores = λ b c u k o. o; drops = λ b c u g d o. o; changes = λ b u i r e q o. o; takes = λ b u i r e o. o; frees = λ b u i e o. o }) p y
+    (λ g i l f b c u k o. o) (λ style c f g kd i j row x z d R L b k o. o) tt h old target name nb) λ x q. went (q .0)

@@ -19,7 +19,7 @@ use Rattle.structs.specs.Layout.{entryBytes}
 use Rattle.structs.specs.Types.{isFolder}
 use Rattle.structs.specs.declared.DiskINode.{DiskINode}
 use Rattle.structs.specs.declared.DiskEntry.{DiskEntry}
-use Rattle.utf8.specs.Names.{nameOf, nameBytes}
+use Rattle.utf8.specs.Names.{hasSlash, nameOf, nameBytes}
 use Rattle.utf8.proofs.Names.{not-special}
 use Rattle.arena.specs.Fields.{file}
 use Rattle.table.specs.declared.Table.{Table}
@@ -36,12 +36,12 @@ use Rattle.sefs.specs.Folders.{direntNodeRemove}
 use Rattle.sefs.specs.Create.{After, after}
 use Rattle.sefs.specs.Move.{Replaced, none, node, renamed, removeReplaced, moveWithin}
 use Rattle.rules.specs.Image.{run, isNode, recOf, isOpen, slotIn, named}
-use Rattle.sequences.specs.Pairs.{pair, Passed}
+use Rattle.sequences.specs.Pairs.{pair}
 use Rattle.image.specs.Midway.{Used, storedMeta, Fair, treeOf, plain, Midway}
-use Rattle.tree.specs.Tree.{Tree, Tidy, folderAt}
-use Rattle.tree.proofs.Trees.{folder-is, names-differ}
+use Rattle.tree.specs.Tree.{Spelling, Tree, Tidy, folderAt}
+use Rattle.tree.proofs.Trees.{spelt-new, folder-is, names-differ}
 use Rattle.tree.proofs.Unnaming.{Unnames, MayGo, unnames-tidy}
-use Rattle.sequences.proofs.Passing.{midway-passed}
+use Rattle.sequences.proofs.Passing.{Spelled, midway-spelled}
 use Rattle.image.proofs.Stores.{sync-mid}
 use Rattle.image.proofs.Drops.{mid-rec, super-kept, maps-kept, stored-kept}
 use Rattle.image.proofs.Resets.{recs-kept, nodes-kept, fair-by-tree, row-open}
@@ -56,7 +56,7 @@ use Rattle.table_laws.specs.Rules as rows
 
 -- ---- the slot has its new name
 
-module _ (s : Fs) (i : ℕ) (old : Slot) (name : List ℕ) (r : Replaced) (H : Moving rows.none s i i old name r) where
+module _ {style : Spelling} (s : Fs) (i : ℕ) (old : Slot) (name : List ℕ) (r : Replaced) (H : Moving style rows.none s i i old name r) where
   abbrev a : List ℕ
   a = s .arena
 
@@ -75,7 +75,7 @@ module _ (s : Fs) (i : ℕ) (old : Slot) (name : List ℕ) (r : Replaced) (H : M
   abbrev e : DiskEntry
   e = renamed (old .entry) name
 
-  A : Fair a t
+  A : Fair style a t
   A = H .mid .fair
 
   rec-d : recOf a t d ≡ ri
@@ -102,7 +102,7 @@ module _ (s : Fs) (i : ℕ) (old : Slot) (name : List ℕ) (r : Replaced) (H : M
   room : 264 * pl + 264 ≤ lengthOf a (file 1 (ri .file))
   room = omega (arith, long-d, H .inside)
 
-  title : Title (nameBytes name)
+  title : Title style (nameBytes name)
   title =
       let q : nameOf (nameBytes name) ≡ name = moves-name s i i old name r H in
       let n = not-special name (H .plain) in
@@ -111,6 +111,7 @@ module _ (s : Fs) (i : ℕ) (old : Slot) (name : List ℕ) (r : Replaced) (H : M
         some = λ z. n .0 (ap length (sym q ∙ z));
         no-dot = λ z. n .1 .0 (sym q ∙ z);
         no-dots = λ z. n .1 .1 (sym q ∙ z);
+        spelt = spelt-new style (nameOf (nameBytes name)) (ap hasSlash q ∙ H .no-slash);
       }
 
   module _ (b : List ℕ) (P : Put (s .arena) (nodeFile (recAt s i)) (264 * old .place) (entryBytes (renamed (old .entry) name)) b) where
@@ -158,14 +159,14 @@ module _ (s : Fs) (i : ℕ) (old : Slot) (name : List ℕ) (r : Replaced) (H : M
       own : slots d pl ≡ e
       own = same d pl (λ w z. apart (sym z)) ∙ slot-own
 
-      pub retitles : Retitles (treeOf a t) slots d pl other
+      pub retitles : Retitles style (treeOf a t) slots d pl other
       retitles = record {
         ids = all (λ z. z .id) id refl;
         kinds = all (λ z. z .kind) kind refl;
         else = λ x f n j. same x j (λ w. absurd (n w)) ∙ slot-other x j (λ q. absurd (not-file x f n q));
         still = λ j n m. same d j (λ w. m) ∙ slot-other d j (λ q. n);
         given = given;
-        title = subst (λ (z : DiskEntry). Title (z .name)) (sym own) title;
+        title = subst (λ (z : DiskEntry). Title style (z .name)) (sym own) title;
         fresh = λ j x y n z. fresh j x (omega (arith, blocks-d)) n (ap (λ (m : DiskINode). nameOf (slotIn a m j .name)) (sym rec-d) ∙ z ∙ ap (λ (m : DiskEntry). nameOf (m .name)) own);
         later = H .later;
         inside = omega (arith, H .inside, blocks-d);
@@ -183,12 +184,12 @@ module _ (s : Fs) (i : ℕ) (old : Slot) (name : List ℕ) (r : Replaced) (H : M
     there-same = put-there a (ri .file) pl e fits is-there b P
 
     -- where no other has the name, that is all
-    pub renamed-mid : ((j : ℕ) → 2 ≤ j → j < recAt s i .blocks → nameOf (slotIn (s .arena) (recAt s i) j .name) ≢ nameOf (nameBytes name)) → Midway (owns rows.none r) b (s .table)
+    pub renamed-mid : ((j : ℕ) → 2 ≤ j → j < recAt s i .blocks → nameOf (slotIn (s .arena) (recAt s i) j .name) ≢ nameOf (nameBytes name)) → Midway style (owns rows.none r) b (s .table)
     renamed-mid fresh = record {
-      fair = fair-by-tree plain a b t t A
+      fair = fair-by-tree (plain style) a b t t A
           (record { length = legal-same a b (P .size) ∙ A .rule1 .length; sound = sounds })
           K there-same (λ j. refl) (A .rule4 .clean) (λ x n. ap (λ (z : DiskINode). z .kind) (recs x)) (λ x n. ap (λ (z : DiskINode). z .file) (recs x))
-          (subst Tidy (sym (tree-slots a (ri .file) pl e fits is-there room b P t))
+          (subst (Tidy style) (sym (tree-slots a (ri .file) pl e fits is-there room b P t))
           (retitled-tidy (treeOf a t) here d pl (ri .blocks) (A .tidy) tree-d
           (retitles here (ri .blocks) (omega (arith, H .inside, H .later)) (λ z. omega (arith, H .inside)) (λ x j n. refl) refl refl (λ l. absurd (omega (arith, blocks-d))) (λ j x y n. fresh j x y))));
       formed = H .mid .formed;
@@ -210,7 +211,7 @@ module _ (s : Fs) (i : ℕ) (old : Slot) (name : List ℕ) (r : Replaced) (H : M
 
 -- ---- with a node that is replaced
 
-module _ (s : Fs) (i : ℕ) (old : Slot) (name : List ℕ) (c k : ℕ) (H : Moving rows.none s i i old name (node c k)) where
+module _ {style : Spelling} (s : Fs) (i : ℕ) (old : Slot) (name : List ℕ) (c k : ℕ) (H : Moving style rows.none s i i old name (node c k)) where
   R : Replaces s i old name c k
   R = H .onto
 
@@ -277,7 +278,7 @@ module _ (s : Fs) (i : ℕ) (old : Slot) (name : List ℕ) (c k : ℕ) (H : Movi
         (λ e. ap (λ (f : ℕ → DiskEntry). f j) (upd-other (m .slot) (idAt s i) (upd (m .slot (idAt s i)) k swapped) x e))
         (eq-cases x (idAt s i))
 
-    tidy : Tidy (withSlots (treeOf (s .arena) (s .table)) slots)
+    tidy : Tidy style (withSlots (treeOf (s .arena) (s .table)) slots)
     tidy = retitled-tidy (treeOf (s .arena) (s .table)) slots (idAt s i) (old .place) k (H .mid .fair .tidy) (tree-d s i old name (node c k) H)
         (retitles s i old name (node c k) H b P slots k (R .later) places like
         (ap (λ (z : DiskEntry). z .id) slot-k) (ap (λ (z : DiskEntry). z .kind) slot-k) (λ l. ap (λ (z : DiskEntry). z .name) slot-k) distinct)
@@ -305,7 +306,7 @@ module _ (s : Fs) (i : ℕ) (old : Slot) (name : List ℕ) (c k : ℕ) (H : Movi
     -- the slot goes, and the node's links
     goes : (x : List ℕ) → Gone b (recAt s i .file) (recAt s i .blocks - 1) k x → (u : Table)
         → Less (rows.also rows.none c) b (s .table) i c (recAt s i .blocks - 1) (bit (isFolder (recAt s c .kind))) (1 + bit (isFolder (recAt s c .kind))) u
-        → Midway (rows.also rows.none c) x u
+        → Midway style (rows.also rows.none c) x u
     goes x B u S =
         unnamed-mid b (s .table) (H .mid .formed) (bytes s i old name (node c k) H b P) (sounds s i old name (node c k) H b P) i c k (H .from .used) (R .used) goes-m is-open here-there one-file x B u S
         (s .arena) (H .mid .fair) (P .size) (K s i old name (node c k) H b P) (there-same s i old name (node c k) H b P)
@@ -315,7 +316,7 @@ module _ (s : Fs) (i : ℕ) (old : Slot) (name : List ℕ) (c k : ℕ) (H : Movi
         (gone-tree b (s .table) (H .mid .formed) (bytes s i old name (node c k) H b P) (sounds s i old name (node c k) H b P) i c k (H .from .used) (R .used) goes-m is-open here-there one-file x B u S)))
         (may slots (ap (λ (z : DiskEntry). z .id) slot-k ∙ goes-m .names)))
 
-    gone : Ok (λ (x : Fs). Midway rows.none (x .arena) (x .table) × Used (x .table) i) (λ n. n ≡ 17) (direntNodeRemove (withArena s b) i c k)
+    gone : Ok (λ (x : Fs). Midway style rows.none (x .arena) (x .table) × Used (x .table) i) (λ n. n ≡ 17) (direntNodeRemove (withArena s b) i c k)
     gone =
         removes (withArena s b) i c k (H .mid .formed) (H .mid .fits)
         (λ j l n q. H .mid .fair .rule4 .clean j l n q ∙ sym (stored-kept (s .arena) b (K s i old name (node c k) H b P) (rowAt (s .table) j .id)))
@@ -326,17 +327,17 @@ module _ (s : Fs) (i : ℕ) (old : Slot) (name : List ℕ) (c k : ℕ) (H : Movi
 -- ---- the steps
 
 -- the folder's record is stored
-stored : (s : Fs) (i : ℕ) → Midway rows.none (s .arena) (s .table) → Used (s .table) i → Ok (λ (x : After). Passed (pair (x .arena) (x .table))) Clear (bind (syncRow s i) (λ s. done (after s)))
-stored s i M u = ok-bind (ok-weaken (λ x Z. Z) clear-17 (sync-mid s M i u)) λ x Z. went (midway-passed (x .arena) (x .table) (Z .mid))
+stored : {style : Spelling} (s : Fs) (i : ℕ) → Midway style rows.none (s .arena) (s .table) → Used (s .table) i → Ok (λ (x : After). Spelled style (pair (x .arena) (x .table))) Clear (bind (syncRow s i) (λ s. done (after s)))
+stored s i M u = ok-bind (ok-weaken (λ x Z. Z) clear-17 (sync-mid s M i u)) λ x Z. went (midway-spelled (x .arena) (x .table) (Z .mid))
 
-pub within-law : (s : Fs) (i : ℕ) (old : Slot) (name : List ℕ) (r : Replaced) → Moving rows.none s i i old name r → Ok (λ (x : After). Passed (pair (x .arena) (x .table))) Clear (moveWithin s i old name r)
+pub within-law : {style : Spelling} (s : Fs) (i : ℕ) (old : Slot) (name : List ℕ) (r : Replaced) → Moving style rows.none s i i old name r → Ok (λ (x : After). Spelled style (pair (x .arena) (x .table))) Clear (moveWithin s i old name r)
 unfolding moveWithin
-within-law s i old name r H =
+within-law {style = style} s i old name r H =
     ok-bind (ok-weaken (λ x Q. Q) clear-17 (overwrite-law s i (old .place) (renamed (old .entry) name) (fits s i old name r H) (is-there s i old name r H))) λ x Q.
-    subst (λ (y : Fs). Ok (λ (x : After). Passed (pair (x .arena) (x .table))) Clear (bind (removeReplaced y i r) (λ s. bind (syncRow s i) (λ s. done (after s))))) (sym (Q .is))
+    subst (λ (y : Fs). Ok (λ (x : After). Spelled style (pair (x .arena) (x .table))) Clear (bind (removeReplaced y i r) (λ s. bind (syncRow s i) (λ s. done (after s))))) (sym (Q .is))
     (rest r H (Q .arena) (Q .put))
   where
-    rest : (r : Replaced) → Moving rows.none s i i old name r → (b : List ℕ) → Put (s .arena) (nodeFile (recAt s i)) (264 * old .place) (entryBytes (renamed (old .entry) name)) b
-        → Ok (λ (x : After). Passed (pair (x .arena) (x .table))) Clear (bind (removeReplaced (withArena s b) i r) (λ s. bind (syncRow s i) (λ s. done (after s))))
+    rest : (r : Replaced) → Moving style rows.none s i i old name r → (b : List ℕ) → Put (s .arena) (nodeFile (recAt s i)) (264 * old .place) (entryBytes (renamed (old .entry) name)) b
+        → Ok (λ (x : After). Spelled style (pair (x .arena) (x .table))) Clear (bind (removeReplaced (withArena s b) i r) (λ s. bind (syncRow s i) (λ s. done (after s))))
     rest none H b P = stored (withArena s b) i (renamed-mid s i old name none H b P (H .onto .fresh)) (H .from .used)
     rest (node c k) H b P = ok-bind (ok-weaken (λ x E. E) clear-17 (gone s i old name c k H b P)) λ x E. stored x i (E .0) (E .1)

@@ -18,13 +18,13 @@ use Rattle.structs.specs.Fits.{EntryFits}
 use Rattle.structs.proofs.Layouts.{entryOf-entryBytes}
 use Rattle.structs.proofs.Joins.{bytes-append}
 use Rattle.le.specs.Le.{Bytes}
-use Rattle.utf8.specs.Names.{nameVerdict, earlyReason, isSpecial, nameBytes}
+use Rattle.utf8.specs.Names.{nameVerdict, earlyReason, newReason, isSpecial, nameBytes}
 use Rattle.utf8.proofs.Names.{length-nameBytes}
 use Rattle.table.specs.Table.{rowAt}
 use Rattle.sefs.specs.Nodes.{recAt, idAt, syncRow}
 use Rattle.sefs.specs.Slots.{lookTo}
 use Rattle.sefs.specs.Folders.{entry, direntAppend}
-use Rattle.sefs.specs.Ask.{goodName, notLong, notSpecial, known}
+use Rattle.sefs.specs.Ask.{goodName, newName, notLong, notSpecial, known}
 use Rattle.mem.specs.Mem.{tableIn}
 use Rattle.mem.specs.State.{fsOf, Stepped}
 use Rattle.folders.proofs.States.{stepped-next}
@@ -51,6 +51,9 @@ module _ (a : List ℕ) (r : DiskINode) (name : List ℕ) {k : ℕ} {P : Type 0}
 
 pub asks-good : (name : List ℕ) → Asks (goodName name)
 asks-good name = asks-ensure (eqb (earlyReason (nameVerdict name)) 0) 5 (omega arith)
+
+pub asks-new : (name : List ℕ) → Asks (newName name)
+asks-new name = asks-ensure (eqb (newReason (nameVerdict name)) 0) 5 (omega arith)
 
 pub asks-known : (r : DiskINode) → Asks (known r)
 asks-known r = asks-ensure (ltb 0 (r .kind) && leb (r .kind) 4) 19 (omega arith)

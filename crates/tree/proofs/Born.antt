@@ -17,7 +17,7 @@ use Rattle.structs.specs.Types.{isFolder}
 use Rattle.structs.specs.declared.DiskEntry.{DiskEntry}
 use Rattle.utf8.specs.Names.{nameOf}
 use Rattle.tree.proofs.Trees.{pick-like, folder-is, parent-lives}
-use Rattle.tree.specs.Tree.{Tree, folderAt, namesOf, allNames, subsOf, parent, up, LaterIn, FolderIn, LinkedIn, RemovedIn, Lives, NamedBy, Tidy}
+use Rattle.tree.specs.Tree.{Spelling, Tree, folderAt, namesOf, allNames, subsOf, parent, up, LaterIn, FolderIn, LinkedIn, RemovedIn, Lives, NamedBy, Tidy}
 
 -- w is v, with node c too; there may be more ids
 pub record Born (v w : Tree) (c : ℕ) : Type 0 where
@@ -45,7 +45,7 @@ pub record Born (v w : Tree) (c : ℕ) : Type 0 where
   pub dots : isFolder (w .kind c) ≡ true → nameOf (w .slot c 1 .name) ≡ 46 ∷ 46 ∷ []
   pub dots-kind : isFolder (w .kind c) ≡ true → w .slot c 1 .kind ≡ typeDir
 
-module _ (v w : Tree) (c : ℕ) (I : Tidy v) (R : Born v w c) where
+module _ (v w : Tree) (c : ℕ) {style : Spelling} (I : Tidy style v) (R : Born v w c) where
   other : (i : ℕ) → v .node i ≡ true → i ≢ c
   other i n e = true-false (ap (v .node) (sym e) ∙ n) (R .new)
 
@@ -133,10 +133,10 @@ module _ (v w : Tree) (c : ℕ) (I : Tidy v) (R : Born v w c) where
       go i true e = countTo-none (λ j. eqb (v .slot i (2 + j) .id) c) (v .blocks i - 2) (λ j l. ne-eqb (v .slot i (2 + j) .id) c (nobody i (2 + j) e (omega arith) (omega arith)))
       go i false e = refl
 
-  later-same : (s : DiskEntry) → LaterIn v s → LaterIn w s
-  later-same s L = record { ended = L .ended; some = L .some; no-dot = L .no-dot; no-dots = L .no-dots; node = stays (s .id) (L .node); kind = R .kind (s .id) (L .node) ∙ L .kind }
+  later-same : (s : DiskEntry) → LaterIn style v s → LaterIn style w s
+  later-same s L = record { ended = L .ended; some = L .some; no-dot = L .no-dot; no-dots = L .no-dots; spelt = L .spelt; node = stays (s .id) (L .node); kind = R .kind (s .id) (L .node) ∙ L .kind }
 
-  folder-else : (i : ℕ) → folderAt v i ≡ true → FolderIn w i
+  folder-else : (i : ℕ) → folderAt v i ≡ true → FolderIn style w i
   folder-else i f =
       let F = I .folder i f in
       let b = R .blocks i (folder-is v i f) in
@@ -153,7 +153,7 @@ module _ (v w : Tree) (c : ℕ) (I : Tidy v) (R : Born v w c) where
         distinct = λ j k x y z. let l : k < v .blocks i = omega (arith, b) in rw (s j (omega arith), s k l) (F .distinct j k x y l);
       }
 
-  folder-new : isFolder (w .kind c) ≡ true → FolderIn w c
+  folder-new : isFolder (w .kind c) ≡ true → FolderIn style w c
   folder-new f = record {
     blocks = omega (arith, R .two f);
     length = R .filled f ∙ omega (arith, R .two f);
@@ -190,12 +190,12 @@ module _ (v w : Tree) (c : ℕ) (I : Tidy v) (R : Born v w c) where
       (λ (h : RemovedIn v i). inr (record { apart = h .apart; opened = R .opened i n (h .opened); links = R .links i n ∙ h .links; unnamed = all-same i ∙ h .unnamed; slots = R .blocks i n ∙ h .slots }))
       (I .either i f)
 
-  pub born-tidy : Tidy w
+  pub born-tidy : Tidy style w
   born-tidy = record {
     below = λ i n. ⊎-elim (λ (e : i ≡ c). subst (λ (j : ℕ). j < w .ids) (sym e) (R .inside)) (λ d. omega (arith, I .below i (was i n d), R .ids)) (eq-cases i c);
     two = record { folder = keeps 2 (I .two .folder); links = λ z. I .two .links (sym (R .links 2 (folder-is v 2 (I .two .folder))) ∙ z) };
     folder = λ i f. ⊎-elim
-        (λ (e : i ≡ c). subst (FolderIn w) (sym e) (folder-new (dir-is (ap (folderAt w) (sym e) ∙ f))))
+        (λ (e : i ≡ c). subst (FolderIn style w) (sym e) (folder-new (dir-is (ap (folderAt w) (sym e) ∙ f))))
         (λ d. folder-else i (sym (folder-same i d) ∙ f))
         (eq-cases i c);
     sized = λ i n f. ⊎-elim

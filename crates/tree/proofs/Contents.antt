@@ -7,7 +7,7 @@ use lib.Dec.{eqb}
 use Rattle.base.specs.Count.{sumTo, countTo}
 use Rattle.structs.specs.Types.{isFolder}
 use Rattle.structs.specs.declared.DiskEntry.{DiskEntry}
-use Rattle.tree.specs.Tree.{Tree, folderAt, namesOf, allNames, subsOf, parent, up, LaterIn, FolderIn, LinkedIn, RemovedIn, Lives, NamedBy, Tidy}
+use Rattle.tree.specs.Tree.{Spelling, Tree, folderAt, namesOf, allNames, subsOf, parent, up, LaterIn, FolderIn, LinkedIn, RemovedIn, Lives, NamedBy, Tidy}
 use Rattle.tree.proofs.Trees.{pick-like, parent-lives}
 
 -- the tree with other sizes, lengths and slots
@@ -24,7 +24,7 @@ withContents v sizes longs slots = record {
   opened = v .opened;
 }
 
-module _ (v : Tree) (z l : ℕ → ℕ) (s : ℕ → ℕ → DiskEntry) (I : Tidy v)
+module _ (v : Tree) (z l : ℕ → ℕ) (s : ℕ → ℕ → DiskEntry) {style : Spelling} (I : Tidy style v)
     (long : (i : ℕ) → folderAt v i ≡ true → l i ≡ v .long i)
     (slot : (i : ℕ) → folderAt v i ≡ true → (k : ℕ) → s i k ≡ v .slot i k)
     (sized : (i : ℕ) → v .node i ≡ true → folderAt v i ≡ false → l i ≡ z i) where
@@ -56,10 +56,10 @@ module _ (v : Tree) (z l : ℕ → ℕ) (s : ℕ → ℕ → DiskEntry) (I : Tid
       let q = up-same i x n in
       (ap (parent w) (q .0) ∙ parent-same (up v i n) (q .1 .folder), parent-lives v I (up v i n) (q .1))
 
-  later-same : (e : DiskEntry) → LaterIn v e → LaterIn w e
-  later-same e L = record { ended = L .ended; some = L .some; no-dot = L .no-dot; no-dots = L .no-dots; node = L .node; kind = L .kind }
+  later-same : (e : DiskEntry) → LaterIn style v e → LaterIn style w e
+  later-same e L = record { ended = L .ended; some = L .some; no-dot = L .no-dot; no-dots = L .no-dots; spelt = L .spelt; node = L .node; kind = L .kind }
 
-  folder-same : (i : ℕ) → folderAt v i ≡ true → FolderIn w i
+  folder-same : (i : ℕ) → folderAt v i ≡ true → FolderIn style w i
   folder-same i d =
       let F = I .folder i d in
       let e : (k : ℕ) → s i k ≡ v .slot i k = slot i d in
@@ -75,7 +75,7 @@ module _ (v : Tree) (z l : ℕ → ℕ) (s : ℕ → ℕ → DiskEntry) (I : Tid
         distinct = λ j k x y h. rw (e j, e k) (F .distinct j k x y h);
       }
 
-  pub contents-tidy : Tidy (withContents v z l s)
+  pub contents-tidy : Tidy style (withContents v z l s)
   contents-tidy = record {
     below = I .below;
     two = record { folder = I .two .folder; links = I .two .links };

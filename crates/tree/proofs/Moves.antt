@@ -16,15 +16,15 @@ use Rattle.base.proofs.Numbers.{lt-or-le}
 use Rattle.structs.specs.Types.{isFolder}
 use Rattle.structs.specs.declared.DiskEntry.{DiskEntry}
 use Rattle.utf8.specs.Names.{nameOf}
-use Rattle.tree.specs.Tree.{Tree, folderAt, namesOf, allNames, subsOf, parent, up, LaterIn, FolderIn, LinkedIn, RemovedIn, Lives, NamedBy, Tidy}
+use Rattle.tree.specs.Tree.{Spelling, Tree, folderAt, namesOf, allNames, subsOf, parent, up, LaterIn, FolderIn, LinkedIn, RemovedIn, Lives, NamedBy, Tidy}
 use Rattle.tree.specs.Moves.{Spot, end, over, lost, goes, Moves, Takes, MayMove, MovesTidy}
-use Rattle.tree.proofs.Trees.{at, at-here, at-else, pick-like, folder-is, names-differ, lives-linked, parent-lives, up-first}
+use Rattle.tree.proofs.Trees.{spelt-new, at, at-here, at-else, pick-like, folder-is, names-differ, lives-linked, parent-lives, up-first}
 use Rattle.tree.proofs.Unnaming.{count-swap}
 use Rattle.tree.proofs.Ways.{slot-counts, names-part, one-parent, not-own}
 
 -- ---- the folder that goes
 
-module _ (v : Tree) (f p g k c : ℕ) (o : Spot) (e : DiskEntry) (I : Tidy v) (P : MayMove v f p g k c o e) where
+module _ (v : Tree) (f p g k c : ℕ) (o : Spot) (e : DiskEntry) {style : Spelling} (I : Tidy style v) (P : MayMove v f p g k c o e) where
   record Goes (d : ℕ) : Type 0 where
     node : v .node d ≡ true
     folder : folderAt v d ≡ true
@@ -58,14 +58,14 @@ module _ (v : Tree) (f p g k c : ℕ) (o : Spot) (e : DiskEntry) (I : Tidy v) (P
   pub gone-apart : (d : ℕ) → goes o d ≡ true → (d ≢ f) × (d ≢ g)
   gone-apart d q = let D = gone d q in (D .not-f, D .not-g)
 
-module _ (v w : Tree) (f p g k c : ℕ) (o : Spot) (e : DiskEntry) (I : Tidy v) (P : MayMove v f p g k c o e) (R : Moves v w f p g k c o e) where
-  F : FolderIn v f
+module _ (v w : Tree) (f p g k c : ℕ) (o : Spot) (e : DiskEntry) {style : Spelling} (I : Tidy style v) (P : MayMove v f p g k c o e) (R : Moves v w f p g k c o e) where
+  F : FolderIn style v f
   F = I .folder f (P .source .folder)
 
-  G : FolderIn v g
+  G : FolderIn style v g
   G = I .folder g (P .target .folder)
 
-  S : LaterIn v (v .slot f p)
+  S : LaterIn style v (v .slot f p)
   S = F .later p (P .later) (P .inside)
 
   node-c : v .node c ≡ true
@@ -77,7 +77,7 @@ module _ (v w : Tree) (f p g k c : ℕ) (o : Spot) (e : DiskEntry) (I : Tidy v) 
   folder-c : folderAt v c ≡ true
   folder-c = λ x. node-c x && P .folder x
 
-  C : FolderIn v c
+  C : FolderIn style v c
   C = I .folder c folder-c
 
   folder-same : (i : ℕ) → folderAt w i ≡ folderAt v i
@@ -271,22 +271,24 @@ module _ (v w : Tree) (f p g k c : ℕ) (o : Spot) (e : DiskEntry) (I : Tidy v) 
 
   -- ---- slots
 
-  later-same : (s : DiskEntry) → LaterIn v s → LaterIn w s
+  later-same : (s : DiskEntry) → LaterIn style v s → LaterIn style w s
   later-same s N = record {
     ended = N .ended;
     some = N .some;
     no-dot = N .no-dot;
     no-dots = N .no-dots;
+    spelt = N .spelt;
     node = R .node (s .id) ∙ N .node;
     kind = R .kind (s .id) (N .node) ∙ N .kind;
   }
 
-  later-new : LaterIn w e
+  later-new : LaterIn style w e
   later-new = record {
     ended = P .ended;
     some = P .some;
     no-dot = P .no-dot;
     no-dots = P .no-dots;
+    spelt = spelt-new style (nameOf (e .name)) (P .no-slash);
     node = ap (w .node) (P .id) ∙ R .node c ∙ node-c;
     kind = ap (w .kind) (P .id) ∙ R .kind c node-c ∙ sym (P .kind);
   }
@@ -330,8 +332,8 @@ module _ (v w : Tree) (f p g k c : ℕ) (o : Spot) (e : DiskEntry) (I : Tidy v) 
       (λ n. let s = first i h 1 (omega arith) (λ z. absurd (n z)) in (ap (λ (s : DiskEntry). nameOf (s .name)) s, ap (λ (s : DiskEntry). s .kind) s))
       (eq-cases i c)
 
-  folder-by : (i : ℕ) → folderAt v i ≡ true → 2 ≤ w .blocks i → w .long i ≡ 264 * w .blocks i → ((j : ℕ) → 2 ≤ j → j < w .blocks i → LaterIn w (w .slot i j))
-      → ((h j : ℕ) → 2 ≤ h → h < j → j < w .blocks i → nameOf (w .slot i h .name) ≢ nameOf (w .slot i j .name)) → FolderIn w i
+  folder-by : (i : ℕ) → folderAt v i ≡ true → 2 ≤ w .blocks i → w .long i ≡ 264 * w .blocks i → ((j : ℕ) → 2 ≤ j → j < w .blocks i → LaterIn style w (w .slot i j))
+      → ((h j : ℕ) → 2 ≤ h → h < j → j < w .blocks i → nameOf (w .slot i h .name) ≢ nameOf (w .slot i j .name)) → FolderIn style w i
   folder-by i h two long later distinct =
       let H = I .folder i h in
       let s = first i h 0 (omega arith) (λ y z. omega arith) in
@@ -348,10 +350,10 @@ module _ (v w : Tree) (f p g k c : ℕ) (o : Spot) (e : DiskEntry) (I : Tidy v) 
         distinct = distinct;
       }
 
-  folder-from : FolderIn w f
+  folder-from : FolderIn style w f
   folder-from =
       folder-by f (P .source .folder) (omega (arith, P .later, P .inside, R .fewer)) (R .shorter)
-      (λ j x y. let s = was j x y in subst (LaterIn w) (sym (s .is)) (later-same (v .slot f (s .at)) (F .later (s .at) (s .later) (s .inside))))
+      (λ j x y. let s = was j x y in subst (LaterIn style w) (sym (s .is)) (later-same (v .slot f (s .at)) (F .later (s .at) (s .later) (s .inside))))
       (λ h j x y z.
       let s = was h x (omega arith) in
       let t = was j (omega arith) z in
@@ -368,11 +370,11 @@ module _ (v w : Tree) (f p g k c : ℕ) (o : Spot) (e : DiskEntry) (I : Tidy v) 
       rw (s .is, t .is) (names-differ v f F (s .at) (t .at) n (s .later) (t .later) (s .inside) (t .inside)))
 
   -- a slot of the target is the new one or an old one
-  target-later : (j : ℕ) → 2 ≤ j → j < w .blocks g → LaterIn w (w .slot g j)
+  target-later : (j : ℕ) → 2 ≤ j → j < w .blocks g → LaterIn style w (w .slot g j)
   target-later j x y =
       ⊎-elim
-      (λ (q : j ≡ k). subst (LaterIn w) (sym (ap (w .slot g) q ∙ R .new)) later-new)
-      (λ n. subst (LaterIn w) (sym (R .same j y n)) (later-same (v .slot g j) (G .later j x (within j y n))))
+      (λ (q : j ≡ k). subst (LaterIn style w) (sym (ap (w .slot g) q ∙ R .new)) later-new)
+      (λ n. subst (LaterIn style w) (sym (R .same j y n)) (later-same (v .slot g j) (G .later j x (within j y n))))
       (eq-cases j k)
 
   target-new : (j : ℕ) → 2 ≤ j → j < w .blocks g → j ≢ k → nameOf (w .slot g j .name) ≢ nameOf (w .slot g k .name)
@@ -388,21 +390,21 @@ module _ (v w : Tree) (f p g k c : ℕ) (o : Spot) (e : DiskEntry) (I : Tidy v) 
       (eq-cases j k))
       (eq-cases h k)
 
-  folder-else : (i : ℕ) → folderAt v i ≡ true → i ≢ f → i ≢ g → FolderIn w i
+  folder-else : (i : ℕ) → folderAt v i ≡ true → i ≢ f → i ≢ g → FolderIn style w i
   folder-else i h n m =
       let H = I .folder i h in
       let b = R .blocks i h n m in
       let s : (j : ℕ) → 2 ≤ j → j < v .blocks i → w .slot i j ≡ v .slot i j = λ j x y. R .slots i h n m j y (λ z q. omega arith) in
       folder-by i h (omega (arith, H .blocks, b)) (R .long i (folder-is v i h) n m ∙ H .length ∙ ap (λ (x : ℕ). 264 * x) (sym b))
-      (λ j x y. let l : j < v .blocks i = omega (arith, b) in subst (LaterIn w) (sym (s j x l)) (later-same (v .slot i j) (H .later j x l)))
+      (λ j x y. let l : j < v .blocks i = omega (arith, b) in subst (LaterIn style w) (sym (s j x l)) (later-same (v .slot i j) (H .later j x l)))
       (λ a j x y z. let l : j < v .blocks i = omega (arith, b) in rw (s a x (omega arith), s j (omega arith) l) (H .distinct a j x y l))
 
-  folder-in : (i : ℕ) → folderAt v i ≡ true → FolderIn w i
+  folder-in : (i : ℕ) → folderAt v i ≡ true → FolderIn style w i
   folder-in i h =
       ⊎-elim
-      (λ (q : i ≡ f). subst (FolderIn w) (sym q) folder-from)
+      (λ (q : i ≡ f). subst (FolderIn style w) (sym q) folder-from)
       (λ n. ⊎-elim
-      (λ (q : i ≡ g). subst (FolderIn w) (sym q) (folder-by g (P .target .folder) (omega (arith, k-later, k-inside)) (R .longer) target-later target-differ))
+      (λ (q : i ≡ g). subst (FolderIn style w) (sym q) (folder-by g (P .target .folder) (omega (arith, k-later, k-inside)) (R .longer) target-later target-differ))
       (λ m. folder-else i h n m)
       (eq-cases i g))
       (eq-cases i f)
@@ -537,7 +539,7 @@ module _ (v w : Tree) (f p g k c : ℕ) (o : Spot) (e : DiskEntry) (I : Tidy v) 
   file-stays : (i : ℕ) → folderAt v i ≡ false → goes o i ≡ false
   file-stays i h = ⊎-elim (λ (q : goes o i ≡ true). absurd (true-false (gone v f p g k c o e I P i q .folder) h)) (λ q. q) (bool-cases (goes o i))
 
-  tidy : Tidy w
+  tidy : Tidy style w
   tidy = record {
     below = λ i n. subst (λ (m : ℕ). i < m) (sym (R .ids)) (I .below i (sym (R .node i) ∙ n));
     two = root-lives;
@@ -572,4 +574,4 @@ module _ (v w : Tree) (f p g k c : ℕ) (o : Spot) (e : DiskEntry) (I : Tidy v) 
 
 pub moves-tidy : MovesTidy
 unfolding MovesTidy
-moves-tidy v w f p g k c o e I P R = tidy v w f p g k c o e I P R
+moves-tidy style v w f p g k c o e I P R = tidy v w f p g k c o e I P R

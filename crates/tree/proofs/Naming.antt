@@ -16,9 +16,9 @@ use Rattle.base.proofs.Finds.{eq-cases}
 use Rattle.base.proofs.Numbers.{lt-or-le}
 use Rattle.structs.specs.Types.{isFolder}
 use Rattle.structs.specs.declared.DiskEntry.{DiskEntry}
-use Rattle.utf8.specs.Names.{nameOf, zeroAt, EndedAt}
-use Rattle.tree.proofs.Trees.{pick-like, folder-is, lives-linked, none-removed, parent-lives, up-first}
-use Rattle.tree.specs.Tree.{Tree, folderAt, namesOf, allNames, subsOf, parent, up, LaterIn, FolderIn, LinkedIn, RemovedIn, Lives, NamedBy, Tidy}
+use Rattle.utf8.specs.Names.{nameOf, zeroAt, EndedAt, hasSlash}
+use Rattle.tree.proofs.Trees.{spelt-new, pick-like, folder-is, lives-linked, none-removed, parent-lives, up-first}
+use Rattle.tree.specs.Tree.{Spelling, Tree, folderAt, namesOf, allNames, subsOf, parent, up, LaterIn, FolderIn, LinkedIn, RemovedIn, Lives, NamedBy, Tidy}
 
 -- w is v, with slot e for node c at the end of folder d
 pub record Names (v w : Tree) (d c : ℕ) (e : DiskEntry) : Type 0 where
@@ -48,6 +48,7 @@ pub record May (v : Tree) (d c : ℕ) (e : DiskEntry) : Type 0 where
   pub some : nameOf (e .name) ≢ []
   pub no-dot : nameOf (e .name) ≢ 46 ∷ []
   pub no-dots : nameOf (e .name) ≢ 46 ∷ 46 ∷ []
+  pub no-slash : hasSlash (nameOf (e .name)) ≡ false
   pub fresh : (k : ℕ) → 2 ≤ k → k < v .blocks d → nameOf (v .slot d k .name) ≢ nameOf (e .name)
   pub loose : isFolder (v .kind c) ≡ true → v .links c ≡ 0
   pub under : isFolder (v .kind c) ≡ true → parent v c ≡ d
@@ -57,7 +58,7 @@ pub none-subs : (v : Tree) (i : ℕ) → v .blocks i ≡ 2 → subsOf v i ≡ 0
 unfolding subsOf countTo sumTo
 none-subs v i z = ap (λ (m : ℕ). countTo (λ j. isFolder (v .slot i (2 + j) .kind)) (m - 2)) z
 
-module _ (v w : Tree) (d c : ℕ) (e : DiskEntry) (I : Tidy v) (R : Names v w d c e) (P : May v d c e) where
+module _ (v w : Tree) (d c : ℕ) (e : DiskEntry) {style : Spelling} (I : Tidy style v) (R : Names v w d c e) (P : May v d c e) where
   abbrev dir : Bool
   dir = isFolder (v .kind c)
 
@@ -131,27 +132,29 @@ module _ (v w : Tree) (d c : ℕ) (e : DiskEntry) (I : Tidy v) (R : Names v w d 
 
   -- ---- slots
 
-  later-same : (s : DiskEntry) → LaterIn v s → LaterIn w s
+  later-same : (s : DiskEntry) → LaterIn style v s → LaterIn style w s
   later-same s L = record {
     ended = L .ended;
     some = L .some;
     no-dot = L .no-dot;
     no-dots = L .no-dots;
+    spelt = L .spelt;
     node = R .node (s .id) ∙ L .node;
     kind = R .kind (s .id) (L .node) ∙ L .kind;
   }
 
-  later-new : LaterIn w e
+  later-new : LaterIn style w e
   later-new = record {
     ended = P .ended;
     some = P .some;
     no-dot = P .no-dot;
     no-dots = P .no-dots;
+    spelt = spelt-new style (nameOf (e .name)) (P .no-slash);
     node = ap (w .node) (P .id) ∙ R .node c ∙ P .node;
     kind = ap (w .kind) (P .id) ∙ R .kind c (P .node) ∙ sym (P .kind);
   }
 
-  folder-else : (i : ℕ) → folderAt v i ≡ true → i ≢ d → FolderIn w i
+  folder-else : (i : ℕ) → folderAt v i ≡ true → i ≢ d → FolderIn style w i
   folder-else i f n =
       let F = I .folder i f in
       let b = R .blocks i f n in
@@ -168,7 +171,7 @@ module _ (v w : Tree) (d c : ℕ) (e : DiskEntry) (I : Tidy v) (R : Names v w d 
         distinct = λ j k x y z. let l : k < v .blocks i = omega (arith, b) in rw (s j (omega arith), s k l) (F .distinct j k x y l);
       }
 
-  folder-own : FolderIn w d
+  folder-own : FolderIn style w d
   folder-own =
       let f : folderAt v d ≡ true = P .lives .folder in
       let F = I .folder d f in
@@ -184,7 +187,7 @@ module _ (v w : Tree) (d c : ℕ) (e : DiskEntry) (I : Tidy v) (R : Names v w d 
         dots-kind = rw (s 1 (omega (arith, F .blocks))) (F .dots-kind);
         later = λ k x y. ⊎-elim
             (λ (l : k < v .blocks d). rw (s k l) (later-same (v .slot d k) (F .later k x l)))
-            (λ (l : v .blocks d ≤ k). let q : k ≡ v .blocks d = omega (arith, b) in subst (LaterIn w) (sym (ap (w .slot d) q ∙ R .new)) later-new)
+            (λ (l : v .blocks d ≤ k). let q : k ≡ v .blocks d = omega (arith, b) in subst (LaterIn style w) (sym (ap (w .slot d) q ∙ R .new)) later-new)
             (lt-or-le k (v .blocks d));
         distinct = λ j k x y z. ⊎-elim
             (λ (l : k < v .blocks d). rw (s j (omega arith), s k l) (F .distinct j k x y l))
@@ -291,11 +294,11 @@ module _ (v w : Tree) (d c : ℕ) (e : DiskEntry) (I : Tidy v) (R : Names v w d 
     links = ⊎-elim (λ (L : LinkedIn w 2). λ z. omega (arith, L .links)) (λ (L : RemovedIn w 2). absurd (L .apart refl)) (either 2 (I .two .folder));
   }
 
-  pub names-tidy : Tidy w
+  pub names-tidy : Tidy style w
   names-tidy = record {
     below = λ i n. subst (λ (m : ℕ). i < m) (sym (R .ids)) (I .below i (sym (R .node i) ∙ n));
     two = root-lives;
-    folder = λ i f. ⊎-elim (λ (q : i ≡ d). subst (FolderIn w) (sym q) folder-own) (λ n. folder-else i (back i f) n) (eq-cases i d);
+    folder = λ i f. ⊎-elim (λ (q : i ≡ d). subst (FolderIn style w) (sym q) folder-own) (λ n. folder-else i (back i f) n) (eq-cases i d);
     sized = λ i n f.
         let g : folderAt v i ≡ false = sym (folder-same i) ∙ f in
         let m : v .node i ≡ true = sym (R .node i) ∙ n in

@@ -15,7 +15,7 @@ use Rattle.base.proofs.Finds.{eq-cases}
 use Rattle.structs.specs.Types.{isFolder}
 use Rattle.structs.specs.declared.DiskEntry.{DiskEntry}
 use Rattle.utf8.specs.Names.{nameOf, zeroAt, EndedAt}
-use Rattle.tree.specs.Tree.{Tree, folderAt, namesOf, allNames, subsOf, parent, up, LaterIn, FolderIn, LinkedIn, RemovedIn, Lives, NamedBy, Tidy}
+use Rattle.tree.specs.Tree.{Spelling, Spelt, Tree, folderAt, namesOf, allNames, subsOf, parent, up, LaterIn, FolderIn, LinkedIn, RemovedIn, Lives, NamedBy, Tidy}
 use Rattle.tree.proofs.Trees.{folder-is, at, at-here, at-else}
 use Rattle.tree.proofs.Naming.{May, names-tidy}
 
@@ -55,8 +55,8 @@ module _ (v : Tree) (f k l : ℕ) (e : DiskEntry) (L : ℕ → ℕ) where
 
 -- ---- one slot more
 
-module _ (v : Tree) (f c : ℕ) (e : DiskEntry) (I : Tidy v) (P : May v f c e) (file : isFolder (v .kind c) ≡ false) where
-  pub longer-tidy : Tidy (onto v f (v .blocks f) (v .blocks f + 1) e (at c (v .links c + 1) (v .links)))
+module _ (v : Tree) (f c : ℕ) (e : DiskEntry) {style : Spelling} (I : Tidy style v) (P : May v f c e) (file : isFolder (v .kind c) ≡ false) where
+  pub longer-tidy : Tidy style (onto v f (v .blocks f) (v .blocks f + 1) e (at c (v .links c + 1) (v .links)))
   longer-tidy =
       names-tidy v (onto v f (v .blocks f) (v .blocks f + 1) e (at c (v .links c + 1) (v .links))) f c e I
       (record {
@@ -98,7 +98,7 @@ pub record Turns (v : Tree) (f k d c : ℕ) (e : DiskEntry) : Type 0 where
   pub ended : EndedAt (e .name) (zeroAt (e .name))
   pub name : nameOf (e .name) ≡ nameOf (v .slot f k .name)
 
-module _ (v : Tree) (f k d c : ℕ) (e : DiskEntry) (I : Tidy v) (P : Turns v f k d c e) (L : ℕ → ℕ)
+module _ (v : Tree) (f k d c : ℕ) (e : DiskEntry) {style : Spelling} (I : Tidy style v) (P : Turns v f k d c e) (L : ℕ → ℕ)
     (more : L c ≡ v .links c + 1) (less : L d + 1 ≡ v .links d) (else : (i : ℕ) → i ≢ c → i ≢ d → L i ≡ v .links i) where
   abbrev w : Tree
   w = onto v f k (v .blocks f) e L
@@ -106,10 +106,10 @@ module _ (v : Tree) (f k d c : ℕ) (e : DiskEntry) (I : Tidy v) (P : Turns v f 
   split : (Q : DiskEntry → Type 0) (i m : ℕ) → (i ≡ f → m ≡ k → Q e) → Q (v .slot i m) → Q (w .slot i m)
   split = onto-split v f k (v .blocks f) e L
 
-  F : FolderIn v f
+  F : FolderIn style v f
   F = I .folder f (P .folder)
 
-  S : LaterIn v (v .slot f k)
+  S : LaterIn style v (v .slot f k)
   S = F .later k (P .later) (P .inside)
 
   blocks-same : (i : ℕ) → w .blocks i ≡ v .blocks i
@@ -146,7 +146,7 @@ module _ (v : Tree) (f k d c : ℕ) (e : DiskEntry) (I : Tidy v) (P : Turns v f 
   first-same : (i m : ℕ) → m < 2 → w .slot i m ≡ v .slot i m
   first-same i m x = onto-other v f k (v .blocks f) e L i m (λ z. omega (arith, P .later))
 
-  folder-in : (i : ℕ) → folderAt v i ≡ true → FolderIn w i
+  folder-in : (i : ℕ) → folderAt v i ≡ true → FolderIn style w i
   folder-in i g =
       let G = I .folder i g in
       let b = blocks-same i in
@@ -160,16 +160,17 @@ module _ (v : Tree) (f k d c : ℕ) (e : DiskEntry) (I : Tidy v) (P : Turns v f 
         dots-kind = ap (λ (s : DiskEntry). s .kind) (first-same i 1 (omega arith)) ∙ G .dots-kind;
         later = λ m x y.
             let O = G .later m x (omega arith) in
-            split (LaterIn w) i m
+            split (LaterIn style w) i m
             (λ q z. record {
               ended = P .ended;
               some = λ h. S .some (sym (P .name) ∙ h);
               no-dot = λ h. S .no-dot (sym (P .name) ∙ h);
               no-dots = λ h. S .no-dots (sym (P .name) ∙ h);
+              spelt = subst (Spelt style) (sym (P .name)) (S .spelt);
               node = ap (v .node) (P .id) ∙ P .node;
               kind = ap (v .kind) (P .id) ∙ sym (P .kind);
             })
-            (record { ended = O .ended; some = O .some; no-dot = O .no-dot; no-dots = O .no-dots; node = O .node; kind = O .kind });
+            (record { ended = O .ended; some = O .some; no-dot = O .no-dot; no-dots = O .no-dots; spelt = O .spelt; node = O .node; kind = O .kind });
         distinct = λ j m x y z h. G .distinct j m x y (omega arith) (sym (name-same i j) ∙ h ∙ name-same i m);
       }
 
@@ -226,7 +227,7 @@ module _ (v : Tree) (f k d c : ℕ) (e : DiskEntry) (I : Tidy v) (P : Turns v f 
   lived : (i : ℕ) → Lives w i → Lives v i
   lived i x = record { folder = x .folder; links = λ z. x .links (else i (not-c i (x .folder)) (not-d i (x .folder)) ∙ z) }
 
-  pub turned-tidy : Tidy (onto v f k (v .blocks f) e L)
+  pub turned-tidy : Tidy style (onto v f k (v .blocks f) e L)
   turned-tidy = record {
     below = I .below;
     two = record { folder = I .two .folder; links = λ z. I .two .links (sym (else 2 (not-c 2 (I .two .folder)) (not-d 2 (I .two .folder))) ∙ z) };

@@ -14,7 +14,7 @@ use Rattle.structs.specs.Types.{isFolder}
 use Rattle.structs.specs.declared.DiskEntry.{DiskEntry}
 use Rattle.utf8.specs.Names.{nameOf, zeroAt, EndedAt}
 use Rattle.tree.proofs.Unnaming.{Unnames}
-use Rattle.tree.specs.Tree.{Tree, folderAt, namesOf, allNames, subsOf, parent, up, LaterIn, FolderIn, LinkedIn, RemovedIn, Lives, NamedBy, Tidy}
+use Rattle.tree.specs.Tree.{Spelling, Spelt, Tree, folderAt, namesOf, allNames, subsOf, parent, up, LaterIn, FolderIn, LinkedIn, RemovedIn, Lives, NamedBy, Tidy}
 use Rattle.tree.proofs.Trees.{names-differ}
 
 -- the tree with other slots
@@ -22,11 +22,12 @@ abbrev pub withSlots : Tree → (ℕ → ℕ → DiskEntry) → Tree
 withSlots v s = record { ids = v .ids; node = v .node; kind = v .kind; links = v .links; blocks = v .blocks; size = v .size; long = v .long; slot = s; opened = v .opened }
 
 -- a name that a later slot may have
-pub record Title (l : List ℕ) : Type 0 where
+pub record Title (style : Spelling) (l : List ℕ) : Type 0 where
   pub ended : EndedAt l (zeroAt l)
   pub some : nameOf l ≢ []
   pub no-dot : nameOf l ≢ 46 ∷ []
   pub no-dots : nameOf l ≢ 46 ∷ 46 ∷ []
+  pub spelt : Spelt style (nameOf l)
 
 module _ (v : Tree) (s : ℕ → ℕ → DiskEntry) (ids : (i j : ℕ) → s i j .id ≡ v .slot i j .id) (kinds : (i j : ℕ) → s i j .kind ≡ v .slot i j .kind) where
   abbrev w : Tree
@@ -50,17 +51,18 @@ module _ (v : Tree) (s : ℕ → ℕ → DiskEntry) (ids : (i j : ℕ) → s i j
   up-same i (suc n) = ap (parent w) (up-same i n) ∙ ids (up v i n) 1
 
   -- a slot with such a name, as another was
-  pub later-titled : (i j : ℕ) → LaterIn v (v .slot i j) → Title (s i j .name) → LaterIn (withSlots v s) (s i j)
+  pub later-titled : {style : Spelling} (i j : ℕ) → LaterIn style v (v .slot i j) → Title style (s i j .name) → LaterIn style (withSlots v s) (s i j)
   later-titled i j L N = record {
     ended = N .ended;
     some = N .some;
     no-dot = N .no-dot;
     no-dots = N .no-dots;
+    spelt = N .spelt;
     node = ap (v .node) (ids i j) ∙ L .node;
     kind = ap (v .kind) (ids i j) ∙ L .kind ∙ sym (kinds i j);
   }
 
-  pub titled-tidy : Tidy v → ((i : ℕ) → folderAt v i ≡ true → FolderIn (withSlots v s) i) → Tidy (withSlots v s)
+  pub titled-tidy : {style : Spelling} → Tidy style v → ((i : ℕ) → folderAt v i ≡ true → FolderIn style (withSlots v s) i) → Tidy style (withSlots v s)
   titled-tidy I folders = record {
     below = I .below;
     two = record { folder = I .two .folder; links = I .two .links };
@@ -87,25 +89,25 @@ module _ (v : Tree) (s : ℕ → ℕ → DiskEntry) (ids : (i j : ℕ) → s i j
 -- ---- one slot
 
 -- slot k of folder d has another name; slot other, if there is one, has its old name; all else is as it was
-pub record Retitles (v : Tree) (s : ℕ → ℕ → DiskEntry) (d k other : ℕ) : Type 0 where
+pub record Retitles (style : Spelling) (v : Tree) (s : ℕ → ℕ → DiskEntry) (d k other : ℕ) : Type 0 where
   pub ids : (i j : ℕ) → s i j .id ≡ v .slot i j .id
   pub kinds : (i j : ℕ) → s i j .kind ≡ v .slot i j .kind
   pub else : (i : ℕ) → folderAt v i ≡ true → i ≢ d → (j : ℕ) → s i j ≡ v .slot i j
   pub still : (j : ℕ) → j ≢ k → j ≢ other → s d j ≡ v .slot d j
   pub given : other < v .blocks d → s d other .name ≡ v .slot d k .name
-  pub title : Title (s d k .name)
+  pub title : Title style (s d k .name)
   pub fresh : (j : ℕ) → 2 ≤ j → j < v .blocks d → j ≢ other → nameOf (v .slot d j .name) ≢ nameOf (s d k .name)
   pub later : 2 ≤ k
   pub inside : k < v .blocks d
   pub other-later : 2 ≤ other
   pub apart : other ≢ k
 
-module _ (v : Tree) (s : ℕ → ℕ → DiskEntry) (d k other : ℕ) (I : Tidy v) (dir : folderAt v d ≡ true) (R : Retitles v s d k other) where
-  F : FolderIn v d
+module _ (v : Tree) (s : ℕ → ℕ → DiskEntry) (d k other : ℕ) {style : Spelling} (I : Tidy style v) (dir : folderAt v d ≡ true) (R : Retitles style v s d k other) where
+  F : FolderIn style v d
   F = I .folder d dir
 
-  title-of : (j : ℕ) → 2 ≤ j → j < v .blocks d → Title (v .slot d j .name)
-  title-of j x y = let L = F .later j x y in record { ended = L .ended; some = L .some; no-dot = L .no-dot; no-dots = L .no-dots }
+  title-of : (j : ℕ) → 2 ≤ j → j < v .blocks d → Title style (v .slot d j .name)
+  title-of j x y = let L = F .later j x y in record { ended = L .ended; some = L .some; no-dot = L .no-dot; no-dots = L .no-dots; spelt = L .spelt }
 
   -- what a later slot's name is now
   data Now (j : ℕ) : Type 0 where
@@ -123,13 +125,13 @@ module _ (v : Tree) (s : ℕ → ℕ → DiskEntry) (d k other : ℕ) (I : Tidy 
       (eq-cases j other))
       (eq-cases j k)
 
-  later : (j : ℕ) → 2 ≤ j → j < v .blocks d → LaterIn (withSlots v s) (s d j)
+  later : (j : ℕ) → 2 ≤ j → j < v .blocks d → LaterIn style (withSlots v s) (s d j)
   later j x y = later-titled v s (R .ids) (R .kinds) d j (F .later j x y) (go (now j y))
     where
-      go : Now j → Title (s d j .name)
-      go (new e) = subst (λ (z : ℕ). Title (s d z .name)) (sym e) (R .title)
-      go (old e q) = subst Title (sym q) (title-of k (R .later) (R .inside))
-      go (same n m q) = subst (λ (z : DiskEntry). Title (z .name)) (sym q) (title-of j x y)
+      go : Now j → Title style (s d j .name)
+      go (new e) = subst (λ (z : ℕ). Title style (s d z .name)) (sym e) (R .title)
+      go (old e q) = subst (Title style) (sym q) (title-of k (R .later) (R .inside))
+      go (same n m q) = subst (λ (z : DiskEntry). Title style (z .name)) (sym q) (title-of j x y)
 
   -- the new name is not another's
   not-new : (j : ℕ) → j ≢ k → 2 ≤ j → j < v .blocks d → nameOf (s d j .name) ≢ nameOf (s d k .name)
@@ -155,10 +157,10 @@ module _ (v : Tree) (s : ℕ → ℕ → DiskEntry) (d k other : ℕ) (I : Tidy 
   first : (j : ℕ) → j < 2 → s d j ≡ v .slot d j
   first j l = R .still j (λ e. omega (arith, R .later)) (λ e. omega (arith, R .other-later))
 
-  folders : (i : ℕ) → folderAt v i ≡ true → FolderIn (withSlots v s) i
-  folders i f = ⊎-elim (λ (e : i ≡ d). subst (FolderIn (withSlots v s)) (sym e) own) (λ n. others n) (eq-cases i d)
+  folders : (i : ℕ) → folderAt v i ≡ true → FolderIn style (withSlots v s) i
+  folders i f = ⊎-elim (λ (e : i ≡ d). subst (FolderIn style (withSlots v s)) (sym e) own) (λ n. others n) (eq-cases i d)
     where
-      own : FolderIn (withSlots v s) d
+      own : FolderIn style (withSlots v s) d
       own = record {
         blocks = F .blocks;
         length = F .length;
@@ -171,7 +173,7 @@ module _ (v : Tree) (s : ℕ → ℕ → DiskEntry) (d k other : ℕ) (I : Tidy 
         distinct = λ h j x y z. differ h j (λ e. omega arith) x (omega arith) (omega arith) z;
       }
 
-      others : i ≢ d → FolderIn (withSlots v s) i
+      others : i ≢ d → FolderIn style (withSlots v s) i
       others n =
           let G = I .folder i f in
           let e : (j : ℕ) → s i j ≡ v .slot i j = R .else i f n in
@@ -183,11 +185,11 @@ module _ (v : Tree) (s : ℕ → ℕ → DiskEntry) (d k other : ℕ) (I : Tidy 
             dot-kind = rw (e 0) (G .dot-kind);
             dots = rw (e 1) (G .dots);
             dots-kind = rw (e 1) (G .dots-kind);
-            later = λ j x y. let L = G .later j x y in rw (e j) (record { ended = L .ended; some = L .some; no-dot = L .no-dot; no-dots = L .no-dots; node = L .node; kind = L .kind });
+            later = λ j x y. let L = G .later j x y in rw (e j) (record { ended = L .ended; some = L .some; no-dot = L .no-dot; no-dots = L .no-dots; spelt = L .spelt; node = L .node; kind = L .kind });
             distinct = λ h j x y z. rw (e h, e j) (G .distinct h j x y z);
           }
 
-  pub retitled-tidy : Tidy (withSlots v s)
+  pub retitled-tidy : Tidy style (withSlots v s)
   retitled-tidy = titled-tidy v s (R .ids) (R .kinds) I folders
 
 -- the slot that goes may have been another

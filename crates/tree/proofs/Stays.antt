@@ -11,7 +11,7 @@ use Rattle.base.proofs.Bools.{bool-cases, true-false, and-both, and-parts, and-
 use Rattle.base.proofs.Counts.{sumTo-cong, countTo-cong}
 use Rattle.structs.specs.Types.{isFolder}
 use Rattle.structs.specs.declared.DiskEntry.{DiskEntry}
-use Rattle.tree.specs.Tree.{Tree, folderAt, namesOf, allNames, subsOf, parent, up, LaterIn, FolderIn, LinkedIn, RemovedIn, Lives, NamedBy, Tidy}
+use Rattle.tree.specs.Tree.{Spelling, Tree, folderAt, namesOf, allNames, subsOf, parent, up, LaterIn, FolderIn, LinkedIn, RemovedIn, Lives, NamedBy, Tidy}
 use Rattle.tree.specs.Moves.{turned}
 use Rattle.tree.proofs.Trees.{pick-like, folder-is, none-removed, parent-lives}
 use Rattle.tree.proofs.Ways.{slot-counts, names-part}
@@ -40,7 +40,7 @@ stays-turned c f g e R = record {
   slot = λ i h k l x. pick (eqb i c && eqb k 1) e (R .slot i h k l x);
 }
 
-module _ (gone : ℕ → Bool) (v w : Tree) (I : Tidy v) (loose : (i : ℕ) → gone i ≡ true → v .node i ≡ true → v .links i ≡ 0) (R : Stays gone v w)
+module _ (gone : ℕ → Bool) (v w : Tree) {style : Spelling} (I : Tidy style v) (loose : (i : ℕ) → gone i ≡ true → v .node i ≡ true → v .links i ≡ 0) (R : Stays gone v w)
     (opens : (i : ℕ) → w .node i ≡ true → v .links i ≡ 0 → v .opened i ≡ true → w .opened i ≡ true) where
   was : (i : ℕ) → w .node i ≡ true → v .node i ≡ true
   was i n = and-parts (v .node i) (not (gone i)) (sym (R .node i) ∙ n) .0
@@ -109,16 +109,16 @@ module _ (gone : ℕ → Bool) (v w : Tree) (I : Tidy v) (loose : (i : ℕ) → 
 
   -- ---- slots
 
-  later : (i k : ℕ) → folderAt v i ≡ true → 2 ≤ k → k < v .blocks i → LaterIn v (v .slot i k) → LaterIn w (v .slot i k)
+  later : (i k : ℕ) → folderAt v i ≡ true → 2 ≤ k → k < v .blocks i → LaterIn style v (v .slot i k) → LaterIn style w (v .slot i k)
   later i k f x y L =
       let id : ℕ = v .slot i k .id in
       let g : gone (v .slot i k .id) ≡ false = ⊎-elim
       (λ (g : gone (v .slot i k .id) ≡ true). absurd (omega (arith, unnamed (v .slot i k .id) g (L .node), slot-counts v i k (v .slot i k .id) x y refl, names-part v I (v .slot i k .id) i f)))
       (λ g. g) (bool-cases (gone (v .slot i k .id))) in
       let n : w .node (v .slot i k .id) ≡ true = stays (v .slot i k .id) (L .node) g in
-      record { ended = L .ended; some = L .some; no-dot = L .no-dot; no-dots = L .no-dots; node = n; kind = R .kind (v .slot i k .id) n ∙ L .kind }
+      record { ended = L .ended; some = L .some; no-dot = L .no-dot; no-dots = L .no-dots; spelt = L .spelt; node = n; kind = R .kind (v .slot i k .id) n ∙ L .kind }
 
-  folder-in : (i : ℕ) → folderAt w i ≡ true → FolderIn w i
+  folder-in : (i : ℕ) → folderAt w i ≡ true → FolderIn style w i
   folder-in i f =
       let g : folderAt v i ≡ true = back i f in
       let F = I .folder i g in
@@ -156,7 +156,7 @@ module _ (gone : ℕ → Bool) (v w : Tree) (I : Tidy v) (loose : (i : ℕ) → 
       let q = up-same i l n in
       (ap (parent w) (q .0) ∙ parent-same (up v i n) (q .1), parent-lives v I (up v i n) (q .1))
 
-  pub stays-tidy : Tidy w
+  pub stays-tidy : Tidy style w
   stays-tidy = record {
     below = λ i n. subst (λ (m : ℕ). i < m) (sym (R .ids)) (I .below i (was i n));
     two = live 2 (I .two);

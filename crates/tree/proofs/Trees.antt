@@ -1,6 +1,7 @@
 -- What follows from a tidy tree at once.
 use mathlib.Core.Path.{_≡_, refl, sym, ap, _∙_, subst}
 use mathlib.Core.Bool.{Bool, true, false}
+use mathlib.Core.List.{List}
 use mathlib.Core.Logic.{_≢_, ⊎-elim}
 use Prim.Native.Nat.{ℕ, _<_, zero, suc, _≤_}
 use lib.Dec.{eqb}
@@ -11,8 +12,8 @@ use native.Mathlib.Omega.{arith}
 use Rattle.structs.specs.Types.{isFolder}
 use Rattle.base.proofs.Bools.{and-parts}
 use Rattle.base.proofs.Numbers.{lt-or-le}
-use Rattle.utf8.specs.Names.{nameOf}
-use Rattle.tree.specs.Tree.{Tree, folderAt, parent, up, FolderIn, LinkedIn, RemovedIn, Lives, Tidy}
+use Rattle.utf8.specs.Names.{nameOf, hasSlash}
+use Rattle.tree.specs.Tree.{Spelling, any, slashless, Spelt, Tree, folderAt, parent, up, FolderIn, LinkedIn, RemovedIn, Lives, Tidy}
 
 -- f, but n at x
 abbrev pub at : ℕ → ℕ → (ℕ → ℕ) → ℕ → ℕ
@@ -31,15 +32,20 @@ pick-like false h = refl
 pub folder-is : (v : Tree) (i : ℕ) → folderAt v i ≡ true → v .node i ≡ true
 folder-is v i f = and-parts (v .node i) (isFolder (v .kind i)) f .0
 
+-- a name without a slash is spelt in either way
+pub spelt-new : (style : Spelling) (name : List ℕ) → hasSlash name ≡ false → Spelt style name
+spelt-new any name e = tt
+spelt-new slashless name e = e
+
 -- two later slots of a folder have two names
-pub names-differ : (v : Tree) (i : ℕ) → FolderIn v i → (h j : ℕ) → h ≢ j → 2 ≤ h → 2 ≤ j → h < v .blocks i → j < v .blocks i → nameOf (v .slot i h .name) ≢ nameOf (v .slot i j .name)
+pub names-differ : {style : Spelling} (v : Tree) (i : ℕ) → FolderIn style v i → (h j : ℕ) → h ≢ j → 2 ≤ h → 2 ≤ j → h < v .blocks i → j < v .blocks i → nameOf (v .slot i h .name) ≢ nameOf (v .slot i j .name)
 names-differ v i F h j n x y p q =
     ⊎-elim
     (λ (l : h < j). F .distinct h j x l q)
     (λ (l : j ≤ h). λ e. F .distinct j h y (⊎-elim (λ m. m) (λ m. absurd (n (omega arith))) (lt-or-le j h)) p (sym e))
     (lt-or-le h j)
 
-module _ (v : Tree) (I : Tidy v) where
+module _ (v : Tree) {style : Spelling} (I : Tidy style v) where
   pub lives-linked : (i : ℕ) → Lives v i → LinkedIn v i
   lives-linked i l = ⊎-elim (λ h. h) (λ (h : RemovedIn v i). absurd (l .links (h .links))) (I .either i (l .folder))
 

@@ -16,7 +16,7 @@ use Rattle.base.proofs.Numbers.{lt-or-le}
 use Rattle.structs.specs.Types.{isFolder}
 use Rattle.structs.specs.declared.DiskEntry.{DiskEntry}
 use Rattle.tree.proofs.Trees.{pick-like, folder-is, lives-linked, parent-lives, names-differ}
-use Rattle.tree.specs.Tree.{Tree, folderAt, namesOf, allNames, subsOf, parent, up, LaterIn, FolderIn, LinkedIn, RemovedIn, Lives, NamedBy, Tidy}
+use Rattle.tree.specs.Tree.{Spelling, Tree, folderAt, namesOf, allNames, subsOf, parent, up, LaterIn, FolderIn, LinkedIn, RemovedIn, Lives, NamedBy, Tidy}
 use Rattle.tree.proofs.Naming.{none-subs}
 
 -- w is v without slot k of folder d, which named node c
@@ -64,14 +64,14 @@ count-swap p q m k l same last =
     omega (arith, e, ap (λ (x : ℕ). bit (p x)) z, countTo-more p m))
     (lt-or-le k m)
 
-module _ (v w : Tree) (d c k : ℕ) (I : Tidy v) (R : Unnames v w d c k) (P : MayGo v d c k) where
+module _ (v w : Tree) (d c k : ℕ) {style : Spelling} (I : Tidy style v) (R : Unnames v w d c k) (P : MayGo v d c k) where
   abbrev dir : Bool
   dir = isFolder (v .kind c)
 
-  F : FolderIn v d
+  F : FolderIn style v d
   F = I .folder d (P .lives .folder)
 
-  L : LaterIn v (v .slot d k)
+  L : LaterIn style v (v .slot d k)
   L = F .later k (P .later) (P .inside)
 
   node-c : v .node c ≡ true
@@ -148,17 +148,18 @@ module _ (v w : Tree) (d c k : ℕ) (I : Tidy v) (R : Unnames v w d c k) (P : Ma
 
   -- ---- slots
 
-  later-same : (s : DiskEntry) → LaterIn v s → LaterIn w s
+  later-same : (s : DiskEntry) → LaterIn style v s → LaterIn style w s
   later-same s N = record {
     ended = N .ended;
     some = N .some;
     no-dot = N .no-dot;
     no-dots = N .no-dots;
+    spelt = N .spelt;
     node = R .node (s .id) ∙ N .node;
     kind = R .kind (s .id) (N .node) ∙ N .kind;
   }
 
-  folder-else : (i : ℕ) → folderAt v i ≡ true → i ≢ d → FolderIn w i
+  folder-else : (i : ℕ) → folderAt v i ≡ true → i ≢ d → FolderIn style w i
   folder-else i f n =
       let G = I .folder i f in
       let b = R .blocks i f n in
@@ -199,7 +200,7 @@ module _ (v w : Tree) (d c k : ℕ) (I : Tidy v) (R : Unnames v w d c k) (P : Ma
       (λ z. record { at = j; later = x; inside = omega (arith, R .fewer); is = R .still j (omega (arith, R .fewer)) z; how = inr (z, refl) })
       (eq-cases j k)
 
-  folder-own : FolderIn w d
+  folder-own : FolderIn style w d
   folder-own = record {
     blocks = omega (arith, P .later, P .inside, R .fewer);
     length = R .shorter;
@@ -208,7 +209,7 @@ module _ (v w : Tree) (d c k : ℕ) (I : Tidy v) (R : Unnames v w d c k) (P : Ma
     dot-kind = rw (first 0 (omega arith)) (F .dot-kind);
     dots = rw (first 1 (omega arith)) (F .dots);
     dots-kind = rw (first 1 (omega arith)) (F .dots-kind);
-    later = λ j x y. let s = was j x y in subst (LaterIn w) (sym (s .is)) (later-same (v .slot d (s .at)) (F .later (s .at) (s .later) (s .inside)));
+    later = λ j x y. let s = was j x y in subst (LaterIn style w) (sym (s .is)) (later-same (v .slot d (s .at)) (F .later (s .at) (s .later) (s .inside)));
     distinct = λ h j x y z.
         let s = was h x (omega arith) in
         let t = was j (omega arith) z in
@@ -324,11 +325,11 @@ module _ (v w : Tree) (d c k : ℕ) (I : Tidy v) (R : Unnames v w d c k) (P : Ma
     links = ⊎-elim (λ (N : LinkedIn w 2). λ z. omega (arith, N .links)) (λ (N : RemovedIn w 2). absurd (N .apart refl)) (either 2 (I .two .folder));
   }
 
-  pub unnames-tidy : Tidy w
+  pub unnames-tidy : Tidy style w
   unnames-tidy = record {
     below = λ i n. subst (λ (m : ℕ). i < m) (sym (R .ids)) (I .below i (sym (R .node i) ∙ n));
     two = root-lives;
-    folder = λ i f. ⊎-elim (λ (q : i ≡ d). subst (FolderIn w) (sym q) folder-own) (λ n. folder-else i (back i f) n) (eq-cases i d);
+    folder = λ i f. ⊎-elim (λ (q : i ≡ d). subst (FolderIn style w) (sym q) folder-own) (λ n. folder-else i (back i f) n) (eq-cases i d);
     sized = λ i n f.
         let g : folderAt v i ≡ false = sym (folder-same i) ∙ f in
         let m : v .node i ≡ true = sym (R .node i) ∙ n in

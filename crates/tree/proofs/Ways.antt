@@ -13,7 +13,7 @@ use Rattle.base.proofs.Counts.{sumTo-part, sumTo-change, pigeon}
 use Rattle.base.proofs.Finds.{eq-cases, countTo-some}
 use Rattle.base.proofs.Numbers.{lt-or-le}
 use Rattle.base.proofs.Searches.{lowest-first, lowest-hit, lowest-at-most}
-use Rattle.tree.specs.Tree.{Tree, folderAt, namesOf, allNames, parent, up, LinkedIn, RemovedIn, Lives, Tidy}
+use Rattle.tree.specs.Tree.{Spelling, Tree, folderAt, namesOf, allNames, parent, up, LinkedIn, RemovedIn, Lives, Tidy}
 use Rattle.tree.proofs.Trees.{at, at-here, at-else, folder-is, lives-linked, parent-lives}
 
 -- a later slot that names x counts
@@ -24,7 +24,7 @@ slot-counts v d k x l m e =
     let q : eqb (v .slot d (2 + (k - 2)) .id) x ≡ true = eq-eqb (v .slot d (2 + (k - 2)) .id) x (ap (λ (j : ℕ). v .slot d j .id) s ∙ e) in
     countTo-some (λ j. eqb (v .slot d (2 + j) .id) x) (v .blocks d - 2) (k - 2) (omega arith) q
 
-module _ (v : Tree) (I : Tidy v) where
+module _ (v : Tree) {style : Spelling} (I : Tidy style v) where
   abbrev part : ℕ → ℕ → ℕ
   part x d = pick (folderAt v d) (namesOf v d x) 0
 

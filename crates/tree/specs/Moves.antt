@@ -10,8 +10,8 @@ use Rattle.base.specs.Search.{pick}
 use Rattle.structs.specs.Constants.{typeDir}
 use Rattle.structs.specs.Types.{isFolder}
 use Rattle.structs.specs.declared.DiskEntry.{DiskEntry}
-use Rattle.utf8.specs.Names.{nameOf, zeroAt, EndedAt}
-use Rattle.tree.specs.Tree.{Tree, folderAt, up, Lives, Tidy}
+use Rattle.utf8.specs.Names.{nameOf, zeroAt, EndedAt, hasSlash}
+use Rattle.tree.specs.Tree.{Spelling, Tree, folderAt, up, Lives, Tidy}
 
 -- where the folder's new slot stands: at the target's end, or in the place of an empty folder's, which goes
 pub data Spot : Type 0 where
@@ -89,11 +89,12 @@ pub record MayMove (v : Tree) (f p g k c : ℕ) (o : Spot) (e : DiskEntry) : Typ
   pub some : nameOf (e .name) ≢ []
   pub no-dot : nameOf (e .name) ≢ 46 ∷ []
   pub no-dots : nameOf (e .name) ≢ 46 ∷ 46 ∷ []
+  pub no-slash : hasSlash (nameOf (e .name)) ≡ false
   pub fresh : (j : ℕ) → 2 ≤ j → j < v .blocks g → j ≢ k → nameOf (v .slot g j .name) ≢ nameOf (e .name)
   pub takes : Takes v g k c o
 
 unfoldable pub MovesTidy : Type 0
-MovesTidy = (v w : Tree) (f p g k c : ℕ) (o : Spot) (e : DiskEntry) → Tidy v → MayMove v f p g k c o e → Moves v w f p g k c o e → Tidy w
+MovesTidy = (style : Spelling) (v w : Tree) (f p g k c : ℕ) (o : Spot) (e : DiskEntry) → Tidy style v → MayMove v f p g k c o e → Moves v w f p g k c o e → Tidy style w
 
 -- ---- between the slots' move and the end, a tree as it will be: folder c, which goes from folder f to folder g, has e for its `..`, and they have
 -- their links

@@ -1,7 +1,7 @@
 -- Rules 6 to 8 without bytes: a tree of nodes by id, each with its type, links and slots.
 use mathlib.Core.Path.{_≡_}
 use mathlib.Core.Bool.{Bool, true, false, _&&_}
-use mathlib.Core.List.{[], _∷_}
+use mathlib.Core.List.{List, [], _∷_}
 use mathlib.Core.Logic.{_≢_, _⊎_}
 use Prim.Native.Nat.{ℕ, zero, suc, _+_, _*_, _-_, _≤_, _<_}
 use lib.Dec.{eqb}
@@ -10,7 +10,7 @@ use Rattle.base.specs.Search.{pick}
 use Rattle.structs.specs.Constants.{typeDir}
 use Rattle.structs.specs.Types.{isFolder}
 use Rattle.structs.specs.declared.DiskEntry.{DiskEntry}
-use Rattle.utf8.specs.Names.{nameOf, zeroAt, EndedAt}
+use Rattle.utf8.specs.Names.{nameOf, zeroAt, EndedAt, hasSlash}
 
 pub record Tree : Type 0 where
   pub ids : ℕ
@@ -43,17 +43,28 @@ unfoldable pub up : Tree → ℕ → ℕ → ℕ
 up v i zero = i
 up v i (suc n) = parent v (up v i n)
 
+-- ---- how later names are spelt: in any way that rule 6 passes, or (order 4) without a slash as well
+
+pub data Spelling : Type 0 where
+  any : Spelling
+  slashless : Spelling
+
+abbrev pub Spelt : Spelling → List ℕ → Type 0
+Spelt any name = Unit
+Spelt slashless name = hasSlash name ≡ false
+
 -- ---- the rules
 
-pub record LaterIn (v : Tree) (e : DiskEntry) : Type 0 where
+pub record LaterIn (style : Spelling) (v : Tree) (e : DiskEntry) : Type 0 where
   pub ended : EndedAt (e .name) (zeroAt (e .name))
   pub some : nameOf (e .name) ≢ []
   pub no-dot : nameOf (e .name) ≢ 46 ∷ []
   pub no-dots : nameOf (e .name) ≢ 46 ∷ 46 ∷ []
+  pub spelt : Spelt style (nameOf (e .name))
   pub node : v .node (e .id) ≡ true
   pub kind : v .kind (e .id) ≡ e .kind
 
-pub record FolderIn (v : Tree) (i : ℕ) : Type 0 where
+pub record FolderIn (style : Spelling) (v : Tree) (i : ℕ) : Type 0 where
   pub blocks : 2 ≤ v .blocks i
   pub length : v .long i ≡ 264 * v .blocks i
   pub dot : nameOf (v .slot i 0 .name) ≡ 46 ∷ []
@@ -61,7 +72,7 @@ pub record FolderIn (v : Tree) (i : ℕ) : Type 0 where
   pub dot-kind : v .slot i 0 .kind ≡ typeDir
   pub dots : nameOf (v .slot i 1 .name) ≡ 46 ∷ 46 ∷ []
   pub dots-kind : v .slot i 1 .kind ≡ typeDir
-  pub later : (k : ℕ) → 2 ≤ k → k < v .blocks i → LaterIn v (v .slot i k)
+  pub later : (k : ℕ) → 2 ≤ k → k < v .blocks i → LaterIn style v (v .slot i k)
   pub distinct : (j k : ℕ) → 2 ≤ j → j < k → k < v .blocks i → nameOf (v .slot i j .name) ≢ nameOf (v .slot i k .name)
 
 pub record LinkedIn (v : Tree) (i : ℕ) : Type 0 where
@@ -87,10 +98,10 @@ pub record NamedBy (v : Tree) (d i : ℕ) : Type 0 where
   pub inside : at < v .blocks d
   pub is : v .slot d at .id ≡ i
 
-pub record Tidy (v : Tree) : Type 0 where
+pub record Tidy (style : Spelling) (v : Tree) : Type 0 where
   pub below : (i : ℕ) → v .node i ≡ true → i < v .ids
   pub two : Lives v 2
-  pub folder : (i : ℕ) → folderAt v i ≡ true → FolderIn v i
+  pub folder : (i : ℕ) → folderAt v i ≡ true → FolderIn style v i
   pub sized : (i : ℕ) → v .node i ≡ true → folderAt v i ≡ false → v .long i ≡ v .size i
   pub other : (i : ℕ) → v .node i ≡ true → folderAt v i ≡ false → v .links i ≡ allNames v i
   pub unnamed : (i : ℕ) → v .node i ≡ true → folderAt v i ≡ false → v .links i ≡ 0 → v .opened i ≡ true

@@ -5,19 +5,24 @@ use mathlib.Core.List.{[], _∷_}
 use lib.ListN.{replicate}
 use Rattle.base.specs.Search.{lowest}
 use Rattle.base.specs.Decides.{same}
-use Rattle.utf8.specs.declared.NameVerdict.the-variants.{Good}
+use Rattle.utf8.specs.declared.NameVerdict.the-variants.{Good, Slashed}
 use Rattle.utf8.specs.declared.StoredName.the-variants.{Ended}
 use Rattle.utf8.specs.Utf8.{within, lead, tail, step, after, utf8}
-use Rattle.utf8.specs.Names.{zeroAt, hasZero, nameVerdict, storedName, isNamed, nameBytes}
+use Rattle.utf8.specs.Names.{zeroAt, hasZero, hasSlash, nameVerdict, storedName, isNamed, nameBytes}
 
 -- "Name of 255 accepted, 256 refused"
 accepted : nameVerdict (replicate 255 97) ≡ Good false
-unfolding nameVerdict hasZero zeroAt lowest utf8 after step lead tail within
+unfolding nameVerdict hasZero hasSlash zeroAt lowest utf8 after step lead tail within
 accepted = refl
 
 refused : nameVerdict (replicate 256 97) ≡ Good true
-unfolding nameVerdict hasZero zeroAt lowest utf8 after step lead tail within
+unfolding nameVerdict hasZero hasSlash zeroAt lowest utf8 after step lead tail within
 refused = refl
+
+-- order 4: `a/b` is good but with a slash
+slashed : nameVerdict (97 ∷ 47 ∷ 98 ∷ []) ≡ Slashed false
+unfolding nameVerdict hasZero hasSlash zeroAt lowest utf8 after step lead tail within
+slashed = refl
 
 -- a name that a slot holds
 stored : storedName (nameBytes (65 ∷ [])) ≡ Ended 1

@@ -8,40 +8,57 @@ use native.Mathlib.Omega.{arith}
 use lib.Dec.{eqb, ltb}
 use lib.ListN.{length, getD, take, drop, replicate, length-append, length-replicate, length-drop, drop-of-length-le, getD-replicate, List·getD-append}
 use lib.Seq.{take-append-seam, drop-append-seam, length-take-le, getD-take, getD-append-add}
-use borrow.Author.Tests.{eq-eqb, ne-eqb, eqb-true, eqb-false, lt-ltb, le-ltb}
+use borrow.Author.Tests.{eq-eqb, ne-eqb, eqb-true, eqb-false, ltb-false, lt-ltb, le-ltb}
 use Rattle.base.proofs.Sames.{decided-yes}
 use Rattle.base.specs.Parts.{part, back}
-use Rattle.base.specs.Search.{lowest}
+use Rattle.base.specs.Search.{lowest, pick}
 use Rattle.base.specs.Decides.{Decides, same}
 use Rattle.base.proofs.Numbers.{lt-or-le}
 use Rattle.base.proofs.Searches.{lowest-here, lowest-none, lowest-le, lowest-hit, lowest-first}
 use Rattle.base.proofs.Tests.{decides-same}
 use Rattle.base.proofs.Bools.{or-first, or-second, bool-cases, true-false, true-T}
-use Rattle.utf8.specs.declared.NameVerdict.the-variants.{Good, Bad}
+use Rattle.utf8.specs.declared.NameVerdict.{NameVerdict}
+use Rattle.utf8.specs.declared.NameVerdict.the-variants.{Good, Slashed, Bad}
 use Rattle.utf8.specs.declared.StoredName.the-variants.{Ended, Broken}
 use Rattle.utf8.specs.Utf8.{utf8}
 use Rattle.utf8.specs.Grammar.{Octets}
-use Rattle.utf8.specs.Names.{zeroAt, hasZero, nameOf, nameVerdict, GoodName, storedName, EndedAt, asked, isNamed, isDot, isDots, isSpecial, nameBytes}
+use Rattle.utf8.specs.Names.{firstAt, zeroAt, hasZero, hasSlash, nameOf, nameVerdict, GoodName, NoSlash, earlyReason, newReason, storedName, EndedAt, asked, isNamed, isDot, isDots, isSpecial, nameBytes}
 use Rattle.utf8.proofs.Grammar.{utf8-decides}
+
+-- ---- the first byte b
+
+pub first-here : (b : ℕ) (l : List ℕ) (i : ℕ) → i < length l → ((j : ℕ) → j < i → getD l j 0 ≡ b → ⊥) → getD l i 0 ≡ b → i ≡ firstAt b l
+first-here b l i h before e = lowest-here (λ j. eqb (getD l j 0) b) (length l) i h (λ j m. ne-eqb (getD l j 0) b (before j m)) (eq-eqb (getD l i 0) b e)
+
+pub first-none : (b : ℕ) (l : List ℕ) → ((j : ℕ) → j < length l → getD l j 0 ≡ b → ⊥) → firstAt b l ≡ length l
+first-none b l before = sym (lowest-none (λ j. eqb (getD l j 0) b) (length l) (λ j m. ne-eqb (getD l j 0) b (before j m)))
+
+-- no byte before it is b
+first-before : (b : ℕ) (l : List ℕ) (j : ℕ) → j < firstAt b l → getD l j 0 ≡ b → ⊥
+first-before b l j h = eqb-false (getD l j 0) b (lowest-first (λ j. eqb (getD l j 0) b) (length l) .before j h)
 
 -- ---- the first zero
 
-pub zeroAt-here : (l : List ℕ) (i : ℕ) → i < length l → ((j : ℕ) → j < i → getD l j 0 ≡ 0 → ⊥) → getD l i 0 ≡ 0 → i ≡ zeroAt l
+-- the search for it
+pub zeroAt-first : (l : List ℕ) → zeroAt l ≡ firstAt 0 l
 unfolding zeroAt
-zeroAt-here l i h before e = lowest-here (λ j. eqb (getD l j 0) 0) (length l) i h (λ j m. ne-eqb (getD l j 0) 0 (before j m)) (eq-eqb (getD l i 0) 0 e)
+zeroAt-first l = refl
 
-pub zeroAt-none : (l : List ℕ) → ((j : ℕ) → j < length l → getD l j 0 ≡ 0 → ⊥) → zeroAt l ≡ length l
+zeroAt-here : (l : List ℕ) (i : ℕ) → i < length l → ((j : ℕ) → j < i → getD l j 0 ≡ 0 → ⊥) → getD l i 0 ≡ 0 → i ≡ zeroAt l
 unfolding zeroAt
-zeroAt-none l before = sym (lowest-none (λ j. eqb (getD l j 0) 0) (length l) (λ j m. ne-eqb (getD l j 0) 0 (before j m)))
+zeroAt-here l = first-here 0 l
+
+zeroAt-none : (l : List ℕ) → ((j : ℕ) → j < length l → getD l j 0 ≡ 0 → ⊥) → zeroAt l ≡ length l
+unfolding zeroAt
+zeroAt-none l = first-none 0 l
 
 pub zeroAt-le : (l : List ℕ) → zeroAt l ≤ length l
 unfolding zeroAt
 zeroAt-le l = lowest-le (λ j. eqb (getD l j 0) 0) (length l)
 
--- no byte before it is zero
-pub zeroAt-before : (l : List ℕ) (j : ℕ) → j < zeroAt l → getD l j 0 ≡ 0 → ⊥
+zeroAt-before : (l : List ℕ) (j : ℕ) → j < zeroAt l → getD l j 0 ≡ 0 → ⊥
 unfolding zeroAt
-zeroAt-before l j h = eqb-false (getD l j 0) 0 (lowest-first (λ j. eqb (getD l j 0) 0) (length l) .before j h)
+zeroAt-before l = first-before 0 l
 
 pub zeroAt-zero : (l : List ℕ) → zeroAt l < length l → getD l (zeroAt l) 0 ≡ 0
 unfolding zeroAt
@@ -57,9 +74,13 @@ pub verdict-wrong : (l : List ℕ) → utf8 l ≡ false → nameVerdict l ≡ Ba
 unfolding nameVerdict
 verdict-wrong l e = rw (e, or-second (hasZero l) refl)
 
-pub verdict-good : (l : List ℕ) → length l ≤ zeroAt l → utf8 l ≡ true → nameVerdict l ≡ Good (ltb 255 (length l))
-unfolding nameVerdict hasZero
-verdict-good l h e = rw (le-ltb (zeroAt l) (length l) h, e)
+pub verdict-slashed : (l : List ℕ) → length l ≤ zeroAt l → utf8 l ≡ true → firstAt 47 l < length l → nameVerdict l ≡ Slashed (ltb 255 (length l))
+unfolding nameVerdict hasZero hasSlash
+verdict-slashed l h e s = rw (le-ltb (zeroAt l) (length l) h, e, lt-ltb (firstAt 47 l) (length l) s)
+
+pub verdict-good : (l : List ℕ) → length l ≤ zeroAt l → utf8 l ≡ true → length l ≤ firstAt 47 l → nameVerdict l ≡ Good (ltb 255 (length l))
+unfolding nameVerdict hasZero hasSlash
+verdict-good l h e s = rw (le-ltb (zeroAt l) (length l) h, e, le-ltb (firstAt 47 l) (length l) s)
 
 -- ---- the name that a slot holds, by cases; k is the first zero
 
@@ -92,21 +113,76 @@ named-other s (b ∷ n) k z e = rw (← z)
 utf8-octets : {l : List ℕ} → utf8 l ≡ true → Octets l
 utf8-octets {l} e = utf8-decides l .right (true-T (utf8 l) e)
 
--- reason 5 is not given exactly to good names; a good one is long where it is over 255 bytes
-pub verdict-is : (l : List ℕ) → GoodName l → nameVerdict l ≡ Good (ltb 255 (length l))
-verdict-is l g = verdict-good l (omega (arith, zeroAt-none l (g .no-zero))) (decided-yes (utf8-decides l) (g .octets))
+-- a name has no slash exactly where the search finds none
+pub slash-says : (l : List ℕ) → hasSlash l ≡ false → NoSlash l
+unfolding hasSlash
+slash-says l e j h = first-before 47 l j (omega (arith, ltb-false (firstAt 47 l) (length l) e))
 
-pub verdict-says : (l : List ℕ) (long : Bool) → nameVerdict l ≡ Good long → GoodName l × (long ≡ ltb 255 (length l))
-verdict-says l long v =
+pub slash-is : (l : List ℕ) → NoSlash l → hasSlash l ≡ false
+unfolding hasSlash
+slash-is l n = le-ltb (firstAt 47 l) (length l) (omega (arith, first-none 47 l n))
+
+-- reason 5 is not given exactly to good names, and as new names to those alone that have no slash; a good one is long where it is over 255 bytes
+pub verdict-is : (l : List ℕ) → GoodName l → nameVerdict l ≡ pick (hasSlash l) (Slashed (ltb 255 (length l))) (Good (ltb 255 (length l)))
+unfolding nameVerdict hasZero
+verdict-is l g = rw (le-ltb (zeroAt l) (length l) (omega (arith, zeroAt-none l (g .no-zero))), decided-yes (utf8-decides l) (g .octets))
+
+-- what is not bad is good
+not-bad : (l : List ℕ) (v : NameVerdict) → nameVerdict l ≡ v → (v ≡ Bad → ⊥) → GoodName l
+not-bad l v q n =
     ⊎-elim
-    (λ zero. absurd (let f : Good long ≡ Bad = sym v ∙ verdict-zero l zero in let z : _≡_ {A = ℕ} 0 1 = cc in omega arith))
+    (λ zero. absurd (n (sym q ∙ verdict-zero l zero)))
     (λ none. ⊎-elim
-    (λ u.
-    let f : Good long ≡ Good (ltb 255 (length l)) = sym v ∙ verdict-good l none u in
-    (record { no-zero = λ j h. zeroAt-before l j (omega arith); octets = utf8-octets u }, cc))
-    (λ u. absurd (let f : Good long ≡ Bad = sym v ∙ verdict-wrong l u in let z : _≡_ {A = ℕ} 0 1 = cc in omega arith))
+    (λ u. record { no-zero = λ j h. zeroAt-before l j (omega arith); octets = utf8-octets u })
+    (λ u. absurd (n (sym q ∙ verdict-wrong l u)))
     (bool-cases (utf8 l)))
     (lt-or-le (zeroAt l) (length l))
+
+pub verdict-says : (l : List ℕ) (long : Bool) → nameVerdict l ≡ Good long → GoodName l × (hasSlash l ≡ false) × (long ≡ ltb 255 (length l))
+verdict-says l long v = by-slash (hasSlash l) refl
+  where
+    g : GoodName l
+    g = not-bad l (Good long) v (λ e. let z : _≡_ {A = ℕ} 0 1 = cc in omega arith)
+
+    by-slash : (b : Bool) → hasSlash l ≡ b → GoodName l × (hasSlash l ≡ false) × (long ≡ ltb 255 (length l))
+    by-slash true s = absurd
+        (let f : Good long ≡ Slashed (ltb 255 (length l)) = sym v ∙ verdict-is l g ∙ ap (λ (b : Bool). pick b (Slashed (ltb 255 (length l))) (Good (ltb 255 (length l)))) s in
+        let z : _≡_ {A = ℕ} 0 1 = cc in omega arith)
+    by-slash false s =
+        let f : Good long ≡ Good (ltb 255 (length l)) = sym v ∙ verdict-is l g ∙ ap (λ (b : Bool). pick b (Slashed (ltb 255 (length l))) (Good (ltb 255 (length l)))) s in
+        (g, s, cc)
+
+pub slashed-says : (l : List ℕ) (long : Bool) → nameVerdict l ≡ Slashed long → GoodName l × (hasSlash l ≡ true) × (long ≡ ltb 255 (length l))
+slashed-says l long v = by-slash (hasSlash l) refl
+  where
+    g : GoodName l
+    g = not-bad l (Slashed long) v (λ e. let z : _≡_ {A = ℕ} 0 1 = cc in omega arith)
+
+    by-slash : (b : Bool) → hasSlash l ≡ b → GoodName l × (hasSlash l ≡ true) × (long ≡ ltb 255 (length l))
+    by-slash true s =
+        let f : Slashed long ≡ Slashed (ltb 255 (length l)) = sym v ∙ verdict-is l g ∙ ap (λ (b : Bool). pick b (Slashed (ltb 255 (length l))) (Good (ltb 255 (length l)))) s in
+        (g, s, cc)
+    by-slash false s = absurd
+        (let f : Slashed long ≡ Good (ltb 255 (length l)) = sym v ∙ verdict-is l g ∙ ap (λ (b : Bool). pick b (Slashed (ltb 255 (length l))) (Good (ltb 255 (length l)))) s in
+        let z : _≡_ {A = ℕ} 0 1 = cc in omega arith)
+
+-- ---- what the reasons leave
+
+pub early-good : (l : List ℕ) → earlyReason (nameVerdict l) ≡ 0 → GoodName l
+early-good l e = go (nameVerdict l) refl e
+  where
+    go : (v : NameVerdict) → nameVerdict l ≡ v → earlyReason v ≡ 0 → GoodName l
+    go (Good long) q z = verdict-says l long q .0
+    go (Slashed long) q z = slashed-says l long q .0
+    go Bad q z = absurd (omega arith)
+
+pub new-good : (l : List ℕ) → newReason (nameVerdict l) ≡ 0 → GoodName l × (hasSlash l ≡ false)
+new-good l e = go (nameVerdict l) refl e
+  where
+    go : (v : NameVerdict) → nameVerdict l ≡ v → newReason v ≡ 0 → GoodName l × (hasSlash l ≡ false)
+    go (Good long) q z = let s = verdict-says l long q in (s .0, s .1)
+    go (Slashed long) q z = absurd (omega arith)
+    go Bad q z = absurd (omega arith)
 
 -- a name that is not special is none of the three
 pub not-special : (l : List ℕ) → isSpecial l ≡ false → (length l ≡ 0 → ⊥) × ((l ≡ 46 ∷ [] → ⊥) × (l ≡ 46 ∷ 46 ∷ [] → ⊥))

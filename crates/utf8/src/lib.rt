@@ -3,11 +3,14 @@ ghost use mathlib.Core.Path.{_≡_};
 ghost use Prim.Native.Nat.{_≤_};
 ghost use lib.ListN.{length};
 ghost use Rattle.base.specs.Decides.{same};
-ghost use Rattle.utf8.specs.Names.{zeroAt, nameVerdict, earlyReason, isDot, isDots, isSpecial, storedName, isNamed, nameBytes};
+ghost use Rattle.utf8.specs.Names.{firstAt, zeroAt, nameVerdict, earlyReason, newReason, isDot, isDots, isSpecial, storedName, isNamed, nameBytes};
 ghost use Rattle.utf8.specs.Utf8.{lead, step, tail, isWhole, utf8};
 
 // The longest name: a slot has room for it and a zero.
 pub const MAX_FNAME_LEN: usize = 255;
+
+// What splits a path, and so no new name may have.
+const SLASH: u8 = 47;
 
 // Where a reader of UTF-8 stands.
 pub enum State {
@@ -19,9 +22,10 @@ pub enum State {
     Wrong,
 }
 
-// What a caller's name is. A good one may still be too long, which is looked at later.
+// What a caller's name is: good, good but with a slash, or bad. One that is not bad may still be too long, which is looked at later.
 pub enum NameVerdict {
     Good { long: bool },
+    Slashed { long: bool },
     Bad,
 }
 
@@ -101,19 +105,26 @@ pub fn valid(s: &[u8]) -> bool
     is_whole(at)
 }
 
-// The place of the first zero byte, or the length.
-pub fn first_zero(s: &[u8]) -> usize
-    ensures { λ r. ⌜ r ≡ zeroAt (now (s .entry)) ⌝ }
+// The place of the first byte b, or the length.
+fn first_of(s: &[u8], b: u8) -> usize
+    ensures { λ r. ⌜ r ≡ firstAt b (now (s .entry)) ⌝ }
 {
     let n = s.len();
     let mut i: usize = 0;
     while i < n {
-        if s[i] == 0 {
+        if s[i] == b {
             return i;
         }
         i = i + 1;
     }
     i
+}
+
+// The place of the first zero byte, or the length.
+pub fn first_zero(s: &[u8]) -> usize
+    ensures { λ r. ⌜ r ≡ zeroAt (now (s .entry)) ⌝ }
+{
+    first_of(s, 0)
 }
 
 // Whether two slices have the same bytes.
@@ -137,13 +148,15 @@ pub fn equal(a: &[u8], b: &[u8]) -> bool
 pub fn name_verdict(name: &[u8]) -> NameVerdict
     ensures { λ r. ⌜ r ≡ nameVerdict (now (name .entry)) ⌝ }
 {
+    let long = name.len() > MAX_FNAME_LEN;
     if first_zero(name) < name.len() {
         return NameVerdict::Bad;
     }
     if valid(name) {
-        return NameVerdict::Good {
-            long: name.len() > MAX_FNAME_LEN,
-        };
+        if first_of(name, SLASH) < name.len() {
+            return NameVerdict::Slashed { long: long };
+        }
+        return NameVerdict::Good { long: long };
     }
     NameVerdict::Bad
 }
@@ -154,6 +167,18 @@ pub fn early_reason(v: NameVerdict) -> u8
 {
     match v {
         NameVerdict::Good { long: _ } => 0,
+        NameVerdict::Slashed { long: _ } => 0,
+        NameVerdict::Bad => 5,
+    }
+}
+
+// The same where the name is a new one.
+pub fn new_reason(v: NameVerdict) -> u8
+    ensures { λ r. ⌜ r ≡ newReason v ⌝ }
+{
+    match v {
+        NameVerdict::Good { long: _ } => 0,
+        NameVerdict::Slashed { long: _ } => 5,
         NameVerdict::Bad => 5,
     }
 }

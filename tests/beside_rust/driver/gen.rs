@@ -38,6 +38,8 @@ struct Plan {
     fill: usize,
     /// Bits of the first group that are left set by pokes before the sequence; None without pokes.
     left: Option<usize>,
+    /// Names with a slash are there, by pokes before the sequence: no call stores one.
+    slashes: bool,
     /// Now and then some stored bytes are changed from outside, and the calls go on from there for a while.
     hurt: bool,
     /// No open.
@@ -45,14 +47,15 @@ struct Plan {
 }
 
 /// The plan for this seed: small and roomy images by turns; one in sixteen with the first group's map filled by pokes, one in sixteen
-/// hurt, and one in 64 filled by creating, if there are calls enough.
+/// with slashes in stored names, one in sixteen hurt, and one in 64 filled by creating, if there are calls enough.
 fn plan(seed: u64, calls: usize, dice: &mut Dice) -> Plan {
     let premise = seed % 2 == 0;
     if seed % 64 == 63 && calls >= 2500 {
-        return Plan { blocks: 2400 + dice.below(1600), names: 60, fill: 1000 + dice.below(40), left: None, hurt: false, premise };
+        let (blocks, fill) = (2400 + dice.below(1600), 1000 + dice.below(40));
+        return Plan { blocks, names: 60, fill, left: None, slashes: false, hurt: false, premise };
     }
     if seed % 16 == 13 {
-        return Plan { blocks: 24 + dice.below(16), names: 8, fill: 0, left: None, hurt: true, premise };
+        return Plan { blocks: 24 + dice.below(16), names: 8, fill: 0, left: None, slashes: false, hurt: true, premise };
     }
     let blocks = match seed / 2 % 4 {
         0 => 20 + dice.below(50),
@@ -61,7 +64,8 @@ fn plan(seed: u64, calls: usize, dice: &mut Dice) -> Plan {
         _ => 300,
     };
     let left = (seed % 16 == 11).then(|| dice.below(6));
-    Plan { blocks, names: 3 + dice.below(20), fill: 0, left, hurt: false, premise }
+    let (slashes, names) = (seed % 16 == 5, 3 + dice.below(20));
+    Plan { blocks, names: if slashes { names.max(15) } else { names }, fill: 0, left, slashes, hurt: false, premise }
 }
 
 pub struct Sequence {
@@ -146,9 +150,31 @@ impl Sequence {
             self.fill_map(left);
         }
         self.call(Call::Root);
+        if self.plan.slashes {
+            self.slash();
+        }
         for _ in 0..self.plan.fill {
             self.fill();
         }
+    }
+
+    /// A file, a folder and a symlink whose names have a slash, as `listed` has them: stored with another byte there, and changed by pokes.
+    fn slash(&mut self) {
+        let root = self.world.table.handles()[0];
+        for (n, kind) in [(0, 1), (1, 2), (2, 3)] {
+            let (time, file) = (self.time(), self.file());
+            self.call(Call::Create(root, format!("x-y{n}").into_bytes(), kind, 420, time, file));
+        }
+        for h in self.world.table.handles() {
+            self.call(Call::Close(h));
+        }
+        let arena = self.world.arena();
+        for (k, block) in arena.chunks(512).enumerate() {
+            let places: Vec<usize> = (24..501).filter(|p| block[0] == 2 && block[*p..].starts_with(b"x-y")).collect();
+            self.change(k, |payload| places.iter().for_each(|p| payload[p - 24 + 1] = b'/'));
+        }
+        self.call(Call::Open);
+        self.call(Call::Root);
     }
 
     /// Clears the first map but for its last bits, as if the group were in use, and opens the image so made.
@@ -243,7 +269,7 @@ impl Sequence {
         match self.dice.below(6) {
             0 | 1 => (slot, number),
             2 => (slot + 260, number),
-            3 => (slot + 4 + self.dice.below(6), vec![self.dice.of(&[0, b'.', b'a', b'0', 255, 0xc3])]),
+            3 => (slot + 4 + self.dice.below(6), vec![self.dice.of(&[0, b'.', b'a', b'0', b'/', 255, 0xc3])]),
             4 => (slot + 4, self.listed()),
             _ => (slot + self.dice.below(264), vec![self.dice.next() as u8]),
         }
@@ -549,10 +575,10 @@ impl Sequence {
         }
     }
 
-    /// A script has its limit, so late writes are short, and those of a sample shorter than a few blocks.
+    /// A script has its limit, so late writes are short, and those of a sample shorter still.
     fn data(&mut self) -> Vec<u8> {
         let most = match self.script.len() {
-            _ if self.answered => 1000,
+            _ if self.answered => 100,
             0..=900_000 => 8192,
             _ => 16,
         };

@@ -98,6 +98,14 @@ impl Call {
         }
     }
 
+    /// The name that this call would store.
+    pub fn new_name(&self) -> Option<&[u8]> {
+        match self {
+            Call::Create(_, n, ..) | Call::Link(_, n, _) | Call::Move(_, _, _, n) => Some(n),
+            _ => None,
+        }
+    }
+
     pub fn write(&self, out: &mut Vec<u8>) {
         out.push(self.byte());
         match self {

@@ -1,4 +1,4 @@
--- `calls::good_name`: a verdict is good or bad.
+-- `calls::good_name`: a verdict is good, bad, or good but with a slash.
 use mathlib.Core.Path.{ap, _∙_}
 use borrow.Author.Needs.{needs}
 use Rattle.calls.proofs.Asks.{early}

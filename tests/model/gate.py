@@ -1,0 +1,63 @@
+#!/usr/bin/env python3
+"""gate.py [--write]: crates/replay/stdin and stdout, the script that the gate runs and its lines; docs/REPLAY.md names the parts.
+
+No line is the port's own: the Rust's calls have the Rust's lines, all else the independent model's (replay_model.py). Without --write it says
+whether both files stand as made here (exit status 1 where not).
+"""
+import pathlib
+import struct
+import sys
+
+import images
+import refusals
+from replay_model import BLOCK, TABLE_BYTES, lines
+
+TOP = pathlib.Path(__file__).resolve().parent.parent.parent
+GATE = TOP / "crates" / "replay"
+SAMPLE = TOP / "tests" / "beside_rust" / "sample"
+# The course examples stand in stdin alone, in front.
+COURSE = 2_850
+# The longest script that crates/replay takes.
+MOST = 262_144
+
+
+def told(script):
+    return script, "".join(line + "\n" for line in lines(script)).encode()
+
+
+def rules():
+    """Images of 16 blocks that break one rule each, by pokes from a fresh one; and a table that breaks rule 2."""
+    start = b"\2" + struct.pack("<I", 16 * BLOCK) + b"\x10" + bytes(16) + images.ROOT[1]
+    fresh = images.fresh().arena_bytes()
+    for _, image, _ in images.RUNS:
+        data = image()
+        if len(data) == len(fresh):
+            pokes = (b"\3" + struct.pack("<IB", k, new) for k, (old, new) in enumerate(zip(fresh, data)) if old != new)
+            yield start + b"".join(pokes) + b"\x1e"
+    yield start + b"\4" + bytes(TABLE_BYTES) + b"\x1e"
+
+
+def parts():
+    yield told((GATE / "stdin").read_bytes()[:COURSE])
+    for n in (1, 2, 3):
+        yield tuple((SAMPLE / f"rust-{n}.{kind}").read_bytes() for kind in ("script", "expected"))
+    yield told(b"".join(rules()))
+    yield refusals.made()
+
+
+def main():
+    made = list(parts())
+    new = [b"".join(texts) for texts in zip(*made)]
+    assert len(new[0]) <= MOST, len(new[0])
+    files = GATE / "stdin", GATE / "stdout"
+    if "--write" in sys.argv:
+        for file, data in zip(files, new):
+            file.write_bytes(data)
+    same = all(file.read_bytes() == data for file, data in zip(files, new))
+    print("lines of the parts:", *(text.count(b"\n") for _, text in made))
+    print(f"{len(new[0])} bytes, {new[1].count(bytes([10]))} lines: crates/replay {'has' if same else 'does not have'} them")
+    return 0 if same else 1
+
+
+if __name__ == "__main__":
+    sys.exit(main())
