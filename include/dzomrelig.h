@@ -5,6 +5,8 @@
  * - The arena is 16 to 4,096 blocks of DZ_BLOCK bytes. The table of open nodes is DZ_TABLE bytes, which the caller keeps beside the arena
  *   and hands to every call; format and open fill it. Any bytes are safe in both: a call says what is wrong with them.
  * - A handle goes in as its two numbers and comes out as two words (dz_handle_t). Other results come out as words too: dz_metadata_t, dz_counts_t.
+ * - Every call that takes or makes a handle says who asks: `owner`, 1 to DZ_OWNERS. A hold belongs to who made it, and works for no other; each owner
+ *   has up to DZ_OWN_HOLDS of them, whatever the others have. Holds of several owners share a node.
  * - A call returns 0, or a reason. With a reason it has changed nothing: no byte of arena, table or output, no word.
  * - DZ_WRONG_SIZE: the table is not DZ_TABLE bytes, a file's name not DZ_FILE_NAME, or the words not as many as the result has. Nothing was called.
  * - Nothing is kept between calls, and nothing is allocated. Calls on different images may run at the same time.
@@ -26,7 +28,9 @@ extern "C" {
 #define DZ_BLOCK 512          /* a block of the arena */
 #define DZ_BLOCKS_LEAST 16
 #define DZ_BLOCKS_MOST 4096
-#define DZ_TABLE 4370         /* the table's bytes */
+#define DZ_TABLE 4402         /* the table's bytes */
+#define DZ_OWNERS 4           /* who asks is 1 to 4 */
+#define DZ_OWN_HOLDS 8        /* live holds of one owner */
 #define DZ_SLOT 264           /* a slot of a folder, as get entry and listing write it */
 #define DZ_FILE_NAME 16       /* the name of a node's own file, new for every node */
 #define DZ_NAME_LONGEST 255   /* a name in a folder: UTF-8, with no zero byte; a new one with no slash */
@@ -45,9 +49,9 @@ extern "C" {
 #define DZ_BAD_ARENA 1        /* its length is not 16 to 4,096 whole blocks */
 #define DZ_DAMAGED 2          /* the arena is not sound */
 #define DZ_BAD_TABLE 3        /* the table is not well formed */
-#define DZ_BAD_HANDLE 4       /* not a live hold with that stamp */
+#define DZ_BAD_HANDLE 4       /* not a live hold with that stamp, or another owner's */
 #define DZ_BAD_NAME 5         /* a zero byte inside, or not UTF-8; in create, link and move's new name also a slash */
-#define DZ_INVALID_PARAM 6    /* a type that is not 1 to 4, or a folder into itself or below */
+#define DZ_INVALID_PARAM 6    /* an owner or a type that is not 1 to 4, or a folder into itself or below */
 #define DZ_NOT_DIR 7
 #define DZ_DIR_REMOVED 8      /* the folder has no links left */
 #define DZ_IS_DIR 9
@@ -57,7 +61,7 @@ extern "C" {
 #define DZ_DIR_NOT_EMPTY 13
 #define DZ_FILE_TAKEN 14      /* a node's file has that name already */
 #define DZ_TOO_MANY_LINKS 15  /* a link count of 65,535 would rise */
-#define DZ_TABLE_FULL 16      /* 32 live holds, or no stamp is left */
+#define DZ_TABLE_FULL 16      /* 8 live holds of this owner, or no stamp is left */
 #define DZ_NO_DEVICE_SPACE 17 /* no free id, or no free block */
 #define DZ_WRONG_FS 18        /* no image of this file system */
 #define DZ_STUCK 19           /* the Rust would fail an assertion here */
@@ -151,104 +155,103 @@ uint32_t dz_check(const uint8_t *arena, size_t arena_len, const uint8_t *table, 
 
 /* ---- holds */
 
-/* A hold on the root folder. Changes: table, handle. Reasons: BadArena, Damaged, BadTable, TableFull; Stuck. */
-uint32_t dz_root(const uint8_t *arena, size_t arena_len, uint8_t *table, size_t table_len,
-                 uint64_t *handle, size_t words);
+/* A hold on the root folder. Changes: table, handle. Reasons: BadArena, Damaged, BadTable, InvalidParam (owner), TableFull; Stuck. */
+uint32_t dz_root(const uint8_t *arena, size_t arena_len, uint8_t *table, size_t table_len, uint8_t owner, uint64_t *handle, size_t words);
 
 /* A hold on the node that `name` names in the folder; the empty name and `.` are the folder itself.
- * Changes: table, handle. Reasons: BadArena, Damaged, BadTable, BadHandle, BadName, NotDir, NameTooLong, DirRemoved (only `..`),
- * EntryNotFound, TableFull; Stuck. */
+ * Changes: table, handle. Reasons: BadArena, Damaged, BadTable, InvalidParam (owner), BadHandle, BadName, NotDir, NameTooLong, DirRemoved (only
+ * `..`), EntryNotFound, TableFull; Stuck. */
 uint32_t dz_find(const uint8_t *arena, size_t arena_len, uint8_t *table, size_t table_len,
-                 uint32_t hold, uint64_t stamp, const uint8_t *name, size_t name_len, uint64_t *handle, size_t words);
+                 uint8_t owner, uint32_t hold, uint64_t stamp, const uint8_t *name, size_t name_len, uint64_t *handle, size_t words);
 
 /* Gives a hold up. The last one of a node stores its record if that changed, and frees a node that no folder names any more.
- * Changes: arena, table. Reasons: BadArena, Damaged, BadTable, BadHandle; NoDeviceSpace, Stuck. */
-uint32_t dz_close(uint8_t *arena, size_t arena_len, uint8_t *table, size_t table_len, uint32_t hold, uint64_t stamp);
+ * Changes: arena, table. Reasons: BadArena, Damaged, BadTable, InvalidParam (owner), BadHandle; NoDeviceSpace, Stuck. */
+uint32_t dz_close(uint8_t *arena, size_t arena_len, uint8_t *table, size_t table_len, uint8_t owner, uint32_t hold, uint64_t stamp);
 
 /* ---- names */
 
 /* A new node of that type in the folder, and a hold on it. `file` is its own file's name, which no other node has.
- * Changes: arena, table, handle. Reasons: BadArena, Damaged, BadTable, BadHandle, BadName (a slash too), InvalidParam, NotDir, DirRemoved,
- * NameTooLong, EntryExist, FileTaken, TooManyLinks, TableFull; NoDeviceSpace, Stuck. */
+ * Changes: arena, table, handle. Reasons: BadArena, Damaged, BadTable, InvalidParam (owner), BadHandle, BadName (a slash too), InvalidParam,
+ * NotDir, DirRemoved, NameTooLong, EntryExist, FileTaken, TooManyLinks, TableFull; NoDeviceSpace, Stuck. */
 uint32_t dz_create(uint8_t *arena, size_t arena_len, uint8_t *table, size_t table_len,
-                   uint32_t hold, uint64_t stamp, const uint8_t *name, size_t name_len, uint32_t type, uint16_t mode,
-                   int64_t sec, int64_t nsec, const uint8_t *file, size_t file_len, uint64_t *handle, size_t words);
+                   uint8_t owner, uint32_t hold, uint64_t stamp, const uint8_t *name, size_t name_len, uint32_t type, uint16_t mode, int64_t sec,
+                   int64_t nsec, const uint8_t *file, size_t file_len, uint64_t *handle, size_t words);
 
 /* Another name for the node `child`, which is no folder.
- * Changes: arena, table. Reasons: BadArena, Damaged, BadTable, BadHandle (folder, then child), BadName (a slash too), NotDir, DirRemoved,
- * NameTooLong, EntryExist, IsDir, TooManyLinks; NoDeviceSpace, Stuck. */
+ * Changes: arena, table. Reasons: BadArena, Damaged, BadTable, InvalidParam (owner), BadHandle (folder, then child), BadName (a slash too), NotDir,
+ * DirRemoved, NameTooLong, EntryExist, IsDir, TooManyLinks; NoDeviceSpace, Stuck. */
 uint32_t dz_link(uint8_t *arena, size_t arena_len, uint8_t *table, size_t table_len,
-                 uint32_t hold, uint64_t stamp, const uint8_t *name, size_t name_len, uint32_t child_hold, uint64_t child_stamp);
+                 uint8_t owner, uint32_t hold, uint64_t stamp, const uint8_t *name, size_t name_len, uint32_t child_hold, uint64_t child_stamp);
 
 /* Takes a name away. The folder's last slot moves to its place. A node that is open stays until its last hold is closed.
- * Changes: arena, table. Reasons: BadArena, Damaged, BadTable, BadHandle, BadName, NotDir, DirRemoved, IsDir (`.`, `..`, empty), NameTooLong,
- * EntryNotFound, DirNotEmpty; NoDeviceSpace, Stuck. */
+ * Changes: arena, table. Reasons: BadArena, Damaged, BadTable, InvalidParam (owner), BadHandle, BadName, NotDir, DirRemoved, IsDir (`.`, `..`,
+ * empty), NameTooLong, EntryNotFound, DirNotEmpty; NoDeviceSpace, Stuck. */
 uint32_t dz_unlink(uint8_t *arena, size_t arena_len, uint8_t *table, size_t table_len,
-                   uint32_t hold, uint64_t stamp, const uint8_t *name, size_t name_len);
+                   uint8_t owner, uint32_t hold, uint64_t stamp, const uint8_t *name, size_t name_len);
 
-/* The node `old_name` of a folder becomes `new_name` of the folder `to`. A node that has that name is replaced; the same node: nothing changes.
- * The `..` of a folder that goes to another folder names that one. It can't go into itself or below.
- * Changes: arena, table. Reasons: BadArena, Damaged, BadTable, BadHandle (source, then target), BadName (old, then new; a slash in the new
- * one too), NotDir and DirRemoved (source), IsDir (either name `.`, `..`, empty), NameTooLong, NotDir and DirRemoved (target), EntryNotFound; where the new name exists,
- * NotDir (a folder onto another type), IsDir (another type onto a folder), DirNotEmpty; InvalidParam (a folder into itself or below); then
- * TooManyLinks; NoDeviceSpace, Stuck. */
+/* The node `old_name` of a folder becomes `new_name` of the folder `to`. A node that has that name is replaced; the same node: nothing changes. The
+ * `..` of a folder that goes to another folder names that one. It can't go into itself or below.
+ * Changes: arena, table. Reasons: BadArena, Damaged, BadTable, InvalidParam (owner), BadHandle (source, then target), BadName (old, then new; a
+ * slash in the new one too), NotDir and DirRemoved (source), IsDir (either name `.`, `..`, empty), NameTooLong, NotDir and DirRemoved (target),
+ * EntryNotFound; where the new name exists, NotDir (a folder onto another type), IsDir (another type onto a folder), DirNotEmpty; InvalidParam (a
+ * folder into itself or below); then TooManyLinks; NoDeviceSpace, Stuck. */
 uint32_t dz_move(uint8_t *arena, size_t arena_len, uint8_t *table, size_t table_len,
-                 uint32_t hold, uint64_t stamp, const uint8_t *old_name, size_t old_len,
-                 uint32_t to_hold, uint64_t to_stamp, const uint8_t *new_name, size_t new_len);
+                 uint8_t owner, uint32_t hold, uint64_t stamp, const uint8_t *old_name, size_t old_len, uint32_t to_hold, uint64_t to_stamp,
+                 const uint8_t *new_name, size_t new_len);
 
 /* ---- metadata */
 
-/* What is known of a node. Changes: metadata. Reasons: BadArena, Damaged, BadTable, BadHandle; Stuck. */
+/* What is known of a node. Changes: metadata. Reasons: BadArena, Damaged, BadTable, InvalidParam (owner), BadHandle; Stuck. */
 uint32_t dz_metadata(const uint8_t *arena, size_t arena_len, const uint8_t *table, size_t table_len,
-                     uint32_t hold, uint64_t stamp, uint64_t *metadata, size_t words);
+                     uint8_t owner, uint32_t hold, uint64_t stamp, uint64_t *metadata, size_t words);
 
-/* Sets mode, owner (modulo 2^32) and the three times of a node, in the table: close and sync store them.
- * Changes: table. Reasons: BadArena, Damaged, BadTable, BadHandle. */
+/* Sets mode, uid and gid (modulo 2^32) and the three times of a node, in the table: close and sync store them.
+ * Changes: table. Reasons: BadArena, Damaged, BadTable, InvalidParam (owner), BadHandle. */
 uint32_t dz_set_metadata(const uint8_t *arena, size_t arena_len, uint8_t *table, size_t table_len,
-                         uint32_t hold, uint64_t stamp, uint16_t mode, uint64_t uid, uint64_t gid,
-                         int64_t atime_sec, int64_t atime_nsec, int64_t mtime_sec, int64_t mtime_nsec,
-                         int64_t ctime_sec, int64_t ctime_nsec);
+                         uint8_t owner, uint32_t hold, uint64_t stamp, uint16_t mode, uint64_t uid, uint64_t gid, int64_t atime_sec,
+                         int64_t atime_nsec, int64_t mtime_sec, int64_t mtime_nsec, int64_t ctime_sec, int64_t ctime_nsec);
 
 /* ---- contents of files, symlinks and sockets */
 
-/* The bytes from `place` on that lie below the node's size, as many as the output has room for; *count is how many, one word. The output's
- * bytes after them stay. Changes: out, *count. Reasons: BadArena, Damaged, BadTable, BadHandle, NotFile; Stuck. */
+/* The bytes from `place` on that lie below the node's size, as many as the output has room for; *count is how many, one word. The output's bytes
+ * after them stay. Changes: out, *count. Reasons: BadArena, Damaged, BadTable, InvalidParam (owner), BadHandle, NotFile; Stuck. */
 uint32_t dz_read(const uint8_t *arena, size_t arena_len, const uint8_t *table, size_t table_len,
-                 uint32_t hold, uint64_t stamp, uint64_t place, uint8_t *out, size_t out_len, uint64_t *count, size_t words);
+                 uint8_t owner, uint32_t hold, uint64_t stamp, uint64_t place, uint8_t *out, size_t out_len, uint64_t *count, size_t words);
 
-/* Writes all these bytes from `place` on. Past the size, file and size grow, also by no bytes; what lies between reads as zeros. The size
- * stands in the table: close and sync store it. Changes: arena, table. Reasons: BadArena, Damaged, BadTable, BadHandle, NotFile, FileTooBig;
- * NoDeviceSpace, Stuck. */
+/* Writes all these bytes from `place` on. Past the size, file and size grow, also by no bytes; what lies between reads as zeros. The size stands in
+ * the table: close and sync store it. Changes: arena, table. Reasons: BadArena, Damaged, BadTable, InvalidParam (owner), BadHandle, NotFile,
+ * FileTooBig; NoDeviceSpace, Stuck. */
 uint32_t dz_write(uint8_t *arena, size_t arena_len, uint8_t *table, size_t table_len,
-                  uint32_t hold, uint64_t stamp, uint64_t place, const uint8_t *data, size_t data_len);
+                  uint8_t owner, uint32_t hold, uint64_t stamp, uint64_t place, const uint8_t *data, size_t data_len);
 
 /* Makes the node's file and size exactly so long. What is cut off is gone; a longer file takes no block. Stored as by dz_write.
- * Changes: arena, table. Reasons: BadArena, Damaged, BadTable, BadHandle, NotFile, FileTooBig; Stuck. */
+ * Changes: arena, table. Reasons: BadArena, Damaged, BadTable, InvalidParam (owner), BadHandle, NotFile, FileTooBig; Stuck. */
 uint32_t dz_resize(uint8_t *arena, size_t arena_len, uint8_t *table, size_t table_len,
-                   uint32_t hold, uint64_t stamp, uint64_t length);
+                   uint8_t owner, uint32_t hold, uint64_t stamp, uint64_t length);
 
 /* ---- slots */
 
 /* One slot of a folder, as stored, at the output's start: DZ_SLOT bytes.
- * Changes: out. Reasons: BadArena, Damaged, BadTable, BadHandle, NotDir, EntryNotFound (no such slot), OutFull; Stuck. */
+ * Changes: out. Reasons: BadArena, Damaged, BadTable, InvalidParam (owner), BadHandle, NotDir, EntryNotFound (no such slot), OutFull; Stuck. */
 uint32_t dz_get_entry(const uint8_t *arena, size_t arena_len, const uint8_t *table, size_t table_len,
-                      uint32_t hold, uint64_t stamp, uint64_t slot, uint8_t *out, size_t out_len);
+                      uint8_t owner, uint32_t hold, uint64_t stamp, uint64_t slot, uint8_t *out, size_t out_len);
 
-/* A folder's slots from *next on, as many as are left and the output has room for; *next moves on by as many. One word.
- * An unlink between two listings moves slots: begin again after one.
- * Changes: *next, out. Reasons: BadArena, Damaged, BadTable, BadHandle, NotDir, OutFull; Stuck. */
+/* A folder's slots from *next on, as many as are left and the output has room for; *next moves on by as many. One word. An unlink between two
+ * listings moves slots: begin again after one.
+ * Changes: *next, out. Reasons: BadArena, Damaged, BadTable, InvalidParam (owner), BadHandle, NotDir, OutFull; Stuck. */
 uint32_t dz_list(const uint8_t *arena, size_t arena_len, const uint8_t *table, size_t table_len,
-                 uint32_t hold, uint64_t stamp, uint64_t *next, size_t words, uint8_t *out, size_t out_len);
+                 uint8_t owner, uint32_t hold, uint64_t stamp, uint64_t *next, size_t words, uint8_t *out, size_t out_len);
 
-/* ---- for owners
+/* ---- for owners of an image
  *
- * Each call above tests the whole arena and the table first, which is nearly all of its time. An owner has both tested once, and then makes the
- * calls below. They take, give and answer the same as those above, but for BadArena, Damaged and BadTable, which can't come; and they take the
- * chains beside the arena: DZ_CHAINS words of 16 bits that lead to its blocks, which the calls keep. dz_own_chains fills them first.
+ * Each call above tests the whole arena and the table first, which is nearly all of its time. The owner of an image (not of a hold: who alone writes
+ * arena and table) has both tested once, and then makes the calls below. They take, give and answer the same as those above, but for BadArena,
+ * Damaged and BadTable, which can't come; and they take the chains beside the arena: DZ_CHAINS words of 16 bits that lead to its blocks, which the
+ * calls keep. dz_own_chains fills them first.
  *
- * What an owner promises, at each of these calls:
+ * What the owner of an image promises, at each of these calls:
  * - Nobody else writes arena, chains and table: since the check passed (dz_check gave 0), or since dz_format was done, only calls of this section did.
- * - No dz_format and no dz_open came in between. (After dz_open, dz_check and dz_own_chains make an owner again; after a dz_format that is done
+ * - No dz_format and no dz_open came in between. (After dz_open, dz_check and dz_own_chains make one again; after a dz_format that is done
  *   dz_own_chains alone does.)
  * Who keeps that may always make the next call (theorem `keeps`, docs/PROOFS.md). A call whose promise is broken may do anything: use the calls above
  * for an arena from elsewhere. */
@@ -260,35 +263,35 @@ uint32_t dz_own_chains(const uint8_t *arena, size_t arena_len, uint16_t *chains,
 
 uint32_t dz_own_sync(uint8_t *arena, size_t arena_len, uint16_t *chains, size_t chains_len, uint8_t *table, size_t table_len);
 uint32_t dz_own_root(const uint8_t *arena, size_t arena_len, const uint16_t *chains, size_t chains_len, uint8_t *table, size_t table_len,
-                     uint64_t *handle, size_t words);
+                     uint8_t owner, uint64_t *handle, size_t words);
 uint32_t dz_own_find(const uint8_t *arena, size_t arena_len, const uint16_t *chains, size_t chains_len, uint8_t *table, size_t table_len,
-                     uint32_t hold, uint64_t stamp, const uint8_t *name, size_t name_len, uint64_t *handle, size_t words);
-uint32_t dz_own_close(uint8_t *arena, size_t arena_len, uint16_t *chains, size_t chains_len, uint8_t *table, size_t table_len, uint32_t hold,
-                      uint64_t stamp);
-uint32_t dz_own_create(uint8_t *arena, size_t arena_len, uint16_t *chains, size_t chains_len, uint8_t *table, size_t table_len, uint32_t hold,
-                       uint64_t stamp, const uint8_t *name, size_t name_len, uint32_t type, uint16_t mode, int64_t sec, int64_t nsec,
+                     uint8_t owner, uint32_t hold, uint64_t stamp, const uint8_t *name, size_t name_len, uint64_t *handle, size_t words);
+uint32_t dz_own_close(uint8_t *arena, size_t arena_len, uint16_t *chains, size_t chains_len, uint8_t *table, size_t table_len, uint8_t owner,
+                      uint32_t hold, uint64_t stamp);
+uint32_t dz_own_create(uint8_t *arena, size_t arena_len, uint16_t *chains, size_t chains_len, uint8_t *table, size_t table_len, uint8_t owner,
+                       uint32_t hold, uint64_t stamp, const uint8_t *name, size_t name_len, uint32_t type, uint16_t mode, int64_t sec, int64_t nsec,
                        const uint8_t *file, size_t file_len, uint64_t *handle, size_t words);
-uint32_t dz_own_link(uint8_t *arena, size_t arena_len, uint16_t *chains, size_t chains_len, uint8_t *table, size_t table_len, uint32_t hold,
-                     uint64_t stamp, const uint8_t *name, size_t name_len, uint32_t child_hold, uint64_t child_stamp);
-uint32_t dz_own_unlink(uint8_t *arena, size_t arena_len, uint16_t *chains, size_t chains_len, uint8_t *table, size_t table_len, uint32_t hold,
-                       uint64_t stamp, const uint8_t *name, size_t name_len);
-uint32_t dz_own_move(uint8_t *arena, size_t arena_len, uint16_t *chains, size_t chains_len, uint8_t *table, size_t table_len, uint32_t hold,
-                     uint64_t stamp, const uint8_t *old_name, size_t old_len, uint32_t to_hold, uint64_t to_stamp, const uint8_t *new_name,
-                     size_t new_len);
+uint32_t dz_own_link(uint8_t *arena, size_t arena_len, uint16_t *chains, size_t chains_len, uint8_t *table, size_t table_len, uint8_t owner,
+                     uint32_t hold, uint64_t stamp, const uint8_t *name, size_t name_len, uint32_t child_hold, uint64_t child_stamp);
+uint32_t dz_own_unlink(uint8_t *arena, size_t arena_len, uint16_t *chains, size_t chains_len, uint8_t *table, size_t table_len, uint8_t owner,
+                       uint32_t hold, uint64_t stamp, const uint8_t *name, size_t name_len);
+uint32_t dz_own_move(uint8_t *arena, size_t arena_len, uint16_t *chains, size_t chains_len, uint8_t *table, size_t table_len, uint8_t owner,
+                     uint32_t hold, uint64_t stamp, const uint8_t *old_name, size_t old_len, uint32_t to_hold, uint64_t to_stamp,
+                     const uint8_t *new_name, size_t new_len);
 uint32_t dz_own_metadata(const uint8_t *arena, size_t arena_len, const uint16_t *chains, size_t chains_len, const uint8_t *table, size_t table_len,
-                         uint32_t hold, uint64_t stamp, uint64_t *metadata, size_t words);
+                         uint8_t owner, uint32_t hold, uint64_t stamp, uint64_t *metadata, size_t words);
 uint32_t dz_own_set_metadata(const uint8_t *arena, size_t arena_len, const uint16_t *chains, size_t chains_len, uint8_t *table, size_t table_len,
-                             uint32_t hold, uint64_t stamp, uint16_t mode, uint64_t uid, uint64_t gid, int64_t atime_sec, int64_t atime_nsec,
-                             int64_t mtime_sec, int64_t mtime_nsec, int64_t ctime_sec, int64_t ctime_nsec);
+                             uint8_t owner, uint32_t hold, uint64_t stamp, uint16_t mode, uint64_t uid, uint64_t gid, int64_t atime_sec,
+                             int64_t atime_nsec, int64_t mtime_sec, int64_t mtime_nsec, int64_t ctime_sec, int64_t ctime_nsec);
 uint32_t dz_own_get_entry(const uint8_t *arena, size_t arena_len, const uint16_t *chains, size_t chains_len, const uint8_t *table, size_t table_len,
-                          uint32_t hold, uint64_t stamp, uint64_t slot, uint8_t *out, size_t out_len);
+                          uint8_t owner, uint32_t hold, uint64_t stamp, uint64_t slot, uint8_t *out, size_t out_len);
 uint32_t dz_own_list(const uint8_t *arena, size_t arena_len, const uint16_t *chains, size_t chains_len, const uint8_t *table, size_t table_len,
-                     uint32_t hold, uint64_t stamp, uint64_t *next, size_t words, uint8_t *out, size_t out_len);
+                     uint8_t owner, uint32_t hold, uint64_t stamp, uint64_t *next, size_t words, uint8_t *out, size_t out_len);
 uint32_t dz_own_read(const uint8_t *arena, size_t arena_len, const uint16_t *chains, size_t chains_len, const uint8_t *table, size_t table_len,
-                     uint32_t hold, uint64_t stamp, uint64_t place, uint8_t *out, size_t out_len, uint64_t *count, size_t words);
-uint32_t dz_own_write(uint8_t *arena, size_t arena_len, uint16_t *chains, size_t chains_len, uint8_t *table, size_t table_len,
+                     uint8_t owner, uint32_t hold, uint64_t stamp, uint64_t place, uint8_t *out, size_t out_len, uint64_t *count, size_t words);
+uint32_t dz_own_write(uint8_t *arena, size_t arena_len, uint16_t *chains, size_t chains_len, uint8_t *table, size_t table_len, uint8_t owner,
                       uint32_t hold, uint64_t stamp, uint64_t place, const uint8_t *data, size_t data_len);
-uint32_t dz_own_resize(uint8_t *arena, size_t arena_len, uint16_t *chains, size_t chains_len, uint8_t *table, size_t table_len,
+uint32_t dz_own_resize(uint8_t *arena, size_t arena_len, uint16_t *chains, size_t chains_len, uint8_t *table, size_t table_len, uint8_t owner,
                        uint32_t hold, uint64_t stamp, uint64_t length);
 
 #ifdef __cplusplus

@@ -6,6 +6,9 @@
 
 static uint8_t arena[64 * DZ_BLOCK], table[DZ_TABLE];
 
+// Who asks: one of the four who share the image.
+enum { ANNA = 1, BEN = 2 };
+
 // A call that is refused ends the program, with the reason's name.
 static void must(const char *what, uint32_t reason)
 {
@@ -25,21 +28,21 @@ static const uint8_t *new_file(void)
 static dz_handle_t create(dz_handle_t folder, const char *name, uint32_t type)
 {
     dz_handle_t made = {0, 0};
-    must(name, dz_create(arena, sizeof arena, table, DZ_TABLE, (uint32_t)folder.hold, folder.stamp, (const uint8_t *)name, strlen(name),
+    must(name, dz_create(arena, sizeof arena, table, DZ_TABLE, ANNA, (uint32_t)folder.hold, folder.stamp, (const uint8_t *)name, strlen(name),
                          type, 0644, 1700000000, 0, new_file(), DZ_FILE_NAME, dz_handle_words(&made), DZ_HANDLE_WORDS));
     return made;
 }
 
 static void close_node(dz_handle_t node)
 {
-    must("close", dz_close(arena, sizeof arena, table, DZ_TABLE, (uint32_t)node.hold, node.stamp));
+    must("close", dz_close(arena, sizeof arena, table, DZ_TABLE, ANNA, (uint32_t)node.hold, node.stamp));
 }
 
 int main(int n, char **words)
 {
     dz_handle_t root = {0, 0};
     must("format", dz_format(arena, sizeof arena, table, DZ_TABLE, 1700000000, 0, new_file(), DZ_FILE_NAME));
-    must("root", dz_root(arena, sizeof arena, table, DZ_TABLE, dz_handle_words(&root), DZ_HANDLE_WORDS));
+    must("root", dz_root(arena, sizeof arena, table, DZ_TABLE, ANNA, dz_handle_words(&root), DZ_HANDLE_WORDS));
 
     dz_handle_t folder = create(root, "glyphs", DZ_FOLDER);
     dz_handle_t a = create(folder, "A", DZ_FILE);
@@ -49,22 +52,25 @@ int main(int n, char **words)
     const char outline[] = "M0 0 L5 9 L9 0";
     uint8_t bytes[64];
     uint64_t count = 0;
-    must("write", dz_write(arena, sizeof arena, table, DZ_TABLE, (uint32_t)a.hold, a.stamp, 0, (const uint8_t *)outline, strlen(outline)));
-    must("read", dz_read(arena, sizeof arena, table, DZ_TABLE, (uint32_t)a.hold, a.stamp, 0, bytes, sizeof bytes, &count, DZ_READ_WORDS));
+    must("write", dz_write(arena, sizeof arena, table, DZ_TABLE, ANNA, (uint32_t)a.hold, a.stamp, 0, (const uint8_t *)outline, strlen(outline)));
+    must("read", dz_read(arena, sizeof arena, table, DZ_TABLE, ANNA, (uint32_t)a.hold, a.stamp, 0, bytes, sizeof bytes, &count, DZ_READ_WORDS));
     printf("A: %.*s\n", (int)count, (const char *)bytes);
     close_node(a);
 
     uint8_t slots[8 * DZ_SLOT];
     uint64_t next = 0;
-    must("list", dz_list(arena, sizeof arena, table, DZ_TABLE, (uint32_t)folder.hold, folder.stamp, &next, DZ_NEXT_WORDS, slots, sizeof slots));
+    must("list", dz_list(arena, sizeof arena, table, DZ_TABLE, ANNA, (uint32_t)folder.hold, folder.stamp, &next, DZ_NEXT_WORDS, slots, sizeof slots));
     for (uint64_t i = 0; i < next; i++)
         printf("%u %s\n", (unsigned)dz_slot_id(slots + i * DZ_SLOT), dz_slot_name(slots + i * DZ_SLOT));
 
     // a name that is taken: the call says so, and nothing has changed
     dz_handle_t none = {0, 0};
-    uint32_t reason = dz_create(arena, sizeof arena, table, DZ_TABLE, (uint32_t)folder.hold, folder.stamp, (const uint8_t *)"A", 1, DZ_FILE, 0644,
+    uint32_t reason = dz_create(arena, sizeof arena, table, DZ_TABLE, ANNA, (uint32_t)folder.hold, folder.stamp, (const uint8_t *)"A", 1, DZ_FILE, 0644,
                                 1700000000, 0, new_file(), DZ_FILE_NAME, dz_handle_words(&none), DZ_HANDLE_WORDS);
     printf("a second A: %s\n", dz_reason_name(reason));
+
+    // her handle is of no use to him; he has eight of his own
+    printf("Ben with Anna's root: %s\n", dz_reason_name(dz_close(arena, sizeof arena, table, DZ_TABLE, BEN, (uint32_t)root.hold, root.stamp)));
 
     close_node(folder);
     close_node(root);

@@ -4,7 +4,9 @@
 //! their caller is met by the types here: a slice gives a pointer that is not null and the length that belongs to it; `&mut` slices overlap nothing;
 //! table, file name and words are arrays of the sizes that the calls want, so that a wrong size can't be passed.
 //!
-//! The calls for owners (`dz_own_`) leave the tests of arena and table out, and ask for more: that both would pass them, and that the chains are the
+//! Every call that takes or makes a handle says who asks, by a number that the call itself judges.
+//!
+//! The calls for owners of an image (`dz_own_`) leave the tests of arena and table out, and ask for more: that both would pass them, and that the chains are the
 //! arena's (`Owned` of crates/owners). A pair has chains where that is so, and only then are these calls made. It gets them where it was just formatted
 //! or the check passed (theorems `fresh` and `check`, docs/PROOFS.md). Each of these calls leaves a pair that passes again, and chains that are right
 //! (`keeps`; the calls' own contracts). Open, which `keeps` leaves out, takes the chains away.
@@ -21,23 +23,23 @@ extern "C" {
     fn dz_open(a: *const u8, al: usize, t: *mut u8, tl: usize) -> u32;
     fn dz_sync(a: *mut u8, al: usize, t: *mut u8, tl: usize) -> u32;
     fn dz_check(a: *const u8, al: usize, t: *const u8, tl: usize, counts: *mut u64, words: usize) -> u32;
-    fn dz_root(a: *const u8, al: usize, t: *mut u8, tl: usize, handle: *mut u64, words: usize) -> u32;
-    fn dz_find(a: *const u8, al: usize, t: *mut u8, tl: usize, hold: u32, stamp: u64, name: *const u8, nl: usize, handle: *mut u64, words: usize) -> u32;
-    fn dz_close(a: *mut u8, al: usize, t: *mut u8, tl: usize, hold: u32, stamp: u64) -> u32;
-    fn dz_create(a: *mut u8, al: usize, t: *mut u8, tl: usize, hold: u32, stamp: u64, name: *const u8, nl: usize, kind: u32, mode: u16,
+    fn dz_root(a: *const u8, al: usize, t: *mut u8, tl: usize, who: u8, handle: *mut u64, words: usize) -> u32;
+    fn dz_find(a: *const u8, al: usize, t: *mut u8, tl: usize, who: u8, hold: u32, stamp: u64, name: *const u8, nl: usize, handle: *mut u64, words: usize) -> u32;
+    fn dz_close(a: *mut u8, al: usize, t: *mut u8, tl: usize, who: u8, hold: u32, stamp: u64) -> u32;
+    fn dz_create(a: *mut u8, al: usize, t: *mut u8, tl: usize, who: u8, hold: u32, stamp: u64, name: *const u8, nl: usize, kind: u32, mode: u16,
                  sec: i64, nsec: i64, file: *const u8, fl: usize, handle: *mut u64, words: usize) -> u32;
-    fn dz_link(a: *mut u8, al: usize, t: *mut u8, tl: usize, hold: u32, stamp: u64, name: *const u8, nl: usize, child_hold: u32, child_stamp: u64) -> u32;
-    fn dz_unlink(a: *mut u8, al: usize, t: *mut u8, tl: usize, hold: u32, stamp: u64, name: *const u8, nl: usize) -> u32;
-    fn dz_move(a: *mut u8, al: usize, t: *mut u8, tl: usize, hold: u32, stamp: u64, old: *const u8, ol: usize, to_hold: u32, to_stamp: u64,
+    fn dz_link(a: *mut u8, al: usize, t: *mut u8, tl: usize, who: u8, hold: u32, stamp: u64, name: *const u8, nl: usize, child_hold: u32, child_stamp: u64) -> u32;
+    fn dz_unlink(a: *mut u8, al: usize, t: *mut u8, tl: usize, who: u8, hold: u32, stamp: u64, name: *const u8, nl: usize) -> u32;
+    fn dz_move(a: *mut u8, al: usize, t: *mut u8, tl: usize, who: u8, hold: u32, stamp: u64, old: *const u8, ol: usize, to_hold: u32, to_stamp: u64,
                new: *const u8, nl: usize) -> u32;
-    fn dz_metadata(a: *const u8, al: usize, t: *const u8, tl: usize, hold: u32, stamp: u64, metadata: *mut u64, words: usize) -> u32;
-    fn dz_set_metadata(a: *const u8, al: usize, t: *mut u8, tl: usize, hold: u32, stamp: u64, mode: u16, uid: u64, gid: u64,
+    fn dz_metadata(a: *const u8, al: usize, t: *const u8, tl: usize, who: u8, hold: u32, stamp: u64, metadata: *mut u64, words: usize) -> u32;
+    fn dz_set_metadata(a: *const u8, al: usize, t: *mut u8, tl: usize, who: u8, hold: u32, stamp: u64, mode: u16, uid: u64, gid: u64,
                        asec: i64, ansec: i64, msec: i64, mnsec: i64, csec: i64, cnsec: i64) -> u32;
-    fn dz_read(a: *const u8, al: usize, t: *const u8, tl: usize, hold: u32, stamp: u64, place: u64, out: *mut u8, ol: usize, count: *mut u64, words: usize) -> u32;
-    fn dz_write(a: *mut u8, al: usize, t: *mut u8, tl: usize, hold: u32, stamp: u64, place: u64, data: *const u8, dl: usize) -> u32;
-    fn dz_resize(a: *mut u8, al: usize, t: *mut u8, tl: usize, hold: u32, stamp: u64, length: u64) -> u32;
-    fn dz_get_entry(a: *const u8, al: usize, t: *const u8, tl: usize, hold: u32, stamp: u64, slot: u64, out: *mut u8, ol: usize) -> u32;
-    fn dz_list(a: *const u8, al: usize, t: *const u8, tl: usize, hold: u32, stamp: u64, next: *mut u64, words: usize, out: *mut u8, ol: usize) -> u32;
+    fn dz_read(a: *const u8, al: usize, t: *const u8, tl: usize, who: u8, hold: u32, stamp: u64, place: u64, out: *mut u8, ol: usize, count: *mut u64, words: usize) -> u32;
+    fn dz_write(a: *mut u8, al: usize, t: *mut u8, tl: usize, who: u8, hold: u32, stamp: u64, place: u64, data: *const u8, dl: usize) -> u32;
+    fn dz_resize(a: *mut u8, al: usize, t: *mut u8, tl: usize, who: u8, hold: u32, stamp: u64, length: u64) -> u32;
+    fn dz_get_entry(a: *const u8, al: usize, t: *const u8, tl: usize, who: u8, hold: u32, stamp: u64, slot: u64, out: *mut u8, ol: usize) -> u32;
+    fn dz_list(a: *const u8, al: usize, t: *const u8, tl: usize, who: u8, hold: u32, stamp: u64, next: *mut u64, words: usize, out: *mut u8, ol: usize) -> u32;
 }
 
 // The same for owners.
@@ -45,30 +47,30 @@ extern "C" {
 extern "C" {
     fn dz_own_chains(a: *const u8, al: usize, c: *mut u16, cl: usize) -> u32;
     fn dz_own_sync(a: *mut u8, al: usize, c: *mut u16, cl: usize, t: *mut u8, tl: usize) -> u32;
-    fn dz_own_root(a: *const u8, al: usize, c: *const u16, cl: usize, t: *mut u8, tl: usize, handle: *mut u64, words: usize) -> u32;
-    fn dz_own_find(a: *const u8, al: usize, c: *const u16, cl: usize, t: *mut u8, tl: usize, hold: u32, stamp: u64, name: *const u8, nl: usize,
+    fn dz_own_root(a: *const u8, al: usize, c: *const u16, cl: usize, t: *mut u8, tl: usize, who: u8, handle: *mut u64, words: usize) -> u32;
+    fn dz_own_find(a: *const u8, al: usize, c: *const u16, cl: usize, t: *mut u8, tl: usize, who: u8, hold: u32, stamp: u64, name: *const u8, nl: usize,
                    handle: *mut u64, words: usize) -> u32;
-    fn dz_own_close(a: *mut u8, al: usize, c: *mut u16, cl: usize, t: *mut u8, tl: usize, hold: u32, stamp: u64) -> u32;
-    fn dz_own_create(a: *mut u8, al: usize, c: *mut u16, cl: usize, t: *mut u8, tl: usize, hold: u32, stamp: u64, name: *const u8, nl: usize,
+    fn dz_own_close(a: *mut u8, al: usize, c: *mut u16, cl: usize, t: *mut u8, tl: usize, who: u8, hold: u32, stamp: u64) -> u32;
+    fn dz_own_create(a: *mut u8, al: usize, c: *mut u16, cl: usize, t: *mut u8, tl: usize, who: u8, hold: u32, stamp: u64, name: *const u8, nl: usize,
                      kind: u32, mode: u16, sec: i64, nsec: i64, file: *const u8, fl: usize, handle: *mut u64, words: usize) -> u32;
-    fn dz_own_link(a: *mut u8, al: usize, c: *mut u16, cl: usize, t: *mut u8, tl: usize, hold: u32, stamp: u64, name: *const u8, nl: usize,
+    fn dz_own_link(a: *mut u8, al: usize, c: *mut u16, cl: usize, t: *mut u8, tl: usize, who: u8, hold: u32, stamp: u64, name: *const u8, nl: usize,
                    child_hold: u32, child_stamp: u64) -> u32;
-    fn dz_own_unlink(a: *mut u8, al: usize, c: *mut u16, cl: usize, t: *mut u8, tl: usize, hold: u32, stamp: u64, name: *const u8, nl: usize) -> u32;
-    fn dz_own_move(a: *mut u8, al: usize, c: *mut u16, cl: usize, t: *mut u8, tl: usize, hold: u32, stamp: u64, old: *const u8, ol: usize,
+    fn dz_own_unlink(a: *mut u8, al: usize, c: *mut u16, cl: usize, t: *mut u8, tl: usize, who: u8, hold: u32, stamp: u64, name: *const u8, nl: usize) -> u32;
+    fn dz_own_move(a: *mut u8, al: usize, c: *mut u16, cl: usize, t: *mut u8, tl: usize, who: u8, hold: u32, stamp: u64, old: *const u8, ol: usize,
                    to_hold: u32, to_stamp: u64, new: *const u8, nl: usize) -> u32;
-    fn dz_own_metadata(a: *const u8, al: usize, c: *const u16, cl: usize, t: *const u8, tl: usize, hold: u32, stamp: u64,
+    fn dz_own_metadata(a: *const u8, al: usize, c: *const u16, cl: usize, t: *const u8, tl: usize, who: u8, hold: u32, stamp: u64,
                        metadata: *mut u64, words: usize) -> u32;
-    fn dz_own_set_metadata(a: *const u8, al: usize, c: *const u16, cl: usize, t: *mut u8, tl: usize, hold: u32, stamp: u64, mode: u16, uid: u64, gid: u64,
+    fn dz_own_set_metadata(a: *const u8, al: usize, c: *const u16, cl: usize, t: *mut u8, tl: usize, who: u8, hold: u32, stamp: u64, mode: u16, uid: u64, gid: u64,
                            asec: i64, ansec: i64, msec: i64, mnsec: i64, csec: i64, cnsec: i64) -> u32;
-    fn dz_own_get_entry(a: *const u8, al: usize, c: *const u16, cl: usize, t: *const u8, tl: usize, hold: u32, stamp: u64, slot: u64,
+    fn dz_own_get_entry(a: *const u8, al: usize, c: *const u16, cl: usize, t: *const u8, tl: usize, who: u8, hold: u32, stamp: u64, slot: u64,
                         out: *mut u8, ol: usize) -> u32;
-    fn dz_own_list(a: *const u8, al: usize, c: *const u16, cl: usize, t: *const u8, tl: usize, hold: u32, stamp: u64, next: *mut u64, words: usize,
+    fn dz_own_list(a: *const u8, al: usize, c: *const u16, cl: usize, t: *const u8, tl: usize, who: u8, hold: u32, stamp: u64, next: *mut u64, words: usize,
                    out: *mut u8, ol: usize) -> u32;
-    fn dz_own_read(a: *const u8, al: usize, c: *const u16, cl: usize, t: *const u8, tl: usize, hold: u32, stamp: u64, place: u64,
+    fn dz_own_read(a: *const u8, al: usize, c: *const u16, cl: usize, t: *const u8, tl: usize, who: u8, hold: u32, stamp: u64, place: u64,
                    out: *mut u8, ol: usize, count: *mut u64, words: usize) -> u32;
-    fn dz_own_write(a: *mut u8, al: usize, c: *mut u16, cl: usize, t: *mut u8, tl: usize, hold: u32, stamp: u64, place: u64,
+    fn dz_own_write(a: *mut u8, al: usize, c: *mut u16, cl: usize, t: *mut u8, tl: usize, who: u8, hold: u32, stamp: u64, place: u64,
                     data: *const u8, dl: usize) -> u32;
-    fn dz_own_resize(a: *mut u8, al: usize, c: *mut u16, cl: usize, t: *mut u8, tl: usize, hold: u32, stamp: u64, length: u64) -> u32;
+    fn dz_own_resize(a: *mut u8, al: usize, c: *mut u16, cl: usize, t: *mut u8, tl: usize, who: u8, hold: u32, stamp: u64, length: u64) -> u32;
 }
 
 /// The words of the chains.
@@ -142,7 +144,7 @@ impl Pair {
         (self.arena, self.table)
     }
 
-    pub(crate) fn is_owned(&self) -> bool {
+    pub(crate) fn is_trusted(&self) -> bool {
         self.chains.is_some()
     }
 
@@ -188,162 +190,162 @@ impl Pair {
         Ok(counts)
     }
 
-    pub(crate) fn root(&mut self) -> Result<Handle, Reason> {
+    pub(crate) fn root(&mut self, who: u8) -> Result<Handle, Reason> {
         let (a, t, mut w) = (&self.arena, &mut self.table, [0; 2]);
         let n = unsafe {
             match &self.chains {
-                Some(c) => dz_own_root(a.as_ptr(), a.len(), c.as_ptr(), c.len(), t.as_mut_ptr(), t.len(), w.as_mut_ptr(), w.len()),
-                None => dz_root(a.as_ptr(), a.len(), t.as_mut_ptr(), t.len(), w.as_mut_ptr(), w.len()),
+                Some(c) => dz_own_root(a.as_ptr(), a.len(), c.as_ptr(), c.len(), t.as_mut_ptr(), t.len(), who, w.as_mut_ptr(), w.len()),
+                None => dz_root(a.as_ptr(), a.len(), t.as_mut_ptr(), t.len(), who, w.as_mut_ptr(), w.len()),
             }
         };
         held(n, w)
     }
 
-    pub(crate) fn find(&mut self, h: Handle, name: &[u8]) -> Result<Handle, Reason> {
+    pub(crate) fn find(&mut self, who: u8, h: Handle, name: &[u8]) -> Result<Handle, Reason> {
         let (a, t, mut w) = (&self.arena, &mut self.table, [0; 2]);
         let n = unsafe {
             match &self.chains {
-                Some(c) => dz_own_find(a.as_ptr(), a.len(), c.as_ptr(), c.len(), t.as_mut_ptr(), t.len(), h.hold, h.stamp, name.as_ptr(), name.len(),
+                Some(c) => dz_own_find(a.as_ptr(), a.len(), c.as_ptr(), c.len(), t.as_mut_ptr(), t.len(), who, h.hold, h.stamp, name.as_ptr(), name.len(),
                                        w.as_mut_ptr(), w.len()),
-                None => dz_find(a.as_ptr(), a.len(), t.as_mut_ptr(), t.len(), h.hold, h.stamp, name.as_ptr(), name.len(), w.as_mut_ptr(), w.len()),
+                None => dz_find(a.as_ptr(), a.len(), t.as_mut_ptr(), t.len(), who, h.hold, h.stamp, name.as_ptr(), name.len(), w.as_mut_ptr(), w.len()),
             }
         };
         held(n, w)
     }
 
-    pub(crate) fn close(&mut self, h: Handle) -> Result<(), Reason> {
+    pub(crate) fn close(&mut self, who: u8, h: Handle) -> Result<(), Reason> {
         let (a, t) = (&mut self.arena, &mut self.table);
         answer(unsafe {
             match &mut self.chains {
-                Some(c) => dz_own_close(a.as_mut_ptr(), a.len(), c.as_mut_ptr(), c.len(), t.as_mut_ptr(), t.len(), h.hold, h.stamp),
-                None => dz_close(a.as_mut_ptr(), a.len(), t.as_mut_ptr(), t.len(), h.hold, h.stamp),
+                Some(c) => dz_own_close(a.as_mut_ptr(), a.len(), c.as_mut_ptr(), c.len(), t.as_mut_ptr(), t.len(), who, h.hold, h.stamp),
+                None => dz_close(a.as_mut_ptr(), a.len(), t.as_mut_ptr(), t.len(), who, h.hold, h.stamp),
             }
         })
     }
 
-    pub(crate) fn create(&mut self, h: Handle, name: &[u8], kind: u32, mode: u16, time: Time, file: FileName) -> Result<Handle, Reason> {
+    pub(crate) fn create(&mut self, who: u8, h: Handle, name: &[u8], kind: u32, mode: u16, time: Time, file: FileName) -> Result<Handle, Reason> {
         let (a, t, mut w, FileName(f)) = (&mut self.arena, &mut self.table, [0; 2], file);
         let n = unsafe {
             match &mut self.chains {
-                Some(c) => dz_own_create(a.as_mut_ptr(), a.len(), c.as_mut_ptr(), c.len(), t.as_mut_ptr(), t.len(), h.hold, h.stamp,
+                Some(c) => dz_own_create(a.as_mut_ptr(), a.len(), c.as_mut_ptr(), c.len(), t.as_mut_ptr(), t.len(), who, h.hold, h.stamp,
                                          name.as_ptr(), name.len(), kind, mode, time.sec, time.nsec, f.as_ptr(), f.len(), w.as_mut_ptr(), w.len()),
-                None => dz_create(a.as_mut_ptr(), a.len(), t.as_mut_ptr(), t.len(), h.hold, h.stamp, name.as_ptr(), name.len(), kind, mode,
+                None => dz_create(a.as_mut_ptr(), a.len(), t.as_mut_ptr(), t.len(), who, h.hold, h.stamp, name.as_ptr(), name.len(), kind, mode,
                                   time.sec, time.nsec, f.as_ptr(), f.len(), w.as_mut_ptr(), w.len()),
             }
         };
         held(n, w)
     }
 
-    pub(crate) fn link(&mut self, h: Handle, name: &[u8], node: Handle) -> Result<(), Reason> {
+    pub(crate) fn link(&mut self, who: u8, h: Handle, name: &[u8], node: Handle) -> Result<(), Reason> {
         let (a, t) = (&mut self.arena, &mut self.table);
         answer(unsafe {
             match &mut self.chains {
-                Some(c) => dz_own_link(a.as_mut_ptr(), a.len(), c.as_mut_ptr(), c.len(), t.as_mut_ptr(), t.len(), h.hold, h.stamp,
+                Some(c) => dz_own_link(a.as_mut_ptr(), a.len(), c.as_mut_ptr(), c.len(), t.as_mut_ptr(), t.len(), who, h.hold, h.stamp,
                                        name.as_ptr(), name.len(), node.hold, node.stamp),
-                None => dz_link(a.as_mut_ptr(), a.len(), t.as_mut_ptr(), t.len(), h.hold, h.stamp, name.as_ptr(), name.len(), node.hold, node.stamp),
+                None => dz_link(a.as_mut_ptr(), a.len(), t.as_mut_ptr(), t.len(), who, h.hold, h.stamp, name.as_ptr(), name.len(), node.hold, node.stamp),
             }
         })
     }
 
-    pub(crate) fn unlink(&mut self, h: Handle, name: &[u8]) -> Result<(), Reason> {
+    pub(crate) fn unlink(&mut self, who: u8, h: Handle, name: &[u8]) -> Result<(), Reason> {
         let (a, t) = (&mut self.arena, &mut self.table);
         answer(unsafe {
             match &mut self.chains {
-                Some(c) => dz_own_unlink(a.as_mut_ptr(), a.len(), c.as_mut_ptr(), c.len(), t.as_mut_ptr(), t.len(), h.hold, h.stamp,
+                Some(c) => dz_own_unlink(a.as_mut_ptr(), a.len(), c.as_mut_ptr(), c.len(), t.as_mut_ptr(), t.len(), who, h.hold, h.stamp,
                                          name.as_ptr(), name.len()),
-                None => dz_unlink(a.as_mut_ptr(), a.len(), t.as_mut_ptr(), t.len(), h.hold, h.stamp, name.as_ptr(), name.len()),
+                None => dz_unlink(a.as_mut_ptr(), a.len(), t.as_mut_ptr(), t.len(), who, h.hold, h.stamp, name.as_ptr(), name.len()),
             }
         })
     }
 
-    pub(crate) fn rename(&mut self, h: Handle, old: &[u8], to: Handle, new: &[u8]) -> Result<(), Reason> {
+    pub(crate) fn rename(&mut self, who: u8, h: Handle, old: &[u8], to: Handle, new: &[u8]) -> Result<(), Reason> {
         let (a, t) = (&mut self.arena, &mut self.table);
         answer(unsafe {
             match &mut self.chains {
-                Some(c) => dz_own_move(a.as_mut_ptr(), a.len(), c.as_mut_ptr(), c.len(), t.as_mut_ptr(), t.len(), h.hold, h.stamp,
+                Some(c) => dz_own_move(a.as_mut_ptr(), a.len(), c.as_mut_ptr(), c.len(), t.as_mut_ptr(), t.len(), who, h.hold, h.stamp,
                                        old.as_ptr(), old.len(), to.hold, to.stamp, new.as_ptr(), new.len()),
-                None => dz_move(a.as_mut_ptr(), a.len(), t.as_mut_ptr(), t.len(), h.hold, h.stamp, old.as_ptr(), old.len(), to.hold, to.stamp,
+                None => dz_move(a.as_mut_ptr(), a.len(), t.as_mut_ptr(), t.len(), who, h.hold, h.stamp, old.as_ptr(), old.len(), to.hold, to.stamp,
                                 new.as_ptr(), new.len()),
             }
         })
     }
 
-    pub(crate) fn metadata(&self, h: Handle) -> Result<Metadata, Reason> {
+    pub(crate) fn metadata(&self, who: u8, h: Handle) -> Result<Metadata, Reason> {
         let (a, t, mut w) = (&self.arena, &self.table, [0; 14]);
         let n = unsafe {
             match &self.chains {
-                Some(c) => dz_own_metadata(a.as_ptr(), a.len(), c.as_ptr(), c.len(), t.as_ptr(), t.len(), h.hold, h.stamp, w.as_mut_ptr(), w.len()),
-                None => dz_metadata(a.as_ptr(), a.len(), t.as_ptr(), t.len(), h.hold, h.stamp, w.as_mut_ptr(), w.len()),
+                Some(c) => dz_own_metadata(a.as_ptr(), a.len(), c.as_ptr(), c.len(), t.as_ptr(), t.len(), who, h.hold, h.stamp, w.as_mut_ptr(), w.len()),
+                None => dz_metadata(a.as_ptr(), a.len(), t.as_ptr(), t.len(), who, h.hold, h.stamp, w.as_mut_ptr(), w.len()),
             }
         };
         told(n, w)
     }
 
-    pub(crate) fn set_metadata(&mut self, h: Handle, s: &Attributes) -> Result<(), Reason> {
+    pub(crate) fn set_metadata(&mut self, who: u8, h: Handle, s: &Attributes) -> Result<(), Reason> {
         let (a, t) = (&self.arena, &mut self.table);
         answer(unsafe {
             match &self.chains {
-                Some(c) => dz_own_set_metadata(a.as_ptr(), a.len(), c.as_ptr(), c.len(), t.as_mut_ptr(), t.len(), h.hold, h.stamp, s.mode, s.uid, s.gid,
+                Some(c) => dz_own_set_metadata(a.as_ptr(), a.len(), c.as_ptr(), c.len(), t.as_mut_ptr(), t.len(), who, h.hold, h.stamp, s.mode, s.uid, s.gid,
                                                s.atime.sec, s.atime.nsec, s.mtime.sec, s.mtime.nsec, s.ctime.sec, s.ctime.nsec),
-                None => dz_set_metadata(a.as_ptr(), a.len(), t.as_mut_ptr(), t.len(), h.hold, h.stamp, s.mode, s.uid, s.gid,
+                None => dz_set_metadata(a.as_ptr(), a.len(), t.as_mut_ptr(), t.len(), who, h.hold, h.stamp, s.mode, s.uid, s.gid,
                                         s.atime.sec, s.atime.nsec, s.mtime.sec, s.mtime.nsec, s.ctime.sec, s.ctime.nsec),
             }
         })
     }
 
     /// How many bytes were read.
-    pub(crate) fn read(&self, h: Handle, place: u64, out: &mut [u8]) -> Result<u64, Reason> {
+    pub(crate) fn read(&self, who: u8, h: Handle, place: u64, out: &mut [u8]) -> Result<u64, Reason> {
         let (a, t, mut w) = (&self.arena, &self.table, [0; 1]);
         let n = unsafe {
             match &self.chains {
-                Some(c) => dz_own_read(a.as_ptr(), a.len(), c.as_ptr(), c.len(), t.as_ptr(), t.len(), h.hold, h.stamp, place, out.as_mut_ptr(), out.len(),
+                Some(c) => dz_own_read(a.as_ptr(), a.len(), c.as_ptr(), c.len(), t.as_ptr(), t.len(), who, h.hold, h.stamp, place, out.as_mut_ptr(), out.len(),
                                        w.as_mut_ptr(), w.len()),
-                None => dz_read(a.as_ptr(), a.len(), t.as_ptr(), t.len(), h.hold, h.stamp, place, out.as_mut_ptr(), out.len(), w.as_mut_ptr(), w.len()),
+                None => dz_read(a.as_ptr(), a.len(), t.as_ptr(), t.len(), who, h.hold, h.stamp, place, out.as_mut_ptr(), out.len(), w.as_mut_ptr(), w.len()),
             }
         };
         let [count] = w;
         answer(n).map(|()| count)
     }
 
-    pub(crate) fn write(&mut self, h: Handle, place: u64, data: &[u8]) -> Result<(), Reason> {
+    pub(crate) fn write(&mut self, who: u8, h: Handle, place: u64, data: &[u8]) -> Result<(), Reason> {
         let (a, t) = (&mut self.arena, &mut self.table);
         answer(unsafe {
             match &mut self.chains {
-                Some(c) => dz_own_write(a.as_mut_ptr(), a.len(), c.as_mut_ptr(), c.len(), t.as_mut_ptr(), t.len(), h.hold, h.stamp, place,
+                Some(c) => dz_own_write(a.as_mut_ptr(), a.len(), c.as_mut_ptr(), c.len(), t.as_mut_ptr(), t.len(), who, h.hold, h.stamp, place,
                                         data.as_ptr(), data.len()),
-                None => dz_write(a.as_mut_ptr(), a.len(), t.as_mut_ptr(), t.len(), h.hold, h.stamp, place, data.as_ptr(), data.len()),
+                None => dz_write(a.as_mut_ptr(), a.len(), t.as_mut_ptr(), t.len(), who, h.hold, h.stamp, place, data.as_ptr(), data.len()),
             }
         })
     }
 
-    pub(crate) fn resize(&mut self, h: Handle, length: u64) -> Result<(), Reason> {
+    pub(crate) fn resize(&mut self, who: u8, h: Handle, length: u64) -> Result<(), Reason> {
         let (a, t) = (&mut self.arena, &mut self.table);
         answer(unsafe {
             match &mut self.chains {
-                Some(c) => dz_own_resize(a.as_mut_ptr(), a.len(), c.as_mut_ptr(), c.len(), t.as_mut_ptr(), t.len(), h.hold, h.stamp, length),
-                None => dz_resize(a.as_mut_ptr(), a.len(), t.as_mut_ptr(), t.len(), h.hold, h.stamp, length),
+                Some(c) => dz_own_resize(a.as_mut_ptr(), a.len(), c.as_mut_ptr(), c.len(), t.as_mut_ptr(), t.len(), who, h.hold, h.stamp, length),
+                None => dz_resize(a.as_mut_ptr(), a.len(), t.as_mut_ptr(), t.len(), who, h.hold, h.stamp, length),
             }
         })
     }
 
-    pub(crate) fn entry(&self, h: Handle, slot: u64, out: &mut [u8]) -> Result<(), Reason> {
+    pub(crate) fn entry(&self, who: u8, h: Handle, slot: u64, out: &mut [u8]) -> Result<(), Reason> {
         let (a, t) = (&self.arena, &self.table);
         answer(unsafe {
             match &self.chains {
-                Some(c) => dz_own_get_entry(a.as_ptr(), a.len(), c.as_ptr(), c.len(), t.as_ptr(), t.len(), h.hold, h.stamp, slot, out.as_mut_ptr(), out.len()),
-                None => dz_get_entry(a.as_ptr(), a.len(), t.as_ptr(), t.len(), h.hold, h.stamp, slot, out.as_mut_ptr(), out.len()),
+                Some(c) => dz_own_get_entry(a.as_ptr(), a.len(), c.as_ptr(), c.len(), t.as_ptr(), t.len(), who, h.hold, h.stamp, slot, out.as_mut_ptr(), out.len()),
+                None => dz_get_entry(a.as_ptr(), a.len(), t.as_ptr(), t.len(), who, h.hold, h.stamp, slot, out.as_mut_ptr(), out.len()),
             }
         })
     }
 
     /// The slot to go on with.
-    pub(crate) fn list(&self, h: Handle, next: u64, out: &mut [u8]) -> Result<u64, Reason> {
+    pub(crate) fn list(&self, who: u8, h: Handle, next: u64, out: &mut [u8]) -> Result<u64, Reason> {
         let (a, t, mut w) = (&self.arena, &self.table, [next; 1]);
         let n = unsafe {
             match &self.chains {
-                Some(c) => dz_own_list(a.as_ptr(), a.len(), c.as_ptr(), c.len(), t.as_ptr(), t.len(), h.hold, h.stamp, w.as_mut_ptr(), w.len(),
+                Some(c) => dz_own_list(a.as_ptr(), a.len(), c.as_ptr(), c.len(), t.as_ptr(), t.len(), who, h.hold, h.stamp, w.as_mut_ptr(), w.len(),
                                        out.as_mut_ptr(), out.len()),
-                None => dz_list(a.as_ptr(), a.len(), t.as_ptr(), t.len(), h.hold, h.stamp, w.as_mut_ptr(), w.len(), out.as_mut_ptr(), out.len()),
+                None => dz_list(a.as_ptr(), a.len(), t.as_ptr(), t.len(), who, h.hold, h.stamp, w.as_mut_ptr(), w.len(), out.as_mut_ptr(), out.len()),
             }
         };
         let [next] = w;

@@ -4,7 +4,7 @@ use alloc::vec::Vec;
 use core::iter::FusedIterator;
 use core::{fmt, str};
 
-use crate::{Handle, Image, Kind, Reason, NAME_LONGEST, SLOT};
+use crate::{Editor, Handle, Image, Kind, Reason, NAME_LONGEST, SLOT};
 
 /// What a slot of a folder says. Slots 0 and 1 are `.` and `..`.
 #[derive(Clone, PartialEq, Eq, Hash, Debug)]
@@ -18,7 +18,7 @@ pub struct Entry {
 }
 
 impl Entry {
-    /// Reads one slot, the first [`SLOT`] bytes of what [`Image::list`] or [`Image::entry_into`] wrote; none where there are fewer.
+    /// Reads one slot, the first [`SLOT`] bytes of what [`Editor::list`] or [`Editor::entry_into`] wrote; none where there are fewer.
     pub fn of_slot(slot: &[u8]) -> Option<Entry> {
         let (id, rest) = slot.split_first_chunk::<4>()?;
         let (name, rest) = rest.split_first_chunk::<{ NAME_LONGEST + 1 }>()?;
@@ -41,7 +41,7 @@ impl Entry {
     }
 }
 
-/// Where a listing stands: a folder and the slot to go on with. [`Image::list`] moves it on.
+/// Where a listing stands: a folder and the slot to go on with. [`Editor::list`] moves it on.
 ///
 /// A place says where to go on, not which name comes next: an unlink in the folder moves its last slot into the hole, so begin again after one.
 #[derive(Clone, Copy, PartialEq, Eq, Hash, Debug)]
@@ -62,15 +62,15 @@ impl Place {
 /// How many slots are read at once.
 const AT_ONCE: usize = 32;
 
-/// The entries of a folder in the order of their slots, as [`Image::entries`] gives them.
+/// The entries of a folder in the order of their slots, as [`Editor::entries`] gives them.
 ///
 /// It borrows the image, so no slot can move while it is in use. Between two iterators one can: an unlink, or a move out of the folder, drops the
-/// folder's last slot into the hole. Who wants to unlink while walking takes a [snapshot](Image::snapshot) first, and goes by the names in it.
+/// folder's last slot into the hole. Who wants to unlink while walking takes a [snapshot](Editor::snapshot) first, and goes by the names in it.
 ///
 /// A refusal is the last item. The entries before it have been given.
 #[derive(Clone)]
 pub struct Entries<'a> {
-    image: &'a Image,
+    editor: Editor<&'a Image>,
     place: Place,
     read: Vec<u8>,
     /// How many slots of `read` were given, and how many there are.
@@ -80,14 +80,14 @@ pub struct Entries<'a> {
 }
 
 impl<'a> Entries<'a> {
-    pub(crate) fn new(image: &'a Image, place: Place) -> Entries<'a> {
-        Entries { image, place, read: vec![0; SLOT.saturating_mul(AT_ONCE)], given: 0, filled: 0, ended: false }
+    pub(crate) fn new(editor: Editor<&'a Image>, place: Place) -> Entries<'a> {
+        Entries { editor, place, read: vec![0; SLOT.saturating_mul(AT_ONCE)], given: 0, filled: 0, ended: false }
     }
 
     /// The next slots: how many there are. Where one of them can't be read, the first alone.
     fn fill(&mut self) -> Result<usize, Reason> {
-        let (image, place) = (self.image, &mut self.place);
-        image.list(place, &mut self.read).or_else(|_| image.list(place, self.read.get_mut(..SLOT).unwrap_or_default()))
+        let (editor, place) = (self.editor, &mut self.place);
+        editor.list(place, &mut self.read).or_else(|_| editor.list(place, self.read.get_mut(..SLOT).unwrap_or_default()))
     }
 }
 
@@ -120,6 +120,6 @@ impl FusedIterator for Entries<'_> {}
 
 impl fmt::Debug for Entries<'_> {
     fn fmt(&self, f: &mut fmt::Formatter<'_>) -> fmt::Result {
-        f.debug_struct("Entries").field("image", self.image).field("place", &self.place).finish_non_exhaustive()
+        f.debug_struct("Entries").field("editor", &self.editor).field("place", &self.place).finish_non_exhaustive()
     }
 }

@@ -8,15 +8,17 @@
 extern crate alloc;
 
 mod edge;
+mod editor;
 mod entries;
 mod image;
 mod reason;
 mod types;
 
+pub use editor::Editor;
 pub use entries::{Entries, Entry, Place};
 pub use image::Image;
 pub use reason::{FailedRule, NoReason, Reason, Unfit};
-pub use types::{Attributes, Counts, FileName, Handle, Kind, Metadata, Time};
+pub use types::{Attributes, Counts, FileName, Handle, Kind, Metadata, Owner, Time};
 
 /// The bytes of a block of the image.
 pub const BLOCK: usize = 512;
@@ -25,12 +27,12 @@ pub const BLOCKS_LEAST: usize = 16;
 /// The most blocks of an image.
 pub const BLOCKS_MOST: usize = 4096;
 /// The bytes of the table of open nodes.
-pub const TABLE: usize = 4370;
-/// The bytes of a folder's slot, as [`Image::list`] and [`Image::entry_into`] write it.
+pub const TABLE: usize = 4402;
+/// The bytes of a folder's slot, as [`Editor::list`] and [`Editor::entry_into`] write it.
 pub const SLOT: usize = 264;
 /// The longest name in a folder, in bytes.
 pub const NAME_LONGEST: usize = 255;
 /// The longest contents of a file, symlink or socket, in bytes.
 pub const FILE_LONGEST: u64 = 4_294_967_295;
-/// How many handles can be live at once.
-pub const HOLDS: usize = 32;
+/// How many handles of one owner can be live at once.
+pub const OWN_HOLDS: usize = 8;

@@ -14,11 +14,11 @@ pub enum Reason {
     Damaged,
     /// 3: the table of open nodes is not well formed.
     BadTable,
-    /// 4: not a live hold with that stamp.
+    /// 4: not a live hold with that stamp, or another owner's.
     BadHandle,
     /// 5: a name has a zero byte inside, or is not UTF-8; or a new one, of a create, link or rename, has a slash.
     BadName,
-    /// 6: a type that is not 1 to 4, or a folder that would go into itself or below.
+    /// 6: an owner or a type that is not 1 to 4, or a folder that would go into itself or below.
     InvalidParam,
     /// 7: not a folder.
     NotDir,
@@ -38,7 +38,7 @@ pub enum Reason {
     FileTaken,
     /// 15: a link count of 65,535 would rise.
     TooManyLinks,
-    /// 16: 32 handles are live, or no stamp is left.
+    /// 16: 8 handles of this owner are live, or no stamp is left.
     TableFull,
     /// 17: no free node number, or no free block.
     NoDeviceSpace,
@@ -61,9 +61,9 @@ const REASONS: [(Reason, &str, &str); 22] = [
     (Reason::BadArena, "BadArena", "the image's length is not 16 to 4,096 whole blocks"),
     (Reason::Damaged, "Damaged", "the image is not sound"),
     (Reason::BadTable, "BadTable", "the table of open nodes is not well formed"),
-    (Reason::BadHandle, "BadHandle", "not a live hold with that stamp"),
+    (Reason::BadHandle, "BadHandle", "not a live hold with that stamp, or another owner's"),
     (Reason::BadName, "BadName", "a name has a zero byte inside, is not UTF-8, or is new and has a slash"),
-    (Reason::InvalidParam, "InvalidParam", "a type that is not 1 to 4, or a folder into itself or below"),
+    (Reason::InvalidParam, "InvalidParam", "an owner or a type that is not 1 to 4, or a folder into itself or below"),
     (Reason::NotDir, "NotDir", "not a folder"),
     (Reason::DirRemoved, "DirRemoved", "the folder has no links left"),
     (Reason::IsDir, "IsDir", "a folder, where none may be"),
@@ -73,7 +73,7 @@ const REASONS: [(Reason, &str, &str); 22] = [
     (Reason::DirNotEmpty, "DirNotEmpty", "the folder has entries"),
     (Reason::FileTaken, "FileTaken", "a node's file has that file name already"),
     (Reason::TooManyLinks, "TooManyLinks", "a link count of 65,535 would rise"),
-    (Reason::TableFull, "TableFull", "32 handles are live, or no stamp is left"),
+    (Reason::TableFull, "TableFull", "8 handles of this owner are live, or no stamp is left"),
     (Reason::NoDeviceSpace, "NoDeviceSpace", "no free node number, or no free block"),
     (Reason::WrongFs, "WrongFs", "no image of this file system"),
     (Reason::Stuck, "Stuck", "what is stored does not fit together, and the call can't go on"),

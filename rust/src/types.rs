@@ -1,11 +1,44 @@
 //! What calls take and give.
 use crate::Reason;
 
-/// A hold on a node: what [`Image::root`](crate::Image::root), [`find`](crate::Image::find) and [`create`](crate::Image::create) give, and what
-/// [`close`](crate::Image::close) gives up.
+/// Who asks: one of the four who share an image.
+#[derive(Clone, Copy, PartialEq, Eq, PartialOrd, Ord, Hash, Debug)]
+#[repr(u8)]
+pub enum Owner {
+    /// The first.
+    One = 1,
+    /// The second.
+    Two = 2,
+    /// The third.
+    Three = 3,
+    /// The fourth.
+    Four = 4,
+}
+
+impl Owner {
+    /// All four.
+    pub const ALL: [Owner; 4] = [Owner::One, Owner::Two, Owner::Three, Owner::Four];
+
+    /// The owner's number, 1 to 4.
+    pub const fn number(self) -> u8 {
+        self as u8
+    }
+}
+
+impl TryFrom<u8> for Owner {
+    type Error = Reason;
+
+    /// Numbers other than 1 to 4 are [`Reason::InvalidParam`].
+    fn try_from(number: u8) -> Result<Owner, Reason> {
+        Owner::ALL.into_iter().find(|owner| owner.number() == number).ok_or(Reason::InvalidParam)
+    }
+}
+
+/// A hold on a node: what [`Editor::root`](crate::Editor::root), [`find`](crate::Editor::find) and [`create`](crate::Editor::create) give, and what
+/// [`close`](crate::Editor::close) gives up.
 ///
-/// It is a plain value, and no node number: two finds of one name give two handles, and closing one leaves the other. A handle that was closed, or
-/// that never was, is refused with [`Reason::BadHandle`]. No stamp is given twice until the image is opened or formatted again.
+/// It is a plain value, and no node number: two finds of one name give two handles, and closing one leaves the other. A handle that was closed, that
+/// never was, or that is another owner's, is refused with [`Reason::BadHandle`]. No stamp is given twice until the image is opened or formatted again.
 #[derive(Clone, Copy, PartialEq, Eq, PartialOrd, Ord, Hash, Debug)]
 pub struct Handle {
     /// The hold's number, below 32.
@@ -97,27 +130,27 @@ pub struct Metadata {
     pub ctime: Time,
     /// How many names lead to the node. A folder has 2, and one more for each folder in it.
     pub links: u16,
-    /// The owner.
+    /// The user, as the system numbers them; no [`Owner`].
     pub uid: u32,
-    /// The owner's group.
+    /// The user's group.
     pub gid: u32,
 }
 
 impl Metadata {
-    /// The part that [`Image::set_metadata`](crate::Image::set_metadata) sets.
+    /// The part that [`Editor::set_metadata`](crate::Editor::set_metadata) sets.
     pub fn attributes(&self) -> Attributes {
         Attributes { mode: self.mode, uid: self.uid.into(), gid: self.gid.into(), atime: self.atime, mtime: self.mtime, ctime: self.ctime }
     }
 }
 
-/// What [`Image::set_metadata`](crate::Image::set_metadata) sets, all of it.
+/// What [`Editor::set_metadata`](crate::Editor::set_metadata) sets, all of it.
 #[derive(Clone, Copy, PartialEq, Eq, Hash, Debug, Default)]
 pub struct Attributes {
     /// The permissions.
     pub mode: u16,
-    /// The owner; kept modulo 2^32.
+    /// The user; kept modulo 2^32.
     pub uid: u64,
-    /// The owner's group; kept modulo 2^32.
+    /// The user's group; kept modulo 2^32.
     pub gid: u64,
     /// The last access.
     pub atime: Time,

@@ -3,8 +3,8 @@
 mod common;
 
 use common::damage::seal;
-use common::{create, file, fresh, Numbers, TIME};
-use dzomrelig::{Attributes, Handle, Image, Kind, Place, BLOCK, FILE_LONGEST, SLOT, TABLE};
+use common::{create, file, fresh, mine, Mine, Numbers, TIME};
+use dzomrelig::{Attributes, Editor, Handle, Image, Kind, Place, BLOCK, FILE_LONGEST, SLOT, TABLE};
 
 fn name(n: &mut Numbers) -> Vec<u8> {
     let fixed: [&[u8]; 10] = [b"", b".", b"..", b"a", b"b", b"c", b"folder", b"sub", b"\xff", b"a\0"];
@@ -32,9 +32,19 @@ fn number(n: &mut Numbers) -> u64 {
     }
 }
 
+/// Mostly the first owner, whose handles are known; now and then another, or none of the four.
+fn who(n: &mut Numbers) -> u8 {
+    match n.below(12) {
+        0 => n.next() as u8,
+        1 => 2 + n.below(3) as u8,
+        _ => 1,
+    }
+}
+
 /// One call by chance: whether it was done.
 fn call(image: &mut Image, n: &mut Numbers, known: &mut Vec<Handle>) -> bool {
     let (h, g) = (handle(n, known), handle(n, known));
+    let mut image = Editor::numbered(image, who(n));
     let mut out = vec![0; n.below(4) as usize * 200];
     let made = match n.below(20) {
         0 => image.root().map(Some),
@@ -77,7 +87,7 @@ fn calls(mut image: Image, n: &mut Numbers, known: &[Handle]) -> usize {
 }
 
 /// An image with something of everything, and handles on it.
-fn grown() -> (Image, Vec<Handle>) {
+fn grown() -> (Mine, Vec<Handle>) {
     let (mut image, root) = fresh(40);
     let folder = create(&mut image, root, "folder", Kind::Folder).unwrap();
     let sub = create(&mut image, folder, "sub", Kind::Folder).unwrap();
@@ -158,10 +168,10 @@ fn any_bytes_at_all() {
 fn endless_folder() {
     let (mut image, root) = fresh(16);
     create(&mut image, root, "a", Kind::File).unwrap();
-    let mut bytes = image.into_bytes();
+    let mut bytes = image.into_inner().into_bytes();
     common::damage::record(&mut bytes, 2, common::damage::BLOCKS, &[255; 4]);
     common::damage::set_length(&mut bytes, Some(common::ROOT_FILE), u32::MAX);
-    let mut image = Image::untrusted(bytes).unwrap();
+    let mut image = mine(Image::untrusted(bytes).unwrap());
     let root = image.root().unwrap();
     let all: Vec<_> = image.entries(root).collect();
     assert_eq!(all.iter().filter(|e| e.is_ok()).count(), 3);

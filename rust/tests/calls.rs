@@ -1,10 +1,10 @@
 //! Each call through the Rust types.
 mod common;
 
-use common::{create, damage, file, fresh, names, ROOT_FILE, TIME};
+use common::{create, damage, file, fresh, mine, names, Mine, ROOT_FILE, TIME};
 use dzomrelig::{
-    Attributes, Counts, Entry, FailedRule, Handle, Image, Kind, Place, Reason, Time, Unfit, BLOCK, BLOCKS_MOST, FILE_LONGEST, HOLDS, SLOT,
-    TABLE,
+    Attributes, Counts, Editor, Entry, FailedRule, Handle, Image, Kind, Owner, Place, Reason, Time, Unfit, BLOCK, BLOCKS_MOST,
+    FILE_LONGEST, OWN_HOLDS, SLOT, TABLE,
 };
 
 #[test]
@@ -26,13 +26,13 @@ fn bytes_go_out_and_come_in() {
     create(&mut image, root, "a", Kind::File).unwrap();
     image.sync().unwrap();
     let bytes = image.bytes().to_vec();
-    assert_eq!(image.clone().into_bytes(), bytes);
-    let mut again = Image::checked(bytes.as_slice()).unwrap();
+    assert_eq!(image.clone().into_inner().into_bytes(), bytes);
+    let mut again = mine(Image::checked(bytes.as_slice()).unwrap());
     assert_eq!(again.metadata(root), Err(Reason::BadHandle));
     let root = again.root().unwrap();
     assert_eq!(names(&again, root), ["a"]);
     assert_eq!(Image::untrusted(bytes).unwrap().check(), Ok(Counts { nodes: 2, unused: 1020, free: 9 }));
-    let parts = Image::from_parts(again.bytes(), *again.table());
+    let parts = mine(Image::from_parts(again.bytes(), *again.table()));
     assert_eq!(parts.metadata(root).unwrap().inode, 2);
 }
 
@@ -55,7 +55,7 @@ fn checked_says_what_is_wrong() {
     image.create(root, "a", Kind::Folder, 0o755, TIME, file(1)).unwrap();
     create(&mut image, root, "b", Kind::Folder).unwrap();
     // slot 1 of folder a, node 3, names b, node 4
-    let mut bytes = image.into_bytes();
+    let mut bytes = image.into_inner().into_bytes();
     damage::write(&mut bytes, Some(file(1)), SLOT, &[4]);
     assert_eq!(Image::checked(bytes.clone()).unwrap_err(), Unfit::Fails(FailedRule::Parents));
     assert_eq!(Image::untrusted(bytes).unwrap().check(), Err(FailedRule::Parents));
@@ -153,7 +153,7 @@ fn link_unlink_rename() {
 }
 
 /// The number of the node that `..` of a folder leads to.
-fn parent(image: &mut Image, folder: Handle) -> u32 {
+fn parent(image: &mut Mine, folder: Handle) -> u32 {
     let up = image.find(folder, "..").unwrap();
     let inode = image.metadata(up).unwrap().inode;
     image.close(up).unwrap();
@@ -163,7 +163,7 @@ fn parent(image: &mut Image, folder: Handle) -> u32 {
 #[test]
 fn a_folder_goes_to_another_folder() {
     let (mut image, root) = fresh(64);
-    let owned = image.is_owned();
+    let owned = image.is_trusted();
     let sans = create(&mut image, root, "Sans", Kind::Folder).unwrap();
     let serif = create(&mut image, root, "Serif", Kind::Folder).unwrap();
     let bold = create(&mut image, sans, "Bold", Kind::Folder).unwrap();
@@ -180,7 +180,7 @@ fn a_folder_goes_to_another_folder() {
     assert_eq!(parent(&mut image, bold), 2);
     assert_eq!(names(&image, root), ["Sans", "Serif"]);
     assert_eq!(image.check().unwrap().nodes, 4);
-    assert_eq!(image.is_owned(), owned);
+    assert_eq!(image.is_trusted(), owned);
 }
 
 #[test]
@@ -216,7 +216,7 @@ fn outline(length: usize) -> Vec<u8> {
 }
 
 /// The bytes of a node are these: read whole, in pieces, and told by metadata.
-fn has(image: &Image, node: Handle, want: &[u8]) {
+fn has(image: &Mine, node: Handle, want: &[u8]) {
     assert_eq!(image.read_to_vec(node).unwrap(), want);
     assert_eq!(image.metadata(node).unwrap().size, want.len() as u64);
     for room in [7, 480, 10_000] {
@@ -331,10 +331,10 @@ fn a_size_stands_in_the_table_until_it_is_stored() {
     let a = create(&mut image, root, "a", Kind::File).unwrap();
     image.write_at(a, 0, "outline").unwrap();
     // the host goes down: the file is longer than the stored size
-    let lost = Image::untrusted(image.bytes()).unwrap();
+    let lost = mine(Image::untrusted(image.bytes()).unwrap());
     assert_eq!(lost.check(), Err(FailedRule::Folders));
     image.sync().unwrap();
-    let mut kept = Image::checked(image.bytes()).unwrap();
+    let mut kept = mine(Image::checked(image.bytes()).unwrap());
     let root = kept.root().unwrap();
     let a = kept.find(root, "a").unwrap();
     has(&kept, a, b"outline");
@@ -351,9 +351,55 @@ fn close_gives_up_one_hold() {
     image.close(hers).unwrap();
     image.close(root).unwrap();
     assert_eq!(image.table()[..TABLE - 8], [0; TABLE - 8]);
-    let all: Vec<_> = (0..HOLDS).map(|_| image.root().unwrap()).collect();
+    let all: Vec<_> = (0..OWN_HOLDS).map(|_| image.root().unwrap()).collect();
     assert_eq!(image.root(), Err(Reason::TableFull));
     all.into_iter().for_each(|h| image.close(h).unwrap());
+}
+
+#[test]
+fn four_owners() {
+    assert_eq!(Owner::ALL.map(Owner::number), [1, 2, 3, 4]);
+    assert!(Owner::ALL.into_iter().all(|owner| Owner::try_from(owner.number()) == Ok(owner)));
+    for number in [0, 5, u8::MAX] {
+        assert_eq!(Owner::try_from(number), Err(Reason::InvalidParam));
+    }
+    let mut image = fresh(32).0.into_inner();
+    image.reformat(TIME, ROOT_FILE).unwrap();
+    // Anna draws, with as many tabs as she may have
+    let mut anna = image.editor(Owner::One);
+    assert_eq!(anna.who(), 1);
+    let root = anna.root().unwrap();
+    let a = create(&mut anna, root, "a", Kind::File).unwrap();
+    anna.write_at(a, 0, "outline").unwrap();
+    let tabs: Vec<_> = (2..OWN_HOLDS).map(|_| anna.find(root, "a").unwrap()).collect();
+    assert_eq!(anna.root(), Err(Reason::TableFull));
+    // Ben gets his, on the same node; her handles are of no use to him
+    let mut ben = image.editor(Owner::Two);
+    assert_eq!(ben.metadata(a), Err(Reason::BadHandle));
+    let his_root = ben.root().unwrap();
+    let his = ben.find(his_root, "a").unwrap();
+    assert_eq!(ben.read_to_vec(his).unwrap(), b"outline");
+    assert_eq!(ben.link(his_root, "b", a), Err(Reason::BadHandle));
+    ben.unlink(his_root, "a").unwrap();
+    assert_eq!(ben.close(a), Err(Reason::BadHandle));
+    ben.close(his).unwrap();
+    // a reader shares the image, and asks for its owner's handles
+    let reader = image.reader(Owner::One);
+    assert_eq!(reader.metadata(a).unwrap().links, 0);
+    assert_eq!(reader.read_to_vec(tabs[0]).unwrap(), b"outline");
+    assert_eq!(image.reader(Owner::Two).metadata(a), Err(Reason::BadHandle));
+    assert_eq!(names(&image.reader(Owner::Two), his_root), [""; 0]);
+    let mut anna = image.editor(Owner::One);
+    for tab in tabs.into_iter().chain([a]) {
+        anna.close(tab).unwrap();
+    }
+    assert!(anna.check().is_ok());
+    // who is none of the four
+    for number in [0, 5, u8::MAX] {
+        assert_eq!(Editor::numbered(&mut *image, number).root(), Err(Reason::InvalidParam));
+        assert_eq!(Editor::numbered(&*image, number).metadata(root), Err(Reason::InvalidParam));
+    }
+    assert_eq!(image.check().unwrap().nodes, 1);
 }
 
 #[test]
@@ -390,7 +436,7 @@ fn slots() {
     let mut entries = image.entries(root);
     assert_eq!(entries.by_ref().count(), 42);
     assert!(entries.next().is_none());
-    assert!(format!("{entries:?}").starts_with("Entries { image: Image { blocks: 128, .. }, place: Place"));
+    assert!(format!("{entries:?}").starts_with("Entries { editor: Editor { image: Image { blocks: 128, .. }, who: 1 }, place: Place"));
 }
 
 #[test]
@@ -419,9 +465,9 @@ fn entries_end_at_a_refusal() {
     assert_eq!(entries.next(), None);
     assert_eq!(image.snapshot(a), Err(Reason::NotDir));
     // the folder says one slot more than there is: those that are there are given
-    let mut bytes = image.into_bytes();
+    let mut bytes = image.into_inner().into_bytes();
     common::damage::record(&mut bytes, 2, common::damage::BLOCKS, &4u32.to_le_bytes());
-    let mut image = Image::untrusted(bytes).unwrap();
+    let mut image = mine(Image::untrusted(bytes).unwrap());
     let root = image.root().unwrap();
     let all: Vec<_> = image.entries(root).collect();
     assert_eq!(all.len(), 4);

@@ -70,6 +70,7 @@ fn as_rust(parameter: &str) -> &'static str {
         "uint16_t *" => "*mut u16",
         "const uint16_t *" => "*const u16",
         "size_t" => "usize",
+        "uint8_t" => "u8",
         "uint16_t" => "u16",
         "uint32_t" => "u32",
         "uint64_t" => "u64",

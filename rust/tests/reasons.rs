@@ -2,12 +2,13 @@
 mod common;
 
 use common::damage::{self, record, superblock, table};
-use common::{create, file, fresh, names, ROOT_FILE, TIME};
+use common::{create, file, fresh, mine, names, Mine, ROOT_FILE, TIME};
 use dzomrelig::{
-    Attributes, FailedRule, Handle, Image, Kind, NoReason, Place, Reason, Unfit, BLOCK, FILE_LONGEST, NAME_LONGEST, SLOT, TABLE,
+    Attributes, Editor, FailedRule, Handle, Image, Kind, NoReason, Place, Reason, Unfit, BLOCK, FILE_LONGEST, NAME_LONGEST, OWN_HOLDS,
+    SLOT, TABLE,
 };
 
-type Call = fn(&mut Image, Handle, &[u8]) -> Option<Reason>;
+type Call = fn(&mut Mine, Handle, &[u8]) -> Option<Reason>;
 
 /// The calls that take a table: those with no handle, those with one (of any node, with contents, of a folder), and those with a name beside it.
 const CALLS: [Call; 19] = [
@@ -36,22 +37,25 @@ const CONTENTS: usize = 5;
 const FOLDERS: usize = 9;
 const NAMES: usize = 13;
 
+/// Where the table has its holds: row, stamp, owner.
+const HOLD: usize = 34 * 117;
+
 /// The call is refused for this reason, and nothing has changed.
-fn no<T: std::fmt::Debug>(image: &mut Image, reason: Reason, call: impl FnOnce(&mut Image) -> Result<T, Reason>) {
+fn no<T: std::fmt::Debug>(image: &mut Mine, reason: Reason, call: impl FnOnce(&mut Mine) -> Result<T, Reason>) {
     let before = image.clone();
     assert_eq!(call(image).unwrap_err(), reason);
     assert!(image.bytes() == before.bytes() && image.table() == before.table(), "{reason} changed something");
 }
 
 /// Each of these calls is refused for this reason.
-fn each_no(image: &mut Image, reason: Reason, h: Handle, name: &[u8], calls: &[Call]) {
+fn each_no(image: &mut Mine, reason: Reason, h: Handle, name: &[u8], calls: &[Call]) {
     for call in calls {
         no(image, reason, |image| call(image, h, name).map_or(Ok(()), Err));
     }
 }
 
 /// Each of the calls from one on is refused for this reason.
-fn all_no(image: &mut Image, reason: Reason, h: Handle, name: &[u8], from: usize) {
+fn all_no(image: &mut Mine, reason: Reason, h: Handle, name: &[u8], from: usize) {
     each_no(image, reason, h, name, &CALLS[from..]);
 }
 
@@ -59,7 +63,7 @@ fn all_no(image: &mut Image, reason: Reason, h: Handle, name: &[u8], from: usize
 fn bad_arena() {
     let (image, root) = fresh(16);
     for length in [0, 1, 15 * BLOCK, 16 * BLOCK + 1, 4097 * BLOCK] {
-        let mut wrong = Image::from_parts(vec![0; length], *image.table());
+        let mut wrong = mine(Image::from_parts(vec![0; length], *image.table()));
         all_no(&mut wrong, Reason::BadArena, root, b"a", 0);
         no(&mut wrong, Reason::BadArena, |i| i.reformat(TIME, ROOT_FILE));
         no(&mut wrong, Reason::BadArena, |i| i.reopen());
@@ -74,7 +78,7 @@ fn damaged() {
     let (image, root) = fresh(16);
     let mut bytes = image.bytes().to_vec();
     bytes[15 * BLOCK + 100] ^= 1;
-    let mut wrong = Image::from_parts(bytes.clone(), *image.table());
+    let mut wrong = mine(Image::from_parts(bytes.clone(), *image.table()));
     all_no(&mut wrong, Reason::Damaged, root, b"a", 0);
     no(&mut wrong, Reason::Damaged, |i| i.reopen());
     assert_eq!(wrong.check(), Err(FailedRule::Arena));
@@ -88,14 +92,29 @@ fn bad_table() {
     let (image, root) = fresh(16);
     // no next stamp; a row that nobody holds
     let mut held = *image.table();
-    held[34 * 117..34 * 117 + 12].fill(0);
-    for table in [[0; TABLE], held, [255; TABLE]] {
-        let mut wrong = Image::from_parts(image.bytes(), table);
+    held[HOLD..HOLD + 13].fill(0);
+    // owners that are none; a free hold with an owner; nine of one owner
+    let owned = |owner: u8, hold: usize| {
+        let mut table = *image.table();
+        table[HOLD + 13 * hold + 12] = owner;
+        table
+    };
+    let mut nine = *image.table();
+    for hold in 0..9 {
+        let at = HOLD + 13 * hold;
+        nine[at + 4] = 1 + hold as u8;
+        nine[at + 12] = 1;
+    }
+    nine[TABLE - 8] = 99;
+    for table in [[0; TABLE], held, [255; TABLE], owned(0, 0), owned(5, 0), owned(1, 1), nine] {
+        let mut wrong = mine(Image::from_parts(image.bytes(), table));
         all_no(&mut wrong, Reason::BadTable, root, b"a", 0);
         assert_eq!(wrong.check(), Err(FailedRule::Table));
         wrong.reopen().unwrap();
         assert!(wrong.check().is_ok());
     }
+    nine[HOLD + 13 * 8 + 12] = 2;
+    assert!(Image::from_parts(image.bytes(), nine).check().is_ok());
 }
 
 #[test]
@@ -109,6 +128,27 @@ fn bad_handle() {
     }
     no(&mut image, Reason::BadHandle, |i| i.link(root, "b", closed));
     no(&mut image, Reason::BadHandle, |i| i.rename(root, "a", closed, "b"));
+}
+
+/// Who asks: 6 for none of the four, right after 3; 4 for another's handle, either one.
+#[test]
+fn owners() {
+    let (mut image, root) = fresh(16);
+    let mut hers = Editor::numbered(&mut *image, 2);
+    let her_root = hers.root().unwrap();
+    for who in [0, 5, u8::MAX] {
+        let mut nobody = Editor::numbered(image.clone().into_inner(), who);
+        each_no(&mut nobody, Reason::InvalidParam, root, b"\0", &CALLS[..1]);
+        all_no(&mut nobody, Reason::InvalidParam, root, b"\0", HANDLES);
+        let mut wrong = Editor::numbered(Box::new(Image::from_parts(image.bytes(), [0; TABLE])), who);
+        all_no(&mut wrong, Reason::BadTable, root, b"a", 0);
+        nobody.sync().unwrap();
+    }
+    let mut other = Editor::numbered(image.clone().into_inner(), 3);
+    all_no(&mut other, Reason::BadHandle, root, b"\0", HANDLES);
+    all_no(&mut image, Reason::BadHandle, her_root, b"\0", HANDLES);
+    no(&mut image, Reason::BadHandle, |i| i.link(root, "b", her_root));
+    no(&mut image, Reason::BadHandle, |i| i.rename(root, "a", her_root, "b"));
 }
 
 #[test]
@@ -152,7 +192,7 @@ fn slashes() {
     for slot in [3, 4] {
         damage::write(&mut bytes, Some(ROOT_FILE), SLOT * slot + 5, b"/");
     }
-    let i = &mut Image::from_parts(bytes, *i.table());
+    let i = &mut mine(Image::from_parts(bytes, *i.table()));
     assert!(i.check().is_ok());
     assert_eq!(names(i, root), ["a", "c/d", "e/f"]);
     no(i, Reason::BadName, |i| i.rename(root, "c/d", root, "c/d"));
@@ -194,7 +234,7 @@ fn below_itself() {
     // slot 1 of a, node 3, names b, node 4
     let mut bytes = i.bytes().to_vec();
     damage::write(&mut bytes, Some(file(1)), SLOT, &[4]);
-    let mut round = Image::from_parts(bytes, *i.table());
+    let mut round = mine(Image::from_parts(bytes, *i.table()));
     no(&mut round, Reason::Stuck, |i| i.rename(root, "c", b, "c"));
     no(&mut round, Reason::InvalidParam, |i| i.rename(root, "a", b, "x"));
     round.rename(root, "c", root, "d").unwrap();
@@ -287,15 +327,15 @@ fn contents() {
         block[4] ^= 255;
         damage::seal(block);
     }
-    let mut lost = Image::from_parts(bytes, table);
+    let mut lost = mine(Image::from_parts(bytes, table));
     each_no(&mut lost, Reason::Stuck, a, b"", &CALLS[CONTENTS..FOLDERS]);
     no(&mut lost, Reason::Stuck, |i| i.write_at(a, 0, ""));
     no(&mut lost, Reason::FileTooBig, |i| i.resize(a, u64::MAX));
 
     // a size that no file can have: the bytes past the file are zeros, and there is no vector for all of them
-    let mut bytes = image.into_bytes();
+    let mut bytes = image.into_inner().into_bytes();
     record(&mut bytes, 3, damage::SIZE, &[255; 8]);
-    let mut image = Image::untrusted(bytes.clone()).unwrap();
+    let mut image = mine(Image::untrusted(bytes.clone()).unwrap());
     let root = image.root().unwrap();
     let a = image.find(root, "a").unwrap();
     let mut out = [238; 8];
@@ -306,7 +346,7 @@ fn contents() {
 
     // type 0
     record(&mut bytes, 3, damage::TYPE, &[0]);
-    let mut image = Image::untrusted(bytes).unwrap();
+    let mut image = mine(Image::untrusted(bytes).unwrap());
     let root = image.root().unwrap();
     let a = image.find(root, "a").unwrap();
     each_no(&mut image, Reason::NotFile, a, b"", &CALLS[CONTENTS..FOLDERS]);
@@ -318,11 +358,11 @@ fn too_many_links() {
     create(&mut image, root, "a", Kind::File).unwrap();
     create(&mut image, root, "c", Kind::Folder).unwrap();
     create(&mut image, root, "d", Kind::Folder).unwrap();
-    let mut bytes = image.into_bytes();
+    let mut bytes = image.into_inner().into_bytes();
     record(&mut bytes, 3, damage::LINKS, &[255; 2]);
     record(&mut bytes, 4, damage::LINKS, &[255; 2]);
     assert_eq!(Image::checked(bytes.clone()).unwrap_err(), Unfit::Fails(FailedRule::Links));
-    let mut image = Image::untrusted(bytes).unwrap();
+    let mut image = mine(Image::untrusted(bytes).unwrap());
     let root = image.root().unwrap();
     let (a, c) = (image.find(root, "a").unwrap(), image.find(root, "c").unwrap());
     assert_eq!(image.metadata(a).unwrap().links, u16::MAX);
@@ -336,16 +376,26 @@ fn too_many_links() {
 fn table_full() {
     let (mut image, root) = fresh(16);
     create(&mut image, root, "a", Kind::File).unwrap();
-    for _ in 2..32 {
+    for _ in 2..OWN_HOLDS {
         image.root().unwrap();
     }
     no(&mut image, Reason::TableFull, |i| i.root());
     no(&mut image, Reason::TableFull, |i| i.find(root, "a"));
     no(&mut image, Reason::TableFull, |i| create(i, root, "b", Kind::File));
+    // the others still get theirs, and these alone
+    for who in 2..=4 {
+        let mut other = Editor::numbered(&mut *image, who);
+        for _ in 0..OWN_HOLDS {
+            other.root().unwrap();
+        }
+        assert_eq!(other.root(), Err(Reason::TableFull));
+    }
+    assert!(image.check().is_ok());
     image.close(root).unwrap();
+    assert_eq!(Editor::numbered(&mut *image, 2).root(), Err(Reason::TableFull));
     image.root().unwrap();
     // the last stamp
-    let mut image = Image::from_parts(image.bytes(), table(u64::MAX - 1));
+    let mut image = mine(Image::from_parts(image.bytes(), table(u64::MAX - 1)));
     assert_eq!(image.root().unwrap(), Handle { hold: 0, stamp: u64::MAX - 1 });
     no(&mut image, Reason::TableFull, |i| i.root());
 }
@@ -370,11 +420,11 @@ fn wrong_fs() {
     for (field, value) in [(damage::MAGIC, 1), (damage::GROUPS, 0), (damage::GROUPS, 5)] {
         let (image, _) = fresh(16);
         let table = *image.table();
-        let mut bytes = image.into_bytes();
+        let mut bytes = image.into_inner().into_bytes();
         superblock(&mut bytes, field, value);
         assert_eq!(Image::untrusted(bytes.clone()).unwrap_err(), Reason::WrongFs);
         assert_eq!(Image::checked(bytes.clone()).unwrap_err(), Unfit::Refused(Reason::WrongFs));
-        let mut image = Image::from_parts(bytes, table);
+        let mut image = mine(Image::from_parts(bytes, table));
         no(&mut image, Reason::WrongFs, |i| i.reopen());
         assert_eq!(image.check(), Err(FailedRule::Superblock));
     }
@@ -385,35 +435,35 @@ fn stuck() {
     let (mut image, root) = fresh(16);
     let a = create(&mut image, root, "a", Kind::File).unwrap();
     image.close(a).unwrap();
-    let mut bytes = image.into_bytes();
+    let mut bytes = image.into_inner().into_bytes();
     record(&mut bytes, 3, damage::TYPE, &[5]);
-    let mut image = Image::untrusted(bytes.clone()).unwrap();
+    let mut image = mine(Image::untrusted(bytes.clone()).unwrap());
     let root = image.root().unwrap();
     no(&mut image, Reason::Stuck, |i| i.find(root, "a"));
     no(&mut image, Reason::Stuck, |i| i.unlink(root, "a"));
     assert_eq!(image.check(), Err(FailedRule::Nodes));
     // type 0 can be found, and has no metadata
     record(&mut bytes, 3, damage::TYPE, &[0]);
-    let mut image = Image::untrusted(bytes.clone()).unwrap();
+    let mut image = mine(Image::untrusted(bytes.clone()).unwrap());
     let root = image.root().unwrap();
     let a = image.find(root, "a").unwrap();
     no(&mut image, Reason::Stuck, |i| i.metadata(a));
     no(&mut image, Reason::Stuck, |i| i.link(root, "b", a));
     // a slot of type 0 is given by its number, and listed never
     damage::write(&mut bytes, Some(ROOT_FILE), 2 * SLOT + 260, &[0]);
-    let mut image = Image::untrusted(bytes.clone()).unwrap();
+    let mut image = mine(Image::untrusted(bytes.clone()).unwrap());
     let root = image.root().unwrap();
     assert_eq!(image.entry(root, 2).unwrap().kind, None);
     no(&mut image, Reason::Stuck, |i| i.snapshot(root));
     // a name that is not UTF-8
     damage::write(&mut bytes, Some(ROOT_FILE), 2 * SLOT + 4, &[255]);
-    let mut image = Image::untrusted(bytes.clone()).unwrap();
+    let mut image = mine(Image::untrusted(bytes.clone()).unwrap());
     let root = image.root().unwrap();
     no(&mut image, Reason::Stuck, |i| i.entry(root, 2));
     // no root; no files at all
     superblock(&mut bytes, damage::UNUSED, 0);
     record(&mut bytes, 2, damage::FILE, &[9; 16]);
-    let mut image = Image::untrusted(bytes).unwrap();
+    let mut image = mine(Image::untrusted(bytes).unwrap());
     no(&mut image, Reason::Stuck, |i| i.root());
     assert_eq!(image.check(), Err(FailedRule::Superblock));
     assert_eq!(Image::untrusted(vec![0; 16 * BLOCK]).unwrap_err(), Reason::Stuck);
@@ -438,7 +488,7 @@ fn failed_rules() {
     for (rule, wrong) in wrongs {
         let (mut image, root) = fresh(16);
         create(&mut image, root, "a", Kind::File).unwrap();
-        let mut bytes = image.into_bytes();
+        let mut bytes = image.into_inner().into_bytes();
         wrong(&mut bytes);
         assert_eq!(Image::checked(bytes).unwrap_err(), Unfit::Fails(rule));
     }

@@ -48,11 +48,11 @@ fn folder(path: &Path) -> Option<(usize, usize)> {
 
 #[test]
 fn acceptance() {
-    if let Some((scripts, lines)) = folder(&top().join("../shared/vectors-02/level-4")) {
-        assert!(scripts >= 19 && lines >= 3_365);
+    if let Some((scripts, lines)) = folder(&top().join("../shared/vectors-02/level-5")) {
+        assert!(scripts >= 19 && lines >= 3_548);
     }
     // scripts of earlier levels, made scripts of this one by tests/model/lifted.py
-    for (level, least) in [31_347, 3_578, 3_611, 3_606].into_iter().enumerate() {
+    for (level, least) in [31_347, 3_578, 3_611, 3_606, 3_365].into_iter().enumerate() {
         if let Some((_, lines)) = folder(&top().join(format!("target/lifted/level-{level}"))) {
             assert!(lines >= least);
         }
@@ -62,7 +62,7 @@ fn acceptance() {
 #[test]
 fn answers_of_the_rust() {
     let (scripts, lines) = folder(&top().join("tests/beside_rust/sample")).unwrap();
-    assert!(scripts >= 5 && lines >= 8_000);
+    assert!(scripts >= 5 && lines >= 6_500);
 }
 
 #[test]
@@ -70,7 +70,7 @@ fn script_of_the_gate() {
     let gate = top().join("crates/replay");
     let lines = compare("crates/replay/stdin", &fs::read(gate.join("stdin")).unwrap(), &fs::read_to_string(gate.join("stdout")).unwrap());
     say(&format!("{lines} lines equal: {}", gate.display()));
-    assert!(lines > 6_000);
+    assert!(lines > 5_000);
 }
 
 #[test]
@@ -82,6 +82,6 @@ fn broken_scripts() {
     assert_eq!(replay(b"\x1f"), "bad script\n");
     assert_eq!(replay(b"\x23"), "bad script\n");
     // a write of 8,193 bytes
-    assert_eq!(replay(&[b"\x21".as_slice(), &[0; 20], &[1, 32], &[0; 8193]].concat()), "bad script\n");
+    assert_eq!(replay(&[b"\x21".as_slice(), &[0; 21], &[1, 32], &[0; 8193]].concat()), "bad script\n");
     assert_eq!(replay(&[0; (1 << 20) + 1]), "bad script\n");
 }

@@ -2,33 +2,40 @@
 mod common;
 
 use common::{create, fresh, names};
-use dzomrelig::{Kind, Reason};
+use dzomrelig::{Kind, Owner, Reason};
+
+const ANN: Owner = Owner::One;
+const BEN: Owner = Owner::Two;
 
 #[test]
 fn a_number_stays_taken_while_a_handle_is_open() {
-    let (mut image, root) = fresh(32);
-    let ann = create(&mut image, root, "a", Kind::File).unwrap();
-    let outline = image.metadata(ann).unwrap().inode;
+    let (image, root) = fresh(32);
+    let mut image = image.into_inner();
+    let ann = create(&mut image.editor(ANN), root, "a", Kind::File).unwrap();
+    let outline = image.editor(ANN).metadata(ann).unwrap().inode;
 
     // Ben opens a too, and unlinks it
-    let ben = image.find(root, "a").unwrap();
+    let his_root = image.editor(BEN).root().unwrap();
+    let ben = image.editor(BEN).find(his_root, "a").unwrap();
     assert_ne!(ann, ben);
-    assert_eq!(image.metadata(ben).unwrap().inode, outline);
-    image.unlink(root, "a").unwrap();
-    assert_eq!(image.metadata(ann).unwrap().links, 0);
-    assert_eq!(image.find(root, "a"), Err(Reason::EntryNotFound));
+    assert_eq!(image.editor(BEN).metadata(ben).unwrap().inode, outline);
+    image.editor(BEN).unlink(his_root, "a").unwrap();
+    assert_eq!(image.editor(ANN).metadata(ann).unwrap().links, 0);
+    assert_eq!(image.editor(ANN).find(root, "a"), Err(Reason::EntryNotFound));
 
     // his new glyph is another node
-    let b = create(&mut image, root, "b", Kind::File).unwrap();
-    assert_ne!(image.metadata(b).unwrap().inode, outline);
+    let b = create(&mut image.editor(BEN), his_root, "b", Kind::File).unwrap();
+    assert_ne!(image.editor(BEN).metadata(b).unwrap().inode, outline);
 
-    // he closes his a, and hers still works; his old handle doesn't
-    image.close(ben).unwrap();
-    assert_eq!(image.metadata(ben), Err(Reason::BadHandle));
-    assert_eq!(image.metadata(ann).unwrap().inode, outline);
+    // he closes his a, and hers still works; his old handle doesn't, and hers never did for him
+    assert_eq!(image.editor(BEN).close(ann), Err(Reason::BadHandle));
+    image.editor(BEN).close(ben).unwrap();
+    assert_eq!(image.editor(BEN).metadata(ben), Err(Reason::BadHandle));
+    assert_eq!(image.editor(ANN).metadata(ann).unwrap().inode, outline);
     assert!(image.check().is_ok());
 
     // she closes hers, the last: now the number is free, and the next create has it
+    let mut image = image.editor(ANN);
     image.close(ann).unwrap();
     assert_eq!(image.close(ann), Err(Reason::BadHandle));
     let c = create(&mut image, root, "c", Kind::File).unwrap();

@@ -5,7 +5,7 @@ use std::sync::Mutex;
 use std::thread;
 
 use common::{create, fresh, names, TIME};
-use dzomrelig::{FileName, Handle, Image, Kind, Reason};
+use dzomrelig::{Editor, FileName, Handle, Image, Kind, Owner, Reason, OWN_HOLDS};
 
 const ROUNDS: u64 = 60;
 
@@ -17,54 +17,95 @@ fn types() {
     is_send::<Image>();
     is_sync::<Image>();
     is_send::<Handle>();
+    is_send::<Editor<&mut Image>>();
+    is_sync::<Editor<&Image>>();
     is_send::<Reason>();
 }
 
 /// What one editor does in a folder of its own, a call at a time.
-fn edit(image: &Mutex<Image>, folder: Handle, editor: u64) {
+fn edit(image: &Mutex<Image>, me: Owner) {
+    let call = || Editor::new(image.lock().unwrap(), me);
+    let root = call().root().unwrap();
+    let folder = create(&mut call(), root, &format!("team{}", me.number()), Kind::Folder).unwrap();
+    call().close(root).unwrap();
     let mut kept = Vec::new();
     for round in 0..ROUNDS {
-        let name = format!("glyph{editor}-{round}");
+        let name = format!("glyph{}-{round}", me.number());
         let mut file = [0; 16];
-        file[..8].copy_from_slice(&(1 + editor).to_le_bytes());
+        file[0] = me.number();
         file[8..].copy_from_slice(&round.to_le_bytes());
-        let made = image.lock().unwrap().create(folder, &name, Kind::File, 0o644, TIME, FileName(file)).unwrap();
-        let id = image.lock().unwrap().metadata(made).unwrap().inode;
-        let found = image.lock().unwrap().find(folder, &name).unwrap();
-        assert_eq!(image.lock().unwrap().metadata(found).unwrap().inode, id);
-        image.lock().unwrap().write_at(made, 0, &name).unwrap();
+        let made = call().create(folder, &name, Kind::File, 0o644, TIME, FileName(file)).unwrap();
+        let id = call().metadata(made).unwrap().inode;
+        let found = call().find(folder, &name).unwrap();
+        assert_eq!(call().metadata(found).unwrap().inode, id);
+        call().write_at(made, 0, &name).unwrap();
         kept.push(name.clone());
-        let mut there = names(&image.lock().unwrap(), folder);
+        let mut there = names(&call(), folder);
         there.sort();
         kept.sort();
         assert_eq!(there, kept);
         if round % 3 != 0 {
             // unlinked while it is open: the number stays this editor's
-            image.lock().unwrap().unlink(folder, &name).unwrap();
-            assert_eq!(image.lock().unwrap().metadata(found).unwrap().inode, id);
+            call().unlink(folder, &name).unwrap();
+            assert_eq!(call().metadata(found).unwrap().inode, id);
             kept.retain(|k| *k != name);
         }
-        image.lock().unwrap().close(made).unwrap();
-        assert_eq!(image.lock().unwrap().read_to_vec(found).unwrap(), name.as_bytes());
-        assert_eq!(image.lock().unwrap().metadata(found).unwrap().inode, id);
-        image.lock().unwrap().close(found).unwrap();
+        call().close(made).unwrap();
+        assert_eq!(call().read_to_vec(found).unwrap(), name.as_bytes());
+        assert_eq!(call().metadata(found).unwrap().inode, id);
+        call().close(found).unwrap();
     }
-    image.lock().unwrap().close(folder).unwrap();
+    call().close(folder).unwrap();
 }
 
 #[test]
 fn four_editors() {
-    let (mut image, root) = fresh(512);
-    let folders: Vec<_> = (0..4).map(|n| create(&mut image, root, &format!("team{n}"), Kind::Folder).unwrap()).collect();
-    let image = Mutex::new(image);
+    let image = Mutex::new(*fresh(512).0.into_inner());
     thread::scope(|scope| {
-        for (editor, folder) in (0..).zip(folders) {
+        for me in Owner::ALL {
             let image = &image;
-            scope.spawn(move || edit(image, folder, editor));
+            scope.spawn(move || edit(image, me));
         }
     });
     let image = image.into_inner().unwrap();
     assert_eq!(image.check().unwrap().nodes, 1 + 4 + 4 * 20);
+}
+
+/// One of four has many tabs and never closes one; the other three get theirs all the same.
+#[test]
+fn many_tabs() {
+    let (mut image, root) = fresh(128);
+    for n in 0..OWN_HOLDS {
+        let made = create(&mut image, root, &format!("glyph{n}"), Kind::File).unwrap();
+        image.close(made).unwrap();
+    }
+    image.close(root).unwrap();
+    let image = Mutex::new(*image.into_inner());
+    thread::scope(|scope| {
+        for me in Owner::ALL {
+            let image = &image;
+            scope.spawn(move || {
+                let call = || Editor::new(image.lock().unwrap(), me);
+                let root = call().root().unwrap();
+                for round in 0..ROUNDS {
+                    let tabs: Vec<_> = (1..OWN_HOLDS).map(|n| call().find(root, format!("glyph{n}")).unwrap()).collect();
+                    assert_eq!(call().root(), Err(Reason::TableFull));
+                    if me == Owner::One {
+                        return;
+                    }
+                    for (n, tab) in (1..).zip(tabs) {
+                        assert_eq!(call().metadata(tab).unwrap().inode, 3 + n);
+                        call().write_at(tab, round, me.number().to_string()).unwrap();
+                        call().close(tab).unwrap();
+                    }
+                }
+            });
+        }
+    });
+    let mut image = image.into_inner().unwrap();
+    assert_eq!(image.editor(Owner::One).root(), Err(Reason::TableFull));
+    assert!(Owner::ALL[1..].iter().all(|&other| image.editor(other).root().is_ok()));
+    assert_eq!(image.check().unwrap().nodes, 1 + OWN_HOLDS as u32);
 }
 
 #[test]
@@ -104,7 +145,7 @@ fn small_stack() {
         image.sync().unwrap();
         image.close(b).unwrap();
         assert_eq!(image.check().unwrap().nodes, 3);
-        image
+        image.into_inner()
     };
     let made = thread::Builder::new().stack_size(128 * 1024).spawn(run).unwrap().join().unwrap();
     assert_eq!(made.blocks(), 32);

@@ -28,6 +28,8 @@ static uint16_t chains[DZ_CHAINS];
 static size_t len;
 static bool own;
 
+enum { ME = 1 }; // who asks, where no script says it
+
 #define ARENA arena, len
 #define CHAINS chains, DZ_CHAINS
 #define TABLE table, DZ_TABLE
@@ -66,31 +68,33 @@ static void time_of(int64_t *t)
 
 static uint32_t call(int kind)
 {
+    uint8_t who = 0;
     uint32_t hold = 0, to;
     uint64_t stamp = 0, tos, k;
     int64_t t[6];
     size_t l = 0, o;
     in name = 0, new;
+    if (kind > 1 && kind != 12) who = (uint8_t)number(1);
     if (kind > 2 && kind != 12) hold = (uint32_t)number(4), stamp = number(8);
     if (kind >= 3 && kind <= 7) l = number(2), name = bytes(l);
     switch (kind) {
     case 0: time_of(t); return dz_format(ARENA, TABLE, t[0], t[1], bytes(16), 16);
     case 1: return dz_open(ARENA, TABLE);
-    case 2: return CALL(root, words, DZ_HANDLE_WORDS);
-    case 3: return CALL(find, hold, stamp, name, l, words, DZ_HANDLE_WORDS);
-    case 4: to = (uint32_t)number(4), k = number(2), time_of(t), new = bytes(16); return CALL(create, hold, stamp, name, l, to, (uint16_t)k, t[0], t[1], new, 16, words, DZ_HANDLE_WORDS);
-    case 5: to = (uint32_t)number(4), tos = number(8); return CALL(link, hold, stamp, name, l, to, tos);
-    case 6: return CALL(unlink, hold, stamp, name, l);
-    case 7: to = (uint32_t)number(4), tos = number(8), o = number(2), new = bytes(o); return CALL(move, hold, stamp, name, l, to, tos, new, o);
-    case 8: return CALL(metadata, hold, stamp, words, DZ_METADATA_WORDS);
-    case 9: k = number(2), tos = number(8), o = number(8), time_of(t), time_of(t + 2), time_of(t + 4); return CALL(set_metadata, hold, stamp, (uint16_t)k, tos, o, t[0], t[1], t[2], t[3], t[4], t[5]);
-    case 10: k = number(8), o = number(2); return CALL(get_entry, hold, stamp, k, out, o);
-    case 11: words[0] = number(8), o = number(2); return CALL(list, hold, stamp, words, DZ_NEXT_WORDS, out, o);
+    case 2: return CALL(root, who, words, DZ_HANDLE_WORDS);
+    case 3: return CALL(find, who, hold, stamp, name, l, words, DZ_HANDLE_WORDS);
+    case 4: to = (uint32_t)number(4), k = number(2), time_of(t), new = bytes(16); return CALL(create, who, hold, stamp, name, l, to, (uint16_t)k, t[0], t[1], new, 16, words, DZ_HANDLE_WORDS);
+    case 5: to = (uint32_t)number(4), tos = number(8); return CALL(link, who, hold, stamp, name, l, to, tos);
+    case 6: return CALL(unlink, who, hold, stamp, name, l);
+    case 7: to = (uint32_t)number(4), tos = number(8), o = number(2), new = bytes(o); return CALL(move, who, hold, stamp, name, l, to, tos, new, o);
+    case 8: return CALL(metadata, who, hold, stamp, words, DZ_METADATA_WORDS);
+    case 9: k = number(2), tos = number(8), o = number(8), time_of(t), time_of(t + 2), time_of(t + 4); return CALL(set_metadata, who, hold, stamp, (uint16_t)k, tos, o, t[0], t[1], t[2], t[3], t[4], t[5]);
+    case 10: k = number(8), o = number(2); return CALL(get_entry, who, hold, stamp, k, out, o);
+    case 11: words[0] = number(8), o = number(2); return CALL(list, who, hold, stamp, words, DZ_NEXT_WORDS, out, o);
     case 12: return own ? dz_own_sync(ARENA, CHAINS, TABLE) : dz_sync(ARENA, TABLE);
-    case 13: return CALL(close, hold, stamp);
-    case 15: k = number(8), o = number(2); return CALL(read, hold, stamp, k, out, o, words, DZ_READ_WORDS);
-    case 16: k = number(8), o = number(2), new = bytes(o); return CALL(write, hold, stamp, k, new, o);
-    case 17: k = number(8); return CALL(resize, hold, stamp, k);
+    case 13: return CALL(close, who, hold, stamp);
+    case 15: k = number(8), o = number(2); return CALL(read, who, hold, stamp, k, out, o, words, DZ_READ_WORDS);
+    case 16: k = number(8), o = number(2), new = bytes(o); return CALL(write, who, hold, stamp, k, new, o);
+    case 17: k = number(8); return CALL(resize, who, hold, stamp, k);
     default: fprintf(stderr, "calls: %s is not timed\n", KINDS[kind]); exit(2);
     }
 }
@@ -137,11 +141,11 @@ static void create(const char *name)
     uint8_t file[DZ_FILE_NAME] = {1};
     files++;
     memcpy(file + 8, &files, 8);
-    must(dz_create(arena, len, table, DZ_TABLE, 0, 1, (in)name, strlen(name), DZ_FILE, 420, 0, 0, file, DZ_FILE_NAME, words, DZ_HANDLE_WORDS));
+    must(dz_create(arena, len, table, DZ_TABLE, ME, 0, 1, (in)name, strlen(name), DZ_FILE, 420, 0, 0, file, DZ_FILE_NAME, words, DZ_HANDLE_WORDS));
     hold = (uint32_t)words[0], stamp = words[1];
 }
 
-static void resize(uint64_t size) { must(dz_resize(arena, len, table, DZ_TABLE, hold, stamp, size)); }
+static void resize(uint64_t size) { must(dz_resize(arena, len, table, DZ_TABLE, ME, hold, stamp, size)); }
 
 enum { READ, WRITE, NEW, PLAIN_READ, PLAIN_WRITE, ACTS };
 static const char *const ACT_NAMES[ACTS] = {"read", "write", "new", "plain-read", "plain-write"};
@@ -149,9 +153,9 @@ static const char *const ACT_NAMES[ACTS] = {"read", "write", "new", "plain-read"
 static void act(int what, size_t size)
 {
     switch (what) {
-    case READ: must(dz_read(arena, len, table, DZ_TABLE, hold, stamp, PLACE, copy, size, words, DZ_READ_WORDS)); break;
+    case READ: must(dz_read(arena, len, table, DZ_TABLE, ME, hold, stamp, PLACE, copy, size, words, DZ_READ_WORDS)); break;
     case WRITE:
-    case NEW: must(dz_write(arena, len, table, DZ_TABLE, hold, stamp, PLACE, data, size)); break;
+    case NEW: must(dz_write(arena, len, table, DZ_TABLE, ME, hold, stamp, PLACE, data, size)); break;
     case PLAIN_READ: plain_read(blocks, PLACE, copy, size); break;
     case PLAIN_WRITE: plain_write(blocks, PLACE, data, size); break;
     }
@@ -177,11 +181,11 @@ static void contents(size_t n, int files, int rounds)
     len = DZ_BLOCK * n;
     for (size_t i = 0; i < LONGEST; i++) data[i] = (uint8_t)(i * 7 + 1);
     must(dz_format(arena, len, table, DZ_TABLE, 0, 0, data, DZ_FILE_NAME));
-    must(dz_root(arena, len, table, DZ_TABLE, words, DZ_HANDLE_WORDS));
+    must(dz_root(arena, len, table, DZ_TABLE, ME, words, DZ_HANDLE_WORDS));
     for (int i = 0; i < files; i++) {
         snprintf(name, sizeof name, "glyph%d", i);
         create(name);
-        must(dz_close(arena, len, table, DZ_TABLE, hold, stamp));
+        must(dz_close(arena, len, table, DZ_TABLE, ME, hold, stamp));
     }
     create("outline");
     for (int what = 0; what < ACTS; what++)
@@ -213,13 +217,13 @@ static void folder(const char *name, uint32_t in_hold, uint64_t in_stamp)
     uint8_t file[DZ_FILE_NAME] = {2};
     files++;
     memcpy(file + 8, &files, 8);
-    must(dz_own_create(ARENA, CHAINS, TABLE, in_hold, in_stamp, (in)name, strlen(name), DZ_FOLDER, 493, 0, 0, file, DZ_FILE_NAME, words, DZ_HANDLE_WORDS));
+    must(dz_own_create(ARENA, CHAINS, TABLE, ME, in_hold, in_stamp, (in)name, strlen(name), DZ_FOLDER, 493, 0, 0, file, DZ_FILE_NAME, words, DZ_HANDLE_WORDS));
     hold = (uint32_t)words[0], stamp = words[1];
 }
 
 static void moved(uint32_t from_hold, uint64_t from_stamp, uint32_t to_hold, uint64_t to_stamp)
 {
-    must(CALL(move, from_hold, from_stamp, (in)"x", 1, to_hold, to_stamp, (in)"x", 1));
+    must(CALL(move, ME, from_hold, from_stamp, (in)"x", 1, to_hold, to_stamp, (in)"x", 1));
 }
 
 static void deep(int depth, int rounds)
@@ -227,13 +231,13 @@ static void deep(int depth, int rounds)
     len = DZ_BLOCK * DZ_BLOCKS_MOST;
     must(dz_format(ARENA, TABLE, 0, 0, (in)"file of the root", DZ_FILE_NAME));
     must(dz_own_chains(ARENA, CHAINS));
-    must(dz_own_root(ARENA, CHAINS, TABLE, words, DZ_HANDLE_WORDS));
+    must(dz_own_root(ARENA, CHAINS, TABLE, ME, words, DZ_HANDLE_WORDS));
     uint32_t root = (uint32_t)words[0], at = root;
     uint64_t root_stamp = words[1], at_stamp = root_stamp;
     folder("x", root, root_stamp);
     for (int i = 0; i < depth; i++) {
         folder("d", at, at_stamp);
-        if (at != root) must(dz_own_close(ARENA, CHAINS, TABLE, at, at_stamp));
+        if (at != root) must(dz_own_close(ARENA, CHAINS, TABLE, ME, at, at_stamp));
         at = hold, at_stamp = stamp;
     }
     for (int way = 0; way < 2; way++) {

@@ -22,7 +22,9 @@ class Script:
         return struct.pack("<H", len(text)) + text
 
     def put(self, byte, *parts):
-        self.out += bytes([byte]) + b"".join(parts)
+        """A command; where somebody has to ask, owner 1 does."""
+        who = b"" if byte in (2, 16, 17, 28) else b"\1"
+        self.out += bytes([byte]) + who + b"".join(parts)
 
     def held(self, hold):
         """The handle of a hold that a call has just made."""

@@ -16,11 +16,11 @@ SUPERBLOCK = {"magic": 0, "blocks": 4, "unused": 8, "groups": 12}
 
 
 class Builder:
-    """A script as it grows; names are texts, handles what root, find and create answered."""
+    """A script as it grows; names are texts, handles what root, find and create answered, and `who` is the owner who asks."""
 
     def __init__(self, blocks=16):
         self.data, self.at, self.words = bytearray(), model.Model(), []
-        self.files = 0
+        self.files, self.who = 0, 1
         self.raw(b"\2" + struct.pack("<I", BLOCK * blocks), f"arena of {blocks} blocks")
         self.at.set_arena(bytes(BLOCK * blocks))
 
@@ -30,6 +30,8 @@ class Builder:
 
     def call(self, name, *args, words=""):
         """Adds a call; the model's answer is the handle, if it is one."""
+        if takes_owner(name):
+            args, words = (self.who, *args), f"{words} for {self.who}" if self.who != 1 else words
         self.raw(packed(name, args), f"{name} {words}".strip())
         self.line = self.at.run(name, args)
         answer = self.line.split(" ")
@@ -129,9 +131,13 @@ class Builder:
 
 
 def table_bytes(rows, holds, stamp):
-    """A table's bytes: rows (id, dirty, record) and holds (row, stamp) from the first on, and the next stamp."""
+    """A table's bytes: rows (id, dirty, record) and holds (row, stamp, owner) from the first on, and the next stamp."""
     return (b"".join(struct.pack("<IB", id, dirty) + record for id, dirty, record in rows).ljust(117 * model.ROWS, b"\0")
-            + b"".join(struct.pack("<IQ", *hold) for hold in holds).ljust(12 * model.HOLDS, b"\0") + struct.pack("<Q", stamp))
+            + b"".join(model.HOLD.pack(*hold) for hold in holds).ljust(model.HOLD.size * model.HOLDS, b"\0") + struct.pack("<Q", stamp))
+
+
+def takes_owner(name):
+    return model.SHAPES[name].startswith("p")
 
 
 def raw(name):
@@ -141,6 +147,8 @@ def raw(name):
 def pack(shape, arg):
     if shape in "248":
         return arg.to_bytes(int(shape), "little")
+    if shape == "p":
+        return bytes([arg])
     if shape == "o":
         return arg.to_bytes(2, "little")
     if shape == "h":
@@ -230,6 +238,8 @@ def told(name, args):
     for shape, arg in zip(model.SHAPES.get(name, "-" * len(args)), args):
         if shape == "h":
             words.append(shown(arg))
+        elif shape == "p":
+            words.append(f"for {arg}")
         elif shape == "n":
             words.append(quoted(arg))
         elif shape == "t":

@@ -10,7 +10,7 @@ long write(int fd, const void *from, size n);
 void replay_begin(byte *desk, size desk_len, byte *arena, size arena_len);
 size replay_run(const byte *script, size script_len, byte *desk, size desk_len, byte *arena, size arena_len, byte *text, size text_len);
 
-enum { SCRIPT = 1048576, DESK = 4387, ENDED = 4386, ARENA = 2097664, TEXT = 65536 };
+enum { SCRIPT = 1048576, DESK = 4419, ENDED = 4418, ARENA = 2097664, TEXT = 65536 };
 
 static byte script[SCRIPT + 1], desk[DESK], arena[ARENA], text[TEXT];
 

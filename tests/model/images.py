@@ -10,7 +10,7 @@ import subprocess
 import sys
 
 from arena_model import META
-from replay_model import FOLDER, Model
+from replay_model import FOLDER, SHAPES, Model
 
 HERE = os.path.dirname(os.path.abspath(__file__))
 ROOT = (1, bytes(range(1, 17)))
@@ -24,15 +24,19 @@ def fresh(blocks=16):
     return model
 
 
-def grown():
-    """A file `A` and a folder `B` with a file `C`, all of them closed."""
-    model = fresh(32)
-    root = (0, 1)
-    for name, args in (("root", ()), ("create", (root, b"A", 1, 420, TIME, b"A" * 16)), ("create", (root, b"B", FOLDER, 493, TIME, b"B" * 16)),
-                       ("create", ((2, 3), b"C", 1, 420, TIME, b"C" * 16)), ("close", ((3, 4),)), ("close", ((2, 3),)), ("close", ((1, 2),)), ("close", (root,))):
-        line = model.run(name, args)
+def done(model, *calls):
+    """The model after these calls of owner 1, all of which are done."""
+    for name, *args in calls:
+        line = model.run(name, (1, *args) if SHAPES[name].startswith("p") else args)
         assert " ok" in line, line
     return model
+
+
+def grown():
+    """A file `A` and a folder `B` with a file `C`, all of them closed."""
+    root = (0, 1)
+    return done(fresh(32), ("root",), ("create", root, b"A", 1, 420, TIME, b"A" * 16), ("create", root, b"B", FOLDER, 493, TIME, b"B" * 16),
+                ("create", (2, 3), b"C", 1, 420, TIME, b"C" * 16), ("close", (3, 4)), ("close", (2, 3)), ("close", (1, 2)), ("close", root))
 
 
 def changed(file, pos, data, model=None):
@@ -53,13 +57,9 @@ def u32(n):
 
 def with_contents():
     """The same, with bytes in `A` across two blocks, and `C` longer than what it has."""
-    model = grown()
     root, a, c = (0, 1), (1, 2), (3, 4)
-    for name, args in (("open", ()), ("root", ()), ("find", (root, b"A")), ("find", (root, b"B")), ("find", ((2, 3), b"C")),
-                       ("write", (a, 470, b"outline" * 3)), ("resize", (c, 5000)), ("write", (c, 9999, b"")), ("sync", ())):
-        line = model.run(name, args)
-        assert " ok" in line, line
-    return model
+    return done(grown(), ("open",), ("root",), ("find", root, b"A"), ("find", root, b"B"), ("find", (2, 3), b"C"),
+                ("write", a, 470, b"outline" * 3), ("resize", c, 5000), ("write", c, 9999, b""), ("sync",))
 
 
 def resized(file, size):

@@ -164,12 +164,33 @@ def damaged(b):
 def bad_table(b):
     b.fresh()
     root = 2, 0, record(FOLDER, 2, 2, ROOT_FILE)
-    for bad in (table_bytes([], [], 0), table_bytes([root], [], 1), table_bytes([root], [(0, 1), (0, 1)], 2)):
+    for bad in (table_bytes([], [], 0), table_bytes([root], [], 1), table_bytes([root], [(0, 1, 1), (0, 1, 1)], 2)):
         b.table(bad)
         b.no(3, *takes_table((0, 1)))
         b.fails(2)
     b.open()
     b.ok()
+
+
+def bad_owners(b):
+    """Order 5: a table whose holds have owners that are none, too many of one owner's, or a free hold with an owner: 3, before 6, and rule 2."""
+    b.fresh()
+    root = 2, 0, record(FOLDER, 2, 2, ROOT_FILE)
+    nine = [(0, 1 + k, 1) for k in range(9)]
+    for bad in ([(0, 1, 0)], [(0, 1, 9)], [(0, 1, 1), (0, 0, 1)], nine):
+        b.table(table_bytes([root], bad, 99))
+        b.no(3, ("root",), ("metadata", (0, 1)), ("sync",), ("list", (0, 1), 0, 264))
+        b.who = 5
+        b.no(3, ("root",), ("close", (0, 1)))
+        b.who = 1
+        b.fails(2)
+    b.table(table_bytes([root], nine[:8] + [(0, 9, 4)], 99))
+    b.check()
+    b.ok()
+    b.no(16, ("root",))
+    b.who = 4
+    b.ok(b.root())
+    b.who = 1
 
 
 def bad_handle(b):
@@ -180,6 +201,41 @@ def bad_handle(b):
         b.no(4, *(call for call in takes_table(h) if call[0] not in ("root", "sync")))
     b.no(4, ("link", root, b"b", closed), ("move", root, b"a", closed, b"b"))
     b.no(4, *takes_name(closed, b"\0"))
+
+
+def asks(h):
+    """Every call that says who asks."""
+    return tuple(call for call in takes_table(h) if call[0] != "sync")
+
+
+def owners(b):
+    """Order 5: 6 for who is none, right after 3; 4 for another's handle, either of link and move; a node is shared, a hold is not."""
+    root = b.fresh(32)
+    mine = b.ok(b.create(root, "a", FOLDER))
+    for b.who in (0, 5, 255):
+        b.no(6, *asks(root), *asks(NOBODY), create(NOBODY, b"\0", 5))
+    for b.who in (2, 3, 4):
+        b.no(4, *(call for call in asks(root) if call[0] != "root"), create(root, b"/", 5))
+    b.who = 2
+    hers = b.ok(b.root())
+    b.no(4, ("link", hers, b"b", mine), ("link", root, b"b", hers), ("move", hers, b"a", mine, b"b"), ("move", mine, b"a", hers, b"b"))
+    found = b.ok(b.find(hers, "a"))
+    b.ok(b.create(found, "x"))
+    b.unlink(found, "x")
+    b.ok()
+    b.unlink(hers, "a")
+    b.ok()
+    b.close(found)
+    b.ok()
+    b.who = 1
+    b.no(4, ("close", found), ("close", hers))
+    b.no(8, create(mine, b"y"))
+    b.check()
+    b.ok()
+    b.close(mine)
+    b.ok()
+    b.check()
+    b.ok()
 
 
 def bad_name(b):
@@ -267,11 +323,29 @@ def links(b):
 
 
 def table_full(b):
+    """Eight holds of one owner, and the others still get theirs: eight each, 32 in all."""
     root = b.fresh()
     b.ok(b.create(root, "a"))
-    for _ in range(30):
-        b.ok(b.root())
-    b.no(16, ("root",), ("find", root, b"a"), create(root, b"b"))
+    first = {}
+    for b.who in (1, 3, 2, 4):
+        first[b.who] = b.ok(b.root())
+        for _ in range(5 if b.who == 1 else 7):
+            b.ok(b.find(first[b.who], "."))
+        full = ("root",), ("find", first[b.who], b"a"), create(first[b.who], b"b")
+        b.no(16, *full)
+        b.no(11, ("find", first[b.who], b"b"))
+        b.no(12, create(first[b.who], b"a"))
+    b.check()
+    b.ok()
+    b.who = 3
+    b.close(first[3])
+    b.ok()
+    for b.who in (1, 2, 4):
+        b.no(16, ("root",))
+    b.who = 3
+    b.ok(b.root())
+    b.no(16, ("root",))
+    b.who = 1
     b.close(root)
     b.ok(b.root())
 
@@ -281,11 +355,13 @@ def last_stamp(b):
     root = b.fresh(32)
     b.close(b.create(root, "a"))
     b.close(root)
-    b.table(table_bytes([(2 ** 25, 1, record(FOLDER, 2, 3, ROOT_FILE)), (4, 0, record(5, 1, 0, ROOT_FILE))], [(0, 1), (1, 2)], 2 ** 64 - 2))
+    b.table(table_bytes([(2 ** 25, 1, record(FOLDER, 2, 3, ROOT_FILE)), (4, 0, record(5, 1, 0, ROOT_FILE))], [(0, 1, 1), (1, 2, 1)], 2 ** 64 - 2))
     b.no(19, *takes_contents((1, 2)), *takes_contents((1, 2), 2 ** 64 - 1, b"a"))
     b.no(17, ("sync",), ("unlink", (0, 1), b"a"), ("close", (0, 1)))
     b.ok(b.root())
-    b.no(16, ("root",), ("find", (0, 1), b"a"), create((0, 1), b"b"))
+    for b.who in (2, 1):
+        b.no(16, ("root",))
+    b.no(16, ("find", (0, 1), b"a"), create((0, 1), b"b"))
 
 
 def no_space(b):
@@ -598,7 +674,7 @@ def no_way_up(b):
 
 def made():
     b = Script()
-    for part in (bad_arena, damaged, bad_table, bad_handle, bad_name, slashes, by_call, taken, links, table_full, last_stamp, no_space, stuck,
+    for part in (bad_arena, damaged, bad_table, bad_owners, bad_handle, owners, bad_name, slashes, by_call, taken, links, table_full, last_stamp, no_space, stuck,
                  contents, held_on, limits, device_full, torn, no_contents, carried, no_way_up):
         part(b)
     b.fresh()

@@ -1,5 +1,5 @@
 #!/usr/bin/env python3
-"""An independent model of document 01's calls and of document 02's orders up to 4, for tests: a call script in, the lines a right port
+"""An independent model of document 01's calls and of document 02's orders up to 5, for tests: a call script in, the lines a right port
 prints out.
 
 Written from the documents and the readings of them in docs/DECISIONS.md, on top of arena_model.py; it shares nothing with crates/. A call
@@ -17,12 +17,14 @@ SLOT = 264
 RECORD = 112
 ROWS = 34
 HOLDS = 32
+OWNERS = range(1, 5)
+OWN_HOLDS = 8
 GROUP = 1024
 MAGIC = 0x2F8DBE2A
 PRIME = 4_294_967_291
 FOLDER = 2
 OUTPUT = 8192
-TABLE_BYTES = 4370
+TABLE_BYTES = 4402
 
 
 def u32(data, at):
@@ -96,6 +98,8 @@ class Row:
 
 
 FREE_ROW = bytes(117)
+# A hold: row, stamp, owner.
+HOLD = struct.Struct("<IQB")
 
 
 @functools.lru_cache(4096)
@@ -126,7 +130,7 @@ class Table:
 
     def parts(self):
         yield from (row.bytes() if row else FREE_ROW for row in self.rows)
-        yield from (struct.pack("<IQ", *hold) if hold else bytes(12) for hold in self.holds)
+        yield from (HOLD.pack(*hold) if hold else bytes(HOLD.size) for hold in self.holds)
         yield struct.pack("<Q", self.next)
 
     def row_of(self, id):
@@ -135,13 +139,17 @@ class Table:
     def held(self, row):
         return any(hold and self.rows[hold[0]] is row for hold in self.holds)
 
-    def full(self):
-        return None not in self.holds or self.next == 2 ** 64 - 1
+    def own(self, who):
+        """How many live holds this owner has."""
+        return sum(hold is not None and hold[2] == who for hold in self.holds)
 
-    def hold(self, row):
-        """The lowest free hold with the next stamp."""
+    def full(self, who):
+        return self.own(who) >= OWN_HOLDS or self.next == 2 ** 64 - 1
+
+    def hold(self, row, who):
+        """The lowest free hold with the next stamp; in a well-formed table there is one where this owner has fewer than 8."""
         at, stamp = self.holds.index(None), self.next
-        self.holds[at] = (self.rows.index(row), stamp)
+        self.holds[at] = (self.rows.index(row), stamp, who)
         self.next += 1
         return at, stamp
 
@@ -156,19 +164,20 @@ class Table:
             elif any(part):
                 return None
         for k in range(HOLDS):
-            row, stamp = struct.unpack_from("<IQ", data, 117 * ROWS + 12 * k)
+            row, stamp, owner = HOLD.unpack_from(data, 117 * ROWS + HOLD.size * k)
             if stamp:
-                if row >= ROWS or t.rows[row] is None:
+                if row >= ROWS or t.rows[row] is None or owner not in OWNERS:
                     return None
-                t.holds[k] = (row, stamp)
-            elif row:
+                t.holds[k] = (row, stamp, owner)
+            elif row or owner:
                 return None
         t.next = int.from_bytes(data[-8:], "little")
         ids = [row.id for row in t.rows if row]
         stamps = [hold[1] for hold in t.holds if hold]
         named = {hold[0] for hold in t.holds if hold}
         ok = (len(set(ids)) == len(ids) and len(set(stamps)) == len(stamps) and len(named) == len(ids)
-              and t.next >= 1 and all(stamp < t.next for stamp in stamps))
+              and t.next >= 1 and all(stamp < t.next for stamp in stamps)
+              and all(t.own(owner) <= OWN_HOLDS for owner in OWNERS))
         return t if ok else None
 
 
@@ -234,10 +243,10 @@ class Files(Arena):
 # ---------------------------------------------------------------- one call on a copy
 
 class Step:
-    """What one call works on."""
+    """What one call works on, and who asks."""
 
-    def __init__(self, files, table):
-        self.start = files
+    def __init__(self, files, table, who=None):
+        self.start, self.who = files, who
         self.files = Files(files.blocks.copy())
         self.table = table.copy()
         self.loaded = None
@@ -399,10 +408,17 @@ class Step:
         self.release(child)
 
     def handle(self, h):
+        """The row of a live hold of who asks."""
         hold, stamp = h
-        if hold >= HOLDS or not self.table.holds[hold] or self.table.holds[hold][1] != stamp:
+        if hold >= HOLDS or not self.table.holds[hold] or self.table.holds[hold][1:] != (stamp, self.who):
             raise Refused(4)
         return self.table.rows[self.table.holds[hold][0]]
+
+    def full(self):
+        return self.table.full(self.who)
+
+    def hold(self, row):
+        return self.table.hold(row, self.who)
 
 
 def need(ok, reason):
@@ -429,8 +445,8 @@ def folder_to_change(row):
 
 
 def do_root(s):
-    need(not s.table.full(), 16)
-    return s.table.hold(s.open_node(2))
+    need(not s.full(), 16)
+    return s.hold(s.open_node(2))
 
 
 def do_find(s, h, name):
@@ -441,8 +457,8 @@ def do_find(s, h, name):
     need(not (name == b".." and row.rec.links == 0), 8)
     found = s.lookup(row, name)
     need(found, 11)
-    need(not s.table.full(), 16)
-    return s.table.hold(s.open_node(u32(found[0], 0)))
+    need(not s.full(), 16)
+    return s.hold(s.open_node(u32(found[0], 0)))
 
 
 def do_create(s, h, name, kind, mode, time, file):
@@ -454,7 +470,7 @@ def do_create(s, h, name, kind, mode, time, file):
     need(not s.lookup(row, name), 12)
     need(s.files.place(1, (1, file)) is None, 14)
     need(kind != FOLDER or row.rec.links < 65535, 15)
-    need(not s.table.full(), 16)
+    need(not s.full(), 16)
     node = Row(s.alloc(), 1, new_record(kind, mode, time, file))
     s.files.make((1, file))
     s.add_row(node)
@@ -470,7 +486,7 @@ def do_create(s, h, name, kind, mode, time, file):
     s.store_fs()
     s.store(node)
     s.store(row)
-    return s.table.hold(node)
+    return s.hold(node)
 
 
 def do_link(s, h, name, other):
@@ -786,9 +802,10 @@ NAMED = {byte: name for name, byte in BYTES.items()}
 DOES = {"root": do_root, "find": do_find, "create": do_create, "link": do_link, "unlink": do_unlink, "move": do_move,
         "metadata": do_metadata, "set": do_set, "sync": do_sync, "close": do_close, "write": do_write, "resize": do_resize}
 OUTPUTS = {"entry": entry_slots, "list": list_slots, "read": read_bytes}
-SHAPES = {"format": "tf", "open": "", "root": "", "find": "hn", "create": "hn42tf", "link": "hnh", "unlink": "hn", "move": "hnhn",
-          "metadata": "h", "set": "h288ttt", "entry": "h8o", "list": "h8o", "sync": "", "close": "h", "check": "",
-          "read": "h8o", "write": "h8w", "resize": "h8"}
+# What follows a command's byte; p, the owner who asks, stands first where there is one.
+SHAPES = {"format": "tf", "open": "", "root": "p", "find": "phn", "create": "phn42tf", "link": "phnh", "unlink": "phn", "move": "phnhn",
+          "metadata": "ph", "set": "ph288ttt", "entry": "ph8o", "list": "ph8o", "sync": "", "close": "ph", "check": "",
+          "read": "ph8o", "write": "ph8w", "resize": "ph8"}
 
 
 class BadScript(Exception):
@@ -796,8 +813,8 @@ class BadScript(Exception):
 
 
 class Script:
-    def __init__(self, data):
-        self.data, self.at = data, 0
+    def __init__(self, data, shapes=SHAPES, table=TABLE_BYTES):
+        self.data, self.at, self.shapes, self.table = data, 0, shapes, table
 
     def bytes(self, n):
         if self.at + n > len(self.data):
@@ -814,6 +831,8 @@ class Script:
     def item(self, shape):
         if shape in "248":
             return self.number(int(shape))
+        if shape == "p":
+            return self.number(1)
         if shape == "o":
             return self.number(2, OUTPUT)
         if shape == "h":
@@ -839,10 +858,10 @@ class Script:
             elif byte == 3:
                 yield "poke", (self.number(4), self.number(1))
             elif byte == 4:
-                yield "table", (self.bytes(TABLE_BYTES),)
-            elif byte in NAMED:
+                yield "table", (self.bytes(self.table),)
+            elif NAMED.get(byte) in self.shapes:
                 name = NAMED[byte]
-                yield name, tuple(self.item(shape) for shape in SHAPES[name])
+                yield name, tuple(self.item(shape) for shape in self.shapes[name])
             else:
                 raise BadScript
 
@@ -894,11 +913,16 @@ class Model:
 
     # calls
 
-    def enter(self):
+    def enter(self, name, args):
+        """What every call with a table asks first; the rest of its arguments, where it has an owner."""
         need(legal(self.raw) if not self.files else True, 1)
         need(self.is_sound(), 2)
         need(self.table, 3)
-        return Step(self.files, self.table)
+        if not SHAPES[name].startswith("p"):
+            return Step(self.files, self.table), args
+        who, *args = args
+        need(who in OWNERS, 6)
+        return Step(self.files, self.table, who), args
 
     def run(self, name, args):
         """The line of one call."""
@@ -909,28 +933,30 @@ class Model:
             if name in ("format", "open"):
                 getattr(self, name)(*args)
             elif name in OUTPUTS:
-                out, values, middle = self.output(name, *args)
+                out, values, middle = self.output(name, args)
                 if isinstance(out, int):
                     raise Refused(out)
             else:
-                values = self.change(DOES[name], args)
+                values = self.change(name, args)
             answer = " ".join(["ok", *map(str, values)])
         except Refused as refusal:
             answer = f"no {refusal.reason}"
         return f"{name} {answer}{middle} {self.sums()}"
 
-    def change(self, does, args):
-        step = self.enter()
+    def change(self, name, args):
+        step, args = self.enter(name, args)
         try:
-            values = does(step, *args)
+            values = DOES[name](step, *args)
         except Unchanged:
             return ()
         self.keep(step)
         return values
 
-    def output(self, name, h, at, room):
+    def output(self, name, args):
+        at = args[2]
         try:
-            out = written = OUTPUTS[name](self.enter(), h, at, room)
+            step, args = self.enter(name, args)
+            out = written = OUTPUTS[name](step, *args)
         except Refused as refusal:
             out, written = refusal.reason, b""
         middle = f" o {sum_of(written.ljust(OUTPUT, bytes([238])))}"

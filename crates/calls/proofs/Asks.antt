@@ -2,14 +2,17 @@
 use mathlib.Core.Path.{_≡_, refl, sym, _∙_, ap}
 use mathlib.Core.Bool.{Bool, true, false, not, _&&_}
 use mathlib.Core.List.{List}
-use Prim.Native.Nat.{ℕ, _<_}
+use Prim.Native.Nat.{ℕ, zero, suc, _<_, _≤_, _*_}
 use native.Mathlib.Omega.{arith}
 use lib.ListN.{length, replicate, getD-replicate}
 use lib.Dec.{eqb, ltb, leb}
 use Rattle.base.specs.Out.{Out, done, refused, bind, ensure, answer, Ok, went, said, Went, well, ill}
+use Rattle.base.specs.Reasons.{badTable, invalidParam}
 use Rattle.base.specs.Search.{pick, foundBelow}
+use Rattle.base.specs.declared.Found.{Found}
 use Rattle.base.specs.declared.Found.the-variants.{At, Nothing}
-use Rattle.base.proofs.Outs.{ok-bind, above-zero, went-is, went-has, went-not}
+use Rattle.base.proofs.Bools.{bool-cases}
+use Rattle.base.proofs.Outs.{ok-bind, bind-assoc, above-zero, went-is, went-has, went-not, went-weaken}
 use Rattle.base.proofs.Searches.{at-found}
 use Rattle.structs.specs.Types.{isFolder, isType}
 use Rattle.structs.specs.declared.DiskINode.{DiskINode}
@@ -18,14 +21,14 @@ use Rattle.utf8.specs.declared.NameVerdict.{NameVerdict}
 use Rattle.utf8.specs.declared.NameVerdict.the-variants.{Good, Slashed, Bad}
 use Rattle.table.specs.declared.Table.{Table}
 use Rattle.table.specs.declared.Handle.{Handle}
-use Rattle.table.specs.Table.{holdAt, isLive, liveRow}
+use Rattle.table.specs.Table.{holdAt, isOwn, isOwner, liveRow}
 use Rattle.table.specs.Formed.{wellFormed}
 use Rattle.arena.specs.Blocks.{legal, blocks}
 use Rattle.arena.proofs.Blocks.{legal-is}
 use Rattle.sound.specs.Sound.{sound}
 use Rattle.sound.specs.Chain.{Chains, firsts, nexts}
 use Rattle.sound.proofs.Chains.{length-firsts, length-nexts}
-use Rattle.sefs.specs.Ask.{admitArena, admit, byHandle, known, folder, notRemoved, liveFolder}
+use Rattle.sefs.specs.Ask.{admitArena, admit, anOwner, byHandle, orBadHandle, known, folder, notRemoved, liveFolder}
 use Rattle.sefs.specs.Read.{readable}
 use Rattle.sefs.specs.Contents.{hasContents}
 use Rattle.chains.specs.Led.{Led}
@@ -139,37 +142,60 @@ newly Bad = refl
 -- ---- handles
 
 -- the row of a live handle is a row
-pub live-below : (t : Table) (h : Handle) (i : ℕ) → liveRow t h ≡ At i → i < 34
+pub live-below : (t : Table) (w : ℕ) (h : Handle) (i : ℕ) → liveRow t w h ≡ At i → i < 34
 unfolding liveRow
-live-below t h i = go (isLive t h)
+live-below t w h i = go (isOwn t w h)
   where
     go : (b : Bool) → pick b (foundBelow (holdAt t (h .hold) .row) 34) Nothing ≡ At i → i < 34
     go true e = at-found _ 34 i e .1
     go false e = absurd (let z : _≡_ {A = ℕ} 0 1 = cc in omega arith)
 
-pub handle-at : (t : Table) (h : Handle) (i : ℕ) → liveRow t h ≡ At i → Went (byHandle t h) i (i < 34) 0
-handle-at t h i e = well (rw e) (live-below t h i e)
+pub asks-owner : (w : ℕ) → Asks (anOwner w)
+asks-owner w = asks-ensure (isOwner w) invalidParam (omega arith)
 
-pub handle-not : (t : Table) (h : Handle) (i : ℕ) → liveRow t h ≡ Nothing → Went (byHandle t h) i (i < 34) 4
-handle-not t h i e = ill {r = 4} (omega arith) (rw e)
+-- who asks, and then whether the handle is live and theirs
+module _ (t : Table) (w : ℕ) (h : Handle) (i : ℕ) {r : ℕ} (a : r ≡ answer (anOwner w)) where
+  pub owner-not : (r ≡ 0 → ⊥) → Went (byHandle t w h) i (i < 34) r
+  unfolding byHandle
+  owner-not z = ill (above-zero r z) (rw (asked-not (anOwner w) r a z))
+
+  is-one : r ≡ 0 → anOwner w ≡ done tt
+  is-one z = asked-done (anOwner w) (asks-owner w) r a z
+
+  pub handle-at : r ≡ 0 → liveRow t w h ≡ At i → Went (byHandle t w h) i (i < 34) 0
+  unfolding byHandle
+  handle-at z e = well (rw (is-one z, e)) (live-below t w h i e)
+
+  pub handle-not : r ≡ 0 → liveRow t w h ≡ Nothing → Went (byHandle t w h) i (i < 34) 4
+  unfolding byHandle
+  handle-not z e = ill {r = 4} (omega arith) (rw (is-one z, e))
+
+pub handle-below : (t : Table) (w : ℕ) (h : Handle) (i : ℕ) → byHandle t w h ≡ done i → i < 34
+unfolding byHandle
+handle-below t w h i = go (isOwner w) (liveRow t w h) refl
+  where
+    go : (b : Bool) (f : Found) → liveRow t w h ≡ f → bind (ensure b invalidParam) (λ _. orBadHandle f) ≡ done i → i < 34
+    go true (At j) q e = live-below t w h i (q ∙ ap At (let z : j ≡ i = cc in z))
+    go true Nothing q e = absurd (let z : _≡_ {A = ℕ} 0 1 = cc in omega arith)
+    go false f q e = absurd (let z : _≡_ {A = ℕ} 0 1 = cc in omega arith)
 
 -- one handle after the other
-module _ (t : Table) (h k : Handle) {i n : ℕ} (g : Went (byHandle t h) i (i < 34) n) where
-  pub two-not : (v : ℕ × ℕ) (Q : Type 0) → (n ≡ 0 → ⊥) → Went (byTwo t h k) v Q n
+module _ (t : Table) (w : ℕ) (h k : Handle) {i n : ℕ} (g : Went (byHandle t w h) i (i < 34) n) where
+  pub two-not : (v : ℕ × ℕ) (Q : Type 0) → (n ≡ 0 → ⊥) → Went (byTwo t w h k) v Q n
   unfolding byTwo
   two-not v Q z = ill (above-zero n z) (rw (went-not g z))
 
-  pub two-by : {j r : ℕ} → n ≡ 0 → Went (byHandle t k) j (j < 34) r → Went (byTwo t h k) (i, j) ((i < 34) × (j < 34)) r
+  pub two-by : {j r : ℕ} → n ≡ 0 → Went (byHandle t w k) j (j < 34) r → Went (byTwo t w h k) (i, j) ((i < 34) × (j < 34)) r
   unfolding byTwo
   two-by z (well e l) = well (rw (went-is g z, e)) (went-has g z, l)
   two-by z (ill l e) = ill l (rw (went-is g z, e))
 
 -- a call with one handle, once arena and table are known
-module _ {A : Type 0} {P : Type 0} (a : List ℕ) (t : Table) (h : Handle) (q : admit a t ≡ done tt) (f : ℕ → Out A) (row r : ℕ) (g : Went (byHandle t h) row P r) where
-  pub call-stop : (r ≡ 0 → ⊥) → bind (admit a t) (λ _. bind (byHandle t h) f) ≡ refused r
+module _ {A : Type 0} {P : Type 0} (a : List ℕ) (t : Table) (w : ℕ) (h : Handle) (q : admit a t ≡ done tt) (f : ℕ → Out A) (row r : ℕ) (g : Went (byHandle t w h) row P r) where
+  pub call-stop : (r ≡ 0 → ⊥) → bind (admit a t) (λ _. bind (byHandle t w h) f) ≡ refused r
   call-stop z = rw (q, went-not g z)
 
-  pub call-next : r ≡ 0 → bind (admit a t) (λ _. bind (byHandle t h) f) ≡ f row
+  pub call-next : r ≡ 0 → bind (admit a t) (λ _. bind (byHandle t w h) f) ≡ f row
   call-next z = rw (q, went-is g z)
 
 -- ---- the first questions, with the chains

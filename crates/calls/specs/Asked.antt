@@ -23,9 +23,9 @@ pub record Admitted (a first next m : List ℕ) : Type 0 where
   pub whole : Whole m
   pub formed : wellFormed (tableIn m) ≡ true
 
--- 4, for one handle after the other, and the rows of both
-unfoldable pub byTwo : Table → Handle → Handle → Out (ℕ × ℕ)
-byTwo t h k = do
-  i ← byHandle t h
-  j ← byHandle t k
+-- 6 and 4, for one handle after the other, and the rows of both
+unfoldable pub byTwo : Table → ℕ → Handle → Handle → Out (ℕ × ℕ)
+byTwo t w h k = do
+  i ← byHandle t w h
+  j ← byHandle t w k
   done (i, j)

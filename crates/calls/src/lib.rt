@@ -7,7 +7,7 @@ ghost use Prim.Native.Nat.{_<_};
 ghost use lib.ListN.{length};
 ghost use Rattle.base.specs.Out.{Went, answer};
 ghost use Rattle.table.specs.Table.{addHold};
-ghost use Rattle.sefs.specs.Ask.{admit, byHandle, goodName, newName, notLong, notSpecial, liveFolder, notRemoved};
+ghost use Rattle.sefs.specs.Ask.{admit, anOwner, byHandle, goodName, newName, notLong, notSpecial, liveFolder, notRemoved};
 ghost use Rattle.sefs.specs.Ask.{known as knownType, folder as isFolder};
 ghost use Rattle.sefs.specs.Read.{readable as readableAs};
 ghost use Rattle.sefs.specs.Contents.{hasContents};
@@ -16,6 +16,7 @@ ghost use Rattle.calls.specs.Answers.{doneWith, refusedWith, notGiven, n
 ghost use Rattle.calls.specs.Asked.{byTwo};
 use base::Found;
 use holds::add_hold;
+use holds::is_owner;
 use holds::live;
 use mem::table_at;
 use sefs::Metadata;
@@ -119,15 +120,15 @@ pub fn not_handed(reason: u8) -> Handed
     }
 }
 
-// A hold on the row of a node that was opened, in the table in memory. None where its opening had a reason.
-pub fn hand(mem: &mut [u8], reason: u8, row: usize) -> Handed
+// A hold of who's on the row of a node that was opened, in the table in memory. None where its opening had a reason.
+pub fn hand(mem: &mut [u8], who: u8, reason: u8, row: usize) -> Handed
     requires { ⌜ (reason ≡ 0 → Whole (now mem) × (row < 34)) ⌝ }
-    ensures { λ r. ⌜ (r .reason ≡ reason) × (reason ≡ 0 → addHold (tableIn (now (mem .entry))) row ≡ addedAs (r .handle) (tableIn (now (mem .exit)))) ⌝ }
+    ensures { λ r. ⌜ (r .reason ≡ reason) × (reason ≡ 0 → addHold (tableIn (now (mem .entry))) who row ≡ addedAs (r .handle) (tableIn (now (mem .exit)))) ⌝ }
 {
     if reason != 0 {
         return not_handed(reason);
     }
-    let h = add_hold(mem, row as u32);
+    let h = add_hold(mem, who, row as u32);
     Handed {
         reason: 0,
         handle: h,
@@ -270,12 +271,26 @@ pub struct ByHandle {
     pub row: usize,
 }
 
-// 4 where it is not live.
-pub fn by_handle(mem: &[u8], h: Handle) -> ByHandle
-    requires { ⌜ Whole (now mem) ⌝ }
-    ensures { λ r. ⌜ Went (byHandle (tableIn (now (mem .entry))) h) (r .row) (r .row < 34) (r .reason) ⌝ }
+// 6: an owner outside 1 to 4.
+pub fn an_owner(who: u8) -> u8
+    ensures { λ r. ⌜ r ≡ answer (anOwner who) ⌝ }
 {
-    let f = live(mem, h);
+    if is_owner(who) {
+        return 0;
+    }
+    6
+}
+
+// 6, then 4 where it is not live, or another's.
+pub fn by_handle(mem: &[u8], who: u8, h: Handle) -> ByHandle
+    requires { ⌜ Whole (now mem) ⌝ }
+    ensures { λ r. ⌜ Went (byHandle (tableIn (now (mem .entry))) who h) (r .row) (r .row < 34) (r .reason) ⌝ }
+{
+    let r = an_owner(who);
+    if r != 0 {
+        return ByHandle { reason: r, row: 0 };
+    }
+    let f = live(mem, who, h);
     match f {
         Found::At(i) => ByHandle { reason: 0, row: i },
         Found::Nothing => ByHandle { reason: 4, row: 0 },
@@ -290,11 +305,11 @@ pub struct ByTwo {
 }
 
 // One handle after the other.
-pub fn by_two(mem: &[u8], h: Handle, k: Handle) -> ByTwo
+pub fn by_two(mem: &[u8], who: u8, h: Handle, k: Handle) -> ByTwo
     requires { ⌜ Whole (now mem) ⌝ }
-    ensures { λ r. ⌜ Went (byTwo (tableIn (now (mem .entry))) h k) (r .row, r .other) ((r .row < 34) × (r .other < 34)) (r .reason) ⌝ }
+    ensures { λ r. ⌜ Went (byTwo (tableIn (now (mem .entry))) who h k) (r .row, r .other) ((r .row < 34) × (r .other < 34)) (r .reason) ⌝ }
 {
-    let b = by_handle(mem, h);
+    let b = by_handle(mem, who, h);
     if b.reason != 0 {
         let r = b.reason;
         return ByTwo {
@@ -303,7 +318,7 @@ pub fn by_two(mem: &[u8], h: Handle, k: Handle) -> ByTwo
             other: 0,
         };
     }
-    let c = by_handle(mem, k);
+    let c = by_handle(mem, who, k);
     let r = c.reason;
     let i = b.row;
     let j = c.row;

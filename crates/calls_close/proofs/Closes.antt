@@ -23,21 +23,21 @@ use Rattle.steps.specs.Ends.{Rest, on, ending, Ended, went}
 use Rattle.steps.proofs.Ends.{rest-off}
 use Rattle.mem.specs.State.{fsAt}
 
-pub close-refused : (a : List ℕ) (t : Table) (h : Handle) {n : ℕ} → admit a t ≡ refused n → callClose a t h ≡ refused n
+pub close-refused : (a : List ℕ) (t : Table) (who : ℕ) (h : Handle) {n : ℕ} → admit a t ≡ refused n → callClose a t who h ≡ refused n
 unfolding callClose
-close-refused a t h q = rw q
+close-refused a t who h q = rw q
 
 -- once arena and table are known: the handle's row, and the rest
-module _ (a : List ℕ) (t : Table) (h : Handle) (q : admit a t ≡ done tt) {i n : ℕ} {P : Type 0} (g : Went (byHandle t h) i P n) where
-  close-is : callClose a t h ≡ bind (byHandle t h) (λ i. ending (closeSteps (start a (closeHold t (h .hold) .table)) (closeHold t (h .hold) .last) i))
+module _ (a : List ℕ) (t : Table) (who : ℕ) (h : Handle) (q : admit a t ≡ done tt) {i n : ℕ} {P : Type 0} (g : Went (byHandle t who h) i P n) where
+  close-is : callClose a t who h ≡ bind (byHandle t who h) (λ i. ending (closeSteps (start a (closeHold t (h .hold) .table)) (closeHold t (h .hold) .last) i))
   unfolding callClose
   close-is = rw q
 
-  pub close-not : {e : Out After} {Q : Type 0} → (n ≡ 0 → ⊥) → Rest (callClose a t h) e Q n
+  pub close-not : {e : Out After} {Q : Type 0} → (n ≡ 0 → ⊥) → Rest (callClose a t who h) e Q n
   close-not z = rest-off z (close-is ∙ rw (went-not g z))
 
   -- the table without the hold, and whether it was its row's last; the memory d has it, with superblock and maps
-  pub close-at : {Q : Type 0} (last : Bool) (u : Table) (d : List ℕ) → closeHold t (h .hold) ≡ record { last = last; table = u } → metaIn d ≡ loadMeta a → tableIn d ≡ u → n ≡ 0 → Q → Rest (callClose a t h) (ending (closeSteps (fsAt a d) last i)) Q 0
+  pub close-at : {Q : Type 0} (last : Bool) (u : Table) (d : List ℕ) → closeHold t (h .hold) ≡ record { last = last; table = u } → metaIn d ≡ loadMeta a → tableIn d ≡ u → n ≡ 0 → Q → Rest (callClose a t who h) (ending (closeSteps (fsAt a d) last i)) Q 0
   close-at last u d k m e z p = on (close-is ∙ rw (went-is g z, k, ← e, ← m)) p
 
 -- the row's last hold: its node is dropped

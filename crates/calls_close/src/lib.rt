@@ -35,11 +35,18 @@ pub struct Closing {
 }
 
 // What follows the tests of arena and table, by the chains that they left.
-pub fn close_led(arena: &[u8], first: &[u16], next: &[u16], mem: &mut [u8], h: Handle) -> Closing
+pub fn close_led(
+    arena: &[u8],
+    first: &[u16],
+    next: &[u16],
+    mem: &mut [u8],
+    who: u8,
+    h: Handle,
+) -> Closing
     requires { ⌜ Admitted (now arena) (now first) (now next) (now mem) ⌝ }
-    ensures { λ r. ⌜ Rest (callClose (now (arena .entry)) (tableIn (now (mem .entry))) h) (ending (closeSteps (fsAt (now (arena .entry)) (now (mem .exit))) (r .last) (r .row))) ((legal (now (arena .entry)) ≡ true) × (Whole (now (mem .exit)) × (r .row < 34))) (r .reason) ⌝ }
+    ensures { λ r. ⌜ Rest (callClose (now (arena .entry)) (tableIn (now (mem .entry))) who h) (ending (closeSteps (fsAt (now (arena .entry)) (now (mem .exit))) (r .last) (r .row))) ((legal (now (arena .entry)) ≡ true) × (Whole (now (mem .exit)) × (r .row < 34))) (r .reason) ⌝ }
 {
-    let b = by_handle(&mem[..], h);
+    let b = by_handle(&mem[..], who, h);
     if b.reason != 0 {
         return Closing {
             reason: b.reason,
@@ -57,9 +64,9 @@ pub fn close_led(arena: &[u8], first: &[u16], next: &[u16], mem: &mut [u8], h: H
 }
 
 // The frame of the chains is left before a workspace is made.
-fn close_asked(arena: &[u8], mem: &mut [u8], h: Handle) -> Closing
+fn close_asked(arena: &[u8], mem: &mut [u8], who: u8, h: Handle) -> Closing
     requires { ⌜ Whole (now mem) ⌝ }
-    ensures { λ r. ⌜ Rest (callClose (now (arena .entry)) (tableIn (now (mem .entry))) h) (ending (closeSteps (fsAt (now (arena .entry)) (now (mem .exit))) (r .last) (r .row))) ((legal (now (arena .entry)) ≡ true) × (Whole (now (mem .exit)) × (r .row < 34))) (r .reason) ⌝ }
+    ensures { λ r. ⌜ Rest (callClose (now (arena .entry)) (tableIn (now (mem .entry))) who h) (ending (closeSteps (fsAt (now (arena .entry)) (now (mem .exit))) (r .last) (r .row))) ((legal (now (arena .entry)) ≡ true) × (Whole (now (mem .exit)) × (r .row < 34))) (r .reason) ⌝ }
 {
     let mut chains = [0u16; 8192];
     let r = admit(arena, &mut chains, &mem[..]);
@@ -71,7 +78,7 @@ fn close_asked(arena: &[u8], mem: &mut [u8], h: Handle) -> Closing
         };
     }
     let c = &chains[..];
-    close_led(arena, &c[..4096], &c[4096..8192], mem, h)
+    close_led(arena, &c[..4096], &c[4096..8192], mem, who, h)
 }
 
 // The node of row i is dropped. The workspace has no block yet.
@@ -129,22 +136,22 @@ pub fn close_row(arena: &mut [u8], mem: &mut [u8], last: bool, i: usize) -> u8
 }
 
 // The call on the table in memory.
-pub fn close_on(arena: &mut [u8], mem: &mut [u8], h: Handle) -> u8
+pub fn close_on(arena: &mut [u8], mem: &mut [u8], who: u8, h: Handle) -> u8
     requires { ⌜ Whole (now mem) ⌝ }
-    ensures { λ r. ⌜ Ended (callClose (now (arena .entry)) (tableIn (now (mem .entry))) h) (now (arena .entry)) (now (arena .exit)) (tableIn (now (mem .exit))) r ⌝ }
+    ensures { λ r. ⌜ Ended (callClose (now (arena .entry)) (tableIn (now (mem .entry))) who h) (now (arena .entry)) (now (arena .exit)) (tableIn (now (mem .exit))) r ⌝ }
 {
-    let b = close_asked(&arena[..], mem, h);
+    let b = close_asked(&arena[..], mem, who, h);
     if b.reason != 0 {
         return b.reason;
     }
     close_row(arena, mem, b.last, b.row)
 }
 
-pub fn close(arena: &mut [u8], t: Table, h: Handle) -> Reply
-    ensures { λ r. ⌜ Returned t (callClose (now (arena .entry)) t h) (now (arena .entry)) (now (arena .exit)) r ⌝ }
+pub fn close(arena: &mut [u8], t: Table, who: u8, h: Handle) -> Reply
+    ensures { λ r. ⌜ Returned t (callClose (now (arena .entry)) t who h) (now (arena .entry)) (now (arena .exit)) r ⌝ }
 {
     let mut mem = [0u8; MEMORY];
     put_table(&mut mem, t);
-    let r = close_on(arena, &mut mem, h);
+    let r = close_on(arena, &mut mem, who, h);
     settle(t, &mem, r)
 }

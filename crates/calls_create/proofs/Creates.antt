@@ -57,55 +57,55 @@ after-is s i c name kind k =
     both (direntAppend s i (entry (idAt s c) name kind)) (λ s. bind (named s i c kind) (λ s. createSync s i c)) k _ (λ s.
     both (named s i c kind) (λ s. createSync s i c) k _ (λ s. sync-is s i c k)))
 
-moves-is : (s : Fs) (i : ℕ) (name : List ℕ) (kind mode : ℕ) (time : Timespec) (uuid : List ℕ) → createSteps s i name kind mode time uuid ≡ holding (createMoves s i name kind mode time uuid)
+moves-is : (s : Fs) (who i : ℕ) (name : List ℕ) (kind mode : ℕ) (time : Timespec) (uuid : List ℕ) → createSteps s who i name kind mode time uuid ≡ holding who (createMoves s i name kind mode time uuid)
 unfolding createSteps createMoves
-moves-is s i name kind mode time uuid =
-    holding-bind (newNode s kind mode time uuid) (λ o. bind (createRest (o .state) i (o .row) name kind) (λ s. done (opened s (o .row)))) _ (λ o.
-    after-is (o .state) i (o .row) name kind (λ s. done (given s (addHold (s .table) (o .row))))
-    ∙ holding-bind (createRest (o .state) i (o .row) name kind) (λ s. done (opened s (o .row))) (λ s. done (given s (addHold (s .table) (o .row)))) (λ s. refl))
+moves-is s who i name kind mode time uuid =
+    holding-bind who (newNode s kind mode time uuid) (λ o. bind (createRest (o .state) i (o .row) name kind) (λ s. done (opened s (o .row)))) _ (λ o.
+    after-is (o .state) i (o .row) name kind (λ s. done (given s (addHold (s .table) who (o .row))))
+    ∙ holding-bind who (createRest (o .state) i (o .row) name kind) (λ s. done (opened s (o .row))) (λ s. done (given s (addHold (s .table) who (o .row)))) (λ s. refl))
 
-work-is : (s : Fs) (i : ℕ) (name : List ℕ) (kind mode : ℕ) (time : Timespec) (uuid : List ℕ) (room : Bool)
-    → bind (newName name) (λ _. bind (ensure (ltb 0 kind && leb kind 4) 6) (λ _. bind (liveFolder (recAt s i)) (λ _. bind (notLong name) (λ _. bind (lookup (s .arena) (recAt s i) name) (λ f. bind (orExists f) (λ _. bind (ensure (not (there (s .arena) (file 1 uuid))) 14) (λ _. bind (ensure (not (isFolder kind && eqb (recAt s i .nlinks) 65535)) 15) (λ _. bind (ensure room 16) (λ _. createSteps s i name kind mode time uuid))))))))) ≡ holding (createWork s i name kind mode time uuid room)
+work-is : (s : Fs) (who i : ℕ) (name : List ℕ) (kind mode : ℕ) (time : Timespec) (uuid : List ℕ) (room : Bool)
+    → bind (newName name) (λ _. bind (ensure (ltb 0 kind && leb kind 4) 6) (λ _. bind (liveFolder (recAt s i)) (λ _. bind (notLong name) (λ _. bind (lookup (s .arena) (recAt s i) name) (λ f. bind (orExists f) (λ _. bind (ensure (not (there (s .arena) (file 1 uuid))) 14) (λ _. bind (ensure (not (isFolder kind && eqb (recAt s i .nlinks) 65535)) 15) (λ _. bind (ensure room 16) (λ _. createSteps s who i name kind mode time uuid))))))))) ≡ holding who (createWork s i name kind mode time uuid room)
 unfolding createWork createAsk createFree noSlot
-work-is s i name kind mode time uuid room =
+work-is s who i name kind mode time uuid room =
     let k : Unit → Out Opened = λ _. createMoves s i name kind mode time uuid in
     let f : Unit → Out Opened = λ _. bind (createFree (s .arena) (recAt s i) name kind uuid room) k in
     let links : Unit → Out Unit = λ _. bind (ensure (not (isFolder kind && eqb (recAt s i .nlinks) 65535)) 15) (λ _. ensure room 16) in
     let taken : Unit → Out Unit = λ _. bind (ensure (not (there (s .arena) (file 1 uuid))) 14) links in
-    holding-both (newName name) (λ _. bind (ensure (ltb 0 kind && leb kind 4) 6) (λ _. bind (liveFolder (recAt s i)) (λ _. notLong name))) f _ (λ _.
-    holding-both (ensure (ltb 0 kind && leb kind 4) 6) (λ _. bind (liveFolder (recAt s i)) (λ _. notLong name)) f _ (λ _.
-    holding-both (liveFolder (recAt s i)) (λ _. notLong name) f _ (λ _.
-    holding-bind (notLong name) f _ (λ _.
+    holding-both who (newName name) (λ _. bind (ensure (ltb 0 kind && leb kind 4) 6) (λ _. bind (liveFolder (recAt s i)) (λ _. notLong name))) f _ (λ _.
+    holding-both who (ensure (ltb 0 kind && leb kind 4) 6) (λ _. bind (liveFolder (recAt s i)) (λ _. notLong name)) f _ (λ _.
+    holding-both who (liveFolder (recAt s i)) (λ _. notLong name) f _ (λ _.
+    holding-bind who (notLong name) f _ (λ _.
     both (lookup (s .arena) (recAt s i) name) orExists _ _ (λ x. refl)
-    ∙ holding-both (noSlot (s .arena) (recAt s i) name) taken k _ (λ _.
-    holding-both (ensure (not (there (s .arena) (file 1 uuid))) 14) links k _ (λ _.
-    holding-both (ensure (not (isFolder kind && eqb (recAt s i .nlinks) 65535)) 15) (λ _. ensure room 16) k _ (λ _.
-    holding-bind (ensure room 16) k _ (λ _. moves-is s i name kind mode time uuid))))))))
+    ∙ holding-both who (noSlot (s .arena) (recAt s i) name) taken k _ (λ _.
+    holding-both who (ensure (not (there (s .arena) (file 1 uuid))) 14) links k _ (λ _.
+    holding-both who (ensure (not (isFolder kind && eqb (recAt s i .nlinks) 65535)) 15) (λ _. ensure room 16) k _ (λ _.
+    holding-bind who (ensure room 16) k _ (λ _. moves-is s who i name kind mode time uuid))))))))
 
-create-is : (a : List ℕ) (t : Table) (h : Handle) (name : List ℕ) (kind mode : ℕ) (time : Timespec) (uuid : List ℕ)
-    → callCreate a t h name kind mode time uuid ≡ bind (admit a t) (λ _. bind (byHandle t h) (λ i. holding (createWork (start a t) i name kind mode time uuid (canHold t))))
+create-is : (a : List ℕ) (t : Table) (who : ℕ) (h : Handle) (name : List ℕ) (kind mode : ℕ) (time : Timespec) (uuid : List ℕ)
+    → callCreate a t who h name kind mode time uuid ≡ bind (admit a t) (λ _. bind (byHandle t who h) (λ i. holding who (createWork (start a t) i name kind mode time uuid (canHold t who))))
 unfolding callCreate
-create-is a t h name kind mode time uuid =
-    bind-same (admit a t) _ _ (λ _. bind-same (byHandle t h) _ _ (λ i. work-is (start a t) i name kind mode time uuid (canHold t)))
+create-is a t who h name kind mode time uuid =
+    bind-same (admit a t) _ _ (λ _. bind-same (byHandle t who h) _ _ (λ i. work-is (start a t) who i name kind mode time uuid (canHold t who)))
 
-pub create-refused : (a : List ℕ) (t : Table) (h : Handle) (name : List ℕ) (kind mode : ℕ) (time : Timespec) (uuid : List ℕ) {n : ℕ} → admit a t ≡ refused n → callCreate a t h name kind mode time uuid ≡ refused n
-create-refused a t h name kind mode time uuid q = create-is a t h name kind mode time uuid ∙ rw q
+pub create-refused : (a : List ℕ) (t : Table) (who : ℕ) (h : Handle) (name : List ℕ) (kind mode : ℕ) (time : Timespec) (uuid : List ℕ) {n : ℕ} → admit a t ≡ refused n → callCreate a t who h name kind mode time uuid ≡ refused n
+create-refused a t who h name kind mode time uuid q = create-is a t who h name kind mode time uuid ∙ rw q
 
 -- once arena, table and handle are known
-module _ (a first next m n : List ℕ) (h : Handle) (name : List ℕ) (kind mode : ℕ) (time : Timespec) (uuid : List ℕ) (x : admit a (tableIn m) ≡ done tt) {i r : ℕ} (g : Went (byHandle (tableIn m) h) i (Begun a first next m n × (i < 34)) r) where
-  pub create-not : {e : Out Given} {Q : Type 0} → (r ≡ 0 → ⊥) → Rest (callCreate a (tableIn m) h name kind mode time uuid) e Q r
-  create-not z = rest-off z (create-is a (tableIn m) h name kind mode time uuid ∙ call-stop a (tableIn m) h x (λ i. holding (createWork (start a (tableIn m)) i name kind mode time uuid (canHold (tableIn m)))) i r g z)
+module _ (a first next m n : List ℕ) (who : ℕ) (h : Handle) (name : List ℕ) (kind mode : ℕ) (time : Timespec) (uuid : List ℕ) (x : admit a (tableIn m) ≡ done tt) {i r : ℕ} (g : Went (byHandle (tableIn m) who h) i (Begun a first next m n × (i < 34)) r) where
+  pub create-not : {e : Out Given} {Q : Type 0} → (r ≡ 0 → ⊥) → Rest (callCreate a (tableIn m) who h name kind mode time uuid) e Q r
+  create-not z = rest-off z (create-is a (tableIn m) who h name kind mode time uuid ∙ call-stop a (tableIn m) who h x (λ i. holding who (createWork (start a (tableIn m)) i name kind mode time uuid (canHold (tableIn m) who))) i r g z)
 
-  pub create-row : {e : Out Opened} {q : ℕ} → r ≡ 0 → Rest (createWork (fsAt a n) i name kind mode time uuid (canHold (tableIn n))) e (length name ≤ 255) q
-      → Rest (callCreate a (tableIn m) h name kind mode time uuid) (holding e) (Asked a n name i) q
+  pub create-row : {e : Out Opened} {q : ℕ} → r ≡ 0 → Rest (createWork (fsAt a n) i name kind mode time uuid (canHold (tableIn n) who)) e (length name ≤ 255) q
+      → Rest (callCreate a (tableIn m) who h name kind mode time uuid) (holding who e) (Asked a n name i) q
   create-row z f =
       let p = went-has g z in
       rest-as
-      (create-is a (tableIn m) h name kind mode time uuid
-      ∙ call-next a (tableIn m) h x (λ i. holding (createWork (start a (tableIn m)) i name kind mode time uuid (canHold (tableIn m)))) i r g z
+      (create-is a (tableIn m) who h name kind mode time uuid
+      ∙ call-next a (tableIn m) who h x (λ i. holding who (createWork (start a (tableIn m)) i name kind mode time uuid (canHold (tableIn m) who))) i r g z
       ∙ rw (← begun-start (p .0), ← p .0 .table))
       (λ l. record { legal = p .0 .led .whole; whole = p .0 .whole; folder = p .1; short = l })
-      (rest-then (λ x. done (given (x .state) (addHold (x .state .table) (x .row)))) f)
+      (rest-then (λ x. done (given (x .state) (addHold (x .state .table) who (x .row)))) f)
 
 -- ---- the folder, the name and the type
 

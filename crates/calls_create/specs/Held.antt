@@ -21,16 +21,16 @@ abbrev pub heldAs : Table → Out Given → answered.HeldReply
 heldAs t (done x) = heldWith (record { table = x .table; handle = x .handle })
 heldAs t (refused n) = notGiven t n
 
--- what is left once the steps are done: the hold on the row that they opened
-abbrev pub holding : Out Opened → Out Given
-holding o = bind o (λ x. done (given (x .state) (addHold (x .state .table) (x .row))))
+-- what is left once the steps are done: the hold of w's on the row that they opened
+abbrev pub holding : ℕ → Out Opened → Out Given
+holding w o = bind o (λ x. done (given (x .state) (addHold (x .state .table) w (x .row))))
 
 abbrev pub leaving : List ℕ → Added → Given
 leaving b x = record { arena = b; table = x .table; handle = x .handle }
 
--- the steps, that their definition sends to o, answer r: the arena was a and is b, the memory is m, and `row` is the node's
+-- the steps, that their definition sends to o, answer r: the arena was a and is b, the memory is m, and `row` is the node's, whoever has the hold then
 pub data EndedOpen (o : Out Opened) (a b m : List ℕ) (row : ℕ) : ℕ → Type 0 where
-  opens : Whole m → row < 34 → holding o ≡ done (leaving b (addHold (tableIn m) row)) → EndedOpen o a b m row 0
+  opens : Whole m → row < 34 → ((w : ℕ) → holding w o ≡ done (leaving b (addHold (tableIn m) w row))) → EndedOpen o a b m row 0
   stays : {r : ℕ} → 0 < r → o ≡ refused r → b ≡ a → EndedOpen o a b m row r
 
 -- with the hold on that row: x is the handle, and memory's table

@@ -110,13 +110,14 @@ fn create_asks(
     first: &[u16],
     next: &[u16],
     mem: &[u8],
+    who: u8,
     i: usize,
     name: &[u8],
     new: New,
 ) -> u8
     requires { ⌜ Led (now arena) (now first) (now next) ⌝ }
     requires { ⌜ Whole (now mem) × (i < 34) ⌝ }
-    ensures { λ r. ⌜ Rest (createWork (fsAt (now (arena .entry)) (now (mem .entry))) i (now (name .entry)) (new .kind) (new .mode) (new .time) (new .file) (canHold (tableIn (now (mem .entry))))) (createMoves (fsAt (now (arena .entry)) (now (mem .entry))) i (now (name .entry)) (new .kind) (new .mode) (new .time) (new .file)) (length (now (name .entry)) ≤ 255) r ⌝ }
+    ensures { λ r. ⌜ Rest (createWork (fsAt (now (arena .entry)) (now (mem .entry))) i (now (name .entry)) (new .kind) (new .mode) (new .time) (new .file) (canHold (tableIn (now (mem .entry))) who)) (createMoves (fsAt (now (arena .entry)) (now (mem .entry))) i (now (name .entry)) (new .kind) (new .mode) (new .time) (new .file)) (length (now (name .entry)) ≤ 255) r ⌝ }
 {
     let rec = rec_at(mem, i);
     let r = create_ask(rec, name, new.kind);
@@ -124,7 +125,7 @@ fn create_asks(
         return r;
     }
     let file = new.file;
-    let room = can_hold(mem);
+    let room = can_hold(mem, who);
     create_free(arena, first, next, rec, name, new.kind, file, room)
 }
 
@@ -134,18 +135,19 @@ pub fn create_led(
     first: &[u16],
     next: &[u16],
     mem: &mut [u8],
+    who: u8,
     h: Handle,
     name: &[u8],
     new: New,
 ) -> ByHandle
     requires { ⌜ Admitted (now arena) (now first) (now next) (now mem) ⌝ }
-    ensures { λ r. ⌜ Rest (callCreate (now (arena .entry)) (tableIn (now (mem .entry))) h (now (name .entry)) (new .kind) (new .mode) (new .time) (new .file)) (holding (createMoves (fsAt (now (arena .entry)) (now (mem .exit))) (r .row) (now (name .entry)) (new .kind) (new .mode) (new .time) (new .file))) (Asked (now (arena .entry)) (now (mem .exit)) (now (name .entry)) (r .row)) (r .reason) ⌝ }
+    ensures { λ r. ⌜ Rest (callCreate (now (arena .entry)) (tableIn (now (mem .entry))) who h (now (name .entry)) (new .kind) (new .mode) (new .time) (new .file)) (holding who (createMoves (fsAt (now (arena .entry)) (now (mem .exit))) (r .row) (now (name .entry)) (new .kind) (new .mode) (new .time) (new .file))) (Asked (now (arena .entry)) (now (mem .exit)) (now (name .entry)) (r .row)) (r .reason) ⌝ }
 {
-    let b = reach_read(arena, first, next, mem, h);
+    let b = reach_read(arena, first, next, mem, who, h);
     if b.reason != 0 {
         return b;
     }
-    let r = create_asks(arena, first, next, &mem[..], b.row, name, new);
+    let r = create_asks(arena, first, next, &mem[..], who, b.row, name, new);
     ByHandle {
         reason: r,
         row: b.row,
@@ -153,9 +155,9 @@ pub fn create_led(
 }
 
 // The frame of the chains is left before a workspace is made.
-fn create_asked(arena: &[u8], mem: &mut [u8], h: Handle, name: &[u8], new: New) -> ByHandle
+fn create_asked(arena: &[u8], mem: &mut [u8], who: u8, h: Handle, name: &[u8], new: New) -> ByHandle
     requires { ⌜ Whole (now mem) ⌝ }
-    ensures { λ r. ⌜ Rest (callCreate (now (arena .entry)) (tableIn (now (mem .entry))) h (now (name .entry)) (new .kind) (new .mode) (new .time) (new .file)) (holding (createMoves (fsAt (now (arena .entry)) (now (mem .exit))) (r .row) (now (name .entry)) (new .kind) (new .mode) (new .time) (new .file))) (Asked (now (arena .entry)) (now (mem .exit)) (now (name .entry)) (r .row)) (r .reason) ⌝ }
+    ensures { λ r. ⌜ Rest (callCreate (now (arena .entry)) (tableIn (now (mem .entry))) who h (now (name .entry)) (new .kind) (new .mode) (new .time) (new .file)) (holding who (createMoves (fsAt (now (arena .entry)) (now (mem .exit))) (r .row) (now (name .entry)) (new .kind) (new .mode) (new .time) (new .file))) (Asked (now (arena .entry)) (now (mem .exit)) (now (name .entry)) (r .row)) (r .reason) ⌝ }
 {
     let mut chains = [0u16; 8192];
     let r = admit(arena, &mut chains, &mem[..]);
@@ -163,7 +165,7 @@ fn create_asked(arena: &[u8], mem: &mut [u8], h: Handle, name: &[u8], new: New) 
         return ByHandle { reason: r, row: 0 };
     }
     let c = &chains[..];
-    create_led(arena, &c[..4096], &c[4096..8192], mem, h, name, new)
+    create_led(arena, &c[..4096], &c[4096..8192], mem, who, h, name, new)
 }
 
 // ---- the steps
@@ -302,31 +304,38 @@ fn create_begin(arena: &mut [u8], mem: &mut [u8], i: usize, name: &[u8], new: Ne
 }
 
 // The hold on the node that was made.
-pub fn create_rows(arena: &mut [u8], mem: &mut [u8], i: usize, name: &[u8], new: New) -> Handed
+pub fn create_rows(
+    arena: &mut [u8],
+    mem: &mut [u8],
+    who: u8,
+    i: usize,
+    name: &[u8],
+    new: New,
+) -> Handed
     requires { ⌜ Asked (now arena) (now mem) (now name) i ⌝ }
-    ensures { λ r. ⌜ EndedHeld (holding (createMoves (fsAt (now (arena .entry)) (now (mem .entry))) i (now (name .entry)) (new .kind) (new .mode) (new .time) (new .file))) (now (arena .entry)) (now (arena .exit)) (addedAs (r .handle) (tableIn (now (mem .exit)))) (r .reason) ⌝ }
+    ensures { λ r. ⌜ EndedHeld (holding who (createMoves (fsAt (now (arena .entry)) (now (mem .entry))) i (now (name .entry)) (new .kind) (new .mode) (new .time) (new .file))) (now (arena .entry)) (now (arena .exit)) (addedAs (r .handle) (tableIn (now (mem .exit)))) (r .reason) ⌝ }
 {
     let o = create_begin(arena, mem, i, name, new);
-    hand(mem, o.reason, o.row)
+    hand(mem, who, o.reason, o.row)
 }
 
 // The call on the table in memory.
-pub fn create_on(arena: &mut [u8], mem: &mut [u8], h: Handle, name: &[u8], new: New) -> Handed
+pub fn create_on(arena: &mut [u8], mem: &mut [u8], who: u8, h: Handle, name: &[u8], new: New) -> Handed
     requires { ⌜ Whole (now mem) ⌝ }
-    ensures { λ r. ⌜ EndedHeld (callCreate (now (arena .entry)) (tableIn (now (mem .entry))) h (now (name .entry)) (new .kind) (new .mode) (new .time) (new .file)) (now (arena .entry)) (now (arena .exit)) (addedAs (r .handle) (tableIn (now (mem .exit)))) (r .reason) ⌝ }
+    ensures { λ r. ⌜ EndedHeld (callCreate (now (arena .entry)) (tableIn (now (mem .entry))) who h (now (name .entry)) (new .kind) (new .mode) (new .time) (new .file)) (now (arena .entry)) (now (arena .exit)) (addedAs (r .handle) (tableIn (now (mem .exit)))) (r .reason) ⌝ }
 {
-    let b = create_asked(&arena[..], mem, h, name, new);
+    let b = create_asked(&arena[..], mem, who, h, name, new);
     if b.reason != 0 {
         return not_handed(b.reason);
     }
-    create_rows(arena, mem, b.row, name, new)
+    create_rows(arena, mem, who, b.row, name, new)
 }
 
-pub fn create(arena: &mut [u8], t: Table, h: Handle, name: &[u8], new: New) -> HeldReply
-    ensures { λ r. ⌜ ReturnedHeld t (callCreate (now (arena .entry)) t h (now (name .entry)) (new .kind) (new .mode) (new .time) (new .file)) (now (arena .entry)) (now (arena .exit)) r ⌝ }
+pub fn create(arena: &mut [u8], t: Table, who: u8, h: Handle, name: &[u8], new: New) -> HeldReply
+    ensures { λ r. ⌜ ReturnedHeld t (callCreate (now (arena .entry)) t who h (now (name .entry)) (new .kind) (new .mode) (new .time) (new .file)) (now (arena .entry)) (now (arena .exit)) r ⌝ }
 {
     let mut mem = [0u8; MEMORY];
     put_table(&mut mem, t);
-    let o = create_on(arena, &mut mem, h, name, new);
+    let o = create_on(arena, &mut mem, who, h, name, new);
     settle_held(t, &mem, o)
 }

@@ -88,15 +88,15 @@ module _ {P : Type 0} {o : Out (List ℕ)} {s : List ℕ} {r : ℕ} (g : Went o 
 
 -- ---- the call, once arena and table are known
 
-pub entry-refused : (a : List ℕ) (t : Table) (h : Handle) (k room : ℕ) {n : ℕ} → admit a t ≡ refused n → callEntry a t h k room ≡ refused n
+pub entry-refused : (a : List ℕ) (t : Table) (who : ℕ) (h : Handle) (k room : ℕ) {n : ℕ} → admit a t ≡ refused n → callEntry a t who h k room ≡ refused n
 unfolding callEntry
-entry-refused a t h k room q = rw q
+entry-refused a t who h k room q = rw q
 
-module _ {P : Type 0} (a : List ℕ) (t : Table) (h : Handle) (q : admit a t ≡ done tt) (k room row r : ℕ) (g : Went (byHandle t h) row P r) where
-  pub entry-dead : (out : List ℕ) → (r ≡ 0 → ⊥) → Laid (callEntry a t h k room) out out 264 r
+module _ {P : Type 0} (a : List ℕ) (t : Table) (who : ℕ) (h : Handle) (q : admit a t ≡ done tt) (k room row r : ℕ) (g : Went (byHandle t who h) row P r) where
+  pub entry-dead : (out : List ℕ) → (r ≡ 0 → ⊥) → Laid (callEntry a t who h k room) out out 264 r
   unfolding callEntry entryIn
-  entry-dead out z = leave (above-zero r z) (call-stop a t h q (λ i. entryIn a (rowAt t i .rec) k room) row r g z) refl
+  entry-dead out z = leave (above-zero r z) (call-stop a t who h q (λ i. entryIn a (rowAt t i .rec) k room) row r g z) refl
 
-  pub entry-goes : {out now : List ℕ} {n s : ℕ} (w : DiskINode) → r ≡ 0 → w ≡ rowAt t row .rec → Laid (entryIn a w k room) out now n s → Laid (callEntry a t h k room) out now n s
+  pub entry-goes : {out now : List ℕ} {n s : ℕ} (w : DiskINode) → r ≡ 0 → w ≡ rowAt t row .rec → Laid (entryIn a w k room) out now n s → Laid (callEntry a t who h k room) out now n s
   unfolding callEntry entryIn
-  entry-goes w z e L = rw (call-next a t h q (λ i. entryIn a (rowAt t i .rec) k room) row r g z, ← e) L
+  entry-goes w z e L = rw (call-next a t who h q (λ i. entryIn a (rowAt t i .rec) k room) row r g z, ← e) L

@@ -11,6 +11,6 @@ use Rattle.calls.specs.declared.Answer.{Answer}
 use Rattle.calls.proofs.Answers.{lays-one}
 
 -- an answer, and the output that was `out`
-module _ (a : List ℕ) (t : Table) (h : Handle) (k : ℕ) (out : List ℕ) where
-  pub get-entry-one : (r s : Answer) (o w : List ℕ) → Lays answerOf (callEntry a t h k (length out)) out o r → Lays answerOf (callEntry a t h k (length out)) out w s → (r ≡ s) × (o ≡ w)
-  get-entry-one r s o w p q = lays-one answerOf (callEntry a t h k (length out)) out o w r s p q
+module _ (a : List ℕ) (t : Table) (who : ℕ) (h : Handle) (k : ℕ) (out : List ℕ) where
+  pub get-entry-one : (r s : Answer) (o w : List ℕ) → Lays answerOf (callEntry a t who h k (length out)) out o r → Lays answerOf (callEntry a t who h k (length out)) out w s → (r ≡ s) × (o ≡ w)
+  get-entry-one r s o w p q = lays-one answerOf (callEntry a t who h k (length out)) out o w r s p q

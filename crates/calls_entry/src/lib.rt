@@ -96,14 +96,15 @@ pub fn entry_led(
     first: &[u16],
     next: &[u16],
     mem: &[u8],
+    who: u8,
     h: Handle,
     k: u64,
     out: &mut [u8],
 ) -> u8
     requires { ⌜ Admitted (now arena) (now first) (now next) (now mem) ⌝ }
-    ensures { λ r. ⌜ Laid (callEntry (now (arena .entry)) (tableIn (now (mem .entry))) h k (length (now (out .entry)))) (now (out .entry)) (now (out .exit)) 264 r ⌝ }
+    ensures { λ r. ⌜ Laid (callEntry (now (arena .entry)) (tableIn (now (mem .entry))) who h k (length (now (out .entry)))) (now (out .entry)) (now (out .exit)) 264 r ⌝ }
 {
-    let b = by_handle(mem, h);
+    let b = by_handle(mem, who, h);
     if b.reason != 0 {
         return b.reason;
     }
@@ -121,9 +122,9 @@ pub fn as_answer(reason: u8) -> Answer
 }
 
 // The call on the table in memory.
-pub fn entry_on(arena: &[u8], mem: &[u8], h: Handle, k: u64, out: &mut [u8]) -> Answer
+pub fn entry_on(arena: &[u8], mem: &[u8], who: u8, h: Handle, k: u64, out: &mut [u8]) -> Answer
     requires { ⌜ Whole (now mem) ⌝ }
-    ensures { λ r. ⌜ Lays answerOf (callEntry (now (arena .entry)) (tableIn (now (mem .entry))) h k (length (now (out .entry)))) (now (out .entry)) (now (out .exit)) r ⌝ }
+    ensures { λ r. ⌜ Lays answerOf (callEntry (now (arena .entry)) (tableIn (now (mem .entry))) who h k (length (now (out .entry)))) (now (out .entry)) (now (out .exit)) r ⌝ }
 {
     let mut chains = [0u16; 8192];
     let r = admit(arena, &mut chains, mem);
@@ -131,13 +132,13 @@ pub fn entry_on(arena: &[u8], mem: &[u8], h: Handle, k: u64, out: &mut [u8]) -> 
         return Answer::Refused(r);
     }
     let c = &chains[..];
-    as_answer(entry_led(arena, &c[..4096], &c[4096..8192], mem, h, k, out))
+    as_answer(entry_led(arena, &c[..4096], &c[4096..8192], mem, who, h, k, out))
 }
 
-pub fn get_entry(arena: &[u8], t: Table, h: Handle, k: u64, out: &mut [u8]) -> Answer
-    ensures { λ r. ⌜ Lays answerOf (callEntry (now (arena .entry)) t h k (length (now (out .entry)))) (now (out .entry)) (now (out .exit)) r ⌝ }
+pub fn get_entry(arena: &[u8], t: Table, who: u8, h: Handle, k: u64, out: &mut [u8]) -> Answer
+    ensures { λ r. ⌜ Lays answerOf (callEntry (now (arena .entry)) t who h k (length (now (out .entry)))) (now (out .entry)) (now (out .exit)) r ⌝ }
 {
     let mut mem = [0u8; MEMORY];
     put_table(&mut mem, t);
-    entry_on(arena, &mem, h, k, out)
+    entry_on(arena, &mem, who, h, k, out)
 }

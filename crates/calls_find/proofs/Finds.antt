@@ -2,7 +2,7 @@
 use mathlib.Core.Path.{_≡_, refl, sym, _∙_, ap, subst}
 use mathlib.Core.Bool.{true, false, not, _&&_}
 use mathlib.Core.List.{List}
-use Prim.Native.Nat.{ℕ, _<_}
+use Prim.Native.Nat.{ℕ, _<_, _≤_}
 use native.Mathlib.Omega.{arith}
 use lib.ListN.{length}
 use lib.Dec.{eqb, ltb, leb}
@@ -20,15 +20,15 @@ use Rattle.sefs.specs.State.{Fs}
 use Rattle.sefs.specs.Meta.{loadMeta}
 use Rattle.sefs.specs.Nodes.{Opened, opened, getNode}
 use Rattle.sefs.specs.Slots.{Slot, findSlot}
-use Rattle.sefs.specs.Ask.{admit, byHandle, goodName, notLong, known, folder, start}
+use Rattle.sefs.specs.Ask.{admit, anOwner, byHandle, goodName, notLong, known, folder, start}
 use Rattle.sefs.specs.Open.{callRoot, callFind, holdNode}
 use Rattle.mem.specs.Mem.{tableIn, metaIn, Whole}
 use Rattle.calls.specs.Answers.{gotOf, heldTable, givenOf, notHanded}
 use Rattle.calls.specs.declared.HeldReply.{HeldReply}
 use Rattle.calls.specs.declared.Handed.{Handed}
 use Rattle.calls.proofs.Answers.{given-held, given-refused}
-use Rattle.calls.proofs.Asks.{Asks, asks-ensure, asks-then, asked-not, asked-done, call-stop, call-next, answer-stop, answer-next}
-use Rattle.calls.proofs.General.{went-last}
+use Rattle.calls.proofs.Asks.{Asks, asks-ensure, asks-then, asks-owner, asked-not, asked-done, call-stop, call-next, answer-stop, answer-next}
+use Rattle.calls.proofs.General.{went-last, went-as}
 use Rattle.calls_find.specs.Finds.{Gives, giveNode, giveNamed, notOrphan, findName, findFolder, findAsk, findId, findIn}
 use Rattle.mem.specs.State.{fsAt}
 
@@ -39,10 +39,10 @@ fs-start : (a m : List ℕ) (t : Table) → tableIn m ≡ t → metaIn m ≡ loa
 fs-start a m t f g = rw (f, g)
 
 -- the node that was opened, and the hold
-pub hold-went : (a m n : List ℕ) (t : Table) (id row r : ℕ) → tableIn m ≡ t → metaIn m ≡ loadMeta a → Went (getNode (fsAt a m) id) (opened (fsAt a n) row) (Whole n × (row < 34)) r → Went (holdNode (start a t) id) (addHold (tableIn n) row) (Whole n × (row < 34)) r
+pub hold-went : (a m n : List ℕ) (t : Table) (who id row r : ℕ) → tableIn m ≡ t → metaIn m ≡ loadMeta a → Went (getNode (fsAt a m) id) (opened (fsAt a n) row) (Whole n × (row < 34)) r → Went (holdNode (start a t) who id) (addHold (tableIn n) who row) (Whole n × (row < 34)) r
 unfolding holdNode
-hold-went a m n t id row r e f g =
-    subst (λ (s : Fs). Went (holdNode s id) (addHold (tableIn n) row) (Whole n × (row < 34)) r) (fs-start a m t e f) (went-last (λ (o : Opened). addHold (o .state .table) (o .row)) (λ (p : Whole n × (row < 34)). p) g)
+hold-went a m n t who id row r e f g =
+    subst (λ (s : Fs). Went (holdNode s who id) (addHold (tableIn n) who row) (Whole n × (row < 34)) r) (fs-start a m t e f) (went-last (λ (o : Opened). addHold (o .state .table) who (o .row)) (λ (p : Whole n × (row < 34)). p) g)
 
 -- ---- answers
 
@@ -70,25 +70,29 @@ given-table f t q g e = rw (← q) (given-is t g e)
 
 -- ---- 16, and then the opening
 
-module _ (a : List ℕ) (t : Table) (id : ℕ) where
-  pub give-full : canHold t ≡ false → giveNode a t id ≡ refused 16
+module _ (a : List ℕ) (t : Table) (who id : ℕ) where
+  pub give-full : canHold t who ≡ false → giveNode a t who id ≡ refused 16
   unfolding giveNode
   give-full e = rw e
 
-  pub give-next : canHold t ≡ true → giveNode a t id ≡ holdNode (start a t) id
+  pub give-next : canHold t who ≡ true → giveNode a t who id ≡ holdNode (start a t) who id
   unfolding giveNode
   give-next e = rw e
 
 -- ---- root
 
-module _ (a : List ℕ) (t : Table) where
-  pub root-refused : {n : ℕ} → admit a t ≡ refused n → callRoot a t ≡ refused n
+module _ (a : List ℕ) (t : Table) (who : ℕ) {n : ℕ} where
+  pub root-refused : admit a t ≡ refused n → callRoot a t who ≡ refused n
   unfolding callRoot
   root-refused q = rw q
 
-  pub root-next : admit a t ≡ done tt → callRoot a t ≡ giveNode a t 2
+  pub root-not : admit a t ≡ done tt → n ≡ answer (anOwner who) → (n ≡ 0 → ⊥) → callRoot a t who ≡ refused n
+  unfolding callRoot
+  root-not q e z = rw (q, asked-not (anOwner who) n e z)
+
+  pub root-next : admit a t ≡ done tt → n ≡ answer (anOwner who) → n ≡ 0 → callRoot a t who ≡ giveNode a t who 2
   unfolding callRoot giveNode
-  root-next q = rw q
+  root-next q e z = rw (q, asked-done (anOwner who) (asks-owner who) n e z)
 
 -- ---- find
 
@@ -158,18 +162,18 @@ unfolding findId
 id-went a r name l place n id P f g = rw f (went-last (λ (s : Slot). s .entry .id) (λ (p : P). tt) g)
 
 -- the node that the name leads to
-module _ (a : List ℕ) (t : Table) (r : DiskINode) (name : List ℕ) {id n : ℕ} (f : Went (findIn a r name) id Unit n) where
-  pub named-not : (n ≡ 0 → ⊥) → giveNamed a t r name ≡ refused n
+module _ (a : List ℕ) (t : Table) (who : ℕ) (r : DiskINode) (name : List ℕ) {id n : ℕ} (f : Went (findIn a r name) id Unit n) where
+  pub named-not : (n ≡ 0 → ⊥) → giveNamed a t who r name ≡ refused n
   unfolding giveNamed
   named-not y = rw (went-not f y)
 
-  pub named-give : n ≡ 0 → giveNamed a t r name ≡ giveNode a t id
+  pub named-give : n ≡ 0 → giveNamed a t who r name ≡ giveNode a t who id
   unfolding giveNamed
   named-give y = rw (went-is f y)
 
 -- the call's questions, as the code groups them
-abbrev rest : List ℕ → Table → List ℕ → DiskINode → Out Added
-rest a t name r = bind (goodName name) (λ _. bind (known r) (λ _. bind (folder r) (λ _. bind (notLong name) (λ _. bind (notOrphan r name) (λ _. bind (findSlot a r name) (λ s. bind (ensure (canHold t) 16) (λ _. holdNode (start a t) (s .entry .id))))))))
+abbrev rest : List ℕ → Table → ℕ → List ℕ → DiskINode → Out Added
+rest a t who name r = bind (goodName name) (λ _. bind (known r) (λ _. bind (folder r) (λ _. bind (notLong name) (λ _. bind (notOrphan r name) (λ _. bind (findSlot a r name) (λ s. bind (ensure (canHold t who) 16) (λ _. holdNode (start a t) who (s .entry .id))))))))
 
 grouped : {B : Type 0} (x : ℕ → Out B) (q k f l o : Out Unit) (s : Out Slot)
     → bind q (λ _. bind k (λ _. bind f (λ _. bind l (λ _. bind o (λ _. bind s (λ s. x (s .entry .id))))))) ≡ bind (bind (bind q (λ _. bind k (λ _. bind f (λ _. bind l (λ _. o))))) (λ _. bind s (λ s. done (s .entry .id)))) x
@@ -181,19 +185,19 @@ grouped x (done u) (done v) (done w) (done y) (refused n) s = refl
 grouped x (done u) (done v) (done w) (done y) (done z) (refused n) = refl
 grouped x (done u) (done v) (done w) (done y) (done z) (done s) = refl
 
-rest-is : (a : List ℕ) (t : Table) (name : List ℕ) (r : DiskINode) → rest a t name r ≡ giveNamed a t r name
+rest-is : (a : List ℕ) (t : Table) (who : ℕ) (name : List ℕ) (r : DiskINode) → rest a t who name r ≡ giveNamed a t who r name
 unfolding giveNamed findIn findAsk findFolder findName findId giveNode
-rest-is a t name r = grouped (λ id. bind (ensure (canHold t) 16) (λ _. holdNode (start a t) id)) (goodName name) (known r) (folder r) (notLong name) (notOrphan r name) (findSlot a r name)
+rest-is a t who name r = grouped (λ id. bind (ensure (canHold t who) 16) (λ _. holdNode (start a t) who id)) (goodName name) (known r) (folder r) (notLong name) (notOrphan r name) (findSlot a r name)
 
-pub find-refused : (a : List ℕ) (t : Table) (h : Handle) (name : List ℕ) {n : ℕ} → admit a t ≡ refused n → callFind a t h name ≡ refused n
+pub find-refused : (a : List ℕ) (t : Table) (who : ℕ) (h : Handle) (name : List ℕ) {n : ℕ} → admit a t ≡ refused n → callFind a t who h name ≡ refused n
 unfolding callFind
-find-refused a t h name q = rw q
+find-refused a t who h name q = rw q
 
-module _ {P : Type 0} (a : List ℕ) (t : Table) (h : Handle) (name : List ℕ) (q : admit a t ≡ done tt) (row r : ℕ) (g : Went (byHandle t h) row P r) where
-  pub find-stop : (r ≡ 0 → ⊥) → callFind a t h name ≡ refused r
+module _ {P : Type 0} (a : List ℕ) (t : Table) (who : ℕ) (h : Handle) (name : List ℕ) (q : admit a t ≡ done tt) (row r : ℕ) (g : Went (byHandle t who h) row P r) where
+  pub find-stop : (r ≡ 0 → ⊥) → callFind a t who h name ≡ refused r
   unfolding callFind
-  find-stop z = call-stop a t h q (λ i. rest a t name (rowAt t i .rec)) row r g z
+  find-stop z = call-stop a t who h q (λ i. rest a t who name (rowAt t i .rec)) row r g z
 
-  pub find-next : r ≡ 0 → callFind a t h name ≡ giveNamed a t (rowAt t row .rec) name
+  pub find-next : r ≡ 0 → callFind a t who h name ≡ giveNamed a t who (rowAt t row .rec) name
   unfolding callFind
-  find-next z = call-next a t h q (λ i. rest a t name (rowAt t i .rec)) row r g z ∙ rest-is a t name (rowAt t row .rec)
+  find-next z = call-next a t who h q (λ i. rest a t who name (rowAt t i .rec)) row r g z ∙ rest-is a t who name (rowAt t row .rec)

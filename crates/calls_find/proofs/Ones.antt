@@ -13,8 +13,8 @@ use Rattle.calls_find.specs.Finds.{Gives}
 gives-one : (t : Table) (o : Out Added) (r s : HeldReply) → Gives t o r → Gives t o s → r ≡ s
 gives-one t o r s p q = λ x. record { answer = (p .0 ∙ sym (q .0)) x; table = (p .1 ∙ sym (q .1)) x }
 
-pub root-one : (a : List ℕ) (t : Table) (r s : HeldReply) → Gives t (callRoot a t) r → Gives t (callRoot a t) s → r ≡ s
-root-one a t r s p q = gives-one t (callRoot a t) r s p q
+pub root-one : (a : List ℕ) (t : Table) (who : ℕ) (r s : HeldReply) → Gives t (callRoot a t who) r → Gives t (callRoot a t who) s → r ≡ s
+root-one a t who r s p q = gives-one t (callRoot a t who) r s p q
 
-pub find-one : (a : List ℕ) (t : Table) (h : Handle) (name : List ℕ) (r s : HeldReply) → Gives t (callFind a t h name) r → Gives t (callFind a t h name) s → r ≡ s
-find-one a t h name r s p q = gives-one t (callFind a t h name) r s p q
+pub find-one : (a : List ℕ) (t : Table) (who : ℕ) (h : Handle) (name : List ℕ) (r s : HeldReply) → Gives t (callFind a t who h name) r → Gives t (callFind a t who h name) s → r ≡ s
+find-one a t who h name r s p q = gives-one t (callFind a t who h name) r s p q

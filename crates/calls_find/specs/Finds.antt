@@ -23,10 +23,10 @@ Gives t o r = (r .answer ≡ gotOf o) × (r .table ≡ heldTable t o)
 
 -- ---- 16, then the opening
 
-unfoldable pub giveNode : List ℕ → Table → ℕ → Out Added
-giveNode a t id = do
-  _ ← ensure (canHold t) tableFull
-  holdNode (start a t) id
+unfoldable pub giveNode : List ℕ → Table → ℕ → ℕ → Out Added
+giveNode a t w id = do
+  _ ← ensure (canHold t w) tableFull
+  holdNode (start a t) w id
 
 -- ---- find, once the handle's row is known
 
@@ -62,7 +62,7 @@ findIn a r name = do
   findId a r name
 
 -- the node that the name leads to
-unfoldable pub giveNamed : List ℕ → Table → DiskINode → List ℕ → Out Added
-giveNamed a t r name = do
+unfoldable pub giveNamed : List ℕ → Table → ℕ → DiskINode → List ℕ → Out Added
+giveNamed a t w r name = do
   id ← findIn a r name
-  giveNode a t id
+  giveNode a t w id

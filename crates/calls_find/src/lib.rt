@@ -1,6 +1,6 @@
 // The calls that open a node: root and find. They change no byte of the arena, and read it by the chains of `sound`.
 ghost use mathlib.Core.Path.{_≡_};
-ghost use Prim.Native.Nat.{_<_};
+ghost use Prim.Native.Nat.{ℕ, _<_};
 ghost use lib.ListN.{length};
 ghost use Rattle.base.specs.Out.{Went, answer};
 ghost use Rattle.table.specs.Table.{addHold};
@@ -14,6 +14,7 @@ ghost use Rattle.calls.specs.Asked.{Admitted};
 ghost use Rattle.calls_find.specs.Finds.{Gives, giveNode, giveNamed, notOrphan, findName, findFolder, findAsk, findId, findIn};
 use calls::Handed;
 use calls::HeldReply;
+use calls::an_owner;
 use calls::by_handle;
 use calls::folder;
 use calls::good_name;
@@ -39,50 +40,55 @@ use utf8::is_dots;
 
 // ---- a node opened, with a hold of its own
 
+// Whoever has the hold then.
 fn open_node(arena: &[u8], first: &[u16], next: &[u16], mem: &mut [u8], id: u32) -> Opened
     requires { ⌜ Led (now arena) (now first) (now next) ⌝ }
     requires { ⌜ length (now mem) ≡ memorySize ⌝ }
-    ensures { λ r. ⌜ Went (holdNode (start (now (arena .entry)) (tableIn (now (mem .entry)))) id) (addHold (tableIn (now (mem .exit))) (r .row)) (Whole (now (mem .exit)) × (r .row < 34)) (r .reason) ⌝ }
+    ensures { λ r. ⌜ ((w : ℕ) → Went (holdNode (start (now (arena .entry)) (tableIn (now (mem .entry)))) w id) (addHold (tableIn (now (mem .exit))) w (r .row)) (Whole (now (mem .exit)) × (r .row < 34)) (r .reason)) ⌝ }
 {
     load_meta(arena, first, next, mem);
     get_node(arena, first, next, mem, id)
 }
 
-fn hold_node(arena: &[u8], first: &[u16], next: &[u16], mem: &mut [u8], id: u32) -> Handed
+fn hold_node(arena: &[u8], first: &[u16], next: &[u16], mem: &mut [u8], who: u8, id: u32) -> Handed
     requires { ⌜ Led (now arena) (now first) (now next) ⌝ }
     requires { ⌜ length (now mem) ≡ memorySize ⌝ }
-    ensures { λ r. ⌜ Went (holdNode (start (now (arena .entry)) (tableIn (now (mem .entry)))) id) (addedAs (r .handle) (tableIn (now (mem .exit)))) Unit (r .reason) ⌝ }
+    ensures { λ r. ⌜ Went (holdNode (start (now (arena .entry)) (tableIn (now (mem .entry)))) who id) (addedAs (r .handle) (tableIn (now (mem .exit)))) Unit (r .reason) ⌝ }
 {
     let o = open_node(arena, first, next, mem, id);
-    hand(mem, o.reason, o.row)
+    hand(mem, who, o.reason, o.row)
 }
 
 // 16 where no hold can be given.
-fn give_node(arena: &[u8], first: &[u16], next: &[u16], mem: &mut [u8], id: u32) -> Handed
+fn give_node(arena: &[u8], first: &[u16], next: &[u16], mem: &mut [u8], who: u8, id: u32) -> Handed
     requires { ⌜ Led (now arena) (now first) (now next) ⌝ }
     requires { ⌜ Whole (now mem) ⌝ }
-    ensures { λ r. ⌜ Went (giveNode (now (arena .entry)) (tableIn (now (mem .entry))) id) (addedAs (r .handle) (tableIn (now (mem .exit)))) Unit (r .reason) ⌝ }
+    ensures { λ r. ⌜ Went (giveNode (now (arena .entry)) (tableIn (now (mem .entry))) who id) (addedAs (r .handle) (tableIn (now (mem .exit)))) Unit (r .reason) ⌝ }
 {
-    if !can_hold(&mem[..]) {
+    if !can_hold(&mem[..], who) {
         return not_handed(16);
     }
-    hold_node(arena, first, next, mem, id)
+    hold_node(arena, first, next, mem, who, id)
 }
 
 // ---- root
 
 // What follows the tests of arena and table, by the chains that they left; so below, too.
-pub fn root_led(arena: &[u8], first: &[u16], next: &[u16], mem: &mut [u8]) -> Handed
+pub fn root_led(arena: &[u8], first: &[u16], next: &[u16], mem: &mut [u8], who: u8) -> Handed
     requires { ⌜ Admitted (now arena) (now first) (now next) (now mem) ⌝ }
-    ensures { λ r. ⌜ Went (callRoot (now (arena .entry)) (tableIn (now (mem .entry)))) (addedAs (r .handle) (tableIn (now (mem .exit)))) Unit (r .reason) ⌝ }
+    ensures { λ r. ⌜ Went (callRoot (now (arena .entry)) (tableIn (now (mem .entry))) who) (addedAs (r .handle) (tableIn (now (mem .exit)))) Unit (r .reason) ⌝ }
 {
-    give_node(arena, first, next, mem, 2)
+    let r = an_owner(who);
+    if r != 0 {
+        return not_handed(r);
+    }
+    give_node(arena, first, next, mem, who, 2)
 }
 
 // The call on the table in memory; so below, too.
-pub fn root_on(arena: &[u8], mem: &mut [u8]) -> Handed
+pub fn root_on(arena: &[u8], mem: &mut [u8], who: u8) -> Handed
     requires { ⌜ Whole (now mem) ⌝ }
-    ensures { λ r. ⌜ Went (callRoot (now (arena .entry)) (tableIn (now (mem .entry)))) (addedAs (r .handle) (tableIn (now (mem .exit)))) Unit (r .reason) ⌝ }
+    ensures { λ r. ⌜ Went (callRoot (now (arena .entry)) (tableIn (now (mem .entry))) who) (addedAs (r .handle) (tableIn (now (mem .exit)))) Unit (r .reason) ⌝ }
 {
     let mut chains = [0u16; 8192];
     let r = admit(arena, &mut chains, &mem[..]);
@@ -90,15 +96,15 @@ pub fn root_on(arena: &[u8], mem: &mut [u8]) -> Handed
         return not_handed(r);
     }
     let c = &chains[..];
-    root_led(arena, &c[..4096], &c[4096..8192], mem)
+    root_led(arena, &c[..4096], &c[4096..8192], mem, who)
 }
 
-pub fn root(arena: &[u8], t: Table) -> HeldReply
-    ensures { λ r. ⌜ Gives t (callRoot (now (arena .entry)) t) r ⌝ }
+pub fn root(arena: &[u8], t: Table, who: u8) -> HeldReply
+    ensures { λ r. ⌜ Gives t (callRoot (now (arena .entry)) t who) r ⌝ }
 {
     let mut mem = [0u8; MEMORY];
     put_table(&mut mem, t);
-    let h = root_on(arena, &mut mem);
+    let h = root_on(arena, &mut mem, who);
     settle_held(t, &mem, h)
 }
 
@@ -198,18 +204,19 @@ fn give_named(
     first: &[u16],
     next: &[u16],
     mem: &mut [u8],
+    who: u8,
     i: usize,
     name: &[u8],
 ) -> Handed
     requires { ⌜ Led (now arena) (now first) (now next) ⌝ }
     requires { ⌜ Whole (now mem) × (i < 34) ⌝ }
-    ensures { λ r. ⌜ Went (giveNamed (now (arena .entry)) (tableIn (now (mem .entry))) (rowAt (tableIn (now (mem .entry))) i .rec) (now (name .entry))) (addedAs (r .handle) (tableIn (now (mem .exit)))) Unit (r .reason) ⌝ }
+    ensures { λ r. ⌜ Went (giveNamed (now (arena .entry)) (tableIn (now (mem .entry))) who (rowAt (tableIn (now (mem .entry))) i .rec) (now (name .entry))) (addedAs (r .handle) (tableIn (now (mem .exit)))) Unit (r .reason) ⌝ }
 {
     let n = find_in(arena, first, next, rec_at(&mem[..], i), name);
     if n.reason != 0 {
         return not_handed(n.reason);
     }
-    give_node(arena, first, next, mem, n.id)
+    give_node(arena, first, next, mem, who, n.id)
 }
 
 pub fn find_led(
@@ -217,22 +224,23 @@ pub fn find_led(
     first: &[u16],
     next: &[u16],
     mem: &mut [u8],
+    who: u8,
     h: Handle,
     name: &[u8],
 ) -> Handed
     requires { ⌜ Admitted (now arena) (now first) (now next) (now mem) ⌝ }
-    ensures { λ r. ⌜ Went (callFind (now (arena .entry)) (tableIn (now (mem .entry))) h (now (name .entry))) (addedAs (r .handle) (tableIn (now (mem .exit)))) Unit (r .reason) ⌝ }
+    ensures { λ r. ⌜ Went (callFind (now (arena .entry)) (tableIn (now (mem .entry))) who h (now (name .entry))) (addedAs (r .handle) (tableIn (now (mem .exit)))) Unit (r .reason) ⌝ }
 {
-    let b = by_handle(&mem[..], h);
+    let b = by_handle(&mem[..], who, h);
     if b.reason != 0 {
         return not_handed(b.reason);
     }
-    give_named(arena, first, next, mem, b.row, name)
+    give_named(arena, first, next, mem, who, b.row, name)
 }
 
-pub fn find_on(arena: &[u8], mem: &mut [u8], h: Handle, name: &[u8]) -> Handed
+pub fn find_on(arena: &[u8], mem: &mut [u8], who: u8, h: Handle, name: &[u8]) -> Handed
     requires { ⌜ Whole (now mem) ⌝ }
-    ensures { λ r. ⌜ Went (callFind (now (arena .entry)) (tableIn (now (mem .entry))) h (now (name .entry))) (addedAs (r .handle) (tableIn (now (mem .exit)))) Unit (r .reason) ⌝ }
+    ensures { λ r. ⌜ Went (callFind (now (arena .entry)) (tableIn (now (mem .entry))) who h (now (name .entry))) (addedAs (r .handle) (tableIn (now (mem .exit)))) Unit (r .reason) ⌝ }
 {
     let mut chains = [0u16; 8192];
     let r = admit(arena, &mut chains, &mem[..]);
@@ -240,14 +248,14 @@ pub fn find_on(arena: &[u8], mem: &mut [u8], h: Handle, name: &[u8]) -> Handed
         return not_handed(r);
     }
     let c = &chains[..];
-    find_led(arena, &c[..4096], &c[4096..8192], mem, h, name)
+    find_led(arena, &c[..4096], &c[4096..8192], mem, who, h, name)
 }
 
-pub fn find(arena: &[u8], t: Table, h: Handle, name: &[u8]) -> HeldReply
-    ensures { λ r. ⌜ Gives t (callFind (now (arena .entry)) t h (now (name .entry))) r ⌝ }
+pub fn find(arena: &[u8], t: Table, who: u8, h: Handle, name: &[u8]) -> HeldReply
+    ensures { λ r. ⌜ Gives t (callFind (now (arena .entry)) t who h (now (name .entry))) r ⌝ }
 {
     let mut mem = [0u8; MEMORY];
     put_table(&mut mem, t);
-    let r = find_on(arena, &mut mem, h, name);
+    let r = find_on(arena, &mut mem, who, h, name);
     settle_held(t, &mem, r)
 }

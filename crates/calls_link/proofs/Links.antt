@@ -52,12 +52,12 @@ work-is s i name c =
     ending-both (ensure (not (isFolder (recAt s c .kind))) 9) (λ _. ensure (ltb (recAt s c .nlinks) 65535) 15) (λ _. linkMoves s i name c) _ (λ _.
     ending-bind (ensure (ltb (recAt s c .nlinks) 65535) 15) (λ _. linkMoves s i name c) _ (λ _. moves-is s i name c))))))))
 
-link-is : (a : List ℕ) (t : Table) (h : Handle) (name : List ℕ) (child : Handle) → callLink a t h name child ≡ bind (admit a t) (λ _. bind (byHandle t h) (λ i. bind (byHandle t child) (λ c. ending (linkWork (start a t) i name c))))
+link-is : (a : List ℕ) (t : Table) (who : ℕ) (h : Handle) (name : List ℕ) (child : Handle) → callLink a t who h name child ≡ bind (admit a t) (λ _. bind (byHandle t who h) (λ i. bind (byHandle t who child) (λ c. ending (linkWork (start a t) i name c))))
 unfolding callLink
-link-is a t h name child =
+link-is a t who h name child =
     bind-same (admit a t) _ _ (λ _.
-    bind-same (byHandle t h) _ _ (λ i.
-    bind-same (byHandle t child) _ _ (λ c. work-is (start a t) i name c)))
+    bind-same (byHandle t who h) _ _ (λ i.
+    bind-same (byHandle t who child) _ _ (λ c. work-is (start a t) i name c)))
 
 -- ---- the folder and the name
 
@@ -133,14 +133,14 @@ module _ (s : Fs) (i c : ℕ) (name : List ℕ) (rec : DiskINode) (k : rec ≡ r
     work-child child q o (well e u) = on (rw (← k, went-is g z, went-is h o, ← q, e)) (went-has g z)
     work-child child q o (ill l e) = off l (rw (← k, went-is g z, went-is h o, ← q, e))
 
-pub link-refused : (a : List ℕ) (t : Table) (h : Handle) (name : List ℕ) (child : Handle) {n : ℕ} → admit a t ≡ refused n → callLink a t h name child ≡ refused n
-link-refused a t h name child q = link-is a t h name child ∙ rw q
+pub link-refused : (a : List ℕ) (t : Table) (who : ℕ) (h : Handle) (name : List ℕ) (child : Handle) {n : ℕ} → admit a t ≡ refused n → callLink a t who h name child ≡ refused n
+link-refused a t who h name child q = link-is a t who h name child ∙ rw q
 
 -- the call, once arena, table and handles are known
-module _ (a first next m n : List ℕ) (h child : Handle) (name : List ℕ) (q : admit a (tableIn m) ≡ done tt) {i c r : ℕ} (g : Went (byTwo (tableIn m) h child) (i, c) (Begun a first next m n × ((i < 34) × (c < 34))) r) where
-  link-two : callLink a (tableIn m) h name child ≡ bind (byTwo (tableIn m) h child) (λ p. ending (linkWork (start a (tableIn m)) (p .0) name (p .1)))
+module _ (a first next m n : List ℕ) (who : ℕ) (h child : Handle) (name : List ℕ) (q : admit a (tableIn m) ≡ done tt) {i c r : ℕ} (g : Went (byTwo (tableIn m) who h child) (i, c) (Begun a first next m n × ((i < 34) × (c < 34))) r) where
+  link-two : callLink a (tableIn m) who h name child ≡ bind (byTwo (tableIn m) who h child) (λ p. ending (linkWork (start a (tableIn m)) (p .0) name (p .1)))
   unfolding byTwo
-  link-two = link-is a (tableIn m) h name child ∙ rw q (go (byHandle (tableIn m) h) (byHandle (tableIn m) child))
+  link-two = link-is a (tableIn m) who h name child ∙ rw q (go (byHandle (tableIn m) who h) (byHandle (tableIn m) who child))
     where
       go : (b d : Out ℕ) → bind b (λ i. bind d (λ c. ending (linkWork (start a (tableIn m)) i name c)))
           ≡ bind {A = ℕ × ℕ} (bind {B = ℕ × ℕ} b (λ i. bind {B = ℕ × ℕ} d (λ j. done (i, j)))) (λ p. ending (linkWork (start a (tableIn m)) (p .0) name (p .1)))
@@ -148,10 +148,10 @@ module _ (a first next m n : List ℕ) (h child : Handle) (name : List ℕ) (q :
       go (done i) (refused k) = refl
       go (refused k) d = refl
 
-  pub link-not : {e : Out After} {Q : Type 0} → (r ≡ 0 → ⊥) → Rest (callLink a (tableIn m) h name child) e Q r
+  pub link-not : {e : Out After} {Q : Type 0} → (r ≡ 0 → ⊥) → Rest (callLink a (tableIn m) who h name child) e Q r
   link-not z = rest-off z (link-two ∙ rw (went-not g z))
 
-  pub link-rows : {e : Out Fs} {q : ℕ} → r ≡ 0 → Rest (linkWork (fsAt a n) i name c) e (length name ≤ 255) q → Rest (callLink a (tableIn m) h name child) (ending e) (Asked a n name i c) q
+  pub link-rows : {e : Out Fs} {q : ℕ} → r ≡ 0 → Rest (linkWork (fsAt a n) i name c) e (length name ≤ 255) q → Rest (callLink a (tableIn m) who h name child) (ending e) (Asked a n name i c) q
   link-rows z f =
       let p = went-has g z in
       rest-as (link-two ∙ rw (went-is g z, ← begun-start (p .0))) (λ l. record { legal = p .0 .led .whole; whole = p .0 .whole; folder = p .1 .0; child = p .1 .1; short = l }) (rest-then (λ s. done (after s)) f)

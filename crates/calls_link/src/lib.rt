@@ -94,14 +94,15 @@ pub fn link_led(
     first: &[u16],
     next: &[u16],
     mem: &mut [u8],
+    who: u8,
     h: Handle,
     name: &[u8],
     child: Handle,
 ) -> ByTwo
     requires { ⌜ Admitted (now arena) (now first) (now next) (now mem) ⌝ }
-    ensures { λ r. ⌜ Rest (callLink (now (arena .entry)) (tableIn (now (mem .entry))) h (now (name .entry)) child) (ending (linkMoves (fsAt (now (arena .entry)) (now (mem .exit))) (r .row) (now (name .entry)) (r .other))) (Asked (now (arena .entry)) (now (mem .exit)) (now (name .entry)) (r .row) (r .other)) (r .reason) ⌝ }
+    ensures { λ r. ⌜ Rest (callLink (now (arena .entry)) (tableIn (now (mem .entry))) who h (now (name .entry)) child) (ending (linkMoves (fsAt (now (arena .entry)) (now (mem .exit))) (r .row) (now (name .entry)) (r .other))) (Asked (now (arena .entry)) (now (mem .exit)) (now (name .entry)) (r .row) (r .other)) (r .reason) ⌝ }
 {
-    let b = reach_two_read(arena, first, next, mem, h, child);
+    let b = reach_two_read(arena, first, next, mem, who, h, child);
     if b.reason != 0 {
         return b;
     }
@@ -114,9 +115,9 @@ pub fn link_led(
 }
 
 // The frame of the chains is left before a workspace is made.
-fn link_asked(arena: &[u8], mem: &mut [u8], h: Handle, name: &[u8], child: Handle) -> ByTwo
+fn link_asked(arena: &[u8], mem: &mut [u8], who: u8, h: Handle, name: &[u8], child: Handle) -> ByTwo
     requires { ⌜ Whole (now mem) ⌝ }
-    ensures { λ r. ⌜ Rest (callLink (now (arena .entry)) (tableIn (now (mem .entry))) h (now (name .entry)) child) (ending (linkMoves (fsAt (now (arena .entry)) (now (mem .exit))) (r .row) (now (name .entry)) (r .other))) (Asked (now (arena .entry)) (now (mem .exit)) (now (name .entry)) (r .row) (r .other)) (r .reason) ⌝ }
+    ensures { λ r. ⌜ Rest (callLink (now (arena .entry)) (tableIn (now (mem .entry))) who h (now (name .entry)) child) (ending (linkMoves (fsAt (now (arena .entry)) (now (mem .exit))) (r .row) (now (name .entry)) (r .other))) (Asked (now (arena .entry)) (now (mem .exit)) (now (name .entry)) (r .row) (r .other)) (r .reason) ⌝ }
 {
     let mut chains = [0u16; 8192];
     let r = admit(arena, &mut chains, &mem[..]);
@@ -128,7 +129,7 @@ fn link_asked(arena: &[u8], mem: &mut [u8], h: Handle, name: &[u8], child: Handl
         };
     }
     let c = &chains[..];
-    link_led(arena, &c[..4096], &c[4096..8192], mem, h, name, child)
+    link_led(arena, &c[..4096], &c[4096..8192], mem, who, h, name, child)
 }
 
 // ---- the steps
@@ -173,22 +174,22 @@ pub fn link_rows(arena: &mut [u8], mem: &mut [u8], i: usize, name: &[u8], c: usi
 }
 
 // The call on the table in memory.
-pub fn link_on(arena: &mut [u8], mem: &mut [u8], h: Handle, name: &[u8], child: Handle) -> u8
+pub fn link_on(arena: &mut [u8], mem: &mut [u8], who: u8, h: Handle, name: &[u8], child: Handle) -> u8
     requires { ⌜ Whole (now mem) ⌝ }
-    ensures { λ r. ⌜ Ended (callLink (now (arena .entry)) (tableIn (now (mem .entry))) h (now (name .entry)) child) (now (arena .entry)) (now (arena .exit)) (tableIn (now (mem .exit))) r ⌝ }
+    ensures { λ r. ⌜ Ended (callLink (now (arena .entry)) (tableIn (now (mem .entry))) who h (now (name .entry)) child) (now (arena .entry)) (now (arena .exit)) (tableIn (now (mem .exit))) r ⌝ }
 {
-    let b = link_asked(&arena[..], mem, h, name, child);
+    let b = link_asked(&arena[..], mem, who, h, name, child);
     if b.reason != 0 {
         return b.reason;
     }
     link_rows(arena, mem, b.row, name, b.other)
 }
 
-pub fn link(arena: &mut [u8], t: Table, h: Handle, name: &[u8], child: Handle) -> Reply
-    ensures { λ r. ⌜ Returned t (callLink (now (arena .entry)) t h (now (name .entry)) child) (now (arena .entry)) (now (arena .exit)) r ⌝ }
+pub fn link(arena: &mut [u8], t: Table, who: u8, h: Handle, name: &[u8], child: Handle) -> Reply
+    ensures { λ r. ⌜ Returned t (callLink (now (arena .entry)) t who h (now (name .entry)) child) (now (arena .entry)) (now (arena .exit)) r ⌝ }
 {
     let mut mem = [0u8; MEMORY];
     put_table(&mut mem, t);
-    let r = link_on(arena, &mut mem, h, name, child);
+    let r = link_on(arena, &mut mem, who, h, name, child);
     settle(t, &mem, r)
 }

@@ -66,15 +66,15 @@ slots-stop {r} o out n g z = leave (above-zero r z) (whether-not o r (went-not g
 
 -- ---- the call, once arena and table are known
 
-pub listing-refused : (a : List ℕ) (t : Table) (h : Handle) (next room : ℕ) {n : ℕ} → admit a t ≡ refused n → callListing a t h next room ≡ refused n
+pub listing-refused : (a : List ℕ) (t : Table) (who : ℕ) (h : Handle) (next room : ℕ) {n : ℕ} → admit a t ≡ refused n → callListing a t who h next room ≡ refused n
 unfolding callListing
-listing-refused a t h next room q = rw q
+listing-refused a t who h next room q = rw q
 
-module _ {P : Type 0} (a : List ℕ) (t : Table) (h : Handle) (q : admit a t ≡ done tt) (next room row r : ℕ) (g : Went (byHandle t h) row P r) where
-  pub listing-dead : (r ≡ 0 → ⊥) → callListing a t h next room ≡ refused r
+module _ {P : Type 0} (a : List ℕ) (t : Table) (who : ℕ) (h : Handle) (q : admit a t ≡ done tt) (next room row r : ℕ) (g : Went (byHandle t who h) row P r) where
+  pub listing-dead : (r ≡ 0 → ⊥) → callListing a t who h next room ≡ refused r
   unfolding callListing listIn
-  listing-dead z = call-stop a t h q (λ i. listIn a (rowAt t i .rec) next room) row r g z
+  listing-dead z = call-stop a t who h q (λ i. listIn a (rowAt t i .rec) next room) row r g z
 
-  pub listing-goes : (w : DiskINode) → r ≡ 0 → w ≡ rowAt t row .rec → listIn a w next room ≡ callListing a t h next room
+  pub listing-goes : (w : DiskINode) → r ≡ 0 → w ≡ rowAt t row .rec → listIn a w next room ≡ callListing a t who h next room
   unfolding callListing listIn
-  listing-goes w z e = sym (call-next a t h q (λ i. listIn a (rowAt t i .rec) next room) row r g z ∙ rw (← e))
+  listing-goes w z e = sym (call-next a t who h q (λ i. listIn a (rowAt t i .rec) next room) row r g z ∙ rw (← e))

@@ -8,25 +8,23 @@ use lib.ListN.{length, length-append}
 use lib.Dec.{ltb, leb}
 use Rattle.base.specs.Out.{Out, done, refused, bind, guard, ensure}
 use Rattle.base.specs.Parts.{tab}
-use Rattle.base.specs.declared.Found.{Found}
-use Rattle.base.specs.declared.Found.the-variants.{At, Nothing}
 use Rattle.base.proofs.Lists.{length-tab}
 use Rattle.base.proofs.Outs.{bind-is-done}
 use Rattle.structs.specs.Layout.{entryOf}
 use Rattle.structs.specs.declared.DiskINode.{DiskINode}
 use Rattle.table.specs.declared.Table.{Table}
 use Rattle.table.specs.declared.Handle.{Handle}
-use Rattle.table.specs.Table.{rowAt, liveRow}
+use Rattle.table.specs.Table.{rowAt}
 use Rattle.arena.specs.Fields.{File}
 use Rattle.files.specs.Read.{there, lengthOf, byteAt, readFile}
-use Rattle.sefs.specs.Ask.{admit, byHandle, orBadHandle}
+use Rattle.sefs.specs.Ask.{admit, byHandle}
 use Rattle.sefs.specs.Nodes.{nodeFile}
 use Rattle.sefs.specs.Slots.{slotBytes}
 use Rattle.sefs.specs.Read.{readable, listSlot, listTo, callListing}
 use Rattle.calls.specs.Answers.{listedOf}
 use Rattle.calls.specs.declared.Listed.{Listed}
 use Rattle.calls.specs.declared.Listed.the-variants as listeds
-use Rattle.calls.proofs.Asks.{live-below}
+use Rattle.calls.proofs.Asks.{handle-below}
 use Rattle.calls_list.proofs.Turns.{list-bytes}
 use Rattle.calls_list.specs.declared.Moved.{Moved}
 use Rattle.calls_list.specs.Place.{movedAs}
@@ -63,24 +61,17 @@ list-length a r next (suc n) l e =
 
 -- ---- the place
 
-handle-below : (t : Table) (h : Handle) (i : ℕ) → byHandle t h ≡ done i → i < 34
-handle-below t h i = go (liveRow t h) refl
-  where
-    go : (f : Found) → liveRow t h ≡ f → orBadHandle f ≡ done i → i < 34
-    go (At j) q e = live-below t h i (q ∙ ap At (let z : j ≡ i = cc in z))
-    go Nothing q e = absurd (let z : _≡_ {A = ℕ} 0 1 = cc in omega arith)
-
 -- slots are written as far as the folder of the handle's row has them
-pub listing-left : (a : List ℕ) (t : Table) (h : Handle) (next room : ℕ) (l : List ℕ) → callListing a t h next room ≡ done l → (i : ℕ) × (i < 34) × (length l / 264 ≤ rowAt t i .rec .blocks - next)
+pub listing-left : (a : List ℕ) (t : Table) (who : ℕ) (h : Handle) (next room : ℕ) (l : List ℕ) → callListing a t who h next room ≡ done l → (i : ℕ) × (i < 34) × (length l / 264 ≤ rowAt t i .rec .blocks - next)
 unfolding callListing
-listing-left a t h next room l e =
+listing-left a t who h next room l e =
     let f : ℕ → Out (List ℕ) = λ i. bind (readable (rowAt t i .rec)) (λ _. bind (ensure (not (ltb next (rowAt t i .rec .blocks) && ltb room 264)) 20) (λ _. listTo a (rowAt t i .rec) next (min (rowAt t i .rec .blocks - next) (room / 264)))) in
-    let p = bind-is-done (admit a t) (λ _. bind (byHandle t h) f) l e in
-    let i = bind-is-done (byHandle t h) f l (p .2) in
+    let p = bind-is-done (admit a t) (λ _. bind (byHandle t who h) f) l e in
+    let i = bind-is-done (byHandle t who h) f l (p .2) in
     let r = rowAt t (i .0) .rec in
     let g = bind-is-done (readable r) (λ _. bind (ensure (not (ltb next (r .blocks) && ltb room 264)) 20) (λ _. listTo a r next (min (r .blocks - next) (room / 264)))) l (i .2) in
     let s = bind-is-done (ensure (not (ltb next (r .blocks) && ltb room 264)) 20) (λ _. listTo a r next (min (r .blocks - next) (room / 264))) l (g .2) in
-    (i .0, handle-below t h (i .0) (i .1), omega (arith, list-length a r next (min (r .blocks - next) (room / 264)) l (s .2)))
+    (i .0, handle-below t who h (i .0) (i .1), omega (arith, list-length a r next (min (r .blocks - next) (room / 264)) l (s .2)))
 
 -- slots that were written were listed
 pub listed-slots : (n : ℕ) (o : Out (List ℕ)) (r : Listed) → r ≡ listedOf o → r ≡ listeds.Slots n → (l : List ℕ) × (o ≡ done l) × (length l / 264 ≡ n)

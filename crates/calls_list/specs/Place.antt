@@ -12,8 +12,8 @@ use Rattle.calls_list.specs.declared.Place.{Place}
 use Rattle.calls_list.specs.declared.Moved.{Moved}
 
 -- what is written for a place at the start of an output of `room` bytes
-abbrev pub listAt : List ℕ → Table → Place → ℕ → Out (List ℕ)
-listAt a t p room = callListing a t (p .handle) (p .next) room
+abbrev pub listAt : List ℕ → Table → ℕ → Place → ℕ → Out (List ℕ)
+listAt a t w p room = callListing a t w (p .handle) (p .next) room
 
 -- a slot is 264 bytes
 abbrev pub nextAfter : ℕ → Out (List ℕ) → ℕ
@@ -28,5 +28,5 @@ abbrev pub movedAs : ℕ → Out (List ℕ) → Moved
 movedAs next o = record { answer = listedOf o; next = nextAfter next o }
 
 -- the listing from the place p: its answer r, and place and output afterwards
-abbrev pub ListsAt : List ℕ → Table → Place → List ℕ → Place → List ℕ → Listed → Type 0
-ListsAt a t p out q now r = (q ≡ placeAfter p (listAt a t p (length out))) × Lays listedOf (listAt a t p (length out)) out now r
+abbrev pub ListsAt : List ℕ → Table → ℕ → Place → List ℕ → Place → List ℕ → Listed → Type 0
+ListsAt a t w p out q now r = (q ≡ placeAfter p (listAt a t w p (length out))) × Lays listedOf (listAt a t w p (length out)) out now r

@@ -150,14 +150,15 @@ pub fn list_led(
     first: &[u16],
     next: &[u16],
     mem: &[u8],
+    who: u8,
     h: Handle,
     at: u64,
     out: &mut [u8],
 ) -> Listed
     requires { ⌜ Admitted (now arena) (now first) (now next) (now mem) ⌝ }
-    ensures { λ r. ⌜ Lays listedOf (callListing (now (arena .entry)) (tableIn (now (mem .entry))) h at (length (now (out .entry)))) (now (out .entry)) (now (out .exit)) r ⌝ }
+    ensures { λ r. ⌜ Lays listedOf (callListing (now (arena .entry)) (tableIn (now (mem .entry))) who h at (length (now (out .entry)))) (now (out .entry)) (now (out .exit)) r ⌝ }
 {
-    let b = by_handle(mem, h);
+    let b = by_handle(mem, who, h);
     if b.reason != 0 {
         return Listed::Refused(b.reason);
     }
@@ -166,9 +167,9 @@ pub fn list_led(
 }
 
 // The call on the table in memory.
-pub fn listing_on(arena: &[u8], mem: &[u8], h: Handle, at: u64, out: &mut [u8]) -> Listed
+pub fn listing_on(arena: &[u8], mem: &[u8], who: u8, h: Handle, at: u64, out: &mut [u8]) -> Listed
     requires { ⌜ Whole (now mem) ⌝ }
-    ensures { λ r. ⌜ Lays listedOf (callListing (now (arena .entry)) (tableIn (now (mem .entry))) h at (length (now (out .entry)))) (now (out .entry)) (now (out .exit)) r ⌝ }
+    ensures { λ r. ⌜ Lays listedOf (callListing (now (arena .entry)) (tableIn (now (mem .entry))) who h at (length (now (out .entry)))) (now (out .entry)) (now (out .exit)) r ⌝ }
 {
     let mut chains = [0u16; 8192];
     let r = admit(arena, &mut chains, mem);
@@ -176,16 +177,16 @@ pub fn listing_on(arena: &[u8], mem: &[u8], h: Handle, at: u64, out: &mut [u8]) 
         return Listed::Refused(r);
     }
     let c = &chains[..];
-    list_led(arena, &c[..4096], &c[4096..8192], mem, h, at, out)
+    list_led(arena, &c[..4096], &c[4096..8192], mem, who, h, at, out)
 }
 
 // The slots from `next` on, as stored: as many as there are and as the output takes.
-pub fn list_from(arena: &[u8], t: Table, h: Handle, next: u64, out: &mut [u8]) -> Listed
-    ensures { λ r. ⌜ Lays listedOf (callListing (now (arena .entry)) t h next (length (now (out .entry)))) (now (out .entry)) (now (out .exit)) r ⌝ }
+pub fn list_from(arena: &[u8], t: Table, who: u8, h: Handle, next: u64, out: &mut [u8]) -> Listed
+    ensures { λ r. ⌜ Lays listedOf (callListing (now (arena .entry)) t who h next (length (now (out .entry)))) (now (out .entry)) (now (out .exit)) r ⌝ }
 {
     let mut mem = [0u8; MEMORY];
     put_table(&mut mem, t);
-    listing_on(arena, &mem, h, next, out)
+    listing_on(arena, &mem, who, h, next, out)
 }
 
 // ---- by a place
@@ -204,10 +205,10 @@ pub struct Moved {
 }
 
 // The listing, with the place's fields by value.
-pub fn list_on(arena: &[u8], t: Table, h: Handle, next: u64, out: &mut [u8]) -> Moved
-    ensures { λ r. ⌜ Lays (movedAs next) (callListing (now (arena .entry)) t h next (length (now (out .entry)))) (now (out .entry)) (now (out .exit)) r ⌝ }
+pub fn list_on(arena: &[u8], t: Table, who: u8, h: Handle, next: u64, out: &mut [u8]) -> Moved
+    ensures { λ r. ⌜ Lays (movedAs next) (callListing (now (arena .entry)) t who h next (length (now (out .entry)))) (now (out .entry)) (now (out .exit)) r ⌝ }
 {
-    let l = list_from(arena, t, h, next, out);
+    let l = list_from(arena, t, who, h, next, out);
     match l {
         Listed::Slots(n) => Moved {
             answer: Listed::Slots(n),
@@ -221,11 +222,11 @@ pub fn list_on(arena: &[u8], t: Table, h: Handle, next: u64, out: &mut [u8]) -> 
 }
 
 // The slots from the place on, as stored. The place is taken apart, and only its next slot changes.
-pub fn list(arena: &[u8], t: Table, place: &mut Place, out: &mut [u8]) -> Listed
-    ensures { λ r. ⌜ ListsAt (now (arena .entry)) t (now (place .entry)) (now (out .entry)) (now (place .exit)) (now (out .exit)) r ⌝ }
+pub fn list(arena: &[u8], t: Table, who: u8, place: &mut Place, out: &mut [u8]) -> Listed
+    ensures { λ r. ⌜ ListsAt (now (arena .entry)) t who (now (place .entry)) (now (out .entry)) (now (place .exit)) (now (out .exit)) r ⌝ }
 {
     let h = place.handle;
-    let m = list_on(arena, t, h, place.next, out);
+    let m = list_on(arena, t, who, h, place.next, out);
     place.next = m.next;
     m.answer
 }

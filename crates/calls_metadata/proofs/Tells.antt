@@ -31,45 +31,45 @@ module _ (id : ℕ) (r : DiskINode) (n : ℕ) (e : n ≡ answer (known r)) where
 
 -- ---- arena and table, and then the rest
 
-module _ (a : List ℕ) (t : Table) (h : Handle) where
-  metadata-is : callMetadata a t h ≡ bind (admit a t) (λ _. metadataIn t h)
+module _ (a : List ℕ) (t : Table) (who : ℕ) (h : Handle) where
+  metadata-is : callMetadata a t who h ≡ bind (admit a t) (λ _. metadataIn t who h)
   unfolding callMetadata metadataIn told
   metadata-is = refl
 
-  pub metadata-refused : {n : ℕ} → admit a t ≡ refused n → callMetadata a t h ≡ refused n
+  pub metadata-refused : {n : ℕ} → admit a t ≡ refused n → callMetadata a t who h ≡ refused n
   metadata-refused q = metadata-is ∙ rw q
 
-  pub metadata-admitted : admit a t ≡ done tt → callMetadata a t h ≡ metadataIn t h
+  pub metadata-admitted : admit a t ≡ done tt → callMetadata a t who h ≡ metadataIn t who h
   metadata-admitted q = metadata-is ∙ rw q
 
   module _ (mode uid gid : ℕ) (atime mtime ctime : Timespec) where
-    set-is : callSet a t h mode uid gid atime mtime ctime ≡ bind (admit a t) (λ _. setIn t h mode uid gid atime mtime ctime)
+    set-is : callSet a t who h mode uid gid atime mtime ctime ≡ bind (admit a t) (λ _. setIn t who h mode uid gid atime mtime ctime)
     unfolding callSet setIn
     set-is = refl
 
-    pub set-refused : {n : ℕ} → admit a t ≡ refused n → callSet a t h mode uid gid atime mtime ctime ≡ refused n
+    pub set-refused : {n : ℕ} → admit a t ≡ refused n → callSet a t who h mode uid gid atime mtime ctime ≡ refused n
     set-refused q = set-is ∙ rw q
 
-    pub set-admitted : admit a t ≡ done tt → callSet a t h mode uid gid atime mtime ctime ≡ setIn t h mode uid gid atime mtime ctime
+    pub set-admitted : admit a t ≡ done tt → callSet a t who h mode uid gid atime mtime ctime ≡ setIn t who h mode uid gid atime mtime ctime
     set-admitted q = set-is ∙ rw q
 
 -- ---- by the handle's row
 
-module _ {P : Type 0} (t : Table) (h : Handle) {i n : ℕ} (g : Went (byHandle t h) i P n) where
-  pub metadata-stop : (n ≡ 0 → ⊥) → metadataIn t h ≡ refused n
+module _ {P : Type 0} (t : Table) (who : ℕ) (h : Handle) {i n : ℕ} (g : Went (byHandle t who h) i P n) where
+  pub metadata-stop : (n ≡ 0 → ⊥) → metadataIn t who h ≡ refused n
   unfolding metadataIn
   metadata-stop z = rw (went-not g z)
 
-  pub metadata-next : n ≡ 0 → metadataIn t h ≡ told (rowAt t i .id) (rowAt t i .rec)
+  pub metadata-next : n ≡ 0 → metadataIn t who h ≡ told (rowAt t i .id) (rowAt t i .rec)
   unfolding metadataIn
   metadata-next z = rw (went-is g z)
 
   module _ (mode uid gid : ℕ) (atime mtime ctime : Timespec) where
-    pub set-stop : (n ≡ 0 → ⊥) → setIn t h mode uid gid atime mtime ctime ≡ refused n
+    pub set-stop : (n ≡ 0 → ⊥) → setIn t who h mode uid gid atime mtime ctime ≡ refused n
     unfolding setIn
     set-stop z = rw (went-not g z)
 
-    pub set-next : n ≡ 0 → setIn t h mode uid gid atime mtime ctime ≡ done (takeRow t i (rowAt t i .id) (changed (rowAt t i .rec) mode uid gid atime mtime ctime) true)
+    pub set-next : n ≡ 0 → setIn t who h mode uid gid atime mtime ctime ≡ done (takeRow t i (rowAt t i .id) (changed (rowAt t i .rec) mode uid gid atime mtime ctime) true)
     unfolding setIn
     set-next z = rw (went-is g z)
 

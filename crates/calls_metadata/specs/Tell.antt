@@ -17,12 +17,12 @@ told id r = do
   _ ← known r
   done (metadataOf id r)
 
-unfoldable pub metadataIn : Table → Handle → Out Metadata
-metadataIn t h = do
-  i ← byHandle t h
+unfoldable pub metadataIn : Table → ℕ → Handle → Out Metadata
+metadataIn t w h = do
+  i ← byHandle t w h
   told (rowAt t i .id) (rowAt t i .rec)
 
-unfoldable pub setIn : Table → Handle → ℕ → ℕ → ℕ → Timespec → Timespec → Timespec → Out Table
-setIn t h mode uid gid atime mtime ctime = do
-  i ← byHandle t h
+unfoldable pub setIn : Table → ℕ → Handle → ℕ → ℕ → ℕ → Timespec → Timespec → Timespec → Out Table
+setIn t w h mode uid gid atime mtime ctime = do
+  i ← byHandle t w h
   done (takeRow t i (rowAt t i .id) (changed (rowAt t i .rec) mode uid gid atime mtime ctime) true)

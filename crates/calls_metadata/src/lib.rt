@@ -70,11 +70,11 @@ fn tell(id: u32, rec: DiskINode) -> Told
 }
 
 // What follows the tests of arena and table, on the table in memory; so below, too.
-pub fn metadata_in(mem: &[u8], h: Handle) -> Told
+pub fn metadata_in(mem: &[u8], who: u8, h: Handle) -> Told
     requires { ⌜ Whole (now mem) ⌝ }
-    ensures { λ r. ⌜ r ≡ toldOf (metadataIn (tableIn (now (mem .entry))) h) ⌝ }
+    ensures { λ r. ⌜ r ≡ toldOf (metadataIn (tableIn (now (mem .entry))) who h) ⌝ }
 {
-    let b = by_handle(mem, h);
+    let b = by_handle(mem, who, h);
     if b.reason != 0 {
         return Told::Refused(b.reason);
     }
@@ -84,23 +84,23 @@ pub fn metadata_in(mem: &[u8], h: Handle) -> Told
 }
 
 // The call on the table in memory; so below, too.
-pub fn metadata_on(arena: &[u8], mem: &[u8], h: Handle) -> Told
+pub fn metadata_on(arena: &[u8], mem: &[u8], who: u8, h: Handle) -> Told
     requires { ⌜ Whole (now mem) ⌝ }
-    ensures { λ r. ⌜ r ≡ toldOf (callMetadata (now (arena .entry)) (tableIn (now (mem .entry))) h) ⌝ }
+    ensures { λ r. ⌜ r ≡ toldOf (callMetadata (now (arena .entry)) (tableIn (now (mem .entry))) who h) ⌝ }
 {
     let r = admitted(arena, mem);
     if r != 0 {
         return Told::Refused(r);
     }
-    metadata_in(mem, h)
+    metadata_in(mem, who, h)
 }
 
-pub fn metadata(arena: &[u8], t: Table, h: Handle) -> Told
-    ensures { λ r. ⌜ r ≡ toldOf (callMetadata (now (arena .entry)) t h) ⌝ }
+pub fn metadata(arena: &[u8], t: Table, who: u8, h: Handle) -> Told
+    ensures { λ r. ⌜ r ≡ toldOf (callMetadata (now (arena .entry)) t who h) ⌝ }
 {
     let mut mem = [0u8; MEMORY];
     put_table(&mut mem, t);
-    metadata_on(arena, &mem, h)
+    metadata_on(arena, &mem, who, h)
 }
 
 // ---- set metadata
@@ -137,6 +137,7 @@ fn changed(
 
 pub fn set_in(
     mem: &mut [u8],
+    who: u8,
     h: Handle,
     mode: u16,
     uid: u64,
@@ -146,9 +147,9 @@ pub fn set_in(
     ctime: Timespec,
 ) -> u8
     requires { ⌜ Whole (now mem) ⌝ }
-    ensures { λ r. ⌜ Went (setIn (tableIn (now (mem .entry))) h mode uid gid atime mtime ctime) (tableIn (now (mem .exit))) Unit r ⌝ }
+    ensures { λ r. ⌜ Went (setIn (tableIn (now (mem .entry))) who h mode uid gid atime mtime ctime) (tableIn (now (mem .exit))) Unit r ⌝ }
 {
-    let b = by_handle(&mem[..], h);
+    let b = by_handle(&mem[..], who, h);
     if b.reason != 0 {
         return b.reason;
     }
@@ -164,6 +165,7 @@ pub fn set_in(
 pub fn set_on(
     arena: &[u8],
     mem: &mut [u8],
+    who: u8,
     h: Handle,
     mode: u16,
     uid: u64,
@@ -173,18 +175,19 @@ pub fn set_on(
     ctime: Timespec,
 ) -> u8
     requires { ⌜ Whole (now mem) ⌝ }
-    ensures { λ r. ⌜ Went (callSet (now (arena .entry)) (tableIn (now (mem .entry))) h mode uid gid atime mtime ctime) (tableIn (now (mem .exit))) Unit r ⌝ }
+    ensures { λ r. ⌜ Went (callSet (now (arena .entry)) (tableIn (now (mem .entry))) who h mode uid gid atime mtime ctime) (tableIn (now (mem .exit))) Unit r ⌝ }
 {
     let r = admitted(arena, &mem[..]);
     if r != 0 {
         return r;
     }
-    set_in(mem, h, mode, uid, gid, atime, mtime, ctime)
+    set_in(mem, who, h, mode, uid, gid, atime, mtime, ctime)
 }
 
 pub fn set_metadata(
     arena: &[u8],
     t: Table,
+    who: u8,
     h: Handle,
     mode: u16,
     uid: u64,
@@ -193,10 +196,10 @@ pub fn set_metadata(
     mtime: Timespec,
     ctime: Timespec,
 ) -> Reply
-    ensures { λ r. ⌜ Replies t (callSet (now (arena .entry)) t h mode uid gid atime mtime ctime) r ⌝ }
+    ensures { λ r. ⌜ Replies t (callSet (now (arena .entry)) t who h mode uid gid atime mtime ctime) r ⌝ }
 {
     let mut mem = [0u8; MEMORY];
     put_table(&mut mem, t);
-    let r = set_on(arena, &mut mem, h, mode, uid, gid, atime, mtime, ctime);
+    let r = set_on(arena, &mut mem, who, h, mode, uid, gid, atime, mtime, ctime);
     settle(t, &mem, r)
 }

@@ -215,14 +215,14 @@ module _ (a m : List ℕ) (i j : ℕ) (old name : List ℕ) {r : ℕ} {P : Type 
   work-next z h = rest-as (rw (went-is asks-at z)) (λ p. (went-has asks-at z, p)) h
 
 -- the call, once arena and table are known, and its handles
-pub move-refused : (a : List ℕ) (t : Table) (h : Handle) (old : List ℕ) (target : Handle) (name : List ℕ) {n : ℕ} → admit a t ≡ refused n → callMove a t h old target name ≡ refused n
+pub move-refused : (a : List ℕ) (t : Table) (who : ℕ) (h : Handle) (old : List ℕ) (target : Handle) (name : List ℕ) {n : ℕ} → admit a t ≡ refused n → callMove a t who h old target name ≡ refused n
 unfolding callMove
-move-refused a t h old target name q = rw q
+move-refused a t who h old target name q = rw q
 
-module _ (a first next m n : List ℕ) (h target : Handle) (old name : List ℕ) (k : admit a (tableIn m) ≡ done tt) {i j r : ℕ} (g : Went (byTwo (tableIn m) h target) (i, j) (Begun a first next m n × ((i < 34) × (j < 34))) r) where
-  move-two : callMove a (tableIn m) h old target name ≡ bind (byTwo (tableIn m) h target) (λ p. moveWork (start a (tableIn m)) (p .0) (p .1) old name)
+module _ (a first next m n : List ℕ) (who : ℕ) (h target : Handle) (old name : List ℕ) (k : admit a (tableIn m) ≡ done tt) {i j r : ℕ} (g : Went (byTwo (tableIn m) who h target) (i, j) (Begun a first next m n × ((i < 34) × (j < 34))) r) where
+  move-two : callMove a (tableIn m) who h old target name ≡ bind (byTwo (tableIn m) who h target) (λ p. moveWork (start a (tableIn m)) (p .0) (p .1) old name)
   unfolding byTwo
-  move-two = move-is a (tableIn m) h old target name ∙ rw k (go (byHandle (tableIn m) h) (byHandle (tableIn m) target))
+  move-two = move-is a (tableIn m) who h old target name ∙ rw k (go (byHandle (tableIn m) who h) (byHandle (tableIn m) who target))
     where
       go : (b d : Out ℕ) → bind b (λ i. bind d (λ j. moveWork (start a (tableIn m)) i j old name))
           ≡ bind {A = ℕ × ℕ} (bind {B = ℕ × ℕ} b (λ i. bind {B = ℕ × ℕ} d (λ j. done (i, j)))) (λ p. moveWork (start a (tableIn m)) (p .0) (p .1) old name)
@@ -230,13 +230,13 @@ module _ (a first next m n : List ℕ) (h target : Handle) (old name : List ℕ)
       go (done i) (refused k) = refl
       go (refused k) d = refl
 
-  pub move-not : {e : Out After} {Q : Type 0} → (r ≡ 0 → ⊥) → Rest (callMove a (tableIn m) h old target name) e Q r
+  pub move-not : {e : Out After} {Q : Type 0} → (r ≡ 0 → ⊥) → Rest (callMove a (tableIn m) who h old target name) e Q r
   move-not z = rest-off z (move-two ∙ rw (went-not g z))
 
   pub move-rows : {y slot : List ℕ} {x w d c q : ℕ} (e : Fs → Out After) → r ≡ 0
       → Rest (moveWork (fsAt a n) i j old name) (e (fsAt a n)) ((length name ≤ 255) × (Planned y x w d c × (length slot ≡ 264))) q
-      → Rest (callMove a (tableIn m) h old target name) (e (start a (tableIn m))) (Agreed a y name slot x w d c) q
+      → Rest (callMove a (tableIn m) who h old target name) (e (start a (tableIn m))) (Agreed a y name slot x w d c) q
   move-rows {y} {slot} {x} {w} {d} {c} {q} e z f =
       let b = went-has g z .0 in
-      subst (λ (t : Fs). Rest (callMove a (tableIn m) h old target name) (e t) (Agreed a y name slot x w d c) q) (begun-start b)
+      subst (λ (t : Fs). Rest (callMove a (tableIn m) who h old target name) (e t) (Agreed a y name slot x w d c) q) (begun-start b)
       (rest-as (move-two ∙ rw (went-is g z, ← begun-start b)) (λ p. record { legal = b .led .whole; plan = p .1 .0; short = p .0; long = p .1 .1 }) f)

@@ -62,9 +62,9 @@ unfolding moveWork moveAsks lateAsks goodTwo plainTwo shortTwo
 work-is a t i j old name =
     asks-is (goodName old) (newName name) (liveFolder (recAt (start a t) i)) (notSpecial old) (notSpecial name) (notLong old) (notLong name) (liveFolder (recAt (start a t) j)) (moveFound (start a t) i j old name)
 
-pub move-is : (a : List ℕ) (t : Table) (h : Handle) (old : List ℕ) (target : Handle) (name : List ℕ) → callMove a t h old target name ≡ bind (admit a t) (λ _. bind (byHandle t h) (λ i. bind (byHandle t target) (λ j. moveWork (start a t) i j old name)))
+pub move-is : (a : List ℕ) (t : Table) (who : ℕ) (h : Handle) (old : List ℕ) (target : Handle) (name : List ℕ) → callMove a t who h old target name ≡ bind (admit a t) (λ _. bind (byHandle t who h) (λ i. bind (byHandle t who target) (λ j. moveWork (start a t) i j old name)))
 unfolding callMove moveFound
-move-is a t h old target name =
+move-is a t who h old target name =
     bind-same (admit a t) _ _ (λ _.
-    bind-same (byHandle t h) _ _ (λ i.
-    bind-same (byHandle t target) _ _ (λ j. work-is a t i j old name)))
+    bind-same (byHandle t who h) _ _ (λ i.
+    bind-same (byHandle t who target) _ _ (λ j. work-is a t i j old name)))

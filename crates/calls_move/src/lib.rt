@@ -498,15 +498,16 @@ pub fn plan_led(
     next: &[u16],
     mem: &mut [u8],
     slot: &mut [u8],
+    who: u8,
     h: Handle,
     old: &[u8],
     target: Handle,
     name: &[u8],
 ) -> Plan
     requires { ⌜ Admitted (now arena) (now first) (now next) (now mem) × (length (now slot) ≡ 264) ⌝ }
-    ensures { λ r. ⌜ Rest (callMove (now (arena .entry)) (tableIn (now (mem .entry))) h (now (old .entry)) target (now (name .entry))) (planned (start (now (arena .entry)) (tableIn (now (mem .entry)))) (fsAt (now (arena .entry)) (now (mem .exit))) (r .way) (r .row) (r .other) (now (old .entry)) (now (name .entry)) (entryOf (now (slot .exit))) (r .place) (r .gone) (r .moved)) (Agreed (now (arena .entry)) (now (mem .exit)) (now (name .entry)) (now (slot .exit)) (r .row) (r .other) (r .gone) (r .moved)) (r .reason) ⌝ }
+    ensures { λ r. ⌜ Rest (callMove (now (arena .entry)) (tableIn (now (mem .entry))) who h (now (old .entry)) target (now (name .entry))) (planned (start (now (arena .entry)) (tableIn (now (mem .entry)))) (fsAt (now (arena .entry)) (now (mem .exit))) (r .way) (r .row) (r .other) (now (old .entry)) (now (name .entry)) (entryOf (now (slot .exit))) (r .place) (r .gone) (r .moved)) (Agreed (now (arena .entry)) (now (mem .exit)) (now (name .entry)) (now (slot .exit)) (r .row) (r .other) (r .gone) (r .moved)) (r .reason) ⌝ }
 {
-    let b = reach_two_read(arena, first, next, mem, h, target);
+    let b = reach_two_read(arena, first, next, mem, who, h, target);
     if b.reason != 0 {
         return Plan {
             reason: b.reason,
@@ -528,13 +529,14 @@ fn decide(
     arena: &[u8],
     mem: &mut [u8],
     slot: &mut [u8],
+    who: u8,
     h: Handle,
     old: &[u8],
     target: Handle,
     name: &[u8],
 ) -> Plan
     requires { ⌜ Whole (now mem) × (length (now slot) ≡ 264) ⌝ }
-    ensures { λ r. ⌜ Rest (callMove (now (arena .entry)) (tableIn (now (mem .entry))) h (now (old .entry)) target (now (name .entry))) (planned (start (now (arena .entry)) (tableIn (now (mem .entry)))) (fsAt (now (arena .entry)) (now (mem .exit))) (r .way) (r .row) (r .other) (now (old .entry)) (now (name .entry)) (entryOf (now (slot .exit))) (r .place) (r .gone) (r .moved)) (Agreed (now (arena .entry)) (now (mem .exit)) (now (name .entry)) (now (slot .exit)) (r .row) (r .other) (r .gone) (r .moved)) (r .reason) ⌝ }
+    ensures { λ r. ⌜ Rest (callMove (now (arena .entry)) (tableIn (now (mem .entry))) who h (now (old .entry)) target (now (name .entry))) (planned (start (now (arena .entry)) (tableIn (now (mem .entry)))) (fsAt (now (arena .entry)) (now (mem .exit))) (r .way) (r .row) (r .other) (now (old .entry)) (now (name .entry)) (entryOf (now (slot .exit))) (r .place) (r .gone) (r .moved)) (Agreed (now (arena .entry)) (now (mem .exit)) (now (name .entry)) (now (slot .exit)) (r .row) (r .other) (r .gone) (r .moved)) (r .reason) ⌝ }
 {
     let mut chains = [0u16; 8192];
     let r = admit(arena, &mut chains, &mem[..]);
@@ -556,6 +558,7 @@ fn decide(
         &c[4096..8192],
         mem,
         slot,
+        who,
         h,
         old,
         target,
@@ -640,15 +643,16 @@ fn move_with(
     arena: &mut [u8],
     mem: &mut [u8],
     slot: &mut [u8],
+    who: u8,
     h: Handle,
     old: &[u8],
     target: Handle,
     name: &[u8],
 ) -> Course
     requires { ⌜ Whole (now mem) × (length (now slot) ≡ 264) ⌝ }
-    ensures { λ c. ⌜ EndedMove (callMove (now (arena .entry)) (tableIn (now (mem .entry))) h (now (old .entry)) target (now (name .entry))) (tableIn (now (mem .entry))) (now (arena .entry)) (now (arena .exit)) (tableIn (now (mem .exit))) c ⌝ }
+    ensures { λ c. ⌜ EndedMove (callMove (now (arena .entry)) (tableIn (now (mem .entry))) who h (now (old .entry)) target (now (name .entry))) (tableIn (now (mem .entry))) (now (arena .entry)) (now (arena .exit)) (tableIn (now (mem .exit))) c ⌝ }
 {
-    let p = decide(&arena[..], mem, slot, h, old, target, name);
+    let p = decide(&arena[..], mem, slot, who, h, old, target, name);
     if p.reason != 0 {
         return Course::Refused(p.reason);
     }
@@ -662,16 +666,17 @@ fn move_with(
 pub fn move_on(
     arena: &mut [u8],
     mem: &mut [u8],
+    who: u8,
     h: Handle,
     old: &[u8],
     target: Handle,
     name: &[u8],
 ) -> Course
     requires { ⌜ Whole (now mem) ⌝ }
-    ensures { λ c. ⌜ EndedMove (callMove (now (arena .entry)) (tableIn (now (mem .entry))) h (now (old .entry)) target (now (name .entry))) (tableIn (now (mem .entry))) (now (arena .entry)) (now (arena .exit)) (tableIn (now (mem .exit))) c ⌝ }
+    ensures { λ c. ⌜ EndedMove (callMove (now (arena .entry)) (tableIn (now (mem .entry))) who h (now (old .entry)) target (now (name .entry))) (tableIn (now (mem .entry))) (now (arena .entry)) (now (arena .exit)) (tableIn (now (mem .exit))) c ⌝ }
 {
     let mut slot = [0u8; 264];
-    move_with(arena, mem, &mut slot, h, old, target, name)
+    move_with(arena, mem, &mut slot, who, h, old, target, name)
 }
 
 // What the call answers: the table as memory has it where the node was moved, else the one that the call was given.
@@ -689,15 +694,16 @@ fn settle_course(t: Table, mem: &[u8], c: Course) -> Reply
 pub fn move_(
     arena: &mut [u8],
     t: Table,
+    who: u8,
     h: Handle,
     old: &[u8],
     target: Handle,
     name: &[u8],
 ) -> Reply
-    ensures { λ r. ⌜ Returned t (callMove (now (arena .entry)) t h (now (old .entry)) target (now (name .entry))) (now (arena .entry)) (now (arena .exit)) r ⌝ }
+    ensures { λ r. ⌜ Returned t (callMove (now (arena .entry)) t who h (now (old .entry)) target (now (name .entry))) (now (arena .entry)) (now (arena .exit)) r ⌝ }
 {
     let mut mem = [0u8; MEMORY];
     put_table(&mut mem, t);
-    let c = move_on(arena, &mut mem, h, old, target, name);
+    let c = move_on(arena, &mut mem, who, h, old, target, name);
     settle_course(t, &mem, c)
 }

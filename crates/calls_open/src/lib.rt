@@ -37,7 +37,7 @@ fn open_read(arena: &[u8], first: &[u16], next: &[u16], mem: &mut [u8]) -> u8
     if r != 0 {
         return r;
     }
-    let b = super_block_at(&mem[..], 4371);
+    let b = super_block_at(&mem[..], 4403);
     if !is_sefs(b) {
         return 18;
     }

@@ -106,16 +106,16 @@ module _ (a : List ℕ) (w : DiskINode) (place room r : ℕ) (e : r ≡ answer (
 
 -- ---- the call
 
-module _ {P : Type 0} (a : List ℕ) (t : Table) (h : Handle) (k : admit a t ≡ done tt) (place room row r : ℕ) (g : Went (byHandle t h) row P r) where
-  pub read-refused : (out : List ℕ) → (r ≡ 0 → ⊥) → Lays takenOf (callRead a t h place room) out out (takens.Refused r)
+module _ {P : Type 0} (a : List ℕ) (t : Table) (who : ℕ) (h : Handle) (k : admit a t ≡ done tt) (place room row r : ℕ) (g : Went (byHandle t who h) row P r) where
+  pub read-refused : (out : List ℕ) → (r ≡ 0 → ⊥) → Lays takenOf (callRead a t who h place room) out out (takens.Refused r)
   unfolding callRead readIn
-  read-refused out z = lays-not out (call-stop a t h k (λ i. readIn a (rowAt t i .rec) place room) row r g z)
+  read-refused out z = lays-not out (call-stop a t who h k (λ i. readIn a (rowAt t i .rec) place room) row r g z)
 
-  pub read-goes : (out now : List ℕ) (w : DiskINode) {s : Taken} → r ≡ 0 → w ≡ rowAt t row .rec → Lays takenOf (readIn a w place room) out now s → Lays takenOf (callRead a t h place room) out now s
+  pub read-goes : (out now : List ℕ) (w : DiskINode) {s : Taken} → r ≡ 0 → w ≡ rowAt t row .rec → Lays takenOf (readIn a w place room) out now s → Lays takenOf (callRead a t who h place room) out now s
   unfolding callRead readIn
-  read-goes out now w z e L = rw (call-next a t h k (λ i. readIn a (rowAt t i .rec) place room) row r g z, ← e) L
+  read-goes out now w z e L = rw (call-next a t who h k (λ i. readIn a (rowAt t i .rec) place room) row r g z, ← e) L
 
 -- arena or table are refused
-pub read-unadmitted : (a : List ℕ) (t : Table) (h : Handle) (place room : ℕ) {r : ℕ} (out : List ℕ) → admit a t ≡ refused r → Lays takenOf (callRead a t h place room) out out (takens.Refused r)
+pub read-unadmitted : (a : List ℕ) (t : Table) (who : ℕ) (h : Handle) (place room : ℕ) {r : ℕ} (out : List ℕ) → admit a t ≡ refused r → Lays takenOf (callRead a t who h place room) out out (takens.Refused r)
 unfolding callRead
-read-unadmitted a t h place room out e = lays-not {o = callRead a t h place room} out (rw e)
+read-unadmitted a t who h place room out e = lays-not {o = callRead a t who h place room} out (rw e)

@@ -11,9 +11,9 @@ use Rattle.calls.specs.declared.Taken.{Taken}
 use Rattle.calls.proofs.Answers.{lays-one}
 
 -- an answer, and the output that was `out`
-module _ (a : List ℕ) (t : Table) (h : Handle) (place : ℕ) (out : List ℕ) where
+module _ (a : List ℕ) (t : Table) (who : ℕ) (h : Handle) (place : ℕ) (out : List ℕ) where
   abbrev Reads : Taken → List ℕ → Type 0
-  Reads r o = Lays takenOf (callRead a t h place (length out)) out o r
+  Reads r o = Lays takenOf (callRead a t who h place (length out)) out o r
 
   pub read-one : (r s : Taken) (o w : List ℕ) → Reads r o → Reads s w → (r ≡ s) × (o ≡ w)
-  read-one r s o w p q = lays-one takenOf (callRead a t h place (length out)) out o w r s p q
+  read-one r s o w p q = lays-one takenOf (callRead a t who h place (length out)) out o w r s p q

@@ -121,14 +121,15 @@ pub fn read_led(
     first: &[u16],
     next: &[u16],
     mem: &[u8],
+    who: u8,
     h: Handle,
     place: u64,
     out: &mut [u8],
 ) -> Taken
     requires { ⌜ Admitted (now arena) (now first) (now next) (now mem) ⌝ }
-    ensures { λ r. ⌜ Lays takenOf (callRead (now (arena .entry)) (tableIn (now (mem .entry))) h place (length (now (out .entry)))) (now (out .entry)) (now (out .exit)) r ⌝ }
+    ensures { λ r. ⌜ Lays takenOf (callRead (now (arena .entry)) (tableIn (now (mem .entry))) who h place (length (now (out .entry)))) (now (out .entry)) (now (out .exit)) r ⌝ }
 {
-    let b = by_handle(mem, h);
+    let b = by_handle(mem, who, h);
     if b.reason != 0 {
         return Taken::Refused(b.reason);
     }
@@ -137,9 +138,9 @@ pub fn read_led(
 }
 
 // The call on the table in memory.
-pub fn read_on(arena: &[u8], mem: &[u8], h: Handle, place: u64, out: &mut [u8]) -> Taken
+pub fn read_on(arena: &[u8], mem: &[u8], who: u8, h: Handle, place: u64, out: &mut [u8]) -> Taken
     requires { ⌜ Whole (now mem) ⌝ }
-    ensures { λ r. ⌜ Lays takenOf (callRead (now (arena .entry)) (tableIn (now (mem .entry))) h place (length (now (out .entry)))) (now (out .entry)) (now (out .exit)) r ⌝ }
+    ensures { λ r. ⌜ Lays takenOf (callRead (now (arena .entry)) (tableIn (now (mem .entry))) who h place (length (now (out .entry)))) (now (out .entry)) (now (out .exit)) r ⌝ }
 {
     let mut chains = [0u16; 8192];
     let r = admit(arena, &mut chains, mem);
@@ -147,13 +148,13 @@ pub fn read_on(arena: &[u8], mem: &[u8], h: Handle, place: u64, out: &mut [u8]) 
         return Taken::Refused(r);
     }
     let c = &chains[..];
-    read_led(arena, &c[..4096], &c[4096..8192], mem, h, place, out)
+    read_led(arena, &c[..4096], &c[4096..8192], mem, who, h, place, out)
 }
 
-pub fn read(arena: &[u8], t: Table, h: Handle, place: u64, out: &mut [u8]) -> Taken
-    ensures { λ r. ⌜ Lays takenOf (callRead (now (arena .entry)) t h place (length (now (out .entry)))) (now (out .entry)) (now (out .exit)) r ⌝ }
+pub fn read(arena: &[u8], t: Table, who: u8, h: Handle, place: u64, out: &mut [u8]) -> Taken
+    ensures { λ r. ⌜ Lays takenOf (callRead (now (arena .entry)) t who h place (length (now (out .entry)))) (now (out .entry)) (now (out .exit)) r ⌝ }
 {
     let mut mem = [0u8; MEMORY];
     put_table(&mut mem, t);
-    read_on(arena, &mem, h, place, out)
+    read_on(arena, &mem, who, h, place, out)
 }

@@ -51,17 +51,17 @@ record-range r end = go (hasContents r) (leb end longest) refl
 
 -- ---- one question after another
 
-module _ (a : List ℕ) (t : Table) (h : Handle) (end : ℕ) (k : admit a t ≡ done tt) {i r : ℕ} (g : Went (byHandle t h) i (i < 34) r) where
-  pub end-handle : (v : ℕ) (P : Type 0) → (r ≡ 0 → ⊥) → Went (askEnd a t h end) v P r
+module _ (a : List ℕ) (t : Table) (who : ℕ) (h : Handle) (end : ℕ) (k : admit a t ≡ done tt) {i r : ℕ} (g : Went (byHandle t who h) i (i < 34) r) where
+  pub end-handle : (v : ℕ) (P : Type 0) → (r ≡ 0 → ⊥) → Went (askEnd a t who h end) v P r
   unfolding askEnd
   end-handle v P z = ill (above-zero r z) (rw (k, went-not g z))
 
   module _ (w : DiskINode) (is : w ≡ rowAt t i .rec) (n : ℕ) (e : n ≡ answer (askRecord w end)) (z : r ≡ 0) where
-    pub end-record : (v : ℕ) (P : Type 0) → (n ≡ 0 → ⊥) → Went (askEnd a t h end) v P n
+    pub end-record : (v : ℕ) (P : Type 0) → (n ≡ 0 → ⊥) → Went (askEnd a t who h end) v P n
     unfolding askEnd
     end-record v P y = ill (above-zero n y) (rw (k, went-is g z, ← is, asked-not (askRecord w end) n e y))
 
-    pub end-missing : (v : ℕ) (P : Type 0) (c : ℕ) → n ≡ 0 → c ≡ headAt a (nodeFile w) → c ≡ 0 → Went (askEnd a t h end) v P 19
+    pub end-missing : (v : ℕ) (P : Type 0) (c : ℕ) → n ≡ 0 → c ≡ headAt a (nodeFile w) → c ≡ 0 → Went (askEnd a t who h end) v P 19
     unfolding askEnd
     end-missing v P c y q x =
         let d : there a (nodeFile w) ≡ false = missing (there a (nodeFile w)) (sym q ∙ x) in
@@ -71,7 +71,7 @@ module _ (a : List ℕ) (t : Table) (h : Handle) (end : ℕ) (k : admit a t ≡ 
         missing true f = absurd (omega arith)
         missing false f = refl
 
-    pub end-reached : (c : ℕ) → sound a ≡ true → n ≡ 0 → c ≡ headAt a (nodeFile w) → (c ≡ 0 → ⊥) → Went (askEnd a t h end) i (Reached a t i (c - 1) end) 0
+    pub end-reached : (c : ℕ) → sound a ≡ true → n ≡ 0 → c ≡ headAt a (nodeFile w) → (c ≡ 0 → ⊥) → Went (askEnd a t who h end) i (Reached a t i (c - 1) end) 0
     unfolding askEnd
     end-reached c ok y q x =
         let p = asked-done (askRecord w end) (asks-record w end) n e y in
@@ -90,16 +90,16 @@ module _ (a : List ℕ) (t : Table) (h : Handle) (end : ℕ) (k : admit a t ≡ 
         found false f = absurd (x (sym f))
 
 -- arena or table are refused
-pub end-unadmitted : (a : List ℕ) (t : Table) (h : Handle) (end : ℕ) {r : ℕ} (v : ℕ) (P : Type 0) → (r ≡ 0 → ⊥) → admit a t ≡ refused r → Went (askEnd a t h end) v P r
+pub end-unadmitted : (a : List ℕ) (t : Table) (who : ℕ) (h : Handle) (end : ℕ) {r : ℕ} (v : ℕ) (P : Type 0) → (r ≡ 0 → ⊥) → admit a t ≡ refused r → Went (askEnd a t who h end) v P r
 unfolding askEnd
-end-unadmitted a t h end {r} v P z e = ill (above-zero r z) (rw e)
+end-unadmitted a t who h end {r} v P z e = ill (above-zero r z) (rw e)
 
 -- ---- a call is its questions, and then its steps: they refuse a missing file first
 
-pub end-split : {A : Type 0} (a : List ℕ) (t : Table) (h : Handle) (end : ℕ) (k : ℕ → Out A) → ((i : ℕ) → there a (nodeFile (rowAt t i .rec)) ≡ false → k i ≡ refused 19)
-    → bind (admit a t) (λ _. bind (byHandle t h) (λ i. bind (hasContents (rowAt t i .rec)) (λ _. bind (notTooBig end) (λ _. k i)))) ≡ bind (askEnd a t h end) k
+pub end-split : {A : Type 0} (a : List ℕ) (t : Table) (who : ℕ) (h : Handle) (end : ℕ) (k : ℕ → Out A) → ((i : ℕ) → there a (nodeFile (rowAt t i .rec)) ≡ false → k i ≡ refused 19)
+    → bind (admit a t) (λ _. bind (byHandle t who h) (λ i. bind (hasContents (rowAt t i .rec)) (λ _. bind (notTooBig end) (λ _. k i)))) ≡ bind (askEnd a t who h end) k
 unfolding askEnd askRecord
-end-split {A} a t h end k none = go (admit a t) (byHandle t h)
+end-split {A} a t who h end k none = go (admit a t) (byHandle t who h)
   where
     last : (i : ℕ) (o : Out Unit) (b c : Bool) → (c ≡ false → k i ≡ refused 19) → bind o (λ _. bind (ensure b 22) (λ _. k i)) ≡ bind (bind (bind o (λ _. ensure b 22)) (λ _. bind (ensure c 19) (λ _. done i))) k
     last i (refused n) b c x = refl

@@ -63,13 +63,13 @@ steps-missing : (a : List ℕ) (t : Table) (n i : ℕ) → there a (nodeFile (ro
 unfolding resizeSteps cutFile
 steps-missing a t n i e = rw e
 
-resize-is : (a : List ℕ) (t : Table) (h : Handle) (n : ℕ) → callResize a t h n ≡ bind (askEnd a t h n) (λ i. ending (resizeSteps (start a t) i n))
+resize-is : (a : List ℕ) (t : Table) (who : ℕ) (h : Handle) (n : ℕ) → callResize a t who h n ≡ bind (askEnd a t who h n) (λ i. ending (resizeSteps (start a t) i n))
 unfolding callResize
-resize-is a t h n = end-split a t h n (λ i. ending (resizeSteps (start a t) i n)) (steps-missing a t n)
+resize-is a t who h n = end-split a t who h n (λ i. ending (resizeSteps (start a t) i n)) (steps-missing a t n)
 
-pub resize-not : (a : List ℕ) (t : Table) (h : Handle) (n : ℕ) {r : ℕ} → askEnd a t h n ≡ refused r → callResize a t h n ≡ refused r
-resize-not a t h n e = resize-is a t h n ∙ rw e
+pub resize-not : (a : List ℕ) (t : Table) (who : ℕ) (h : Handle) (n : ℕ) {r : ℕ} → askEnd a t who h n ≡ refused r → callResize a t who h n ≡ refused r
+resize-not a t who h n e = resize-is a t who h n ∙ rw e
 
-pub resized : (a b m d : List ℕ) (h : Handle) (n i : ℕ) → askEnd a (tableIn m) h n ≡ done i → Sized a b m d i n → Ended (callResize a (tableIn m) h n) a b (tableIn d) 0
+pub resized : (a b m d : List ℕ) (who : ℕ) (h : Handle) (n i : ℕ) → askEnd a (tableIn m) who h n ≡ done i → Sized a b m d i n → Ended (callResize a (tableIn m) who h n) a b (tableIn d) 0
 unfolding resizeSteps
-resized a b m d h n i e S = went (resize-is a (tableIn m) h n ∙ rw (e, S .arena, S .table))
+resized a b m d who h n i e S = went (resize-is a (tableIn m) who h n ∙ rw (e, S .arena, S .table))

@@ -26,10 +26,10 @@ askRecord r end = do
   notTooBig end
 
 -- 1, 2, 3, 4, 21, 22, then 19 for a missing file, which is the first that the steps meet; and the handle's row
-unfoldable pub askEnd : List ℕ → Table → Handle → ℕ → Out ℕ
-askEnd a t h end = do
+unfoldable pub askEnd : List ℕ → Table → ℕ → Handle → ℕ → Out ℕ
+askEnd a t w h end = do
   _ ← admit a t
-  i ← byHandle t h
+  i ← byHandle t w h
   _ ← askRecord (rowAt t i .rec) end
   _ ← ensure (there a (nodeFile (rowAt t i .rec))) stuck
   done i

@@ -109,14 +109,15 @@ pub fn reach_file(
     first: &[u16],
     next: &[u16],
     mem: &[u8],
+    who: u8,
     h: Handle,
     place: u64,
     n: u64,
 ) -> Sizing
     requires { ⌜ Admitted (now arena) (now first) (now next) (now mem) ⌝ }
-    ensures { λ r. ⌜ Went (askEnd (now (arena .entry)) (tableIn (now (mem .entry))) h (place + n)) (r .row) (Reached (now (arena .entry)) (tableIn (now (mem .entry))) (r .row) (r .head) (place + n)) (r .reason) ⌝ }
+    ensures { λ r. ⌜ Went (askEnd (now (arena .entry)) (tableIn (now (mem .entry))) who h (place + n)) (r .row) (Reached (now (arena .entry)) (tableIn (now (mem .entry))) (r .row) (r .head) (place + n)) (r .reason) ⌝ }
 {
-    let b = by_handle(mem, h);
+    let b = by_handle(mem, who, h);
     if b.reason != 0 {
         return not_sized(b.reason);
     }
@@ -144,19 +145,20 @@ pub fn resize_led(
     first: &[u16],
     next: &[u16],
     mem: &[u8],
+    who: u8,
     h: Handle,
     n: u64,
 ) -> Sizing
     requires { ⌜ Admitted (now arena) (now first) (now next) (now mem) ⌝ }
-    ensures { λ r. ⌜ Went (askEnd (now (arena .entry)) (tableIn (now (mem .entry))) h n) (r .row) (Reached (now (arena .entry)) (tableIn (now (mem .entry))) (r .row) (r .head) n) (r .reason) ⌝ }
+    ensures { λ r. ⌜ Went (askEnd (now (arena .entry)) (tableIn (now (mem .entry))) who h n) (r .row) (Reached (now (arena .entry)) (tableIn (now (mem .entry))) (r .row) (r .head) n) (r .reason) ⌝ }
 {
-    reach_file(arena, first, next, mem, h, 0, n)
+    reach_file(arena, first, next, mem, who, h, 0, n)
 }
 
 // The frame of the chains is left before the stores.
-fn resize_asked(arena: &[u8], mem: &[u8], h: Handle, n: u64) -> Sizing
+fn resize_asked(arena: &[u8], mem: &[u8], who: u8, h: Handle, n: u64) -> Sizing
     requires { ⌜ Whole (now mem) ⌝ }
-    ensures { λ r. ⌜ Went (askEnd (now (arena .entry)) (tableIn (now (mem .entry))) h n) (r .row) (Reached (now (arena .entry)) (tableIn (now (mem .entry))) (r .row) (r .head) n) (r .reason) ⌝ }
+    ensures { λ r. ⌜ Went (askEnd (now (arena .entry)) (tableIn (now (mem .entry))) who h n) (r .row) (Reached (now (arena .entry)) (tableIn (now (mem .entry))) (r .row) (r .head) n) (r .reason) ⌝ }
 {
     let mut chains = [0u16; 8192];
     let r = admit(arena, &mut chains, mem);
@@ -164,15 +166,15 @@ fn resize_asked(arena: &[u8], mem: &[u8], h: Handle, n: u64) -> Sizing
         return not_sized(r);
     }
     let c = &chains[..];
-    resize_led(arena, &c[..4096], &c[4096..8192], mem, h, n)
+    resize_led(arena, &c[..4096], &c[4096..8192], mem, who, h, n)
 }
 
 // The call on the table in memory.
-pub fn resize_on(arena: &mut [u8], mem: &mut [u8], h: Handle, n: u64) -> u8
+pub fn resize_on(arena: &mut [u8], mem: &mut [u8], who: u8, h: Handle, n: u64) -> u8
     requires { ⌜ Whole (now mem) ⌝ }
-    ensures { λ r. ⌜ Ended (callResize (now (arena .entry)) (tableIn (now (mem .entry))) h n) (now (arena .entry)) (now (arena .exit)) (tableIn (now (mem .exit))) r ⌝ }
+    ensures { λ r. ⌜ Ended (callResize (now (arena .entry)) (tableIn (now (mem .entry))) who h n) (now (arena .entry)) (now (arena .exit)) (tableIn (now (mem .exit))) r ⌝ }
 {
-    let s = resize_asked(&arena[..], &mem[..], h, n);
+    let s = resize_asked(&arena[..], &mem[..], who, h, n);
     if s.reason != 0 {
         return s.reason;
     }
@@ -180,11 +182,11 @@ pub fn resize_on(arena: &mut [u8], mem: &mut [u8], h: Handle, n: u64) -> u8
     0
 }
 
-pub fn resize(arena: &mut [u8], t: Table, h: Handle, n: u64) -> Reply
-    ensures { λ r. ⌜ Returned t (callResize (now (arena .entry)) t h n) (now (arena .entry)) (now (arena .exit)) r ⌝ }
+pub fn resize(arena: &mut [u8], t: Table, who: u8, h: Handle, n: u64) -> Reply
+    ensures { λ r. ⌜ Returned t (callResize (now (arena .entry)) t who h n) (now (arena .entry)) (now (arena .exit)) r ⌝ }
 {
     let mut mem = [0u8; MEMORY];
     put_table(&mut mem, t);
-    let r = resize_on(arena, &mut mem, h, n);
+    let r = resize_on(arena, &mut mem, who, h, n);
     settle(t, &mem, r)
 }

@@ -53,19 +53,19 @@ row-is : (a : List ℕ) (t : Table) (i : ℕ) (name : List ℕ)
 unfolding unlinkIn unlinkAsks nameAsks
 row-is a t i name = asks-is (goodName name) (liveFolder (recAt (start a t) i)) (notSpecial name) (notLong name) (removeName (start a t) i name) _ (name-is (start a t) i name)
 
-unlink-is : (a : List ℕ) (t : Table) (h : Handle) (name : List ℕ) → callUnlink a t h name ≡ bind (admit a t) (λ _. bind (byHandle t h) (λ i. ending (unlinkIn (start a t) i name)))
+unlink-is : (a : List ℕ) (t : Table) (who : ℕ) (h : Handle) (name : List ℕ) → callUnlink a t who h name ≡ bind (admit a t) (λ _. bind (byHandle t who h) (λ i. ending (unlinkIn (start a t) i name)))
 unfolding callUnlink
-unlink-is a t h name = bind-same (admit a t) _ _ (λ _. bind-same (byHandle t h) _ _ (λ i. row-is a t i name))
+unlink-is a t who h name = bind-same (admit a t) _ _ (λ _. bind-same (byHandle t who h) _ _ (λ i. row-is a t i name))
 
-pub unlink-refused : (a : List ℕ) (t : Table) (h : Handle) (name : List ℕ) {n : ℕ} → admit a t ≡ refused n → callUnlink a t h name ≡ refused n
-unlink-refused a t h name q = unlink-is a t h name ∙ rw q
+pub unlink-refused : (a : List ℕ) (t : Table) (who : ℕ) (h : Handle) (name : List ℕ) {n : ℕ} → admit a t ≡ refused n → callUnlink a t who h name ≡ refused n
+unlink-refused a t who h name q = unlink-is a t who h name ∙ rw q
 
 -- once arena, table and handle are known
-module _ (a first next m n : List ℕ) (h : Handle) (name : List ℕ) (q : admit a (tableIn m) ≡ done tt) {i r : ℕ} (g : Went (byHandle (tableIn m) h) i (Begun a first next m n × (i < 34)) r) where
-  pub unlink-not : {e : Out After} {Q : Type 0} → (r ≡ 0 → ⊥) → Rest (callUnlink a (tableIn m) h name) e Q r
-  unlink-not z = rest-off z (unlink-is a (tableIn m) h name ∙ rw (q, went-not g z))
+module _ (a first next m n : List ℕ) (who : ℕ) (h : Handle) (name : List ℕ) (q : admit a (tableIn m) ≡ done tt) {i r : ℕ} (g : Went (byHandle (tableIn m) who h) i (Begun a first next m n × (i < 34)) r) where
+  pub unlink-not : {e : Out After} {Q : Type 0} → (r ≡ 0 → ⊥) → Rest (callUnlink a (tableIn m) who h name) e Q r
+  unlink-not z = rest-off z (unlink-is a (tableIn m) who h name ∙ rw (q, went-not g z))
 
-  pub unlink-row : {e : Out Fs} {Q : Type 0} {x : ℕ} → r ≡ 0 → Rest (unlinkIn (fsAt a n) i name) e Q x → Rest (callUnlink a (tableIn m) h name) (ending e) ((legal a ≡ true) × Q) x
+  pub unlink-row : {e : Out Fs} {Q : Type 0} {x : ℕ} → r ≡ 0 → Rest (unlinkIn (fsAt a n) i name) e Q x → Rest (callUnlink a (tableIn m) who h name) (ending e) ((legal a ≡ true) × Q) x
   unlink-row z f =
       let b = went-has g z .0 in
-      rest-as (unlink-is a (tableIn m) h name ∙ rw (q, went-is g z, ← begun-start b)) (λ p. (b .led .whole, p)) (rest-then (λ s. done (after s)) f)
+      rest-as (unlink-is a (tableIn m) who h name ∙ rw (q, went-is g z, ← begun-start b)) (λ p. (b .led .whole, p)) (rest-then (λ s. done (after s)) f)

@@ -185,13 +185,14 @@ pub fn unlink_led(
     first: &[u16],
     next: &[u16],
     mem: &mut [u8],
+    who: u8,
     h: Handle,
     name: &[u8],
 ) -> Picked
     requires { ⌜ Admitted (now arena) (now first) (now next) (now mem) ⌝ }
-    ensures { λ r. ⌜ Rest (callUnlink (now (arena .entry)) (tableIn (now (mem .entry))) h (now (name .entry))) (ending (removeNode (fsAt (now (arena .entry)) (now (mem .exit))) (r .row) (r .node) (r .place))) ((legal (now (arena .entry)) ≡ true) × (Whole (now (mem .exit)) × ((r .row < 34) × (r .node < 34)))) (r .reason) ⌝ }
+    ensures { λ r. ⌜ Rest (callUnlink (now (arena .entry)) (tableIn (now (mem .entry))) who h (now (name .entry))) (ending (removeNode (fsAt (now (arena .entry)) (now (mem .exit))) (r .row) (r .node) (r .place))) ((legal (now (arena .entry)) ≡ true) × (Whole (now (mem .exit)) × ((r .row < 34) × (r .node < 34)))) (r .reason) ⌝ }
 {
-    let b = reach_read(arena, first, next, mem, h);
+    let b = reach_read(arena, first, next, mem, who, h);
     if b.reason != 0 {
         return Picked {
             reason: b.reason,
@@ -204,9 +205,9 @@ pub fn unlink_led(
 }
 
 // The frame of the chains is left before a workspace is made.
-fn unlink_asked(arena: &[u8], mem: &mut [u8], h: Handle, name: &[u8]) -> Picked
+fn unlink_asked(arena: &[u8], mem: &mut [u8], who: u8, h: Handle, name: &[u8]) -> Picked
     requires { ⌜ Whole (now mem) ⌝ }
-    ensures { λ r. ⌜ Rest (callUnlink (now (arena .entry)) (tableIn (now (mem .entry))) h (now (name .entry))) (ending (removeNode (fsAt (now (arena .entry)) (now (mem .exit))) (r .row) (r .node) (r .place))) ((legal (now (arena .entry)) ≡ true) × (Whole (now (mem .exit)) × ((r .row < 34) × (r .node < 34)))) (r .reason) ⌝ }
+    ensures { λ r. ⌜ Rest (callUnlink (now (arena .entry)) (tableIn (now (mem .entry))) who h (now (name .entry))) (ending (removeNode (fsAt (now (arena .entry)) (now (mem .exit))) (r .row) (r .node) (r .place))) ((legal (now (arena .entry)) ≡ true) × (Whole (now (mem .exit)) × ((r .row < 34) × (r .node < 34)))) (r .reason) ⌝ }
 {
     let mut chains = [0u16; 8192];
     let r = admit(arena, &mut chains, &mem[..]);
@@ -219,7 +220,7 @@ fn unlink_asked(arena: &[u8], mem: &mut [u8], h: Handle, name: &[u8]) -> Picked
         };
     }
     let c = &chains[..];
-    unlink_led(arena, &c[..4096], &c[4096..8192], mem, h, name)
+    unlink_led(arena, &c[..4096], &c[4096..8192], mem, who, h, name)
 }
 
 // ---- the steps
@@ -277,22 +278,22 @@ pub fn remove(arena: &mut [u8], mem: &mut [u8], i: usize, c: usize, k: usize) ->
 }
 
 // The call on the table in memory.
-pub fn unlink_on(arena: &mut [u8], mem: &mut [u8], h: Handle, name: &[u8]) -> u8
+pub fn unlink_on(arena: &mut [u8], mem: &mut [u8], who: u8, h: Handle, name: &[u8]) -> u8
     requires { ⌜ Whole (now mem) ⌝ }
-    ensures { λ r. ⌜ Ended (callUnlink (now (arena .entry)) (tableIn (now (mem .entry))) h (now (name .entry))) (now (arena .entry)) (now (arena .exit)) (tableIn (now (mem .exit))) r ⌝ }
+    ensures { λ r. ⌜ Ended (callUnlink (now (arena .entry)) (tableIn (now (mem .entry))) who h (now (name .entry))) (now (arena .entry)) (now (arena .exit)) (tableIn (now (mem .exit))) r ⌝ }
 {
-    let p = unlink_asked(&arena[..], mem, h, name);
+    let p = unlink_asked(&arena[..], mem, who, h, name);
     if p.reason != 0 {
         return p.reason;
     }
     remove(arena, mem, p.row, p.node, p.place)
 }
 
-pub fn unlink(arena: &mut [u8], t: Table, h: Handle, name: &[u8]) -> Reply
-    ensures { λ r. ⌜ Returned t (callUnlink (now (arena .entry)) t h (now (name .entry))) (now (arena .entry)) (now (arena .exit)) r ⌝ }
+pub fn unlink(arena: &mut [u8], t: Table, who: u8, h: Handle, name: &[u8]) -> Reply
+    ensures { λ r. ⌜ Returned t (callUnlink (now (arena .entry)) t who h (now (name .entry))) (now (arena .entry)) (now (arena .exit)) r ⌝ }
 {
     let mut mem = [0u8; MEMORY];
     put_table(&mut mem, t);
-    let r = unlink_on(arena, &mut mem, h, name);
+    let r = unlink_on(arena, &mut mem, who, h, name);
     settle(t, &mem, r)
 }

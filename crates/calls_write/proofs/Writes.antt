@@ -33,9 +33,9 @@ steps-missing : (a : List ℕ) (t : Table) (place : ℕ) (src : List ℕ) (i : �
 unfolding writeSteps putFile
 steps-missing a t place src i e = rw e
 
-write-is : (a : List ℕ) (t : Table) (h : Handle) (place : ℕ) (src : List ℕ) → callWrite a t h place src ≡ bind (askEnd a t h (place + length src)) (λ i. ending (writeSteps (start a t) i place src))
+write-is : (a : List ℕ) (t : Table) (who : ℕ) (h : Handle) (place : ℕ) (src : List ℕ) → callWrite a t who h place src ≡ bind (askEnd a t who h (place + length src)) (λ i. ending (writeSteps (start a t) i place src))
 unfolding callWrite
-write-is a t h place src = end-split a t h (place + length src) (λ i. ending (writeSteps (start a t) i place src)) (steps-missing a t place src)
+write-is a t who h place src = end-split a t who h (place + length src) (λ i. ending (writeSteps (start a t) i place src)) (steps-missing a t place src)
 
 -- ---- before any store
 
@@ -43,28 +43,28 @@ write-is a t h place src = end-split a t h (place + length src) (λ i. ending (w
 pub rest-reason : {A : Type 0} {o e : Out A} {P : Type 0} {m n : ℕ} → m ≡ n → Rest o e P n → Rest o e P m
 rest-reason q g = rw q g
 
-module _ (a : List ℕ) (t : Table) (h : Handle) (place n : ℕ) where
+module _ (a : List ℕ) (t : Table) (who : ℕ) (h : Handle) (place n : ℕ) where
   -- arena or table are refused
-  pub write-unadmitted : {r : ℕ} → admit a t ≡ refused r → (r ≡ 0 → ⊥) → (e : Out After) (P : Type 0) (src : List ℕ) → Rest (callWrite a t h place src) e P r
+  pub write-unadmitted : {r : ℕ} → admit a t ≡ refused r → (r ≡ 0 → ⊥) → (e : Out After) (P : Type 0) (src : List ℕ) → Rest (callWrite a t who h place src) e P r
   unfolding callWrite
   write-unadmitted q z e P src = rest-off z (rw q)
 
-  module _ {R : Type 0} {i r : ℕ} (g : Went (askEnd a t h (place + n)) i R r) where
-    asked : r ≡ 0 → (src : List ℕ) → length src ≡ n → callWrite a t h place src ≡ ending (writeSteps (start a t) i place src)
-    asked z src size = write-is a t h place src ∙ rw (size, went-is g z)
+  module _ {R : Type 0} {i r : ℕ} (g : Went (askEnd a t who h (place + n)) i R r) where
+    asked : r ≡ 0 → (src : List ℕ) → length src ≡ n → callWrite a t who h place src ≡ ending (writeSteps (start a t) i place src)
+    asked z src size = write-is a t who h place src ∙ rw (size, went-is g z)
 
     -- a question is
-    pub write-off : (r ≡ 0 → ⊥) → (e : Out After) (P : Type 0) (src : List ℕ) → length src ≡ n → Rest (callWrite a t h place src) e P r
-    write-off z e P src size = rest-off z (write-is a t h place src ∙ rw (size, went-not g z))
+    pub write-off : (r ≡ 0 → ⊥) → (e : Out After) (P : Type 0) (src : List ℕ) → length src ≡ n → Rest (callWrite a t who h place src) e P r
+    write-off z e P src size = rest-off z (write-is a t who h place src ∙ rw (size, went-not g z))
 
     module _ {s : ℕ} {plan : List ℕ} (w : DiskINode) (is : w ≡ rowAt t i .rec) (D : Decided a (nodeFile w) place n plan s) (z : r ≡ 0) where
       -- the free blocks are too few
-      pub write-full : (s ≡ 0 → ⊥) → (e : Out After) (P : Type 0) (src : List ℕ) → length src ≡ n → Rest (callWrite a t h place src) e P s
+      pub write-full : (s ≡ 0 → ⊥) → (e : Out After) (P : Type 0) (src : List ℕ) → length src ≡ n → Rest (callWrite a t who h place src) e P s
       unfolding writeSteps
       write-full y e P src size = rest-off y (asked z src size ∙ rw (← is, decided-not D y src size))
 
       -- nothing refuses the call any more
-      pub write-on : s ≡ 0 → (src : List ℕ) → length src ≡ n → Rest (callWrite a t h place src) (ending (writeSteps (start a t) i place src)) (R × Planned a (nodeFile (rowAt t i .rec)) place n plan) 0
+      pub write-on : s ≡ 0 → (src : List ℕ) → length src ≡ n → Rest (callWrite a t who h place src) (ending (writeSteps (start a t) i place src)) (R × Planned a (nodeFile (rowAt t i .rec)) place n plan) 0
       write-on y src size = on (asked z src size) (went-has g z, rw (← is) (decided-can D y))
 
 -- ---- the stores

@@ -120,6 +120,7 @@ pub fn write_led(
     first: &[u16],
     next: &[u16],
     mem: &[u8],
+    who: u8,
     h: Handle,
     place: u64,
     n: usize,
@@ -127,9 +128,9 @@ pub fn write_led(
 ) -> Sizing
     requires { ⌜ Admitted (now arena) (now first) (now next) (now mem) ⌝ }
     requires { ⌜ length (now plan) ≡ 4096 ⌝ }
-    ensures { λ r. ⌜ ((src : List ℕ) → length src ≡ n → Rest (callWrite (now (arena .entry)) (tableIn (now (mem .entry))) h place src) (ending (writeSteps (start (now (arena .entry)) (tableIn (now (mem .entry)))) (r .row) place src)) (Reached (now (arena .entry)) (tableIn (now (mem .entry))) (r .row) (r .head) (place + n) × Planned (now (arena .entry)) (nodeFile (rowAt (tableIn (now (mem .entry))) (r .row) .rec)) place n (now (plan .exit))) (r .reason)) ⌝ }
+    ensures { λ r. ⌜ ((src : List ℕ) → length src ≡ n → Rest (callWrite (now (arena .entry)) (tableIn (now (mem .entry))) who h place src) (ending (writeSteps (start (now (arena .entry)) (tableIn (now (mem .entry)))) (r .row) place src)) (Reached (now (arena .entry)) (tableIn (now (mem .entry))) (r .row) (r .head) (place + n) × Planned (now (arena .entry)) (nodeFile (rowAt (tableIn (now (mem .entry))) (r .row) .rec)) place n (now (plan .exit))) (r .reason)) ⌝ }
 {
-    let s = reach_file(arena, first, next, mem, h, place, n as u64);
+    let s = reach_file(arena, first, next, mem, who, h, place, n as u64);
     if s.reason != 0 {
         return s;
     }
@@ -217,13 +218,14 @@ pub fn write_row(
 fn write_asked(
     arena: &[u8],
     mem: &[u8],
+    who: u8,
     h: Handle,
     place: u64,
     n: usize,
     plan: &mut [u16],
 ) -> Sizing
     requires { ⌜ Whole (now mem) × (length (now plan) ≡ 4096) ⌝ }
-    ensures { λ r. ⌜ ((src : List ℕ) → length src ≡ n → Rest (callWrite (now (arena .entry)) (tableIn (now (mem .entry))) h place src) (ending (writeSteps (start (now (arena .entry)) (tableIn (now (mem .entry)))) (r .row) place src)) (Reached (now (arena .entry)) (tableIn (now (mem .entry))) (r .row) (r .head) (place + n) × Planned (now (arena .entry)) (nodeFile (rowAt (tableIn (now (mem .entry))) (r .row) .rec)) place n (now (plan .exit))) (r .reason)) ⌝ }
+    ensures { λ r. ⌜ ((src : List ℕ) → length src ≡ n → Rest (callWrite (now (arena .entry)) (tableIn (now (mem .entry))) who h place src) (ending (writeSteps (start (now (arena .entry)) (tableIn (now (mem .entry)))) (r .row) place src)) (Reached (now (arena .entry)) (tableIn (now (mem .entry))) (r .row) (r .head) (place + n) × Planned (now (arena .entry)) (nodeFile (rowAt (tableIn (now (mem .entry))) (r .row) .rec)) place n (now (plan .exit))) (r .reason)) ⌝ }
 {
     let mut chains = [0u16; 8192];
     let r = admit(arena, &mut chains, mem);
@@ -231,21 +233,32 @@ fn write_asked(
         return not_sized(r);
     }
     let c = &chains[..];
-    write_led(arena, &c[..4096], &c[4096..8192], mem, h, place, n, plan)
+    write_led(
+        arena,
+        &c[..4096],
+        &c[4096..8192],
+        mem,
+        who,
+        h,
+        place,
+        n,
+        plan,
+    )
 }
 
 fn write_in(
     arena: &mut [u8],
     mem: &mut [u8],
+    who: u8,
     h: Handle,
     place: u64,
     src: &[u8],
     plan: &mut [u16],
 ) -> u8
     requires { ⌜ Whole (now mem) × (length (now plan) ≡ 4096) ⌝ }
-    ensures { λ r. ⌜ Ended (callWrite (now (arena .entry)) (tableIn (now (mem .entry))) h place (now (src .entry))) (now (arena .entry)) (now (arena .exit)) (tableIn (now (mem .exit))) r ⌝ }
+    ensures { λ r. ⌜ Ended (callWrite (now (arena .entry)) (tableIn (now (mem .entry))) who h place (now (src .entry))) (now (arena .entry)) (now (arena .exit)) (tableIn (now (mem .exit))) r ⌝ }
 {
-    let s = write_asked(&arena[..], &mem[..], h, place, src.len(), plan);
+    let s = write_asked(&arena[..], &mem[..], who, h, place, src.len(), plan);
     if s.reason != 0 {
         return s.reason;
     }
@@ -254,19 +267,19 @@ fn write_in(
 }
 
 // The call on the table in memory.
-pub fn write_on(arena: &mut [u8], mem: &mut [u8], h: Handle, place: u64, src: &[u8]) -> u8
+pub fn write_on(arena: &mut [u8], mem: &mut [u8], who: u8, h: Handle, place: u64, src: &[u8]) -> u8
     requires { ⌜ Whole (now mem) ⌝ }
-    ensures { λ r. ⌜ Ended (callWrite (now (arena .entry)) (tableIn (now (mem .entry))) h place (now (src .entry))) (now (arena .entry)) (now (arena .exit)) (tableIn (now (mem .exit))) r ⌝ }
+    ensures { λ r. ⌜ Ended (callWrite (now (arena .entry)) (tableIn (now (mem .entry))) who h place (now (src .entry))) (now (arena .entry)) (now (arena .exit)) (tableIn (now (mem .exit))) r ⌝ }
 {
     let mut plan = [0u16; 4096];
-    write_in(arena, mem, h, place, src, &mut plan)
+    write_in(arena, mem, who, h, place, src, &mut plan)
 }
 
-pub fn write(arena: &mut [u8], t: Table, h: Handle, place: u64, src: &[u8]) -> Reply
-    ensures { λ r. ⌜ Returned t (callWrite (now (arena .entry)) t h place (now (src .entry))) (now (arena .entry)) (now (arena .exit)) r ⌝ }
+pub fn write(arena: &mut [u8], t: Table, who: u8, h: Handle, place: u64, src: &[u8]) -> Reply
+    ensures { λ r. ⌜ Returned t (callWrite (now (arena .entry)) t who h place (now (src .entry))) (now (arena .entry)) (now (arena .exit)) r ⌝ }
 {
     let mut mem = [0u8; MEMORY];
     put_table(&mut mem, t);
-    let r = write_on(arena, &mut mem, h, place, src);
+    let r = write_on(arena, &mut mem, who, h, place, src);
     settle(t, &mem, r)
 }

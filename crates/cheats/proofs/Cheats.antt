@@ -23,7 +23,7 @@ use Rattle.steps.specs.Ends.{afterAs}
 use Rattle.calls_create.specs.Held.{ReturnedHeld, heldAs, arenaHeld}
 use Rattle.fsck.specs.declared.Verdict.{Verdict}
 use Rattle.fsck.specs.declared.Verdict.the-variants as verdicts
-use Rattle.course_states.specs.Worlds.{epoch, uuid}
+use Rattle.course_states.specs.Worlds.{epoch, uuid, editor}
 use Rattle.course_states.proofs.States.{handle, rootTable, freshArena, aWorld, bWorld, cWorld}
 use Rattle.cheats.specs.Cheats.{CreateHolds, CreateBroken, CreateRefuses, CreateConstant, CreateStoresNothing, UnlinkHolds, UnlinkBroken, UnlinkRefuses, UnlinkConstant, UnlinkStoresNothing, onward, TwoHold, OnlyFirst, FindHolds, FindBroken, FindRefuses, FindConstant, CreateFindHolds, BlindFind, CheckBroken, PassesAll, FailsAll, InventsNodes, InventsUnused, InventsFree}
 use Rattle.cheats.proofs.Inputs.{byte, createA, a-done, createEmpty, empty-refused, b-done, fresh-five, a-five, a-seven, b-seven, find-before, find-after, unlinkA, unlinkEmpty, gone-answer, c-length, gone-length, unlink-empty}
@@ -88,15 +88,15 @@ unlink-stores port h = (unlinkA, λ c. omega (arith, ap (byte 532) (c .arena), a
 pub find-refuses : FindRefuses
 unfolding FindRefuses FindBroken FindHolds
 find-refuses port h =
-    let x : (n : ℕ) × (port (aWorld .arena) (aWorld .table) (handle 0 1) (97 ∷ []) .answer ≡ gots.Refused n) = h (aWorld .arena) (aWorld .table) (handle 0 1) (97 ∷ []) in
-    (aWorld .arena, aWorld .table, handle 0 1, 97 ∷ [], λ c. not-both (port (aWorld .arena) (aWorld .table) (handle 0 1) (97 ∷ []) .answer) (handle 2 3) (x .0) (c .0 ∙ find-after) (x .1))
+    let x : (n : ℕ) × (port (aWorld .arena) (aWorld .table) editor (handle 0 1) (97 ∷ []) .answer ≡ gots.Refused n) = h (aWorld .arena) (aWorld .table) editor (handle 0 1) (97 ∷ []) in
+    (aWorld .arena, aWorld .table, editor, handle 0 1, 97 ∷ [], λ c. not-both (port (aWorld .arena) (aWorld .table) editor (handle 0 1) (97 ∷ []) .answer) (handle 2 3) (x .0) (c .0 ∙ find-after) (x .1))
 
 pub find-constant : FindConstant
 unfolding FindConstant FindBroken FindHolds
 find-constant port (gots.Held k) h =
-    (freshArena, rootTable, handle 0 1, 97 ∷ [], λ c. not-both (port freshArena rootTable (handle 0 1) (97 ∷ []) .answer) k 11 (h freshArena rootTable (handle 0 1) (97 ∷ [])) (c .0 ∙ find-before))
+    (freshArena, rootTable, editor, handle 0 1, 97 ∷ [], λ c. not-both (port freshArena rootTable editor (handle 0 1) (97 ∷ []) .answer) k 11 (h freshArena rootTable editor (handle 0 1) (97 ∷ [])) (c .0 ∙ find-before))
 find-constant port (gots.Refused n) h =
-    (aWorld .arena, aWorld .table, handle 0 1, 97 ∷ [], λ c. not-both (port (aWorld .arena) (aWorld .table) (handle 0 1) (97 ∷ []) .answer) (handle 2 3) n (c .0 ∙ find-after) (h (aWorld .arena) (aWorld .table) (handle 0 1) (97 ∷ [])))
+    (aWorld .arena, aWorld .table, editor, handle 0 1, 97 ∷ [], λ c. not-both (port (aWorld .arena) (aWorld .table) editor (handle 0 1) (97 ∷ []) .answer) (handle 2 3) n (c .0 ∙ find-after) (h (aWorld .arena) (aWorld .table) editor (handle 0 1) (97 ∷ [])))
 
 -- ---- a sequence
 
@@ -108,14 +108,14 @@ only-first port h =
     second : TwoHold createA (98 ∷ []) (uuid 3) (port createA (98 ∷ []) (uuid 3)) → port createA (98 ∷ []) (uuid 3) .second .arena ≡ bWorld .arena
     second c =
         held-arena (c .1) _
-        ((λ j. callCreate (held-arena (c .0) _ a-done j) (held-table (c .0) _ a-done j) (handle 0 1) (98 ∷ []) typeFile 420 epoch (uuid 3)) ∙ b-done)
+        ((λ j. callCreate (held-arena (c .0) _ a-done j) (held-table (c .0) _ a-done j) editor (handle 0 1) (98 ∷ []) typeFile 420 epoch (uuid 3)) ∙ b-done)
 
 pub blind-find : BlindFind
 unfolding BlindFind CreateFindHolds CreateHolds FindHolds createA
 blind-find port h = (
   createA,
   λ c. not-both (port createA .found .answer) (handle 2 3) 11
-      (c .1 .0 ∙ (λ j. gotOf (callFind (held-arena (c .0) _ a-done j) (held-table (c .0) _ a-done j) (handle 0 1) (97 ∷ []))) ∙ find-after)
+      (c .1 .0 ∙ (λ j. gotOf (callFind (held-arena (c .0) _ a-done j) (held-table (c .0) _ a-done j) editor (handle 0 1) (97 ∷ []))) ∙ find-after)
       (h createA .0 ∙ find-before),
 )
 

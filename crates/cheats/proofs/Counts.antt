@@ -28,7 +28,7 @@ use Rattle.sequences.specs.Calls.{Call, root, create, does, next, Fits}
 use Rattle.sequences.specs.Promises.{Fresh, Keeps}
 use Rattle.sequences.proofs.Fresh.{fresh as format-fresh}
 use Rattle.sequences.proofs.Sequences.{keeps}
-use Rattle.course_states.specs.Worlds.{epoch, uuid, fresh}
+use Rattle.course_states.specs.Worlds.{epoch, uuid, editor, fresh}
 use Rattle.course_states.proofs.Near.{runNear, run-near}
 use Rattle.course_states.proofs.States.{superWith, mapFrom, handle, rootTable, freshArena, aMeta, aArena, aWorld}
 use Rattle.course_states.proofs.Steps.{computed, fresh-is, root-is}
@@ -112,16 +112,16 @@ fresh-passed : Passed (pair freshArena emptyTable)
 unfolding Fresh fresh
 fresh-passed = format-fresh (replicate 8192 0) epoch (uuid 1) (bytes-same 8192 0 (omega arith)) time-fits (length-replicate {A = ℕ} 16 1) (bytes-same 16 1 (omega arith)) freshArena fresh-is
 
-next-root : next root (pair freshArena emptyTable) ≡ pair freshArena rootTable
+next-root : next (root editor) (pair freshArena emptyTable) ≡ pair freshArena rootTable
 unfolding does
 next-root = rw root-is
 
 root-passed : Passed (pair freshArena rootTable)
 unfolding Keeps
-root-passed = subst (λ (p : Pair). Passed p) next-root (keeps (pair freshArena emptyTable) root fresh-passed tt .passes)
+root-passed = subst (λ (p : Pair). Passed p) next-root (keeps (pair freshArena emptyTable) (root editor) fresh-passed (omega arith) .passes)
 
 createA : Call
-createA = create (handle 0 1) (97 ∷ []) typeFile 420 epoch (uuid 2)
+createA = create editor (handle 0 1) (97 ∷ []) typeFile 420 epoch (uuid 2)
 
 next-a : next createA (pair freshArena rootTable) ≡ pair (aWorld .arena) (aWorld .table)
 unfolding does createA
@@ -130,6 +130,7 @@ next-a = rw a-done
 a-fits : Fits createA
 unfolding createA
 a-fits = (
+  omega arith,
   record { hold = omega arith; stamp = omega arith },
   (λ i. bytes-same 1 97 (omega arith) i),
   record { kind = omega arith; mode = omega arith; time = time-fits; file = length-replicate {A = ℕ} 16 2; bytes = bytes-same 16 2 (omega arith) },

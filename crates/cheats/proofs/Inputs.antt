@@ -12,7 +12,7 @@ use Rattle.calls.specs.Answers.{gotOf}
 use Rattle.calls.specs.declared.Answer.the-variants as answers
 use Rattle.calls.specs.declared.Got.the-variants as gots
 use Rattle.steps.specs.Ends.{afterAs, arenaAfter}
-use Rattle.course_states.specs.Worlds.{epoch, uuid, made}
+use Rattle.course_states.specs.Worlds.{epoch, uuid, editor, made}
 use Rattle.course_states.proofs.Calls.{createNear, findCallNear, find-call-near, unlinkNear, unlink-near}
 use Rattle.course_states.proofs.States.{handle, rootTable, freshArena, freshWorld, aMeta, aArena, aWorld, bSlots, bMeta, bArena, bWorld, cSlots, cMeta, cArena, cWorld}
 use Rattle.course_states.proofs.Steps.{computed, fresh-admitted, fresh-made, a-made, a-admitted, b-made, c-admitted}
@@ -29,6 +29,7 @@ unfoldable pub createA : CreateInput
 createA = record {
   arena = freshArena;
   table = rootTable;
+  who = editor;
   handle = handle 0 1;
   name = 97 ∷ [];
   kind = typeFile;
@@ -37,7 +38,7 @@ createA = record {
   file = uuid 2;
 }
 
-pub a-done : callCreate freshArena rootTable (handle 0 1) (97 ∷ []) typeFile 420 epoch (uuid 2)
+pub a-done : callCreate freshArena rootTable editor (handle 0 1) (97 ∷ []) typeFile 420 epoch (uuid 2)
     ≡ done (record { arena = aWorld .arena; table = aWorld .table; handle = handle 1 2 })
 unfolding made freshWorld
 a-done = a-made
@@ -47,6 +48,7 @@ unfoldable pub createEmpty : CreateInput
 createEmpty = record {
   arena = freshArena;
   table = rootTable;
+  who = editor;
   handle = handle 0 1;
   name = [];
   kind = typeFile;
@@ -55,16 +57,16 @@ createEmpty = record {
   file = uuid 2;
 }
 
-empty-near : createNear freshArena rootTable (handle 0 1) [] typeFile 420 epoch (uuid 2) ≡ refused 12
+empty-near : createNear freshArena rootTable editor (handle 0 1) [] typeFile 420 epoch (uuid 2) ≡ refused 12
 unfolding computed createNear rootTable freshArena
 empty-near = refl
 
-pub empty-refused : callCreate freshArena rootTable (handle 0 1) [] typeFile 420 epoch (uuid 2) ≡ refused 12
+pub empty-refused : callCreate freshArena rootTable editor (handle 0 1) [] typeFile 420 epoch (uuid 2) ≡ refused 12
 unfolding made freshWorld
 empty-refused = fresh-made [] typeFile 2 ∙ empty-near
 
 -- `b`, after `a`
-pub b-done : callCreate (aWorld .arena) (aWorld .table) (handle 0 1) (98 ∷ []) typeFile 420 epoch (uuid 3)
+pub b-done : callCreate (aWorld .arena) (aWorld .table) editor (handle 0 1) (98 ∷ []) typeFile 420 epoch (uuid 3)
     ≡ done (record { arena = bWorld .arena; table = bWorld .table; handle = handle 2 3 })
 unfolding made aWorld
 b-done = b-made
@@ -88,50 +90,50 @@ b-seven = refl
 
 -- ---- find `a`, before it is made and after
 
-before-near : findCallNear freshArena rootTable (handle 0 1) (97 ∷ []) ≡ refused 11
+before-near : findCallNear freshArena rootTable editor (handle 0 1) (97 ∷ []) ≡ refused 11
 unfolding computed findCallNear rootTable freshArena
 before-near = refl
 
-pub find-before : gotOf (callFind freshArena rootTable (handle 0 1) (97 ∷ [])) ≡ gots.Refused 11
-find-before = ap gotOf (find-call-near freshArena rootTable (handle 0 1) (97 ∷ []) fresh-admitted ∙ before-near)
+pub find-before : gotOf (callFind freshArena rootTable editor (handle 0 1) (97 ∷ [])) ≡ gots.Refused 11
+find-before = ap gotOf (find-call-near freshArena rootTable editor (handle 0 1) (97 ∷ []) fresh-admitted ∙ before-near)
 
-after-near : gotOf (findCallNear (aWorld .arena) (aWorld .table) (handle 0 1) (97 ∷ [])) ≡ gots.Held (handle 2 3)
+after-near : gotOf (findCallNear (aWorld .arena) (aWorld .table) editor (handle 0 1) (97 ∷ [])) ≡ gots.Held (handle 2 3)
 unfolding computed findCallNear aMeta aArena aWorld
 after-near = refl
 
-pub find-after : gotOf (callFind (aWorld .arena) (aWorld .table) (handle 0 1) (97 ∷ [])) ≡ gots.Held (handle 2 3)
-find-after = ap gotOf (find-call-near (aWorld .arena) (aWorld .table) (handle 0 1) (97 ∷ []) a-admitted) ∙ after-near
+pub find-after : gotOf (callFind (aWorld .arena) (aWorld .table) editor (handle 0 1) (97 ∷ [])) ≡ gots.Held (handle 2 3)
+find-after = ap gotOf (find-call-near (aWorld .arena) (aWorld .table) editor (handle 0 1) (97 ∷ []) a-admitted) ∙ after-near
 
 -- ---- unlink: `a`, with `a`, `b` and `c` there, and the empty name
 
 unfoldable pub unlinkA : UnlinkInput
-unlinkA = record { arena = cWorld .arena; table = cWorld .table; handle = handle 0 1; name = 97 ∷ [] }
+unlinkA = record { arena = cWorld .arena; table = cWorld .table; who = editor; handle = handle 0 1; name = 97 ∷ [] }
 
 unfoldable pub unlinkEmpty : UnlinkInput
-unlinkEmpty = record { arena = cWorld .arena; table = cWorld .table; handle = handle 0 1; name = [] }
+unlinkEmpty = record { arena = cWorld .arena; table = cWorld .table; who = editor; handle = handle 0 1; name = [] }
 
-gone-answer-near : afterAs (cWorld .table) (unlinkNear (cWorld .arena) (cWorld .table) (handle 0 1) (97 ∷ [])) .answer ≡ answers.Done
+gone-answer-near : afterAs (cWorld .table) (unlinkNear (cWorld .arena) (cWorld .table) editor (handle 0 1) (97 ∷ [])) .answer ≡ answers.Done
 unfolding computed unlinkNear cSlots cMeta cArena cWorld
 gone-answer-near = refl
 
-pub gone-answer : afterAs (cWorld .table) (callUnlink (cWorld .arena) (cWorld .table) (handle 0 1) (97 ∷ [])) .answer ≡ answers.Done
-gone-answer = rw (unlink-near (cWorld .arena) (cWorld .table) (handle 0 1) (97 ∷ []) c-admitted) gone-answer-near
+pub gone-answer : afterAs (cWorld .table) (callUnlink (cWorld .arena) (cWorld .table) editor (handle 0 1) (97 ∷ [])) .answer ≡ answers.Done
+gone-answer = rw (unlink-near (cWorld .arena) (cWorld .table) editor (handle 0 1) (97 ∷ []) c-admitted) gone-answer-near
 
 -- byte 20 of the root's head, in block 1: the lowest byte of the folder's length, 1320 and then 1056
 pub c-length : byte 532 (cWorld .arena) ≡ 40
 unfolding computed byte cSlots cMeta cArena cWorld
 c-length = refl
 
-gone-length-near : byte 532 (arenaAfter (cWorld .arena) (unlinkNear (cWorld .arena) (cWorld .table) (handle 0 1) (97 ∷ []))) ≡ 32
+gone-length-near : byte 532 (arenaAfter (cWorld .arena) (unlinkNear (cWorld .arena) (cWorld .table) editor (handle 0 1) (97 ∷ []))) ≡ 32
 unfolding computed byte unlinkNear cSlots cMeta cArena cWorld
 gone-length-near = refl
 
-pub gone-length : byte 532 (arenaAfter (cWorld .arena) (callUnlink (cWorld .arena) (cWorld .table) (handle 0 1) (97 ∷ []))) ≡ 32
-gone-length = rw (unlink-near (cWorld .arena) (cWorld .table) (handle 0 1) (97 ∷ []) c-admitted) gone-length-near
+pub gone-length : byte 532 (arenaAfter (cWorld .arena) (callUnlink (cWorld .arena) (cWorld .table) editor (handle 0 1) (97 ∷ []))) ≡ 32
+gone-length = rw (unlink-near (cWorld .arena) (cWorld .table) editor (handle 0 1) (97 ∷ []) c-admitted) gone-length-near
 
-unlink-empty-near : unlinkNear (cWorld .arena) (cWorld .table) (handle 0 1) [] ≡ refused 9
+unlink-empty-near : unlinkNear (cWorld .arena) (cWorld .table) editor (handle 0 1) [] ≡ refused 9
 unfolding computed unlinkNear cSlots cMeta cArena cWorld
 unlink-empty-near = refl
 
-pub unlink-empty : callUnlink (cWorld .arena) (cWorld .table) (handle 0 1) [] ≡ refused 9
-unlink-empty = unlink-near (cWorld .arena) (cWorld .table) (handle 0 1) [] c-admitted ∙ unlink-empty-near
+pub unlink-empty : callUnlink (cWorld .arena) (cWorld .table) editor (handle 0 1) [] ≡ refused 9
+unlink-empty = unlink-near (cWorld .arena) (cWorld .table) editor (handle 0 1) [] c-admitted ∙ unlink-empty-near

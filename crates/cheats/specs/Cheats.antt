@@ -29,6 +29,7 @@ use Rattle.fsck.specs.declared.Verdict.the-variants as verdicts
 pub record CreateInput : Type 0 where
   pub arena : List ℕ
   pub table : Table
+  pub who : ℕ
   pub handle : Handle
   pub name : List ℕ
   pub kind : ℕ
@@ -44,7 +45,7 @@ pub record CreateResult : Type 0 where
 -- its contract
 unfoldable pub CreateHolds : CreateInput → CreateResult → Type 0
 CreateHolds x y =
-    ReturnedHeld (x .table) (callCreate (x .arena) (x .table) (x .handle) (x .name) (x .kind) (x .mode) (x .time) (x .file)) (x .arena)
+    ReturnedHeld (x .table) (callCreate (x .arena) (x .table) (x .who) (x .handle) (x .name) (x .kind) (x .mode) (x .time) (x .file)) (x .arena)
     (y .arena)
     (y .given)
 
@@ -70,6 +71,7 @@ CreateStoresNothing = (port : CreateInput → CreateResult) → ((x : CreateInpu
 pub record UnlinkInput : Type 0 where
   pub arena : List ℕ
   pub table : Table
+  pub who : ℕ
   pub handle : Handle
   pub name : List ℕ
 
@@ -80,7 +82,7 @@ pub record UnlinkResult : Type 0 where
 
 -- its contract
 unfoldable pub UnlinkHolds : UnlinkInput → UnlinkResult → Type 0
-UnlinkHolds x y = Returned (x .table) (callUnlink (x .arena) (x .table) (x .handle) (x .name)) (x .arena) (y .arena) (y .after)
+UnlinkHolds x y = Returned (x .table) (callUnlink (x .arena) (x .table) (x .who) (x .handle) (x .name)) (x .arena) (y .arena) (y .after)
 
 -- the port breaks the contract at some input
 unfoldable pub UnlinkBroken : (UnlinkInput → UnlinkResult) → Type 0
@@ -101,23 +103,23 @@ UnlinkStoresNothing = (port : UnlinkInput → UnlinkResult) → ((x : UnlinkInpu
 -- ---- find, which leaves the arena
 
 -- its contract: the answer and the table
-unfoldable pub FindHolds : List ℕ → Table → Handle → List ℕ → HeldReply → Type 0
-FindHolds a t h name r = Gives t (callFind a t h name) r
+unfoldable pub FindHolds : List ℕ → Table → ℕ → Handle → List ℕ → HeldReply → Type 0
+FindHolds a t w h name r = Gives t (callFind a t w h name) r
 
 -- the port breaks the contract at some input
-unfoldable pub FindBroken : (List ℕ → Table → Handle → List ℕ → HeldReply) → Type 0
-FindBroken port = (a : List ℕ) × (t : Table) × (h : Handle) × (name : List ℕ) × (FindHolds a t h name (port a t h name) → ⊥)
+unfoldable pub FindBroken : (List ℕ → Table → ℕ → Handle → List ℕ → HeldReply) → Type 0
+FindBroken port = (a : List ℕ) × (t : Table) × (w : ℕ) × (h : Handle) × (name : List ℕ) × (FindHolds a t w h name (port a t w h name) → ⊥)
 
 -- a find that always refuses
 unfoldable pub FindRefuses : Type 0
-FindRefuses = (port : List ℕ → Table → Handle → List ℕ → HeldReply)
-    → ((a : List ℕ) (t : Table) (h : Handle) (name : List ℕ) → (n : ℕ) × (port a t h name .answer ≡ gots.Refused n))
+FindRefuses = (port : List ℕ → Table → ℕ → Handle → List ℕ → HeldReply)
+    → ((a : List ℕ) (t : Table) (w : ℕ) (h : Handle) (name : List ℕ) → (n : ℕ) × (port a t w h name .answer ≡ gots.Refused n))
     → FindBroken port
 
 -- a find with one constant answer
 unfoldable pub FindConstant : Type 0
-FindConstant = (port : List ℕ → Table → Handle → List ℕ → HeldReply) (r : Got)
-    → ((a : List ℕ) (t : Table) (h : Handle) (name : List ℕ) → port a t h name .answer ≡ r)
+FindConstant = (port : List ℕ → Table → ℕ → Handle → List ℕ → HeldReply) (r : Got)
+    → ((a : List ℕ) (t : Table) (w : ℕ) (h : Handle) (name : List ℕ) → port a t w h name .answer ≡ r)
     → FindBroken port
 
 -- ---- a sequence of two calls: a second call starts from what the first left
@@ -127,6 +129,7 @@ unfoldable pub onward : CreateInput → CreateResult → List ℕ → List ℕ �
 onward x y name file = record {
   arena = y .arena;
   table = y .given .table;
+  who = x .who;
   handle = x .handle;
   name = name;
   kind = x .kind;
@@ -158,12 +161,12 @@ pub record CreateFind : Type 0 where
 -- both contracts: the find starts from what the create left
 unfoldable pub CreateFindHolds : CreateInput → CreateFind → Type 0
 CreateFindHolds x r =
-    CreateHolds x (r .created) × FindHolds (r .created .arena) (r .created .given .table) (x .handle) (x .name) (r .found)
+    CreateHolds x (r .created) × FindHolds (r .created .arena) (r .created .given .table) (x .who) (x .handle) (x .name) (r .found)
 
 -- a port whose find answers as if the create had not been
 unfoldable pub BlindFind : Type 0
 BlindFind = (port : CreateInput → CreateFind)
-    → ((x : CreateInput) → FindHolds (x .arena) (x .table) (x .handle) (x .name) (port x .found))
+    → ((x : CreateInput) → FindHolds (x .arena) (x .table) (x .who) (x .handle) (x .name) (port x .found))
     → (x : CreateInput) × (CreateFindHolds x (port x) → ⊥)
 
 -- ---- the checker, whose contract is an equation

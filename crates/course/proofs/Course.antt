@@ -15,7 +15,7 @@ use Rattle.sefs.specs.Meta.{metaFile}
 use Rattle.sefs.specs.Create.{After, Given}
 use Rattle.sefs.specs.Unlink.{callUnlink}
 use Rattle.course.specs.Course.{Fact, id, unused, mapByte, used, links, slot, rootLength, metaLength, check, answers, number, stopped, facts, usedTo, usedIn, idOf, imageFacts, linksOf, slotsFrom, fileRead, folderRead, goneRead, groupRead, freshRow, fileRow, folderRow, unlinkRow, groupRow, checkRow, longRow, emptyRow, minusRow, table, expected}
-use Rattle.course_states.specs.Worlds.{epoch, uuid, rootFile, stored}
+use Rattle.course_states.specs.Worlds.{epoch, uuid, rootFile, editor, stored}
 use Rattle.course_states.proofs.Near.{readNear, read-near}
 use Rattle.course_states.proofs.Calls.{createNear, unlinkNear}
 use Rattle.course_states.proofs.States.{handle, rootTable, freshArena, cSlots, cMeta, cArena, cWorld, fullArena}
@@ -70,12 +70,12 @@ fresh-facts : imageFacts freshArena ≡ done (unused 1021 ∷ mapByte 0 248 ∷ 
 unfolding computed imageFacts stored usedTo freshArena
 fresh-facts = refl
 
-file-facts : bind (createNear freshArena rootTable (handle 0 1) (65 ∷ []) typeFile 420 epoch (uuid 2)) fileRead
+file-facts : bind (createNear freshArena rootTable editor (handle 0 1) (65 ∷ []) typeFile 420 epoch (uuid 2)) fileRead
     ≡ done (id 3 ∷ unused 1020 ∷ mapByte 0 240 ∷ used (0 ∷ 1 ∷ 2 ∷ 3 ∷ 4 ∷ 5 ∷ 6 ∷ []) ∷ [])
 unfolding computed createNear rootTable freshArena fileRead imageFacts stored usedTo
 file-facts = refl
 
-folder-facts : bind (createNear freshArena rootTable (handle 0 1) (66 ∷ []) typeDir 420 epoch (uuid 2)) folderNear
+folder-facts : bind (createNear freshArena rootTable editor (handle 0 1) (66 ∷ []) typeDir 420 epoch (uuid 2)) folderNear
     ≡ done (id 3 ∷ links 2 3 ∷ links 3 2 ∷ used (0 ∷ 1 ∷ 2 ∷ 3 ∷ 4 ∷ 5 ∷ 6 ∷ 7 ∷ 8 ∷ []) ∷ [])
 unfolding computed createNear rootTable freshArena linksNear folderNear usedTo
 folder-facts = refl
@@ -84,33 +84,33 @@ before-facts : slotsNear (cWorld .arena) 2 3 ≡ done (slot 2 (97 ∷ []) ∷ sl
 unfolding computed slotsNear cSlots cMeta cArena cWorld
 before-facts = refl
 
-gone-facts : bind (unlinkNear (cWorld .arena) (cWorld .table) (handle 0 1) (97 ∷ [])) goneNear
+gone-facts : bind (unlinkNear (cWorld .arena) (cWorld .table) editor (handle 0 1) (97 ∷ [])) goneNear
     ≡ done (slot 2 (99 ∷ []) ∷ slot 3 (98 ∷ []) ∷ rootLength 1056 ∷ [])
 unfolding computed unlinkNear slotsNear goneNear cSlots cMeta cArena cWorld
 gone-facts = refl
 
 -- the unlink, and what it leaves
-gone-is : (before : List Fact) → bind (callUnlink (cWorld .arena) (cWorld .table) (cWorld .root) (97 ∷ [])) (λ u. bind (goneRead u) (λ now. done (before ++ now)))
+gone-is : (before : List Fact) → bind (callUnlink (cWorld .arena) (cWorld .table) editor (cWorld .root) (97 ∷ [])) (λ u. bind (goneRead u) (λ now. done (before ++ now)))
     ≡ done (before ++ (slot 2 (99 ∷ []) ∷ slot 3 (98 ∷ []) ∷ rootLength 1056 ∷ []))
 gone-is before =
     rw (gone-near, gone-read-near)
-    (sym (bind-assoc (unlinkNear (cWorld .arena) (cWorld .table) (handle 0 1) (97 ∷ [])) goneNear (λ now. done (before ++ now)))
+    (sym (bind-assoc (unlinkNear (cWorld .arena) (cWorld .table) editor (handle 0 1) (97 ∷ [])) goneNear (λ now. done (before ++ now)))
     ∙ ap (λ (o : Out (List Fact)). bind o (λ now. done (before ++ now))) gone-facts)
 
-group-facts : bind (createNear fullArena rootTable (handle 0 1) (65 ∷ []) typeFile 420 epoch (uuid 2)) groupRead
+group-facts : bind (createNear fullArena rootTable editor (handle 0 1) (65 ∷ []) typeFile 420 epoch (uuid 2)) groupRead
     ≡ done (id 1024 ∷ unused 1022 ∷ mapByte 1 252 ∷ metaLength 262144 ∷ [])
 unfolding computed createNear rootTable fullArena groupRead stored
 group-facts = refl
 
-long-facts : answer (createNear freshArena rootTable (handle 0 1) (replicate 255 97) typeFile 420 epoch (uuid 2)) ≡ 0
+long-facts : answer (createNear freshArena rootTable editor (handle 0 1) (replicate 255 97) typeFile 420 epoch (uuid 2)) ≡ 0
 unfolding computed createNear rootTable freshArena
 long-facts = refl
 
-longer-facts : answer (createNear freshArena rootTable (handle 0 1) (replicate 256 97) typeFile 420 epoch (uuid 2)) ≡ 10
+longer-facts : answer (createNear freshArena rootTable editor (handle 0 1) (replicate 256 97) typeFile 420 epoch (uuid 2)) ≡ 10
 unfolding computed createNear rootTable freshArena
 longer-facts = refl
 
-empty-facts : answer (createNear freshArena rootTable (handle 0 1) [] typeFile 420 epoch (uuid 2)) ≡ 12
+empty-facts : answer (createNear freshArena rootTable editor (handle 0 1) [] typeFile 420 epoch (uuid 2)) ≡ 12
 unfolding computed createNear rootTable freshArena
 empty-facts = refl
 

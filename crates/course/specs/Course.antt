@@ -18,7 +18,7 @@ use Rattle.files.specs.Read.{byteAt, lengthOf, readFile}
 use Rattle.sefs.specs.Meta.{metaFile, mapAt}
 use Rattle.sefs.specs.Create.{After, Given}
 use Rattle.sefs.specs.Unlink.{callUnlink}
-use Rattle.course_states.specs.Worlds.{uuid, rootFile, World, fresh, opened, begun, made, filed, stored, full}
+use Rattle.course_states.specs.Worlds.{uuid, rootFile, editor, World, fresh, opened, begun, made, filed, stored, full}
 
 -- ---- what an example says: a number, or several, and what they are
 
@@ -67,7 +67,7 @@ imageFacts a = do
 
 -- the id behind a new handle: that of its hold's row
 abbrev pub idOf : Given → Fact
-idOf g = id (rowAt (g .table) (getD (g .table .holds) (g .handle .hold) (record { row = 34; stamp = 0 }) .row) .id)
+idOf g = id (rowAt (g .table) (getD (g .table .holds) (g .handle .hold) (record { row = 34; stamp = 0; owner = 0 }) .row) .id)
 
 -- a node's links, by its record
 unfoldable pub linksOf : List ℕ → ℕ → Out Fact
@@ -132,7 +132,7 @@ unlinkRow = do
   w ← filed w (98 ∷ []) 3
   w ← filed w (99 ∷ []) 4
   before ← slotsFrom (w .arena) 2 3
-  u ← callUnlink (w .arena) (w .table) (w .root) (97 ∷ [])
+  u ← callUnlink (w .arena) (w .table) editor (w .root) (97 ∷ [])
   now ← goneRead u
   done (before ++ now)
 

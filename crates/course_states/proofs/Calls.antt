@@ -28,7 +28,7 @@ use Rattle.sefs.specs.Meta.{metaFile, isUsed}
 use Rattle.sefs.specs.Nodes.{Opened, nodeFile, recAt, setRec, openIn, openAt, loadNode, getNode, syncRow, release}
 use Rattle.sefs.specs.Slots.{orNotFound}
 use Rattle.sefs.specs.Folders.{putSlot, direntRemove, nlinksDec, unlinkFolder, direntNodeRemove}
-use Rattle.sefs.specs.Ask.{admit, byHandle, goodName, newName, notLong, notSpecial, known, folder, liveFolder, orExists, start}
+use Rattle.sefs.specs.Ask.{admit, anOwner, byHandle, goodName, newName, notLong, notSpecial, known, folder, liveFolder, orExists, start}
 use Rattle.sefs.specs.Open.{holdNode, callRoot, callFind}
 use Rattle.sefs.specs.Create.{After, after, Given, createSteps, callCreate}
 use Rattle.sefs.specs.Unlink.{notFull, unlinkSteps, callUnlink}
@@ -74,58 +74,59 @@ get-near : (s : Fs) (id : ℕ) → getNode s id ≡ getNear s id
 unfolding getNode getNear
 get-near s id = λ j. bind (s .meta) (λ m. guard (isUsed m id) stuck (open-near s id (rowOf (s .table) id) j))
 
-unfoldable pub holdNear : Fs → ℕ → Out Added
-holdNear s id = do
+unfoldable pub holdNear : Fs → ℕ → ℕ → Out Added
+holdNear s w id = do
   o ← getNear s id
-  done (addHold (o .state .table) (o .row))
+  done (addHold (o .state .table) w (o .row))
 
-hold-near : (s : Fs) (id : ℕ) → holdNode s id ≡ holdNear s id
+hold-near : (s : Fs) (w id : ℕ) → holdNode s w id ≡ holdNear s w id
 unfolding holdNode holdNear
-hold-near s id = λ j. bind (get-near s id j) (λ o. done (addHold (o .state .table) (o .row)))
+hold-near s w id = λ j. bind (get-near s id j) (λ o. done (addHold (o .state .table) w (o .row)))
 
 -- ---- root
 
-unfoldable pub rootNear : List ℕ → Table → Out Added
-rootNear a t = do
-  _ ← ensure (canHold t) tableFull
-  holdNear (startNear a t) 2
+unfoldable pub rootNear : List ℕ → Table → ℕ → Out Added
+rootNear a t w = do
+  _ ← anOwner w
+  _ ← ensure (canHold t w) tableFull
+  holdNear (startNear a t) w 2
 
-pub root-near : (a : List ℕ) (t : Table) → admit a t ≡ done tt → callRoot a t ≡ rootNear a t
+pub root-near : (a : List ℕ) (t : Table) (w : ℕ) → admit a t ≡ done tt → callRoot a t w ≡ rootNear a t w
 unfolding callRoot rootNear
-root-near a t ok = λ j. bind (ok j) (λ _. bind (ensure (canHold t) tableFull) (λ _. hold-near (start-near a t j) 2 j))
+root-near a t w ok = λ j. bind (ok j) (λ _. bind (anOwner w) (λ _. bind (ensure (canHold t w) tableFull) (λ _. hold-near (start-near a t j) w 2 j)))
 
 -- ---- find
 
-unfoldable pub findCallNear : List ℕ → Table → Handle → List ℕ → Out Added
-findCallNear a t h name = do
-  i ← byHandle t h
+unfoldable pub findCallNear : List ℕ → Table → ℕ → Handle → List ℕ → Out Added
+findCallNear a t w h name = do
+  i ← byHandle t w h
   _ ← goodName name
   _ ← known (rowAt t i .rec)
   _ ← folder (rowAt t i .rec)
   _ ← notLong name
   _ ← ensure (not (isDots name && eqb (rowAt t i .rec .nlinks) 0)) dirRemoved
   s ← findNear a (rowAt t i .rec) name
-  _ ← ensure (canHold t) tableFull
-  holdNear (startNear a t) (s .entry .id)
+  _ ← ensure (canHold t w) tableFull
+  holdNear (startNear a t) w (s .entry .id)
 
-pub find-call-near : (a : List ℕ) (t : Table) (h : Handle) (name : List ℕ) → admit a t ≡ done tt → callFind a t h name ≡ findCallNear a t h name
+pub find-call-near : (a : List ℕ) (t : Table) (w : ℕ) (h : Handle) (name : List ℕ) → admit a t ≡ done tt → callFind a t w h name ≡ findCallNear a t w h name
 unfolding callFind findCallNear
-find-call-near a t h name ok =
+find-call-near a t w h name ok =
     λ j. bind (ok j)
-    (λ _. bind (byHandle t h)
+    (λ _. bind (byHandle t w h)
     (λ i. bind (goodName name)
     (λ _. bind (known (rowAt t i .rec))
     (λ _. bind (folder (rowAt t i .rec))
     (λ _. bind (notLong name)
     (λ _. bind (ensure (not (isDots name && eqb (rowAt t i .rec .nlinks) 0)) dirRemoved)
     (λ _. bind (find-near a (rowAt t i .rec) name j)
-    (λ s. bind (ensure (canHold t) tableFull) (λ _. hold-near (start-near a t j) (s .entry .id) j)))))))))
+    (λ s. bind (ensure (canHold t w) tableFull) (λ _. hold-near (start-near a t j) w (s .entry .id) j)))))))))
 
 -- ---- create
 
-unfoldable pub createNear : List ℕ → Table → Handle → List ℕ → ℕ → ℕ → Timespec → List ℕ → Out Given
-createNear a t h name kind mode time uuid = do
-  i ← byHandle t h
+unfoldable pub createNear : List ℕ → Table → ℕ → Handle → List ℕ → ℕ → ℕ → Timespec → List ℕ → Out Given
+createNear a t w h name kind mode time uuid = do
+  i ← byHandle t w h
   _ ← newName name
   _ ← ensure (isType kind) invalidParam
   _ ← liveFolder (rowAt t i .rec)
@@ -134,15 +135,15 @@ createNear a t h name kind mode time uuid = do
   _ ← orExists f
   _ ← ensure (not (there a (file 1 uuid))) fileTaken
   _ ← ensure (not (isFolder kind && eqb (rowAt t i .rec .nlinks) 65535)) tooManyLinks
-  _ ← ensure (canHold t) tableFull
-  createSteps (startNear a t) i name kind mode time uuid
+  _ ← ensure (canHold t w) tableFull
+  createSteps (startNear a t) w i name kind mode time uuid
 
-pub create-near : (a : List ℕ) (t : Table) (h : Handle) (name : List ℕ) (kind mode : ℕ) (time : Timespec) (uuid : List ℕ)
-    → admit a t ≡ done tt → callCreate a t h name kind mode time uuid ≡ createNear a t h name kind mode time uuid
+pub create-near : (a : List ℕ) (t : Table) (w : ℕ) (h : Handle) (name : List ℕ) (kind mode : ℕ) (time : Timespec) (uuid : List ℕ)
+    → admit a t ≡ done tt → callCreate a t w h name kind mode time uuid ≡ createNear a t w h name kind mode time uuid
 unfolding callCreate createNear
-create-near a t h name kind mode time uuid ok =
+create-near a t w h name kind mode time uuid ok =
     λ j. bind (ok j)
-    (λ _. bind (byHandle t h)
+    (λ _. bind (byHandle t w h)
     (λ i. bind (newName name)
     (λ _. bind (ensure (isType kind) invalidParam)
     (λ _. bind (liveFolder (rowAt t i .rec))
@@ -151,7 +152,7 @@ create-near a t h name kind mode time uuid ok =
     (λ f. bind (orExists f)
     (λ _. bind (ensure (not (there a (file 1 uuid))) fileTaken)
     (λ _. bind (ensure (not (isFolder kind && eqb (rowAt t i .rec .nlinks) 65535)) tooManyLinks)
-    (λ _. bind (ensure (canHold t) tableFull) (λ _. createSteps (start-near a t j) i name kind mode time uuid)))))))))))
+    (λ _. bind (ensure (canHold t w) tableFull) (λ _. createSteps (start-near a t j) w i name kind mode time uuid)))))))))))
 
 -- ---- unlink
 
@@ -184,9 +185,9 @@ unlink-steps-near s i c k =
     λ j. bind (bind (remove-near s i k j) (λ s. bind (nlinksDec s c) (λ s. bind (pick (isFolder (recAt s c .kind)) (unlinkFolder s i c) (done s)) (λ s. release s c))))
     (λ s. bind (syncRow s i) (λ s. done (after s)))
 
-unfoldable pub unlinkNear : List ℕ → Table → Handle → List ℕ → Out After
-unlinkNear a t h name = do
-  i ← byHandle t h
+unfoldable pub unlinkNear : List ℕ → Table → ℕ → Handle → List ℕ → Out After
+unlinkNear a t w h name = do
+  i ← byHandle t w h
   _ ← goodName name
   _ ← liveFolder (rowAt t i .rec)
   _ ← notSpecial name
@@ -196,11 +197,11 @@ unlinkNear a t h name = do
   _ ← notFull (recAt (o .state) (o .row))
   unlinkStepsNear (o .state) i (o .row) (s .place)
 
-pub unlink-near : (a : List ℕ) (t : Table) (h : Handle) (name : List ℕ) → admit a t ≡ done tt → callUnlink a t h name ≡ unlinkNear a t h name
+pub unlink-near : (a : List ℕ) (t : Table) (w : ℕ) (h : Handle) (name : List ℕ) → admit a t ≡ done tt → callUnlink a t w h name ≡ unlinkNear a t w h name
 unfolding callUnlink unlinkNear
-unlink-near a t h name ok =
+unlink-near a t w h name ok =
     λ j. bind (ok j)
-    (λ _. bind (byHandle t h)
+    (λ _. bind (byHandle t w h)
     (λ i. bind (goodName name)
     (λ _. bind (liveFolder (rowAt t i .rec))
     (λ _. bind (notSpecial name)

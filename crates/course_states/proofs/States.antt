@@ -17,7 +17,7 @@ use Rattle.arena.specs.Fields.{File, file}
 use Rattle.sefs.specs.Meta.{metaFile}
 use Rattle.sefs.specs.Records.{newRecord, withLinks, withBlocks}
 use Rattle.sefs.specs.Folders.{entry}
-use Rattle.course_states.specs.Worlds.{World, epoch, uuid, rootFile}
+use Rattle.course_states.specs.Worlds.{World, epoch, uuid, rootFile, editor}
 
 -- ---- the parts
 
@@ -64,7 +64,7 @@ folderBytes own l = entryBytes (entry own (46 ∷ []) typeDir) ++ (entryBytes (e
 abbrev pub slotFile : ℕ → ℕ → List ℕ
 slotFile id byte = entryBytes (entry id (byte ∷ []) typeFile)
 
--- ---- tables: a row for each open node, and a hold on each, with stamps from 1
+-- ---- tables: a row for each open node, and a hold of the editor's on each, with stamps from 1
 
 abbrev pub clean : ℕ → DiskINode → Row
 clean id r = record { id = id; dirty = false; rec = r }
@@ -73,7 +73,7 @@ unfoldable pub rowsOf : List Row → List Row
 rowsOf l = l ++ replicate (34 - length l) zeroRow
 
 abbrev pub hold : ℕ → ℕ → Hold
-hold row stamp = record { row = row; stamp = stamp }
+hold row stamp = record { row = row; stamp = stamp; owner = editor }
 
 unfoldable pub holdsOf : List Hold → List Hold
 holdsOf l = l ++ replicate (32 - length l) zeroHold

@@ -16,8 +16,8 @@ use Rattle.structs.specs.Layout.{superOf, superBytes, recordOf, join, superFiel
 use Rattle.maps.specs.Maps.{bitOf, putBit, bitAt, withBit}
 use Rattle.utf8.specs.Names.{zeroAt, hasZero, hasSlash, nameVerdict, isDot, isDots, isSpecial, storedName, isNamed, nameBytes}
 use Rattle.utf8.specs.Utf8.{within, lead, tail, step, after, utf8}
-use Rattle.table.specs.Formed.{liveOk, holdOk, rowOk, holdsOk, rowsOk, shaped, wellFormed}
-use Rattle.table.specs.Table.{emptyTable, rowOf, holdOf, liveRow, liveHolds, canHold, addHold, rowUsed}
+use Rattle.table.specs.Formed.{liveOk, holdOk, rowOk, holdsOk, ownersOk, rowsOk, shaped, wellFormed}
+use Rattle.table.specs.Table.{emptyTable, rowOf, holdOf, liveRow, ownHolds, canHold, addHold, rowUsed}
 use Rattle.table.specs.Zero.{bytesZero, numbersZero, timeZero, recordZero}
 use Rattle.arena.specs.Blocks.{blk, putBlk, legal}
 use Rattle.arena.specs.Fields.{zeros, checkOf, isFree, seal, sameFile, isHead, isData, fresh as freshBlock}
@@ -28,18 +28,18 @@ use Rattle.files.specs.Store.{putFile, claim, writeBlk, setLength, raise, putBl
 use Rattle.sefs.specs.Meta.{storeMaps, syncMeta, firstBit, isUsed, addGroup, takeBit, allocBlock, freeBlock}
 use Rattle.sefs.specs.Nodes.{newNode, storeRow, syncRow, freeNode, dropNode, release}
 use Rattle.sefs.specs.Folders.{putSlot, direntInit, direntAppend, nlinksInc, nlinksDec, unlinkFolder}
-use Rattle.sefs.specs.Ask.{admit, liveFolder}
+use Rattle.sefs.specs.Ask.{admit, byHandle, liveFolder}
 use Rattle.sefs.specs.Open.{callRoot}
 use Rattle.sefs.specs.Create.{createSteps, callFormat, formatSteps, birth, nameFolder, named}
 use Rattle.sefs.specs.Unlink.{callUnlink, notFull}
-use Rattle.course_states.specs.Worlds.{World, epoch, uuid, fresh, opened, begun, made, filed, full, stored}
+use Rattle.course_states.specs.Worlds.{World, epoch, uuid, editor, fresh, opened, begun, made, filed, full, stored}
 use Rattle.course_states.proofs.Near.{byteOf, near, byteNear, runNear, readNear, mapsNear, metaNear, slotBytesNear, slotNear, lookToNear, lookNear, findNear, weigh, layoutBy, soundBy, checkNear, admitted}
 use Rattle.course_states.proofs.Calls.{startNear, loadNear, openNear, getNear, holdNear, rootNear, root-near, createNear, create-near, removeNear, unlinkStepsNear, unlinkNear, unlink-near}
 use Rattle.course_states.proofs.States.{headBlk, dataBlk, freeBlks, recordsOf, metaBytes, folderBytes, rowsOf, holdsOf, handle, rootTable, freshArena, freshWorld, aMeta, aArena, aWorld, bSlots, bMeta, bArena, bWorld, cSlots, cMeta, cArena, cWorld, fullArena, fullWorld}
 
 -- what is opened so that a call is computed: below the calls, and the states
 unfoldable pub computed : ℕ
-unfolding countTo sumTo allTo lowest foundBelow paste tab same every leOf leBytes leAt lePut signed bitsOf join superOf superFields superBytes recordOf recordFields recordBytes timeOf timeFields timeBytes entryOf entryFields entryBytes bitOf putBit bitAt withBit within lead tail step after utf8 zeroAt hasZero hasSlash nameVerdict isDot isDots isSpecial storedName isNamed nameBytes rowOf holdOf liveRow liveHolds canHold addHold rowUsed liveOk holdOk rowOk holdsOk rowsOk shaped wellFormed bytesZero numbersZero timeZero recordZero blk putBlk legal checkOf seal sameFile isFree isHead isData zeros freshBlock freeOf headOf dataOf freeCount allZero headOnce dataOnce withinLength under there lengthOf present byteAt readFile claim writeBlk setLength raise putBlock putTo touched putFile makeFile clearTo clearAll isPast zeroTail cutFile isOf dropFile storeMaps syncMeta firstBit isUsed addGroup takeBit allocBlock freeBlock newNode storeRow syncRow freeNode dropNode release putSlot direntInit direntAppend nlinksInc nlinksDec unlinkFolder liveFolder formatSteps birth nameFolder named createSteps notFull byteOf near byteNear runNear readNear mapsNear metaNear slotBytesNear slotNear lookToNear lookNear findNear weigh layoutBy soundBy startNear loadNear openNear getNear holdNear removeNear unlinkStepsNear headBlk dataBlk freeBlks recordsOf metaBytes folderBytes rowsOf holdsOf
+unfolding countTo sumTo allTo lowest foundBelow paste tab same every leOf leBytes leAt lePut signed bitsOf join superOf superFields superBytes recordOf recordFields recordBytes timeOf timeFields timeBytes entryOf entryFields entryBytes bitOf putBit bitAt withBit within lead tail step after utf8 zeroAt hasZero hasSlash nameVerdict isDot isDots isSpecial storedName isNamed nameBytes rowOf holdOf liveRow ownHolds canHold addHold rowUsed liveOk holdOk rowOk holdsOk ownersOk rowsOk shaped wellFormed bytesZero numbersZero timeZero recordZero blk putBlk legal checkOf seal sameFile isFree isHead isData zeros freshBlock freeOf headOf dataOf freeCount allZero headOnce dataOnce withinLength under there lengthOf present byteAt readFile claim writeBlk setLength raise putBlock putTo touched putFile makeFile clearTo clearAll isPast zeroTail cutFile isOf dropFile storeMaps syncMeta firstBit isUsed addGroup takeBit allocBlock freeBlock newNode storeRow syncRow freeNode dropNode release putSlot direntInit direntAppend nlinksInc nlinksDec unlinkFolder liveFolder byHandle formatSteps birth nameFolder named createSteps notFull byteOf near byteNear runNear readNear mapsNear metaNear slotBytesNear slotNear lookToNear lookNear findNear weigh layoutBy soundBy startNear loadNear openNear getNear holdNear removeNear unlinkStepsNear headBlk dataBlk freeBlks recordsOf metaBytes folderBytes rowsOf holdsOf
 computed = 0
 
 -- ---- the fresh image
@@ -71,12 +71,12 @@ fresh-admitted = admitted freshArena rootTable fresh-legal fresh-sound root-form
 
 -- ---- the root opened
 
-root-fresh : rootNear freshArena emptyTable ≡ done (record { handle = handle 0 1; table = rootTable })
+root-fresh : rootNear freshArena emptyTable editor ≡ done (record { handle = handle 0 1; table = rootTable })
 unfolding computed rootNear rootTable freshArena
 root-fresh = refl
 
-pub root-is : callRoot freshArena emptyTable ≡ done (record { handle = handle 0 1; table = rootTable })
-root-is = root-near freshArena emptyTable (admitted freshArena emptyTable fresh-legal fresh-sound empty-formed) ∙ root-fresh
+pub root-is : callRoot freshArena emptyTable editor ≡ done (record { handle = handle 0 1; table = rootTable })
+root-is = root-near freshArena emptyTable editor (admitted freshArena emptyTable fresh-legal fresh-sound empty-formed) ∙ root-fresh
 
 pub opened-fresh : opened freshArena ≡ done freshWorld
 unfolding opened freshWorld
@@ -88,13 +88,13 @@ begun-is = rw (fresh-is, opened-fresh)
 
 -- ---- a node made in it, as it is computed
 
-pub fresh-made : (name : List ℕ) (kind n : ℕ) → made freshWorld name kind n ≡ createNear freshArena rootTable (handle 0 1) name kind 420 epoch (uuid n)
+pub fresh-made : (name : List ℕ) (kind n : ℕ) → made freshWorld name kind n ≡ createNear freshArena rootTable editor (handle 0 1) name kind 420 epoch (uuid n)
 unfolding made freshWorld
-fresh-made name kind n = create-near freshArena rootTable (handle 0 1) name kind 420 epoch (uuid n) fresh-admitted
+fresh-made name kind n = create-near freshArena rootTable editor (handle 0 1) name kind 420 epoch (uuid n) fresh-admitted
 
 -- ---- `a`, `b` and `c`, one after another
 
-a-near : createNear freshArena rootTable (handle 0 1) (97 ∷ []) typeFile 420 epoch (uuid 2)
+a-near : createNear freshArena rootTable editor (handle 0 1) (97 ∷ []) typeFile 420 epoch (uuid 2)
     ≡ done (record { arena = aWorld .arena; table = aWorld .table; handle = handle 1 2 })
 unfolding computed createNear rootTable freshArena aMeta aArena aWorld
 a-near = refl
@@ -117,7 +117,7 @@ a-formed = refl
 pub a-admitted : admit (aWorld .arena) (aWorld .table) ≡ done tt
 a-admitted = admitted (aWorld .arena) (aWorld .table) a-legal a-sound a-formed
 
-b-near : createNear (aWorld .arena) (aWorld .table) (handle 0 1) (98 ∷ []) typeFile 420 epoch (uuid 3)
+b-near : createNear (aWorld .arena) (aWorld .table) editor (handle 0 1) (98 ∷ []) typeFile 420 epoch (uuid 3)
     ≡ done (record { arena = bWorld .arena; table = bWorld .table; handle = handle 2 3 })
 unfolding computed createNear aMeta aArena aWorld bSlots bMeta bArena bWorld
 b-near = refl
@@ -128,7 +128,7 @@ root-of-a = refl
 
 pub b-made : made aWorld (98 ∷ []) typeFile 3 ≡ done (record { arena = bWorld .arena; table = bWorld .table; handle = handle 2 3 })
 unfolding made
-b-made = rw root-of-a (create-near (aWorld .arena) (aWorld .table) (handle 0 1) (98 ∷ []) typeFile 420 epoch (uuid 3) a-admitted ∙ b-near)
+b-made = rw root-of-a (create-near (aWorld .arena) (aWorld .table) editor (handle 0 1) (98 ∷ []) typeFile 420 epoch (uuid 3) a-admitted ∙ b-near)
 
 b-legal : legal (bWorld .arena) ≡ true
 unfolding computed bSlots bMeta bArena bWorld
@@ -145,7 +145,7 @@ b-formed = refl
 pub b-admitted : admit (bWorld .arena) (bWorld .table) ≡ done tt
 b-admitted = admitted (bWorld .arena) (bWorld .table) b-legal b-sound b-formed
 
-c-near : createNear (bWorld .arena) (bWorld .table) (handle 0 1) (99 ∷ []) typeFile 420 epoch (uuid 4)
+c-near : createNear (bWorld .arena) (bWorld .table) editor (handle 0 1) (99 ∷ []) typeFile 420 epoch (uuid 4)
     ≡ done (record { arena = cWorld .arena; table = cWorld .table; handle = handle 3 4 })
 unfolding computed createNear bSlots bMeta bArena bWorld cSlots cMeta cArena cWorld
 c-near = refl
@@ -156,7 +156,7 @@ root-of-b = refl
 
 pub c-made : made bWorld (99 ∷ []) typeFile 4 ≡ done (record { arena = cWorld .arena; table = cWorld .table; handle = handle 3 4 })
 unfolding made
-c-made = rw root-of-b (create-near (bWorld .arena) (bWorld .table) (handle 0 1) (99 ∷ []) typeFile 420 epoch (uuid 4) b-admitted ∙ c-near)
+c-made = rw root-of-b (create-near (bWorld .arena) (bWorld .table) editor (handle 0 1) (99 ∷ []) typeFile 420 epoch (uuid 4) b-admitted ∙ c-near)
 
 c-legal : legal (cWorld .arena) ≡ true
 unfolding computed cSlots cMeta cArena cWorld
@@ -192,8 +192,8 @@ c-filed = rw (c-made, root-of-b, ← root-of-c)
 
 -- ---- `a` unlinked, as it is computed
 
-pub gone-near : callUnlink (cWorld .arena) (cWorld .table) (cWorld .root) (97 ∷ []) ≡ unlinkNear (cWorld .arena) (cWorld .table) (handle 0 1) (97 ∷ [])
-gone-near = rw root-of-c (unlink-near (cWorld .arena) (cWorld .table) (handle 0 1) (97 ∷ []) c-admitted)
+pub gone-near : callUnlink (cWorld .arena) (cWorld .table) editor (cWorld .root) (97 ∷ []) ≡ unlinkNear (cWorld .arena) (cWorld .table) editor (handle 0 1) (97 ∷ [])
+gone-near = rw root-of-c (unlink-near (cWorld .arena) (cWorld .table) editor (handle 0 1) (97 ∷ []) c-admitted)
 
 -- ---- no bit set
 
@@ -209,14 +209,14 @@ full-sound : soundBy checkNear fullArena ≡ true
 unfolding computed fullArena
 full-sound = refl
 
-root-full : rootNear fullArena emptyTable ≡ done (record { handle = handle 0 1; table = rootTable })
+root-full : rootNear fullArena emptyTable editor ≡ done (record { handle = handle 0 1; table = rootTable })
 unfolding computed rootNear rootTable fullArena
 root-full = refl
 
 pub opened-full : opened fullArena ≡ done fullWorld
 unfolding opened fullWorld
-opened-full = rw (root-near fullArena emptyTable (admitted fullArena emptyTable full-legal full-sound empty-formed), root-full)
+opened-full = rw (root-near fullArena emptyTable editor (admitted fullArena emptyTable full-legal full-sound empty-formed), root-full)
 
-pub full-made : (name : List ℕ) (kind n : ℕ) → made fullWorld name kind n ≡ createNear fullArena rootTable (handle 0 1) name kind 420 epoch (uuid n)
+pub full-made : (name : List ℕ) (kind n : ℕ) → made fullWorld name kind n ≡ createNear fullArena rootTable editor (handle 0 1) name kind 420 epoch (uuid n)
 unfolding made fullWorld
-full-made name kind n = create-near fullArena rootTable (handle 0 1) name kind 420 epoch (uuid n) (admitted fullArena rootTable full-legal full-sound root-formed)
+full-made name kind n = create-near fullArena rootTable editor (handle 0 1) name kind 420 epoch (uuid n) (admitted fullArena rootTable full-legal full-sound root-formed)

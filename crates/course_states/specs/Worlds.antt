@@ -30,6 +30,10 @@ uuid n = replicate 16 n
 abbrev pub rootFile : File
 rootFile = file 1 (uuid 1)
 
+-- one editor asks in all examples
+abbrev pub editor : ℕ
+editor = 1
+
 -- an arena, the table and the root's handle
 pub record World : Type 0 where
   pub arena : List ℕ
@@ -43,7 +47,7 @@ fresh = callFormat (replicate 8192 0) epoch (uuid 1)
 -- the root opened
 unfoldable pub opened : List ℕ → Out World
 opened a = do
-  r ← callRoot a emptyTable
+  r ← callRoot a emptyTable editor
   done (record { arena = a; table = r .table; root = r .handle })
 
 -- the fresh image with the root open
@@ -54,7 +58,7 @@ begun = do
 
 -- a node made in the root
 unfoldable pub made : World → List ℕ → ℕ → ℕ → Out Given
-made w name kind n = callCreate (w .arena) (w .table) (w .root) name kind 420 epoch (uuid n)
+made w name kind n = callCreate (w .arena) (w .table) editor (w .root) name kind 420 epoch (uuid n)
 
 -- a file made in the root, and on from there
 unfoldable pub filed : World → List ℕ → ℕ → Out World

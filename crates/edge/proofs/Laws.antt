@@ -187,7 +187,7 @@ counts e C = rw e C
 -- ---- the listing's word
 
 -- a row's count of slots fits its type, so the slot to go on with does
-blocks-in : (t : List ℕ) → Bytes t → length t ≡ 4370 → (i : ℕ) → i < 34 → rowAt (tableOf t) i .rec .blocks < 4294967296
+blocks-in : (t : List ℕ) → Bytes t → length t ≡ 4402 → (i : ℕ) → i < 34 → rowAt (tableOf t) i .rec .blocks < 4294967296
 unfolding rowFrom
 blocks-in t B L i k =
     let r : List ℕ = part t (117 * i) (117 * i + 117) in
@@ -195,10 +195,10 @@ blocks-in t B L i k =
     let F = recordOf-fits (part r 5 117) (part-all (λ x. x < 256) r (omega arith) (part-all (λ x. x < 256) t (omega arith) B (117 * i) (117 * i + 117)) 5 117) (length-part r 5 117 (omega arith) (omega (arith, n))) in
     subst (λ (x : Row). x .rec .blocks < 4294967296) (sym (row-read t i k)) (F .blocks)
 
-pub listed-room : (a t m : List ℕ) (h : Handle) (from room : ℕ) (l : Listed) → Bytes t → length t ≡ 4370 → tableIn m ≡ tableOf t → from < 18446744073709551616
-    → l ≡ listedOf (callListing a (tableIn m) h from room) → (n : ℕ) → l ≡ Slots n → from + n < 18446744073709551616
-listed-room a t m h from room l B L e F q n k =
-    let s = listed-slots n (callListing a (tableIn m) h from room) l q k in
-    let f = listing-left a (tableIn m) h from room (s .0) (s .1) in
+pub listed-room : (a t m : List ℕ) (w : ℕ) (h : Handle) (from room : ℕ) (l : Listed) → Bytes t → length t ≡ 4402 → tableIn m ≡ tableOf t → from < 18446744073709551616
+    → l ≡ listedOf (callListing a (tableIn m) w h from room) → (n : ℕ) → l ≡ Slots n → from + n < 18446744073709551616
+listed-room a t m w h from room l B L e F q n k =
+    let s = listed-slots n (callListing a (tableIn m) w h from room) l q k in
+    let f = listing-left a (tableIn m) w h from room (s .0) (s .1) in
     let b : rowAt (tableIn m) (f .0) .rec .blocks < 4294967296 = subst (λ (x : Table). rowAt x (f .0) .rec .blocks < 4294967296) (sym e) (blocks-in t B L (f .0) (f .1)) in
     omega (arith, s .2, f .2, b, F)

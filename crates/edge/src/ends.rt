@@ -29,7 +29,7 @@ use table_bytes::settle_marks;
 // ---- the table: memory's is written back where the reason is 0, and a refusal writes nothing
 
 fn put_back(table: &mut [u8], mem: &[u8], reason: u8)
-    requires { ⌜ (length (now table) ≡ 4370) × (length (now mem) ≡ memorySize) ⌝ }
+    requires { ⌜ (length (now table) ≡ 4402) × (length (now mem) ≡ memorySize) ⌝ }
     ensures { λ _. ⌜ now (table .exit) ≡ pick (eqb reason 0) (tableBytes (tableIn (now (mem .entry)))) (now (table .entry)) ⌝ }
 {
     if reason != 0 {
@@ -39,7 +39,7 @@ fn put_back(table: &mut [u8], mem: &[u8], reason: u8)
 }
 
 pub fn end_after(table: &mut [u8], mem: &[u8], reason: u8) -> u32
-    requires { ⌜ (length (now table) ≡ 4370) × (length (now mem) ≡ memorySize) ⌝ }
+    requires { ⌜ (length (now table) ≡ 4402) × (length (now mem) ≡ memorySize) ⌝ }
     ensures { λ r. ⌜ (r ≡ reason) × (now (table .exit) ≡ pick (eqb reason 0) (tableBytes (tableIn (now (mem .entry)))) (now (table .entry))) ⌝ }
 {
     put_back(table, mem, reason);
@@ -48,7 +48,7 @@ pub fn end_after(table: &mut [u8], mem: &[u8], reason: u8) -> u32
 
 // The same for format and open, which leave the empty table.
 pub fn end_fresh(table: &mut [u8], reason: u8) -> u32
-    requires { ⌜ length (now table) ≡ 4370 ⌝ }
+    requires { ⌜ length (now table) ≡ 4402 ⌝ }
     ensures { λ r. ⌜ (r ≡ reason) × (now (table .exit) ≡ pick (eqb reason 0) (tableBytes emptyTable) (now (table .entry))) ⌝ }
 {
     if reason != 0 {
@@ -60,7 +60,7 @@ pub fn end_fresh(table: &mut [u8], reason: u8) -> u32
 
 // The same for move: where both names are one node's, the table is written as it was given.
 pub fn end_course(table: &mut [u8], mem: &[u8], c: Course) -> u32
-    requires { ⌜ (length (now table) ≡ 4370) × (length (now mem) ≡ memorySize) ⌝ }
+    requires { ⌜ (length (now table) ≡ 4402) × (length (now mem) ≡ memorySize) ⌝ }
     ensures { λ r. ⌜ (r ≡ courseNumber c) × (now (table .exit) ≡ courseTableBy (now (table .entry)) (tableIn (now (mem .entry))) c) ⌝ }
 {
     match c {
@@ -87,7 +87,7 @@ fn put_held(out: &mut [u64], h: Handed)
 }
 
 pub fn end_held(table: &mut [u8], out: &mut [u64], mem: &[u8], h: Handed) -> u32
-    requires { ⌜ (length (now table) ≡ 4370) × ((length (now out) ≡ 2) × (length (now mem) ≡ memorySize)) ⌝ }
+    requires { ⌜ (length (now table) ≡ 4402) × ((length (now out) ≡ 2) × (length (now mem) ≡ memorySize)) ⌝ }
     ensures { λ r. ⌜ (r ≡ h .reason) × (now (table .exit) ≡ pick (eqb (h .reason) 0) (tableBytes (tableIn (now (mem .entry)))) (now (table .entry))) ⌝ }
     ensures { λ _. ⌜ now (out .exit) ≡ pick (eqb (h .reason) 0) (handleWords (h .handle)) (now (out .entry)) ⌝ }
 {

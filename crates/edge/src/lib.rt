@@ -1,5 +1,5 @@
 // The calls as C functions (include/dzomrelig.h). A slice is its pointer and its length. Each returns 0, or document 01's number; a table
-// that is not 4,370 bytes, a file's name that is not 16, or words for a result that are not as many as it has: 255, and nothing is called.
+// that is not 4,402 bytes, a file's name that is not 16, or words for a result that are not as many as it has: 255, and nothing is called.
 // The table's bytes are copied to the call's memory, and written back on success: no table by value is made.
 pub mod args;
 pub mod ends;
@@ -53,7 +53,7 @@ use mem::MEMORY;
 use mem::begin;
 
 // Bytes, words, and what a slice of another size is answered with, as in the header.
-const TABLE: usize = 4370;
+const TABLE: usize = 4402;
 
 const FILE_NAME: usize = 16;
 
@@ -79,7 +79,7 @@ pub extern "C" fn dz_format(
     nsec: i64,
     file: &[u8],
 ) -> u32
-    ensures { λ r. ⌜ Leaves (sized 4370 (now (table .entry)) (sized 16 (now (file .entry)) (formatted (callFormat (now (arena .entry)) (timeOf sec nsec) (now (file .entry)))))) (now (arena .entry)) (now (arena .exit)) (now (table .entry)) (now (table .exit)) r ⌝ }
+    ensures { λ r. ⌜ Leaves (sized 4402 (now (table .entry)) (sized 16 (now (file .entry)) (formatted (callFormat (now (arena .entry)) (timeOf sec nsec) (now (file .entry)))))) (now (arena .entry)) (now (arena .exit)) (now (table .entry)) (now (table .exit)) r ⌝ }
 {
     if table.len() != TABLE {
         return WRONG_SIZE;
@@ -93,7 +93,7 @@ pub extern "C" fn dz_format(
 
 #[no_mangle]
 pub extern "C" fn dz_open(arena: &[u8], table: &mut [u8]) -> u32
-    ensures { λ r. ⌜ Sets (sized 4370 (now (table .entry)) (callOpen (now (arena .entry)))) (now (table .entry)) (now (table .exit)) r ⌝ }
+    ensures { λ r. ⌜ Sets (sized 4402 (now (table .entry)) (callOpen (now (arena .entry)))) (now (table .entry)) (now (table .exit)) r ⌝ }
 {
     if table.len() != TABLE {
         return WRONG_SIZE;
@@ -104,7 +104,7 @@ pub extern "C" fn dz_open(arena: &[u8], table: &mut [u8]) -> u32
 
 #[no_mangle]
 pub extern "C" fn dz_sync(arena: &mut [u8], table: &mut [u8]) -> u32
-    ensures { λ r. ⌜ Leaves (sized 4370 (now (table .entry)) (callSync (now (arena .entry)) (tableOf (now (table .entry))))) (now (arena .entry)) (now (arena .exit)) (now (table .entry)) (now (table .exit)) r ⌝ }
+    ensures { λ r. ⌜ Leaves (sized 4402 (now (table .entry)) (callSync (now (arena .entry)) (tableOf (now (table .entry))))) (now (arena .entry)) (now (arena .exit)) (now (table .entry)) (now (table .exit)) r ⌝ }
 {
     if table.len() != TABLE {
         return WRONG_SIZE;
@@ -118,7 +118,7 @@ pub extern "C" fn dz_sync(arena: &mut [u8], table: &mut [u8]) -> u32
 // Nodes, unused ids and free blocks where it passes. A number other than 255 is the rule that fails.
 #[no_mangle]
 pub extern "C" fn dz_check(arena: &[u8], table: &[u8], out: &mut [u64]) -> u32
-    ensures { λ r. ⌜ Counts (sized 4370 (now (table .entry)) (sized 3 (now (out .entry)) (counted (verdictOf (now (arena .entry)) (tableOf (now (table .entry))))))) (now (out .entry)) (now (out .exit)) r ⌝ }
+    ensures { λ r. ⌜ Counts (sized 4402 (now (table .entry)) (sized 3 (now (out .entry)) (counted (verdictOf (now (arena .entry)) (tableOf (now (table .entry))))))) (now (out .entry)) (now (out .exit)) r ⌝ }
 {
     if table.len() != TABLE {
         return WRONG_SIZE;
@@ -135,8 +135,8 @@ pub extern "C" fn dz_check(arena: &[u8], table: &[u8], out: &mut [u64]) -> u32
 // ---- holds
 
 #[no_mangle]
-pub extern "C" fn dz_root(arena: &[u8], table: &mut [u8], out: &mut [u64]) -> u32
-    ensures { λ r. ⌜ Holds (sized 4370 (now (table .entry)) (sized 2 (now (out .entry)) (callRoot (now (arena .entry)) (tableOf (now (table .entry)))))) (now (table .entry)) (now (table .exit)) (now (out .entry)) (now (out .exit)) r ⌝ }
+pub extern "C" fn dz_root(arena: &[u8], table: &mut [u8], owner: u8, out: &mut [u64]) -> u32
+    ensures { λ r. ⌜ Holds (sized 4402 (now (table .entry)) (sized 2 (now (out .entry)) (callRoot (now (arena .entry)) (tableOf (now (table .entry))) owner))) (now (table .entry)) (now (table .exit)) (now (out .entry)) (now (out .exit)) r ⌝ }
 {
     if table.len() != TABLE {
         return WRONG_SIZE;
@@ -146,7 +146,7 @@ pub extern "C" fn dz_root(arena: &[u8], table: &mut [u8], out: &mut [u64]) -> u3
     }
     let mut mem = [0u8; MEMORY];
     begin(&mut mem, &table[..]);
-    let h = root_on(arena, &mut mem);
+    let h = root_on(arena, &mut mem, owner);
     end_held(table, out, &mem, h)
 }
 
@@ -154,12 +154,13 @@ pub extern "C" fn dz_root(arena: &[u8], table: &mut [u8], out: &mut [u64]) -> u3
 pub extern "C" fn dz_find(
     arena: &[u8],
     table: &mut [u8],
+    owner: u8,
     hold: u32,
     stamp: u64,
     name: &[u8],
     out: &mut [u64],
 ) -> u32
-    ensures { λ r. ⌜ Holds (sized 4370 (now (table .entry)) (sized 2 (now (out .entry)) (callFind (now (arena .entry)) (tableOf (now (table .entry))) (handleOf hold stamp) (now (name .entry))))) (now (table .entry)) (now (table .exit)) (now (out .entry)) (now (out .exit)) r ⌝ }
+    ensures { λ r. ⌜ Holds (sized 4402 (now (table .entry)) (sized 2 (now (out .entry)) (callFind (now (arena .entry)) (tableOf (now (table .entry))) owner (handleOf hold stamp) (now (name .entry))))) (now (table .entry)) (now (table .exit)) (now (out .entry)) (now (out .exit)) r ⌝ }
 {
     if table.len() != TABLE {
         return WRONG_SIZE;
@@ -169,20 +170,20 @@ pub extern "C" fn dz_find(
     }
     let mut mem = [0u8; MEMORY];
     begin(&mut mem, &table[..]);
-    let h = find_on(arena, &mut mem, handle(hold, stamp), name);
+    let h = find_on(arena, &mut mem, owner, handle(hold, stamp), name);
     end_held(table, out, &mem, h)
 }
 
 #[no_mangle]
-pub extern "C" fn dz_close(arena: &mut [u8], table: &mut [u8], hold: u32, stamp: u64) -> u32
-    ensures { λ r. ⌜ Leaves (sized 4370 (now (table .entry)) (callClose (now (arena .entry)) (tableOf (now (table .entry))) (handleOf hold stamp))) (now (arena .entry)) (now (arena .exit)) (now (table .entry)) (now (table .exit)) r ⌝ }
+pub extern "C" fn dz_close(arena: &mut [u8], table: &mut [u8], owner: u8, hold: u32, stamp: u64) -> u32
+    ensures { λ r. ⌜ Leaves (sized 4402 (now (table .entry)) (callClose (now (arena .entry)) (tableOf (now (table .entry))) owner (handleOf hold stamp))) (now (arena .entry)) (now (arena .exit)) (now (table .entry)) (now (table .exit)) r ⌝ }
 {
     if table.len() != TABLE {
         return WRONG_SIZE;
     }
     let mut mem = [0u8; MEMORY];
     begin(&mut mem, &table[..]);
-    let r = close_on(arena, &mut mem, handle(hold, stamp));
+    let r = close_on(arena, &mut mem, owner, handle(hold, stamp));
     end_after(table, &mem, r)
 }
 
@@ -192,6 +193,7 @@ pub extern "C" fn dz_close(arena: &mut [u8], table: &mut [u8], hold: u32, stamp:
 pub extern "C" fn dz_create(
     arena: &mut [u8],
     table: &mut [u8],
+    owner: u8,
     hold: u32,
     stamp: u64,
     name: &[u8],
@@ -202,7 +204,7 @@ pub extern "C" fn dz_create(
     file: &[u8],
     out: &mut [u64],
 ) -> u32
-    ensures { λ r. ⌜ Makes (sized 4370 (now (table .entry)) (sized 16 (now (file .entry)) (sized 2 (now (out .entry)) (callCreate (now (arena .entry)) (tableOf (now (table .entry))) (handleOf hold stamp) (now (name .entry)) kind mode (timeOf sec nsec) (now (file .entry)))))) (now (arena .entry)) (now (arena .exit)) (now (table .entry)) (now (table .exit)) (now (out .entry)) (now (out .exit)) r ⌝ }
+    ensures { λ r. ⌜ Makes (sized 4402 (now (table .entry)) (sized 16 (now (file .entry)) (sized 2 (now (out .entry)) (callCreate (now (arena .entry)) (tableOf (now (table .entry))) owner (handleOf hold stamp) (now (name .entry)) kind mode (timeOf sec nsec) (now (file .entry)))))) (now (arena .entry)) (now (arena .exit)) (now (table .entry)) (now (table .exit)) (now (out .entry)) (now (out .exit)) r ⌝ }
 {
     if table.len() != TABLE {
         return WRONG_SIZE;
@@ -216,7 +218,7 @@ pub extern "C" fn dz_create(
     let new = new_node(kind, mode, time(sec, nsec), file_of(file));
     let mut mem = [0u8; MEMORY];
     begin(&mut mem, &table[..]);
-    let h = create_on(arena, &mut mem, handle(hold, stamp), name, new);
+    let h = create_on(arena, &mut mem, owner, handle(hold, stamp), name, new);
     end_held(table, out, &mem, h)
 }
 
@@ -224,13 +226,14 @@ pub extern "C" fn dz_create(
 pub extern "C" fn dz_link(
     arena: &mut [u8],
     table: &mut [u8],
+    owner: u8,
     hold: u32,
     stamp: u64,
     name: &[u8],
     child_hold: u32,
     child_stamp: u64,
 ) -> u32
-    ensures { λ r. ⌜ Leaves (sized 4370 (now (table .entry)) (callLink (now (arena .entry)) (tableOf (now (table .entry))) (handleOf hold stamp) (now (name .entry)) (handleOf «child_hold» «child_stamp»))) (now (arena .entry)) (now (arena .exit)) (now (table .entry)) (now (table .exit)) r ⌝ }
+    ensures { λ r. ⌜ Leaves (sized 4402 (now (table .entry)) (callLink (now (arena .entry)) (tableOf (now (table .entry))) owner (handleOf hold stamp) (now (name .entry)) (handleOf «child_hold» «child_stamp»))) (now (arena .entry)) (now (arena .exit)) (now (table .entry)) (now (table .exit)) r ⌝ }
 {
     if table.len() != TABLE {
         return WRONG_SIZE;
@@ -238,7 +241,7 @@ pub extern "C" fn dz_link(
     let child = handle(child_hold, child_stamp);
     let mut mem = [0u8; MEMORY];
     begin(&mut mem, &table[..]);
-    let r = link_on(arena, &mut mem, handle(hold, stamp), name, child);
+    let r = link_on(arena, &mut mem, owner, handle(hold, stamp), name, child);
     end_after(table, &mem, r)
 }
 
@@ -246,18 +249,19 @@ pub extern "C" fn dz_link(
 pub extern "C" fn dz_unlink(
     arena: &mut [u8],
     table: &mut [u8],
+    owner: u8,
     hold: u32,
     stamp: u64,
     name: &[u8],
 ) -> u32
-    ensures { λ r. ⌜ Leaves (sized 4370 (now (table .entry)) (callUnlink (now (arena .entry)) (tableOf (now (table .entry))) (handleOf hold stamp) (now (name .entry)))) (now (arena .entry)) (now (arena .exit)) (now (table .entry)) (now (table .exit)) r ⌝ }
+    ensures { λ r. ⌜ Leaves (sized 4402 (now (table .entry)) (callUnlink (now (arena .entry)) (tableOf (now (table .entry))) owner (handleOf hold stamp) (now (name .entry)))) (now (arena .entry)) (now (arena .exit)) (now (table .entry)) (now (table .exit)) r ⌝ }
 {
     if table.len() != TABLE {
         return WRONG_SIZE;
     }
     let mut mem = [0u8; MEMORY];
     begin(&mut mem, &table[..]);
-    let r = unlink_on(arena, &mut mem, handle(hold, stamp), name);
+    let r = unlink_on(arena, &mut mem, owner, handle(hold, stamp), name);
     end_after(table, &mem, r)
 }
 
@@ -265,6 +269,7 @@ pub extern "C" fn dz_unlink(
 pub extern "C" fn dz_move(
     arena: &mut [u8],
     table: &mut [u8],
+    owner: u8,
     hold: u32,
     stamp: u64,
     old: &[u8],
@@ -272,7 +277,7 @@ pub extern "C" fn dz_move(
     to_stamp: u64,
     name: &[u8],
 ) -> u32
-    ensures { λ r. ⌜ Leaves (sized 4370 (now (table .entry)) (callMove (now (arena .entry)) (tableOf (now (table .entry))) (handleOf hold stamp) (now (old .entry)) (handleOf «to_hold» «to_stamp») (now (name .entry)))) (now (arena .entry)) (now (arena .exit)) (now (table .entry)) (now (table .exit)) r ⌝ }
+    ensures { λ r. ⌜ Leaves (sized 4402 (now (table .entry)) (callMove (now (arena .entry)) (tableOf (now (table .entry))) owner (handleOf hold stamp) (now (old .entry)) (handleOf «to_hold» «to_stamp») (now (name .entry)))) (now (arena .entry)) (now (arena .exit)) (now (table .entry)) (now (table .exit)) r ⌝ }
 {
     if table.len() != TABLE {
         return WRONG_SIZE;
@@ -280,7 +285,7 @@ pub extern "C" fn dz_move(
     let to = handle(to_hold, to_stamp);
     let mut mem = [0u8; MEMORY];
     begin(&mut mem, &table[..]);
-    let c = move_on(arena, &mut mem, handle(hold, stamp), old, to, name);
+    let c = move_on(arena, &mut mem, owner, handle(hold, stamp), old, to, name);
     end_course(table, &mem, c)
 }
 
@@ -290,11 +295,12 @@ pub extern "C" fn dz_move(
 pub extern "C" fn dz_metadata(
     arena: &[u8],
     table: &[u8],
+    owner: u8,
     hold: u32,
     stamp: u64,
     out: &mut [u64],
 ) -> u32
-    ensures { λ r. ⌜ Tells (sized 4370 (now (table .entry)) (sized 14 (now (out .entry)) (callMetadata (now (arena .entry)) (tableOf (now (table .entry))) (handleOf hold stamp)))) (now (out .entry)) (now (out .exit)) r ⌝ }
+    ensures { λ r. ⌜ Tells (sized 4402 (now (table .entry)) (sized 14 (now (out .entry)) (callMetadata (now (arena .entry)) (tableOf (now (table .entry))) owner (handleOf hold stamp)))) (now (out .entry)) (now (out .exit)) r ⌝ }
 {
     if table.len() != TABLE {
         return WRONG_SIZE;
@@ -304,7 +310,7 @@ pub extern "C" fn dz_metadata(
     }
     let mut mem = [0u8; MEMORY];
     begin(&mut mem, table);
-    let t = metadata_on(arena, &mem, handle(hold, stamp));
+    let t = metadata_on(arena, &mem, owner, handle(hold, stamp));
     end_told(out, t)
 }
 
@@ -312,6 +318,7 @@ pub extern "C" fn dz_metadata(
 pub extern "C" fn dz_set_metadata(
     arena: &[u8],
     table: &mut [u8],
+    owner: u8,
     hold: u32,
     stamp: u64,
     mode: u16,
@@ -324,7 +331,7 @@ pub extern "C" fn dz_set_metadata(
     csec: i64,
     cnsec: i64,
 ) -> u32
-    ensures { λ r. ⌜ Sets (sized 4370 (now (table .entry)) (callSet (now (arena .entry)) (tableOf (now (table .entry))) (handleOf hold stamp) mode uid gid (timeOf asec ansec) (timeOf msec mnsec) (timeOf csec cnsec))) (now (table .entry)) (now (table .exit)) r ⌝ }
+    ensures { λ r. ⌜ Sets (sized 4402 (now (table .entry)) (callSet (now (arena .entry)) (tableOf (now (table .entry))) owner (handleOf hold stamp) mode uid gid (timeOf asec ansec) (timeOf msec mnsec) (timeOf csec cnsec))) (now (table .entry)) (now (table .exit)) r ⌝ }
 {
     if table.len() != TABLE {
         return WRONG_SIZE;
@@ -335,7 +342,7 @@ pub extern "C" fn dz_set_metadata(
     let ctime = time(csec, cnsec);
     let mut mem = [0u8; MEMORY];
     begin(&mut mem, &table[..]);
-    let r = set_on(arena, &mut mem, h, mode, uid, gid, atime, mtime, ctime);
+    let r = set_on(arena, &mut mem, owner, h, mode, uid, gid, atime, mtime, ctime);
     end_after(table, &mem, r)
 }
 
@@ -346,13 +353,14 @@ pub extern "C" fn dz_set_metadata(
 pub extern "C" fn dz_read(
     arena: &[u8],
     table: &[u8],
+    owner: u8,
     hold: u32,
     stamp: u64,
     place: u64,
     out: &mut [u8],
     count: &mut [u64],
 ) -> u32
-    ensures { λ r. ⌜ Takes (sized 4370 (now (table .entry)) (sized 1 (now (count .entry)) (callRead (now (arena .entry)) (tableOf (now (table .entry))) (handleOf hold stamp) place (length (now (out .entry)))))) (now (out .entry)) (now (out .exit)) (now (count .entry)) (now (count .exit)) r ⌝ }
+    ensures { λ r. ⌜ Takes (sized 4402 (now (table .entry)) (sized 1 (now (count .entry)) (callRead (now (arena .entry)) (tableOf (now (table .entry))) owner (handleOf hold stamp) place (length (now (out .entry)))))) (now (out .entry)) (now (out .exit)) (now (count .entry)) (now (count .exit)) r ⌝ }
 {
     if table.len() != TABLE {
         return WRONG_SIZE;
@@ -362,7 +370,7 @@ pub extern "C" fn dz_read(
     }
     let mut mem = [0u8; MEMORY];
     begin(&mut mem, table);
-    let t = read_on(arena, &mem, handle(hold, stamp), place, out);
+    let t = read_on(arena, &mem, owner, handle(hold, stamp), place, out);
     end_taken(count, t)
 }
 
@@ -370,19 +378,20 @@ pub extern "C" fn dz_read(
 pub extern "C" fn dz_write(
     arena: &mut [u8],
     table: &mut [u8],
+    owner: u8,
     hold: u32,
     stamp: u64,
     place: u64,
     src: &[u8],
 ) -> u32
-    ensures { λ r. ⌜ Leaves (sized 4370 (now (table .entry)) (callWrite (now (arena .entry)) (tableOf (now (table .entry))) (handleOf hold stamp) place (now (src .entry)))) (now (arena .entry)) (now (arena .exit)) (now (table .entry)) (now (table .exit)) r ⌝ }
+    ensures { λ r. ⌜ Leaves (sized 4402 (now (table .entry)) (callWrite (now (arena .entry)) (tableOf (now (table .entry))) owner (handleOf hold stamp) place (now (src .entry)))) (now (arena .entry)) (now (arena .exit)) (now (table .entry)) (now (table .exit)) r ⌝ }
 {
     if table.len() != TABLE {
         return WRONG_SIZE;
     }
     let mut mem = [0u8; MEMORY];
     begin(&mut mem, &table[..]);
-    let r = write_on(arena, &mut mem, handle(hold, stamp), place, src);
+    let r = write_on(arena, &mut mem, owner, handle(hold, stamp), place, src);
     end_after(table, &mem, r)
 }
 
@@ -390,18 +399,19 @@ pub extern "C" fn dz_write(
 pub extern "C" fn dz_resize(
     arena: &mut [u8],
     table: &mut [u8],
+    owner: u8,
     hold: u32,
     stamp: u64,
     n: u64,
 ) -> u32
-    ensures { λ r. ⌜ Leaves (sized 4370 (now (table .entry)) (callResize (now (arena .entry)) (tableOf (now (table .entry))) (handleOf hold stamp) n)) (now (arena .entry)) (now (arena .exit)) (now (table .entry)) (now (table .exit)) r ⌝ }
+    ensures { λ r. ⌜ Leaves (sized 4402 (now (table .entry)) (callResize (now (arena .entry)) (tableOf (now (table .entry))) owner (handleOf hold stamp) n)) (now (arena .entry)) (now (arena .exit)) (now (table .entry)) (now (table .exit)) r ⌝ }
 {
     if table.len() != TABLE {
         return WRONG_SIZE;
     }
     let mut mem = [0u8; MEMORY];
     begin(&mut mem, &table[..]);
-    let r = resize_on(arena, &mut mem, handle(hold, stamp), n);
+    let r = resize_on(arena, &mut mem, owner, handle(hold, stamp), n);
     end_after(table, &mem, r)
 }
 
@@ -411,19 +421,20 @@ pub extern "C" fn dz_resize(
 pub extern "C" fn dz_get_entry(
     arena: &[u8],
     table: &[u8],
+    owner: u8,
     hold: u32,
     stamp: u64,
     slot: u64,
     out: &mut [u8],
 ) -> u32
-    ensures { λ r. ⌜ Shows (sized 4370 (now (table .entry)) (callEntry (now (arena .entry)) (tableOf (now (table .entry))) (handleOf hold stamp) slot (length (now (out .entry))))) (now (out .entry)) (now (out .exit)) r ⌝ }
+    ensures { λ r. ⌜ Shows (sized 4402 (now (table .entry)) (callEntry (now (arena .entry)) (tableOf (now (table .entry))) owner (handleOf hold stamp) slot (length (now (out .entry))))) (now (out .entry)) (now (out .exit)) r ⌝ }
 {
     if table.len() != TABLE {
         return WRONG_SIZE;
     }
     let mut mem = [0u8; MEMORY];
     begin(&mut mem, table);
-    let a = entry_on(arena, &mem, handle(hold, stamp), slot, out);
+    let a = entry_on(arena, &mem, owner, handle(hold, stamp), slot, out);
     number(a)
 }
 
@@ -432,12 +443,13 @@ pub extern "C" fn dz_get_entry(
 pub extern "C" fn dz_list(
     arena: &[u8],
     table: &[u8],
+    owner: u8,
     hold: u32,
     stamp: u64,
     next: &mut [u64],
     out: &mut [u8],
 ) -> u32
-    ensures { λ r. ⌜ Lists (sized 4370 (now (table .entry)) (sized 1 (now (next .entry)) (callListing (now (arena .entry)) (tableOf (now (table .entry))) (handleOf hold stamp) (getD (now (next .entry)) 0 0) (length (now (out .entry)))))) (now (out .entry)) (now (out .exit)) (now (next .entry)) (now (next .exit)) r ⌝ }
+    ensures { λ r. ⌜ Lists (sized 4402 (now (table .entry)) (sized 1 (now (next .entry)) (callListing (now (arena .entry)) (tableOf (now (table .entry))) owner (handleOf hold stamp) (getD (now (next .entry)) 0 0) (length (now (out .entry)))))) (now (out .entry)) (now (out .exit)) (now (next .entry)) (now (next .exit)) r ⌝ }
 {
     if table.len() != TABLE {
         return WRONG_SIZE;
@@ -448,6 +460,6 @@ pub extern "C" fn dz_list(
     let from = next[0];
     let mut mem = [0u8; MEMORY];
     begin(&mut mem, table);
-    let l = listing_on(arena, &mem, handle(hold, stamp), from, out);
+    let l = listing_on(arena, &mem, owner, handle(hold, stamp), from, out);
     end_listed(next, from, l)
 }

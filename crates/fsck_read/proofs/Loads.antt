@@ -67,28 +67,28 @@ module _ (b : SuperBlock) (len : ℕ) where
 -- ---- the superblock in memory
 
 pub put-is : (m d p : List ℕ) (b : SuperBlock) → length m ≡ memorySize → SuperFits b → 0 < b .groups → b .groups ≤ 4
-    → d ≡ set m 4370 1 → p ≡ paste d 4371 (superBytes b) → Put m p b
+    → d ≡ set m 4402 1 → p ≡ paste d 4403 (superBytes b) → Put m p b
 put-is m d p b size F some few e f =
     let u : List ℕ = 1 ∷ [] in
-    let d-is : d ≡ paste m 4370 u = e ∙ set-paste m 4370 1 (omega arith) in
-    let size-d : length d ≡ memorySize = subst (λ (x : List ℕ). length x ≡ memorySize) (sym e) (length-set m 4370 1 ∙ size) in
-    let mark : getD d 4370 0 ≡ 1 = subst (λ (x : List ℕ). getD x 4370 0 ≡ 1) (sym e) (getD-set-same m 4370 1 0 (omega arith)) in
-    let fit : 4371 + length (superBytes b) ≤ length d = omega (arith, length-superBytes b) in
-    let s : memory.superIn (paste d 4371 (superBytes b)) ≡ b = super-put d d b size-d refl mark F some few in
+    let d-is : d ≡ paste m 4402 u = e ∙ set-paste m 4402 1 (omega arith) in
+    let size-d : length d ≡ memorySize = subst (λ (x : List ℕ). length x ≡ memorySize) (sym e) (length-set m 4402 1 ∙ size) in
+    let mark : getD d 4402 0 ≡ 1 = subst (λ (x : List ℕ). getD x 4402 0 ≡ 1) (sym e) (getD-set-same m 4402 1 0 (omega arith)) in
+    let fit : 4403 + length (superBytes b) ≤ length d = omega (arith, length-superBytes b) in
+    let s : memory.superIn (paste d 4403 (superBytes b)) ≡ b = super-put d d b size-d refl mark F some few in
     subst (λ (x : List ℕ). Put m x b) (sym f) (record {
       loaded = record {
         whole = record {
-          size = length-paste d 4371 (superBytes b) fit ∙ size-d;
+          size = length-paste d 4403 (superBytes b) fit ∙ size-d;
           some = λ _. subst (λ (x : SuperBlock). 0 < x .groups) (sym s) some;
           few = λ _. subst (λ (x : SuperBlock). x .groups ≤ 4) (sym s) few;
         };
-        read = getD-paste-out d 4371 (superBytes b) fit 4370 (λ l. absurd (omega arith)) ∙ mark;
+        read = getD-paste-out d 4403 (superBytes b) fit 4402 (λ l. absurd (omega arith)) ∙ mark;
       };
       super = s;
-      front = part-paste-other d 4371 (superBytes b) fit 0 4370 (λ l. omega arith)
-          ∙ ap (λ (x : List ℕ). part x 0 4370) d-is ∙ part-paste-other m 4370 u (omega arith) 0 4370 (λ l. omega arith);
-      maps = part-paste-other d 4371 (superBytes b) fit 4387 memorySize (λ l. absurd (omega (arith, length-superBytes b)))
-          ∙ ap (λ (x : List ℕ). part x 4387 memorySize) d-is ∙ part-paste-other m 4370 u (omega arith) 4387 memorySize (λ l. absurd (omega arith));
+      front = part-paste-other d 4403 (superBytes b) fit 0 4402 (λ l. omega arith)
+          ∙ ap (λ (x : List ℕ). part x 0 4402) d-is ∙ part-paste-other m 4402 u (omega arith) 0 4402 (λ l. omega arith);
+      maps = part-paste-other d 4403 (superBytes b) fit 4419 memorySize (λ l. absurd (omega (arith, length-superBytes b)))
+          ∙ ap (λ (x : List ℕ). part x 4419 memorySize) d-is ∙ part-paste-other m 4402 u (omega arith) 4419 memorySize (λ l. absurd (omega arith));
     })
 
 -- ---- the maps in memory
@@ -97,7 +97,7 @@ pub mapped-none : (a m : List ℕ) → length m ≡ memorySize → Mapped a m m 
 unfolding mapsTo
 mapped-none a m e = record { size = e; front = refl; maps = refl }
 
-pub mapped-more : (a m d l : List ℕ) (g o : ℕ) → o ≡ 4387 + 128 * g → g < 4 → Mapped a m d g → l ≡ run a metaFile (mapAt g) (length (part d o (o + 128))) → Mapped a m (back d o (o + 128) l) (g + 1)
+pub mapped-more : (a m d l : List ℕ) (g o : ℕ) → o ≡ 4419 + 128 * g → g < 4 → Mapped a m d g → l ≡ run a metaFile (mapAt g) (length (part d o (o + 128))) → Mapped a m (back d o (o + 128) l) (g + 1)
 unfolding mapsTo
 mapped-more a m d l g o at few M q =
     let n : length (part d o (o + 128)) ≡ 128 = length-part d o (o + 128) (omega arith) (omega (arith, M .size)) ∙ omega arith in
@@ -105,15 +105,15 @@ mapped-more a m d l g o at few M q =
     let nl : length l ≡ 128 = ap length l-is ∙ length-tab (byteAt a metaFile) (mapAt g) 128 in
     let b : back d o (o + 128) l ≡ paste d o l = back-paste d l o 128 nl in
     let fit : o + length l ≤ length d = omega (arith, M .size) in
-    let u : 4387 + 128 * (g + 1) ≡ 4387 + (128 * g + 128) = omega arith in
-    let v : 4387 + 128 * g + 128 ≡ o + 128 = omega arith in
+    let u : 4419 + 128 * (g + 1) ≡ 4419 + (128 * g + 128) = omega arith in
+    let v : 4419 + 128 * g + 128 ≡ o + 128 = omega arith in
     subst (λ (x : List ℕ). Mapped a m x (g + 1)) (sym b) (record {
       size = length-paste d o l fit ∙ M .size;
-      front = part-paste-other d o l fit 0 4387 (λ _. omega arith) ∙ M .front;
-      maps = ap (part (paste d o l) 4387) u
-          ∙ part-join (paste d o l) 4387 (128 * g) 128
+      front = part-paste-other d o l fit 0 4419 (λ _. omega arith) ∙ M .front;
+      maps = ap (part (paste d o l) 4419) u
+          ∙ part-join (paste d o l) 4419 (128 * g) 128
           ∙ ap₂ (λ (x y : List ℕ). x ++ y)
-          (part-paste-other d o l fit 4387 (4387 + 128 * g) (λ _. omega arith) ∙ M .maps)
+          (part-paste-other d o l fit 4419 (4419 + 128 * g) (λ _. omega arith) ∙ M .maps)
           (ap₂ (part (paste d o l)) (sym at) v ∙ part-written 128 d o l nl (omega (arith, M .size)) ∙ l-is)
           ∙ sym (ap (mapsTo a) (add-one g));
     })
@@ -160,9 +160,9 @@ module _ (a : List ℕ) (n : ℕ) (is : n ≡ pick (there a metaFile) (suc (leng
     three-super e = sym (test3-is a ∙ ap (λ (x : Bool). x && eqb (storedSuper a .unused) (setBits (storedMaps a) (idsIn a))) (sym fine-is ∙ e))
 
     module _ (g : ℕ) (g-is : g ≡ b .groups) (m d p : List ℕ) (M : Mapped a m d g) (P : Put d p b) (few : g ≤ 4) where
-      maps-are : part p 4387 (4387 + 128 * g) ≡ mapsTo a g
+      maps-are : part p 4419 (4419 + 128 * g) ≡ mapsTo a g
       maps-are =
-          let z : (x : List ℕ) → part (part x 4387 memorySize) 0 (128 * g) ≡ part x 4387 (4387 + 128 * g) = λ x. part-part x 4387 memorySize 0 (128 * g) (omega arith) in
+          let z : (x : List ℕ) → part (part x 4419 memorySize) 0 (128 * g) ≡ part x 4419 (4419 + 128 * g) = λ x. part-part x 4419 memorySize 0 (128 * g) (omega arith) in
           sym (z p) ∙ ap (λ (x : List ℕ). part x 0 (128 * g)) (P .maps) ∙ z d ∙ M .maps
 
       groups-are : g ≡ storedSuper a .groups
@@ -172,24 +172,24 @@ module _ (a : List ℕ) (n : ℕ) (is : n ≡ pick (there a metaFile) (suc (leng
       unfolding memory.mapsIn storedMaps
       super-maps = record {
         super = P .super ∙ b-is;
-        maps = ap (λ (x : ℕ). part p 4387 (4387 + 128 * x)) (ap (λ (x : SuperBlock). x .groups) (P .super) ∙ sym g-is) ∙ maps-are ∙ ap (mapsTo a) groups-are;
+        maps = ap (λ (x : ℕ). part p 4419 (4419 + 128 * x)) (ap (λ (x : SuperBlock). x .groups) (P .super) ∙ sym g-is) ∙ maps-are ∙ ap (mapsTo a) groups-are;
       }
 
       table : tableIn p ≡ tableIn m
       table =
-          let z : (x : List ℕ) → part (part x 0 4387) 0 4370 ≡ part x 0 4370 = λ x. part-part x 0 4387 0 4370 (omega arith) in
-          table-kept m p (P .front ∙ sym (z d) ∙ ap (λ (x : List ℕ). part x 0 4370) (M .front) ∙ z m)
+          let z : (x : List ℕ) → part (part x 0 4419) 0 4402 ≡ part x 0 4402 = λ x. part-part x 0 4419 0 4402 (omega arith) in
+          table-kept m p (P .front ∙ sym (z d) ∙ ap (λ (x : List ℕ). part x 0 4402) (M .front) ∙ z m)
 
       -- what later rules are given
       pub three-given : (Loaded p × Of a p) × (tableIn p ≡ tableIn m)
       three-given = ((P .loaded, super-maps), table)
 
-      pub three-count : (k r : ℕ) → superFine b (n - 1) ≡ true → r ≡ g → k ≡ setBits (part p 4387 memorySize) (1024 * r) → eqb k (b .unused) ≡ test3 a
+      pub three-count : (k r : ℕ) → superFine b (n - 1) ≡ true → r ≡ g → k ≡ setBits (part p 4419 memorySize) (1024 * r) → eqb k (b .unused) ≡ test3 a
       unfolding setBits storedMaps
       three-count k r e rg c =
           let f : k ≡ setBits (storedMaps a) (idsIn a) =
-          c ∙ ap (λ (x : ℕ). setBits (part p 4387 memorySize) (1024 * x)) rg
-          ∙ countTo-cong (bitAt (part p 4387 memorySize)) (bitAt (part p 4387 (4387 + 128 * g))) (1024 * g) (λ i l. bit-in p g i few l)
+          c ∙ ap (λ (x : ℕ). setBits (part p 4419 memorySize) (1024 * x)) rg
+          ∙ countTo-cong (bitAt (part p 4419 memorySize)) (bitAt (part p 4419 (4419 + 128 * g))) (1024 * g) (λ i l. bit-in p g i few l)
           ∙ ap₂ (λ (x : List ℕ) (y : ℕ). setBits x (1024 * y)) (maps-are ∙ ap (mapsTo a) groups-are) groups-are
           in
           ap₂ eqb f (ap (λ (x : SuperBlock). x .unused) b-is) ∙ eqb-sym (setBits (storedMaps a) (idsIn a)) (storedSuper a .unused)

@@ -51,7 +51,7 @@ same-sym : (l m : List ℕ) → same l m ≡ same m l
 same-sym l m = same-bool (same l m) (same m l) (λ e. same-own m l (sym (same-true l m e))) (λ e. same-own l m (sym (same-true m l e)))
 
 -- a row's record, as it stands in memory
-row-bytes : (m : List ℕ) (i : ℕ) → 4370 ≤ length m → Bytes m → i < 34 → recordBytes (rowAt (tableIn m) i .rec) ≡ part m (117 * i + 5) (117 * i + 117)
+row-bytes : (m : List ℕ) (i : ℕ) → 4402 ≤ length m → Bytes m → i < 34 → recordBytes (rowAt (tableIn m) i .rec) ≡ part m (117 * i + 5) (117 * i + 117)
 unfolding rowFrom
 row-bytes m i long h l =
     ap (λ (r : Row). recordBytes (r .rec)) (row-read m i l)
@@ -62,7 +62,7 @@ row-bytes m i long h l =
 pub clean-dirty : (d x : Bool) → d ≡ true → true ≡ (d || x)
 clean-dirty d x e = sym (rw e)
 
-pub clean-same : (a m l o : List ℕ) (i k s : ℕ) (d r : Bool) → 4370 ≤ length m → Bytes m → i < 34 → d ≡ false → length o ≡ 112 → k ≡ rowAt (tableIn m) i .id
+pub clean-same : (a m l o : List ℕ) (i k s : ℕ) (d r : Bool) → 4402 ≤ length m → Bytes m → i < 34 → d ≡ false → length o ≡ 112 → k ≡ rowAt (tableIn m) i .id
     → l ≡ run a metaFile (128 * k) (length o) → s ≡ 117 * i + 5 → r ≡ same l (part m s (s + 112))
     → r ≡ (d || same (recordBytes (rowAt (tableIn m) i .rec)) (storedBytes a (rowAt (tableIn m) i .id)))
 unfolding storedBytes

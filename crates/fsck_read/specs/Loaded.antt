@@ -17,7 +17,7 @@ use Rattle.rules.specs.Image.{storedSuper, mapsTo, storedMaps}
 -- superblock and maps are in memory
 pub record Loaded (m : List ℕ) : Type 0 where
   pub whole : Whole m
-  pub read : getD m 4370 0 ≡ 1
+  pub read : getD m 4402 0 ≡ 1
 
 -- they are the arena's
 pub record Of (a m : List ℕ) : Type 0 where
@@ -35,15 +35,15 @@ superFine b len =
 -- the maps of the first n groups were read, and nothing before them changed
 pub record Mapped (a m d : List ℕ) (n : ℕ) : Type 0 where
   pub size : length d ≡ memorySize
-  pub front : part d 0 4387 ≡ part m 0 4387
-  pub maps : part d 4387 (4387 + 128 * n) ≡ mapsTo a n
+  pub front : part d 0 4419 ≡ part m 0 4419
+  pub maps : part d 4419 (4419 + 128 * n) ≡ mapsTo a n
 
 -- the superblock was put, with the mark that it is there, and neither table nor maps changed
 pub record Put (m d : List ℕ) (b : SuperBlock) : Type 0 where
   pub loaded : Loaded d
   pub super : memory.superIn d ≡ b
-  pub front : part d 0 4370 ≡ part m 0 4370
-  pub maps : part d 4387 memorySize ≡ part m 4387 memorySize
+  pub front : part d 0 4402 ≡ part m 0 4402
+  pub maps : part d 4419 memorySize ≡ part m 4419 memorySize
 
 -- the bits of the maps' own blocks are clear
 unfoldable pub mapsClear : List ℕ → Bool

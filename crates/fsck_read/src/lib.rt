@@ -68,7 +68,7 @@ fn put_super(mem: &mut [u8], b: SuperBlock)
     ensures { λ _. ⌜ Put (now (mem .entry)) (now (mem .exit)) b ⌝ }
 {
     put_flag(mem, true);
-    put_super_block(mem, 4371, b);
+    put_super_block(mem, 4403, b);
 }
 
 fn load_maps(arena: &[u8], first: &[u16], next: &[u16], mem: &mut [u8], groups: usize)
@@ -78,7 +78,7 @@ fn load_maps(arena: &[u8], first: &[u16], next: &[u16], mem: &mut [u8], groups: 
 {
     let mut g: usize = 0;
     while g < groups {
-        let o = 4387 + 128 * g;
+        let o = 4419 + 128 * g;
         read_meta(
             arena,
             first,
@@ -117,7 +117,7 @@ pub fn rule3(arena: &[u8], first: &[u16], next: &[u16], mem: &mut [u8]) -> bool
     }
     load_maps(arena, first, next, mem, index(b.groups));
     put_super(mem, b);
-    maps::count_set(&mem[4387..MEMORY], index(b.groups)) == b.unused
+    maps::count_set(&mem[4419..MEMORY], index(b.groups)) == b.unused
 }
 
 // ---- rule 4

@@ -1,10 +1,10 @@
-// The holds of the table in memory, and whether that table is well formed: on its bytes, since a table by value takes 4.6 KB of the stack
+// The holds of the table in memory, and whether that table is well formed: on its bytes, since a table by value takes 4.9 KB of the stack
 // wherever it is passed.
 ghost use mathlib.Core.Path.{_≡_};
 ghost use Prim.Native.Nat.{_<_};
 ghost use Rattle.base.specs.declared.Found.the-variants.{At};
-ghost use Rattle.table.specs.Table.{holdAt, withHold, holdOf, liveRow, liveHolds, canHold, addAt, addHold, closeHold};
-ghost use Rattle.table.specs.Formed.{isAt, holdOk, rowOk, holdsOk, rowsOk, wellFormed};
+ghost use Rattle.table.specs.Table.{holdAt, withHold, holdOf, liveRow, isOwner, ownHolds, canHold, addAt, addHold, closeHold};
+ghost use Rattle.table.specs.Formed.{isAt, holdOk, rowOk, holdsOk, rowsOk, ownersOk, wellFormed};
 ghost use Rattle.mem.specs.Mem.{tableIn, Whole, Tabled};
 ghost use Rattle.holds.specs.Holds.{withNext, liveOk};
 use base::Found;
@@ -22,28 +22,28 @@ fn hold_at(mem: &[u8], n: usize) -> Hold
     requires { ⌜ Whole (now mem) × (n < 32) ⌝ }
     ensures { λ r. ⌜ r ≡ holdAt (tableIn (now (mem .entry))) n ⌝ }
 {
-    table_bytes::hold_in(mem, 3978 + 12 * n)
+    table_bytes::hold_in(mem, 3978 + 13 * n)
 }
 
 fn next_stamp(mem: &[u8]) -> u64
     requires { ⌜ Whole (now mem) ⌝ }
     ensures { λ r. ⌜ r ≡ tableIn (now (mem .entry)) .next ⌝ }
 {
-    le::u64_at(mem, 4362)
+    le::u64_at(mem, 4394)
 }
 
 fn put_hold(mem: &mut [u8], n: usize, h: Hold)
     requires { ⌜ Whole (now mem) × (n < 32) ⌝ }
     ensures { λ _. ⌜ Tabled (now (mem .entry)) (now (mem .exit)) (withHold (tableIn (now (mem .entry))) n h) ⌝ }
 {
-    table_bytes::put_hold(mem, 3978 + 12 * n, h);
+    table_bytes::put_hold(mem, 3978 + 13 * n, h);
 }
 
 fn put_next(mem: &mut [u8], next: u64)
     requires { ⌜ Whole (now mem) ⌝ }
     ensures { λ _. ⌜ Tabled (now (mem .entry)) (now (mem .exit)) (withNext (tableIn (now (mem .entry))) next) ⌝ }
 {
-    le::put_u64(mem, 4362, next);
+    le::put_u64(mem, 4394, next);
 }
 
 // The lowest hold with that stamp; stamp 0 asks for a free hold.
@@ -63,49 +63,58 @@ fn find_hold(mem: &[u8], stamp: u64) -> Found
 
 // ---- handles
 
-// The row of a live handle.
-pub fn live(mem: &[u8], h: Handle) -> Found
+// The row of a live handle of who asks.
+pub fn live(mem: &[u8], who: u8, h: Handle) -> Found
     requires { ⌜ Whole (now mem) ⌝ }
-    ensures { λ r. ⌜ r ≡ liveRow (tableIn (now (mem .entry))) h ⌝ }
+    ensures { λ r. ⌜ r ≡ liveRow (tableIn (now (mem .entry))) who h ⌝ }
 {
     let n = index(h.hold);
     if n >= 32 {
         return Found::Nothing;
     }
     let held = hold_at(mem, n);
-    if (h.stamp != 0) & (held.stamp == h.stamp) {
+    if ((h.stamp != 0) & (held.stamp == h.stamp)) & (held.owner == who) {
         return found_below(index(held.row), 34);
     }
     Found::Nothing
 }
 
-fn live_holds(mem: &[u8]) -> usize
-    requires { ⌜ Whole (now mem) ⌝ }
-    ensures { λ n. ⌜ n ≡ liveHolds (tableIn (now (mem .entry))) ⌝ }
+// Owners are 1 to 4.
+pub fn is_owner(who: u8) -> bool
+    ensures { λ b. ⌜ b ≡ isOwner who ⌝ }
 {
-    let mut live: usize = 0;
+    (0 < who) & (who < 5)
+}
+
+// How many live holds are who's.
+fn own_holds(mem: &[u8], who: u8) -> usize
+    requires { ⌜ Whole (now mem) ⌝ }
+    ensures { λ n. ⌜ n ≡ ownHolds (tableIn (now (mem .entry))) who ⌝ }
+{
+    let mut own: usize = 0;
     let mut n: usize = 0;
     while n < 32 {
-        if hold_at(mem, n).stamp != 0 {
-            live = live + 1;
+        let h = hold_at(mem, n);
+        if (h.stamp != 0) & (h.owner == who) {
+            own = own + 1;
         }
         n = n + 1;
     }
-    live
+    own
 }
 
 // Reason 16 is where this is false.
-pub fn can_hold(mem: &[u8]) -> bool
+pub fn can_hold(mem: &[u8], who: u8) -> bool
     requires { ⌜ Whole (now mem) ⌝ }
-    ensures { λ b. ⌜ b ≡ canHold (tableIn (now (mem .entry))) ⌝ }
+    ensures { λ b. ⌜ b ≡ canHold (tableIn (now (mem .entry))) who ⌝ }
 {
-    (live_holds(mem) < 32) & (next_stamp(mem) < 18446744073709551615)
+    (own_holds(mem, who) < 8) & (next_stamp(mem) < 18446744073709551615)
 }
 
-// A hold on the row with the next stamp, at the free hold n.
-fn give_hold(mem: &mut [u8], n: usize, row: u32) -> Handle
+// A hold of who's on the row with the next stamp, at the free hold n.
+fn give_hold(mem: &mut [u8], who: u8, n: usize, row: u32) -> Handle
     requires { ⌜ Whole (now mem) × ((n < 32) × (tableIn (now mem) .next < 18446744073709551615)) ⌝ }
-    ensures { λ r. ⌜ addAt (tableIn (now (mem .entry))) row (At n) ≡ record { handle = r; table = tableIn (now (mem .exit)) } ⌝ }
+    ensures { λ r. ⌜ addAt (tableIn (now (mem .entry))) who row (At n) ≡ record { handle = r; table = tableIn (now (mem .exit)) } ⌝ }
 {
     let next = next_stamp(&mem[..]);
     put_hold(
@@ -114,6 +123,7 @@ fn give_hold(mem: &mut [u8], n: usize, row: u32) -> Handle
         Hold {
             row: row,
             stamp: next,
+            owner: who,
         },
     );
     put_next(mem, next + 1);
@@ -123,17 +133,17 @@ fn give_hold(mem: &mut [u8], n: usize, row: u32) -> Handle
     }
 }
 
-// A hold on the row with the next stamp, the lowest that is free. Where none can be given, stamp 0 and the table as it was.
-pub fn add_hold(mem: &mut [u8], row: u32) -> Handle
+// A hold of who's on the row with the next stamp, the lowest that is free. Where none can be given, stamp 0 and the table as it was.
+pub fn add_hold(mem: &mut [u8], who: u8, row: u32) -> Handle
     requires { ⌜ Whole (now mem) ⌝ }
-    ensures { λ r. ⌜ addHold (tableIn (now (mem .entry))) row ≡ record { handle = r; table = tableIn (now (mem .exit)) } ⌝ }
+    ensures { λ r. ⌜ addHold (tableIn (now (mem .entry))) who row ≡ record { handle = r; table = tableIn (now (mem .exit)) } ⌝ }
 {
-    if !can_hold(&mem[..]) {
+    if !can_hold(&mem[..], who) {
         return Handle { hold: 0, stamp: 0 };
     }
     let f = find_hold(&mem[..], 0);
     match f {
-        Found::At(n) => give_hold(mem, n, row),
+        Found::At(n) => give_hold(mem, who, n, row),
         Found::Nothing => Handle { hold: 0, stamp: 0 },
     }
 }
@@ -148,7 +158,15 @@ pub fn close_hold(mem: &mut [u8], hold: u32) -> bool
         return false;
     }
     let row = hold_at(&mem[..], n).row;
-    put_hold(mem, n, Hold { row: 0, stamp: 0 });
+    put_hold(
+        mem,
+        n,
+        Hold {
+            row: 0,
+            stamp: 0,
+            owner: 0,
+        },
+    );
     !row_held(&mem[..], index(row))
 }
 
@@ -163,7 +181,7 @@ fn is_at(f: Found, i: usize) -> bool
     }
 }
 
-// A live hold: its row is in use, its stamp is below the next, and no lower hold has the stamp.
+// A live hold: its row is in use, its stamp is below the next, no lower hold has the stamp, and its owner is one.
 fn live_ok(mem: &[u8], n: usize, h: Hold) -> bool
     requires { ⌜ Whole (now mem) × (h ≡ holdAt (tableIn (now mem)) n) ⌝ }
     ensures { λ r. ⌜ r ≡ liveOk (tableIn (now (mem .entry))) n ⌝ }
@@ -172,7 +190,8 @@ fn live_ok(mem: &[u8], n: usize, h: Hold) -> bool
     if row >= 34 {
         return false;
     }
-    (id_at(mem, row) != 0) & ((h.stamp < next_stamp(mem)) & is_at(find_hold(mem, h.stamp), n))
+    (id_at(mem, row) != 0)
+        & ((h.stamp < next_stamp(mem)) & (is_at(find_hold(mem, h.stamp), n) & is_owner(h.owner)))
 }
 
 fn hold_ok(mem: &[u8], n: usize) -> bool
@@ -181,7 +200,7 @@ fn hold_ok(mem: &[u8], n: usize) -> bool
 {
     let h = hold_at(mem, n);
     if h.stamp == 0 {
-        return h.row == 0;
+        return (h.row == 0) & (h.owner == 0);
     }
     live_ok(mem, n, h)
 }
@@ -212,6 +231,21 @@ fn holds_ok(mem: &[u8]) -> bool
     true
 }
 
+// No owner has more than 8.
+fn owners_ok(mem: &[u8]) -> bool
+    requires { ⌜ Whole (now mem) ⌝ }
+    ensures { λ r. ⌜ r ≡ ownersOk (tableIn (now (mem .entry))) ⌝ }
+{
+    let mut k: u8 = 0;
+    while k < 4 {
+        if own_holds(mem, k + 1) > 8 {
+            return false;
+        }
+        k = k + 1;
+    }
+    true
+}
+
 fn rows_ok(mem: &[u8]) -> bool
     requires { ⌜ Whole (now mem) ⌝ }
     ensures { λ r. ⌜ r ≡ rowsOk (tableIn (now (mem .entry))) ⌝ }
@@ -231,5 +265,5 @@ pub fn well_formed(mem: &[u8]) -> bool
     requires { ⌜ Whole (now mem) ⌝ }
     ensures { λ r. ⌜ r ≡ wellFormed (tableIn (now (mem .entry))) ⌝ }
 {
-    (1 <= next_stamp(mem)) & (holds_ok(mem) & rows_ok(mem))
+    (1 <= next_stamp(mem)) & (holds_ok(mem) & (owners_ok(mem) & rows_ok(mem)))
 }

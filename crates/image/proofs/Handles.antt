@@ -4,29 +4,29 @@ use mathlib.Core.Path.{_≡_, refl, subst, ap, _∙_}
 use mathlib.Core.List.{List}
 use Prim.Native.Nat.{ℕ, _≤_}
 use borrow.Author.Tests.{lt-ltb}
-use Rattle.base.specs.Out.{done, Ok, went, said}
+use Rattle.base.specs.Out.{done, Ok}
 use Rattle.base.proofs.Bools.{and-both}
+use Rattle.base.proofs.Outs.{ok-weaken}
 use Rattle.base.proofs.Tests.{decides-leb}
 use Rattle.base.proofs.Sames.{decided-yes}
-use Rattle.base.specs.declared.Found.{Found}
-use Rattle.base.specs.declared.Found.the-variants.{At, Nothing}
 use Rattle.structs.specs.Types.{isFolder, isType}
 use Rattle.structs.specs.declared.DiskINode.{DiskINode}
 use Rattle.table.specs.declared.Table.{Table}
 use Rattle.table.specs.declared.Handle.{Handle}
-use Rattle.table.specs.Table.{rowAt, liveRow}
+use Rattle.table.specs.Table.{rowAt}
 use Rattle.table_laws.specs.Rules.{WellFormed}
 use Rattle.table_laws.proofs.Rules.{well-formed, row-is}
 use Rattle.table_laws.proofs.Handles.{live-means, live-used}
-use Rattle.sefs.specs.Ask.{admitArena, admit, orBadHandle, byHandle}
+use Rattle.sefs.specs.Ask.{admitArena, admit, byHandle}
 use Rattle.rules.specs.Image.{isNode, recBy, recOf, isFolderAt}
 use Rattle.rules.specs.Rules.{Allowed}
 use Rattle.sefs_laws.proofs.Clear.{Clear, clear}
+use Rattle.sefs_laws.proofs.Handles.{Owns, handle-asks}
 use Rattle.image.specs.Midway.{Used}
 
--- the handle is live on row i
-pub record Reaches (t : Table) (h : Handle) (i : ℕ) : Type 0 where
-  pub live : liveRow t h ≡ At i
+-- w is an owner, and the handle is live and his, on row i
+pub record Reaches (t : Table) (w : ℕ) (h : Handle) (i : ℕ) : Type 0 where
+  pub owns : Owns t w h i
   pub used : Used t i
 
 module _ (a : List ℕ) (t : Table) (A : Allowed a t) where
@@ -38,15 +38,14 @@ module _ (a : List ℕ) (t : Table) (A : Allowed a t) where
   pub formed : WellFormed t
   formed = well-formed t .0 (A .rule2 .formed)
 
-  -- a handle is live on a row in use, or the reason is 4
-  pub handle-law : (h : Handle) → Ok (Reaches t h) Clear (byHandle t h)
-  handle-law h = go (liveRow t h) refl
+  -- the asker is an owner and the handle is his, on a row in use, or the reason is 6 or 4
+  pub handle-law : (w : ℕ) (h : Handle) → Ok (Reaches t w h) Clear (byHandle t w h)
+  handle-law w h = ok-weaken (λ i o. reaches i o) (λ n r. r) (handle-asks (clear 6 refl) (clear 4 refl) t w h)
     where
-      go : (f : Found) → liveRow t h ≡ f → Ok (Reaches t h) Clear (orBadHandle f)
-      go (At i) e =
-          let l = live-means t h i .0 e in
-          went (record { live = e; used = record { below = l .is-row; node = live-used t h i formed l } })
-      go Nothing e = said (clear 4 refl)
+      reaches : (i : ℕ) → Owns t w h i → Reaches t w h i
+      reaches i o =
+          let l = live-means t w h i .0 (o .live) in
+          record { owns = o; used = record { below = l .is-row; node = live-used t w h i formed l } }
 
   module _ (i : ℕ) (u : Used t i) where
     pub row-node : isNode a (rowAt t i .id) ≡ true

@@ -37,7 +37,7 @@ use Rattle.image.proofs.Resets.{Cleans, reset-here, reset-apart, reset-
 pub record Rowed (a : List ℕ) (t : Table) (c i id : ℕ) (r s : DiskINode) (u : Table) : Type 0 where
   pub formed : Formed (also none c) u
   pub fits : TableFits u
-  pub can : canHold u ≡ canHold t
+  pub can : (w : ℕ) → canHold u w ≡ canHold t w
   pub clean : Cleans a u
   pub child : rowAt u c .id ≡ id
   pub dirty : rowAt u c .dirty ≡ true
@@ -98,7 +98,7 @@ module _ {style : Spelling} (a : List ℕ) (t : Table) (M : Midway style none a 
         record {
           formed = reset-formed u (R .formed) c used-child x;
           fits = reset-fits u (R .formed) c used-child x (R .fits) F;
-          can = can-row u c _ ∙ R .can;
+          can = λ w. can-row u c _ w ∙ R .can w;
           clean = reset-clean u (R .formed) c used-child x a (R .clean);
           child = reset-id u (R .formed) c used-child x c ∙ R .child;
           dirty = ap (λ (w : Row). w .dirty) (reset-here u (R .formed) c used-child x);
@@ -114,7 +114,7 @@ module _ {style : Spelling} (a : List ℕ) (t : Table) (M : Midway style none a 
         record {
           formed = reset-formed u (R .formed) i used-own x;
           fits = reset-fits u (R .formed) i used-own x (R .fits) F;
-          can = can-row u i _ ∙ R .can;
+          can = λ w. can-row u i _ w ∙ R .can w;
           clean = reset-clean u (R .formed) i used-own x a (R .clean);
           child = reset-id u (R .formed) i used-own x c ∙ R .child;
           dirty = ap (λ (w : Row). w .dirty) o ∙ R .dirty;

@@ -52,7 +52,7 @@ pub record Gets (way : Look) (own : ℕ → Type 0) (a : List ℕ) (t : Table) (
   pub rows : (j : ℕ) → Used t j → rowAt table j ≡ rowAt t j
   -- the row was there, or is new and as stored
   pub how : (table ≡ t) ⊎ ((rowAt table row .dirty ≡ false) × (rowAt t row .id ≡ 0))
-  pub can : canHold table ≡ canHold t
+  pub can : (w : ℕ) → canHold table w ≡ canHold t w
 
 -- the first that a call opens
 abbrev pub Got : Spelling → List ℕ → Table → ℕ → Opened → Type 0
@@ -180,7 +180,7 @@ get-more {way = way} {own = own} a t M k only id n = go (rowOf t id) refl
           recs = λ k m. refl;
           rows = λ j w. refl;
           how = inl refl;
-          can = refl;
+          can = λ w. refl;
         }))
     go Nothing e =
         let s = spare-row t k (M .formed) only in

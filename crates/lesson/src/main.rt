@@ -4,6 +4,7 @@ use base::copy;
 use calls::HeldReply;
 use calls_close::close;
 use calls_find::find;
+use calls_find::root;
 use calls_link::link;
 use calls_move::move_;
 use calls_unlink::unlink;
@@ -15,6 +16,8 @@ use lesson_lib::lines::save_line;
 use lesson_lib::lines::slot_line;
 use lesson_lib::say;
 use lesson_lib::say::text;
+use lesson_lib::world::ANN;
+use lesson_lib::world::BEN;
 use lesson_lib::world::fresh;
 use lesson_lib::world::handle;
 use lesson_made::three_files;
@@ -33,7 +36,7 @@ fn slots(arena: &mut [u8; 8192]) {
     slot_line(arena, t, root, b"  create a, b, c: slot 2 is ", 2);
     slot_line(arena, t, root, b", slot 3 is ", 3);
     slot_line(arena, t, root, b", slot 4 is ", 4);
-    let u = unlink(arena, t, root, b"a");
+    let u = unlink(arena, t, ANN, root, b"a");
     let a = u.answer;
     let t = u.table;
     say::answer(b".\n  unlink a: ", a);
@@ -56,8 +59,8 @@ fn slots(arena: &mut [u8; 8192]) {
 
 // Whether two tables have the same bytes.
 fn same_table(t: Table, u: Table) -> bool {
-    let mut a = [0u8; 4370];
-    let mut b = [0u8; 4370];
+    let mut a = [0u8; 4402];
+    let mut b = [0u8; 4402];
     write_table(&mut a, t);
     write_table(&mut b, u);
     equal(&a, &b)
@@ -67,7 +70,7 @@ fn same_table(t: Table, u: Table) -> bool {
 fn move_line(arena: &mut [u8; 8192], t: Table, root: Handle) {
     let mut before = [0u8; 8192];
     copy(&mut before, arena);
-    let m = move_(arena, t, root, b"old", root, b"new");
+    let m = move_(arena, t, ANN, root, b"old", root, b"new");
     let a = m.answer;
     let u = m.table;
     say::answer(b"  move old to new: ", a);
@@ -86,25 +89,25 @@ fn same_node(arena: &mut [u8; 8192]) {
     let w = fresh(arena);
     let t = w.table;
     let root = w.root;
-    let g = create_line(arena, t, root, b"old", FILE, 2);
+    let g = create_line(arena, t, ANN, root, b"old", FILE, 2);
     let a = g.answer;
     let t = g.table;
     let h = handle(a);
-    let l = link(arena, t, root, b"new", h);
+    let l = link(arena, t, ANN, root, b"new", h);
     let a = l.answer;
     let t = l.table;
     say::answer(b"  link it as new: ", a);
-    handle_line(arena, t, h, b"; it is ");
+    handle_line(arena, t, ANN, h, b"; it is ");
     text(b".\n");
     move_line(arena, t, root);
 }
 
 // Where `..` of a folder leads, after a text. The table with that hold is not kept.
 fn parent_line(arena: &[u8; 8192], t: Table, h: Handle, before: &[u8]) {
-    let g = find(arena, t, h, b"..");
+    let g = find(arena, t, ANN, h, b"..");
     let a = g.answer;
     let u = g.table;
-    handle_line(arena, u, handle(a), before);
+    handle_line(arena, u, ANN, handle(a), before);
 }
 
 // A weight's folder goes to another family; then that family can't go below it.
@@ -117,12 +120,12 @@ fn reorganised(
     bold: Handle,
 ) {
     parent_line(arena, t, bold, b"  Bold's .. leads to ");
-    let m = move_(arena, t, sans, b"Bold", serif, b"Bold");
+    let m = move_(arena, t, ANN, sans, b"Bold", serif, b"Bold");
     let a = m.answer;
     let t = m.table;
     say::answer(b".\n  move Bold to Serif: ", a);
     parent_line(arena, t, bold, b"; its .. leads to ");
-    let m = move_(arena, t, root, b"Serif", bold, b"Serif");
+    let m = move_(arena, t, ANN, root, b"Serif", bold, b"Serif");
     let a = m.answer;
     say::answer(b".\n  move Serif into Bold, which is in it: ", a);
     text(b".\n");
@@ -133,15 +136,15 @@ fn families(arena: &mut [u8; 8192]) {
     let w = fresh(arena);
     let t = w.table;
     let root = w.root;
-    let g = create_line(arena, t, root, b"Sans", DIR, 2);
+    let g = create_line(arena, t, ANN, root, b"Sans", DIR, 2);
     let a = g.answer;
     let t = g.table;
     let sans = handle(a);
-    let g = create_line(arena, t, root, b"Serif", DIR, 3);
+    let g = create_line(arena, t, ANN, root, b"Serif", DIR, 3);
     let a = g.answer;
     let t = g.table;
     let serif = handle(a);
-    let g = create_line(arena, t, sans, b"Bold", DIR, 4);
+    let g = create_line(arena, t, ANN, sans, b"Bold", DIR, 4);
     let a = g.answer;
     let t = g.table;
     reorganised(arena, t, root, sans, serif, handle(a));
@@ -155,13 +158,13 @@ fn hold_line(before: &[u8], h: Handle) {
 
 // Ann and Ben have a glyph open; Ben removes it and makes another.
 fn removed(arena: &mut [u8; 8192], t: Table, root: Handle, ann: Handle) -> HeldReply {
-    let u = unlink(arena, t, root, b"a");
+    let u = unlink(arena, t, BEN, root, b"a");
     let a = u.answer;
     let t = u.table;
     say::answer(b"  Ben unlinks a: ", a);
-    handle_line(arena, t, ann, b"; Ann's a is ");
+    handle_line(arena, t, ANN, ann, b"; Ann's a is ");
     text(b".\n");
-    create_line(arena, t, root, b"b", FILE, 3)
+    create_line(arena, t, BEN, root, b"b", FILE, 3)
 }
 
 // Ann saves in the a that she has open, Ben in his new b.
@@ -172,6 +175,7 @@ fn saved(arena: &mut [u8; 8192], t: Table, ann: Handle, ben: Handle) -> Table {
     let t = save_line(
         arena,
         t,
+        ANN,
         ann,
         b"  Ann saves her curve: ",
         b"M0 0 C1 9 4 9 5 0",
@@ -179,25 +183,32 @@ fn saved(arena: &mut [u8; 8192], t: Table, ann: Handle, ben: Handle) -> Table {
     let t = save_line(
         arena,
         t,
+        BEN,
         ben,
         b"  Ben saves his corner: ",
         b"M0 0 L5 0 L5 7",
     );
-    outline_line(arena, t, ann, b"  Ann's a reads ");
-    outline_line(arena, t, ben, b"; Ben's b reads ");
+    outline_line(arena, t, ANN, ann, b"  Ann's a reads ");
+    outline_line(arena, t, BEN, ben, b"; Ben's b reads ");
     text(b".\n");
     t
 }
 
 // Ben closes his handle and asks with it once more; then Ann closes hers.
 fn closed(arena: &mut [u8; 8192], t: Table, ann: Handle, ben: Handle) -> Table {
-    let c = close(arena, t, ben);
+    let c = close(arena, t, BEN, ben);
     let a = c.answer;
     let t = c.table;
     say::answer(b"  Ben closes his a: ", a);
-    handle_line(arena, t, ann, b"; Ann's a is ");
-    handle_line(arena, t, ben, b".\n  Ben asks with his closed handle: ");
-    let c = close(arena, t, ann);
+    handle_line(arena, t, ANN, ann, b"; Ann's a is ");
+    handle_line(
+        arena,
+        t,
+        BEN,
+        ben,
+        b".\n  Ben asks with his closed handle: ",
+    );
+    let c = close(arena, t, ANN, ann);
     let a = c.answer;
     let t = c.table;
     say::answer(b".\n  Ann closes hers, the last: ", a);
@@ -205,30 +216,49 @@ fn closed(arena: &mut [u8; 8192], t: Table, ann: Handle, ben: Handle) -> Table {
     t
 }
 
-fn support_call(arena: &mut [u8; 8192]) {
-    text(b"\n\"My curve has my colleague's corner in it\"\n");
-    let w = fresh(arena);
-    let t = w.table;
-    let root = w.root;
-    let g = create_line(arena, t, root, b"a", FILE, 2);
-    let a = g.answer;
-    let t = g.table;
-    let ann = handle(a);
-    let g = find(arena, t, root, b"a");
+// Ben opens the root for himself, and the glyph that Ann has made. Her handle does not work for him.
+fn shared(arena: &mut [u8; 8192], t: Table, own: Handle, ann: Handle) -> HeldReply {
+    let g = find(arena, t, BEN, own, b"a");
     let a = g.answer;
     let t = g.table;
     let ben = handle(a);
     say::got(b"  That was Ann. Ben finds a: ", a);
-    handle_line(arena, t, ben, b"; his a is ");
+    handle_line(arena, t, BEN, ben, b"; his a is ");
     hold_line(b".\n  One node, two handles: Ann has hold ", ann);
     hold_line(b"; Ben has hold ", ben);
+    handle_line(
+        arena,
+        t,
+        BEN,
+        ann,
+        b".\n  Ben asks with Ann's handle, which works for her alone: ",
+    );
     text(b".\n");
-    let g = removed(arena, t, root, ann);
+    g
+}
+
+fn support_call(arena: &mut [u8; 8192]) {
+    text(b"\n\"My curve has my colleague's corner in it\"\n");
+    let w = fresh(arena);
+    let t = w.table;
+    let g = create_line(arena, t, ANN, w.root, b"a", FILE, 2);
+    let a = g.answer;
+    let t = g.table;
+    let ann = handle(a);
+    let g = root(arena, t, BEN);
+    let a = g.answer;
+    let t = g.table;
+    let own = handle(a);
+    let g = shared(arena, t, own, ann);
+    let a = g.answer;
+    let t = g.table;
+    let ben = handle(a);
+    let g = removed(arena, t, own, ann);
     let a = g.answer;
     let t = g.table;
     let t = saved(arena, t, ann, handle(a));
     let t = closed(arena, t, ann, ben);
-    create_line(arena, t, root, b"c", FILE, 4);
+    create_line(arena, t, BEN, own, b"c", FILE, 4);
 }
 
 fn main() {

@@ -3,6 +3,7 @@ use crate::image;
 use crate::image::FIRST_MAP;
 use crate::say;
 use crate::say::text;
+use crate::world::ANN;
 use crate::world::create;
 use crate::world::handle;
 use calls::HeldReply;
@@ -48,10 +49,10 @@ pub fn numbers_line(arena: &[u8; 8192]) {
     );
 }
 
-// What a handle tells, after a text: its node's number and links.
-pub fn handle_line(arena: &[u8], t: Table, h: Handle, before: &[u8]) {
+// What a handle tells who asks with it, after a text: its node's number and links.
+pub fn handle_line(arena: &[u8], t: Table, who: u8, h: Handle, before: &[u8]) {
     text(before);
-    let told = metadata(arena, t, h);
+    let told = metadata(arena, t, who, h);
     match told {
         Told::Tells(m) => {
             say::number(b"node ", m.inode as u64, b"");
@@ -65,18 +66,19 @@ pub fn handle_line(arena: &[u8], t: Table, h: Handle, before: &[u8]) {
 pub fn create_line(
     arena: &mut [u8],
     t: Table,
+    who: u8,
     root: Handle,
     name: &[u8],
     kind: u32,
     n: u8,
 ) -> HeldReply {
-    let g = create(arena, t, root, name, kind, n);
+    let g = create(arena, t, who, root, name, kind, n);
     let a = g.answer;
     let u = g.table;
     text(b"  create ");
     text(name);
     say::got(b": ", a);
-    handle_line(&arena[..], u, handle(a), b"; it is ");
+    handle_line(&arena[..], u, who, handle(a), b"; it is ");
     text(b".\n");
     g
 }
@@ -88,8 +90,15 @@ fn stored(name: &[u8]) {
 }
 
 // An outline goes into a node's own bytes.
-pub fn save_line(arena: &mut [u8], t: Table, h: Handle, before: &[u8], outline: &[u8]) -> Table {
-    let w = write(arena, t, h, 0, outline);
+pub fn save_line(
+    arena: &mut [u8],
+    t: Table,
+    who: u8,
+    h: Handle,
+    before: &[u8],
+    outline: &[u8],
+) -> Table {
+    let w = write(arena, t, who, h, 0, outline);
     let a = w.answer;
     let u = w.table;
     say::answer(before, a);
@@ -98,17 +107,17 @@ pub fn save_line(arena: &mut [u8], t: Table, h: Handle, before: &[u8], outline: 
 }
 
 // What a node's own bytes say, after a text.
-pub fn outline_line(arena: &[u8], t: Table, h: Handle, before: &[u8]) {
+pub fn outline_line(arena: &[u8], t: Table, who: u8, h: Handle, before: &[u8]) {
     let mut out = [0u8; 64];
-    read(arena, t, h, 0, &mut out);
+    read(arena, t, who, h, 0, &mut out);
     text(before);
     stored(&out);
 }
 
-// The name in a slot of the root, after a text.
+// The name in a slot of the root, by Ann's handle, after a text.
 pub fn slot_line(arena: &[u8], t: Table, root: Handle, before: &[u8], k: u64) {
     let mut slot = [0u8; 264];
-    get_entry(arena, t, root, k, &mut slot);
+    get_entry(arena, t, ANN, root, k, &mut slot);
     text(before);
     stored(&slot[4..260]);
 }

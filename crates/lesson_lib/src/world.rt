@@ -6,7 +6,12 @@ use structs::Timespec;
 use table::Handle;
 use table::Table;
 
-// The table of open nodes, and the root's handle.
+// Two of the four who may ask.
+pub const ANN: u8 = 1;
+
+pub const BEN: u8 = 2;
+
+// The table of open nodes, and Ann's handle on the root.
 pub struct World {
     pub table: Table,
     pub root: Handle,
@@ -34,9 +39,9 @@ pub fn fresh(arena: &mut [u8; 8192]) -> World {
     begin(arena)
 }
 
-// Nothing is open but the root.
+// Nothing is open but the root, by Ann.
 pub fn begin(arena: &[u8; 8192]) -> World {
-    let g = calls_find::root(arena, table::empty());
+    let g = calls_find::root(arena, table::empty(), ANN);
     let a = g.answer;
     let t = g.table;
     let h = handle(a);
@@ -47,6 +52,7 @@ pub fn begin(arena: &[u8; 8192]) -> World {
 pub fn create(
     arena: &mut [u8],
     t: Table,
+    who: u8,
     root: Handle,
     name: &[u8],
     kind: u32,
@@ -60,5 +66,5 @@ pub fn create(
         time: time,
         file: file,
     };
-    calls_create::create(arena, t, root, name, new)
+    calls_create::create(arena, t, who, root, name, new)
 }

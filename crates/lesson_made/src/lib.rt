@@ -9,6 +9,7 @@ use lesson_lib::lines::numbers_line;
 use lesson_lib::say;
 use lesson_lib::say::text;
 use lesson_lib::world;
+use lesson_lib::world::ANN;
 use lesson_lib::world::World;
 use lesson_lib::world::begin;
 use lesson_lib::world::create;
@@ -34,7 +35,7 @@ pub fn file_a(arena: &mut [u8; 8192]) {
     let w = begin(arena);
     let t = w.table;
     let root = w.root;
-    create_line(arena, t, root, b"A", FILE, 2);
+    create_line(arena, t, ANN, root, b"A", FILE, 2);
     blocks_line(arena);
     numbers_line(arena);
 }
@@ -44,9 +45,9 @@ pub fn folder_b(arena: &mut [u8; 8192]) {
     let w = fresh(arena);
     let t = w.table;
     let root = w.root;
-    let g = create_line(arena, t, root, b"B", DIR, 2);
+    let g = create_line(arena, t, ANN, root, b"B", DIR, 2);
     let t = g.table;
-    handle_line(arena, t, root, b"  The root is ");
+    handle_line(arena, t, ANN, root, b"  The root is ");
     text(b".\n");
     blocks_line(arena);
 }
@@ -59,7 +60,7 @@ pub fn second_group(arena: &mut [u8; 8192]) {
     let w = begin(arena);
     let t = w.table;
     let root = w.root;
-    create_line(arena, t, root, b"A", FILE, 2);
+    create_line(arena, t, ANN, root, b"A", FILE, 2);
     say::number(
         b"  A second group came: ",
         image::unused(arena),
@@ -96,7 +97,7 @@ pub fn numbers() {
 
 // What create answers to a name.
 fn name_line(arena: &mut [u8], t: Table, root: Handle, name: &[u8], before: &[u8]) -> Table {
-    let g = create(arena, t, root, name, FILE, 2);
+    let g = create(arena, t, ANN, root, name, FILE, 2);
     let a = g.answer;
     let u = g.table;
     say::got(before, a);
@@ -145,11 +146,11 @@ pub fn three_files(arena: &mut [u8; 8192]) -> World {
     let w = fresh(arena);
     let t = w.table;
     let root = w.root;
-    let g = create(arena, t, root, b"a", FILE, 2);
+    let g = create(arena, t, ANN, root, b"a", FILE, 2);
     let t = g.table;
-    let g = create(arena, t, root, b"b", FILE, 3);
+    let g = create(arena, t, ANN, root, b"b", FILE, 3);
     let t = g.table;
-    let g = create(arena, t, root, b"c", FILE, 4);
+    let g = create(arena, t, ANN, root, b"c", FILE, 4);
     let t = g.table;
     World {
         table: t,

@@ -179,7 +179,7 @@ module _ (m : List ℕ) (i a w v : ℕ) (W : Whole m) (inside : i < 34) (room : 
   unfolding rowFrom
   changed f e n q =
       rw q (tabled m marked (W .size) (ap length as-paste ∙ length-paste put (117 * i + 4) (1 ∷ []) mark-fit ∙ put-size ∙ W .size)
-      (beside 4370 memorySize (λ l. absurd (omega arith)))
+      (beside 4402 memorySize (λ l. absurd (omega arith)))
       _ W (row-changed m marked i _ inside beside row))
     where
       row : rowFrom (part marked (117 * i) (117 * i + 117)) ≡ record { id = rowAt (tableIn m) i .id; dirty = true; rec = f (rowAt (tableIn m) i .rec) }

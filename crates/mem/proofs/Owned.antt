@@ -45,4 +45,4 @@ row-fits r u p = record {
 }
 
 pub hold-fits : (h : Hold) (u : Val) → shadow (hold.the-field .row .own (hold.the-field .into h) (u ∷ [])) → HoldFits h
-hold-fits h u p = record { row = search needs; stamp = search needs }
+hold-fits h u p = record { row = search needs; stamp = search needs; owner = search needs }

@@ -1,8 +1,8 @@
 -- What a call has in memory (000's SEFS), as bytes that it lends to its steps:
---   from 0      the table of open nodes, 4,370 bytes
---   at 4370     1 where superblock and free maps could be read at the call's start, else 0
---   from 4371   the superblock, 16 bytes
---   from 4387   the maps of up to four groups, 128 bytes each, up to 4899
+--   from 0      the table of open nodes, 4,402 bytes
+--   at 4402     1 where superblock and free maps could be read at the call's start, else 0
+--   from 4403   the superblock, 16 bytes
+--   from 4419   the maps of up to four groups, 128 bytes each, up to 4931
 use mathlib.Core.Path.{_≡_}
 use mathlib.Core.List.{List}
 use Prim.Native.Nat.{ℕ, _+_, _*_, _<_, _≤_}
@@ -19,28 +19,28 @@ use Rattle.table_bytes.specs.Layout.{tableOf}
 use Rattle.sefs.specs.State.{Meta}
 
 abbrev pub memorySize : ℕ
-memorySize = 4899
+memorySize = 4931
 
--- (the table that 4,370 bytes are looks at no byte behind them)
+-- (the table that 4,402 bytes are looks at no byte behind them)
 abbrev pub tableIn : List ℕ → Table
 tableIn m = tableOf m
 
 unfoldable pub superIn : List ℕ → SuperBlock
-superIn m = superOf (part m 4371 4387)
+superIn m = superOf (part m 4403 4419)
 
 -- the maps of the superblock's groups, joined
 unfoldable pub mapsIn : List ℕ → List ℕ
-mapsIn m = part m 4387 (4387 + 128 * superIn m .groups)
+mapsIn m = part m 4419 (4419 + 128 * superIn m .groups)
 
 -- superblock and maps; where they could not be read, what needs them sticks
 unfoldable pub metaIn : List ℕ → Out Meta
-metaIn m = pick (eqb (getD m 4370 0) 1) (done (record { super = superIn m; maps = mapsIn m })) (refused stuck)
+metaIn m = pick (eqb (getD m 4402 0) 1) (done (record { super = superIn m; maps = mapsIn m })) (refused stuck)
 
 -- it has its size, and where superblock and maps could be read there are 1 to 4 groups
 pub record Whole (m : List ℕ) : Type 0 where
   pub size : length m ≡ memorySize
-  pub some : getD m 4370 0 ≡ 1 → 0 < superIn m .groups
-  pub few : getD m 4370 0 ≡ 1 → superIn m .groups ≤ 4
+  pub some : getD m 4402 0 ≡ 1 → 0 < superIn m .groups
+  pub few : getD m 4402 0 ≡ 1 → superIn m .groups ≤ 4
 
 -- the table was changed to t, and nothing else
 pub record Tabled (m n : List ℕ) (t : Table) : Type 0 where

@@ -1,11 +1,11 @@
 // What a call has in memory (000's SEFS), as bytes that the call lends to its steps: the table of open nodes in the layout of a table's
 // bytes, and behind it the superblock and the free maps as they were at the call's start and as the steps since have changed them.
 //   0     34 rows of 117 bytes: id, dirty mark, record
-//   3978  32 holds of 12 bytes: row, stamp
-//   4362  the next stamp
-//   4370  1 where superblock and maps could be read, else 0
-//   4371  the superblock, 16 bytes
-//   4387  the maps of up to four groups, 128 bytes each, up to 4899
+//   3978  32 holds of 13 bytes: row, stamp, owner
+//   4394  the next stamp
+//   4402  1 where superblock and maps could be read, else 0
+//   4403  the superblock, 16 bytes
+//   4419  the maps of up to four groups, 128 bytes each, up to 4931
 ghost use mathlib.Core.Path.{_≡_};
 ghost use mathlib.Core.Bool.{true};
 ghost use mathlib.Core.List.{_∷_};
@@ -42,7 +42,7 @@ use table_bytes::row_in;
 use table_bytes::settle_marks;
 
 // How long it is.
-pub const MEMORY: usize = 4899;
+pub const MEMORY: usize = 4931;
 
 // ---- rows
 
@@ -196,7 +196,7 @@ fn names_row(mem: &[u8], n: usize, i: usize) -> bool
     requires { ⌜ Whole (now mem) × (n < 32) ⌝ }
     ensures { λ r. ⌜ r ≡ namesRow (tableIn (now (mem .entry))) i n ⌝ }
 {
-    let h = hold_in(mem, 3978 + 12 * n);
+    let h = hold_in(mem, 3978 + 13 * n);
     (h.stamp != 0) & (index(h.row) == i)
 }
 
@@ -219,75 +219,75 @@ pub fn row_held(mem: &[u8], i: usize) -> bool
 
 pub fn has_meta(mem: &[u8]) -> bool
     requires { ⌜ Whole (now mem) ⌝ }
-    ensures { λ r. ⌜ r ≡ eqb (getD (now (mem .entry)) 4370 0) 1 ⌝ }
+    ensures { λ r. ⌜ r ≡ eqb (getD (now (mem .entry)) 4402 0) 1 ⌝ }
 {
-    mem[4370] == 1
+    mem[4402] == 1
 }
 
 pub fn super_at(mem: &[u8]) -> SuperBlock
     requires { ⌜ Whole (now mem) ⌝ }
     ensures { λ r. ⌜ r ≡ superIn (now (mem .entry)) ⌝ }
 {
-    super_block_at(mem, 4371)
+    super_block_at(mem, 4403)
 }
 
 pub fn super_bytes(mem: &[u8]) -> &[u8]
     requires { ⌜ Whole (now mem) ⌝ }
-    ensures { λ r. ⌜ now r ≡ part (now (mem .entry)) 4371 4387 ⌝ }
+    ensures { λ r. ⌜ now r ≡ part (now (mem .entry)) 4403 4419 ⌝ }
 {
-    &mem[4371..4387]
+    &mem[4403..4419]
 }
 
 pub fn map_bytes(mem: &[u8], group: usize) -> &[u8]
     requires { ⌜ Whole (now mem) × (group < 4) ⌝ }
-    ensures { λ r. ⌜ now r ≡ part (now (mem .entry)) (4387 + 128 * group) (4387 + 128 * group + 128) ⌝ }
+    ensures { λ r. ⌜ now r ≡ part (now (mem .entry)) (4419 + 128 * group) (4419 + 128 * group + 128) ⌝ }
 {
-    let o = 4387 + 128 * group;
+    let o = 4419 + 128 * group;
     &mem[o..o + 128]
 }
 
 // The lowest set bit of the groups' maps.
 pub fn first_bit(mem: &[u8]) -> Found
-    requires { ⌜ Whole (now mem) × (getD (now mem) 4370 0 ≡ 1) ⌝ }
+    requires { ⌜ Whole (now mem) × (getD (now mem) 4402 0 ≡ 1) ⌝ }
     ensures { λ r. ⌜ r ≡ foundBelow (lowest (bitAt (mapsIn (now (mem .entry)))) (1024 * superIn (now (mem .entry)) .groups)) (1024 * superIn (now (mem .entry)) .groups) ⌝ }
 {
     let groups = super_at(mem).groups;
-    maps::lowest_set(&mem[4387..MEMORY], index(groups))
+    maps::lowest_set(&mem[4419..MEMORY], index(groups))
 }
 
 pub fn bit_at(mem: &[u8], id: usize) -> bool
     requires { ⌜ Whole (now mem) × (id < 1024 * superIn (now mem) .groups) ⌝ }
-    requires { ⌜ getD (now mem) 4370 0 ≡ 1 ⌝ }
+    requires { ⌜ getD (now mem) 4402 0 ≡ 1 ⌝ }
     ensures { λ r. ⌜ r ≡ bitAt (mapsIn (now (mem .entry))) id ⌝ }
 {
-    maps::bit_at(&mem[4387..MEMORY], id)
+    maps::bit_at(&mem[4419..MEMORY], id)
 }
 
 // Bit `id` and the count of unused ids, together.
 pub fn put_bit(mem: &mut [u8], id: usize, b: bool, unused: u32)
     requires { ⌜ Whole (now mem) × (id < 1024 * superIn (now mem) .groups) ⌝ }
-    requires { ⌜ getD (now mem) 4370 0 ≡ 1 ⌝ }
+    requires { ⌜ getD (now mem) 4402 0 ≡ 1 ⌝ }
     ensures { λ _. ⌜ Mapped (now (mem .entry)) (now (mem .exit)) (record { super = superWith (superIn (now (mem .entry))) (superIn (now (mem .entry)) .blocks) unused (superIn (now (mem .entry)) .groups); maps = withBit (mapsIn (now (mem .entry))) id b }) ⌝ }
 {
     let mut sb = super_at(&mem[..]);
-    maps::put_bit(&mut mem[4387..MEMORY], id, b);
+    maps::put_bit(&mut mem[4419..MEMORY], id, b);
     sb.unused = unused;
-    put_super_block(mem, 4371, sb);
+    put_super_block(mem, 4403, sb);
 }
 
 // A new group: every bit of its map set but that of its own block, and the superblock counts it.
 pub fn add_group(mem: &mut [u8])
-    requires { ⌜ Whole (now mem) × (getD (now mem) 4370 0 ≡ 1) ⌝ }
+    requires { ⌜ Whole (now mem) × (getD (now mem) 4402 0 ≡ 1) ⌝ }
     requires { ⌜ (superIn (now mem) .groups < 4) × ((superIn (now mem) .blocks + 1024 < 4294967296) × (superIn (now mem) .unused + 1023 < 4294967296)) ⌝ }
     ensures { λ _. ⌜ Mapped (now (mem .entry)) (now (mem .exit)) (grown (superIn (now (mem .entry))) (mapsIn (now (mem .entry)))) ⌝ }
 {
     let mut sb = super_at(&mem[..]);
-    let o = 4387 + 128 * index(sb.groups);
+    let o = 4419 + 128 * index(sb.groups);
     put_map(&mut mem[o..o + 128], 253);
     sb.blocks = sb.blocks + 1024;
     sb.unused = sb.unused + 1023;
     sb.groups = sb.groups + 1;
-    put_super_block(mem, 4371, sb);
+    put_super_block(mem, 4403, sb);
 }
 
 // A group's map: the first byte, and every bit of the others set.
@@ -321,9 +321,9 @@ fn mark_of(b: bool) -> u8
 // Whether superblock and maps could be read.
 pub fn put_flag(mem: &mut [u8], b: bool)
     requires { ⌜ length (now mem) ≡ memorySize ⌝ }
-    ensures { λ _. ⌜ now (mem .exit) ≡ set (now (mem .entry)) 4370 (bit b) ⌝ }
+    ensures { λ _. ⌜ now (mem .exit) ≡ set (now (mem .entry)) 4402 (bit b) ⌝ }
 {
-    mem[4370] = mark_of(b);
+    mem[4402] = mark_of(b);
 }
 
 // A call's memory at its start: the table's bytes, and no superblock or map read yet.
@@ -337,19 +337,19 @@ pub fn put_table(mem: &mut [u8], t: Table)
 
 // The same from the table's bytes, with no table by value.
 pub fn begin(mem: &mut [u8], table: &[u8])
-    requires { ⌜ (length (now mem) ≡ memorySize) × (length (now table) ≡ 4370) ⌝ }
+    requires { ⌜ (length (now mem) ≡ memorySize) × (length (now table) ≡ 4402) ⌝ }
     ensures { λ _. ⌜ (tableIn (now (mem .exit)) ≡ tableOf (now (table .entry))) × Whole (now (mem .exit)) ⌝ }
 {
     put_flag(mem, false);
-    copy(&mut mem[0..4370], table);
+    copy(&mut mem[0..4402], table);
 }
 
 // The end of a call that was given the table's bytes: memory's table, written.
 pub fn write_back(table: &mut [u8], mem: &[u8])
-    requires { ⌜ (length (now table) ≡ 4370) × (length (now mem) ≡ memorySize) ⌝ }
+    requires { ⌜ (length (now table) ≡ 4402) × (length (now mem) ≡ memorySize) ⌝ }
     ensures { λ _. ⌜ now (table .exit) ≡ tableBytes (tableIn (now (mem .entry))) ⌝ }
 {
-    copy(table, &mem[0..4370]);
+    copy(table, &mem[0..4402]);
     settle_marks(table);
 }
 
@@ -368,10 +368,10 @@ pub fn fresh_meta(mem: &mut [u8])
     ensures { λ _. ⌜ (metaIn (now (mem .exit)) ≡ done freshMeta) × (tableIn (now (mem .exit)) ≡ tableIn (now (mem .entry))) × Whole (now (mem .exit)) ⌝ }
 {
     put_flag(mem, true);
-    put_map(&mut mem[4387..4515], 252);
+    put_map(&mut mem[4419..4547], 252);
     put_super_block(
         mem,
-        4371,
+        4403,
         SuperBlock {
             magic: SEFS_MAGIC,
             blocks: 1024,

@@ -44,15 +44,15 @@ opened-in m n i id rec dirty e c a =
 
 -- ---- a node is asked for
 
-pub get-none : (a m : List ℕ) (id : ℕ) → eqb (getD m 4370 0) 1 ≡ false → getNode (fsAt a m) id ≡ refused 19
+pub get-none : (a m : List ℕ) (id : ℕ) → eqb (getD m 4402 0) 1 ≡ false → getNode (fsAt a m) id ≡ refused 19
 unfolding getNode
 get-none a m id h = rw (meta-none m h)
 
-pub get-unused : (a m : List ℕ) (id : ℕ) → getD m 4370 0 ≡ 1 → isUsed (metaOf m) id ≡ false → getNode (fsAt a m) id ≡ refused 19
+pub get-unused : (a m : List ℕ) (id : ℕ) → getD m 4402 0 ≡ 1 → isUsed (metaOf m) id ≡ false → getNode (fsAt a m) id ≡ refused 19
 unfolding getNode
 get-unused a m id h u = rw (meta-is m h, u)
 
-pub get-used : (a m : List ℕ) (id : ℕ) → getD m 4370 0 ≡ 1 → isUsed (metaOf m) id ≡ true → getNode (fsAt a m) id ≡ openAt (fsAt a m) id (rowOf (tableIn m) id)
+pub get-used : (a m : List ℕ) (id : ℕ) → getD m 4402 0 ≡ 1 → isUsed (metaOf m) id ≡ true → getNode (fsAt a m) id ≡ openAt (fsAt a m) id (rowOf (tableIn m) id)
 unfolding getNode
 get-used a m id h u = rw (meta-is m h, u)
 
@@ -146,7 +146,7 @@ module _ (a w m : List ℕ) (g : superIn m .groups < 4) where
 
 -- what the code asks of memory that has a spare id
 pub record Has (m : List ℕ) : Type 0 where
-  pub mark : getD m 4370 0 ≡ 1
+  pub mark : getD m 4402 0 ≡ 1
   pub below : firstBit (metaOf m) < 1024 * superIn m .groups
 
 pub spare-has : (a w m : List ℕ) → Spare (fsOf a w m) → Has m
@@ -155,7 +155,7 @@ spare-has a w m s =
     let h = meta-has m (s .meta) (s .is) in
     record { mark = h .0; below = subst (λ (x : Meta). firstBit x < ids x) (sym (h .1)) (s .below) }
 
-pub alloc-none : (a w m : List ℕ) → eqb (getD m 4370 0) 1 ≡ false → allocBlock (fsOf a w m) ≡ refused 19
+pub alloc-none : (a w m : List ℕ) → eqb (getD m 4402 0) 1 ≡ false → allocBlock (fsOf a w m) ≡ refused 19
 unfolding allocBlock fsOf
 alloc-none a w m h = rw (meta-none m h)
 
@@ -163,29 +163,29 @@ alloc-none a w m h = rw (meta-none m h)
 abbrev pub roomFor : List ℕ → List ℕ → List ℕ → Out Fs
 roomFor a w m = pick (ltb (firstBit (metaOf m)) (1024 * superIn m .groups)) (done (fsOf a w m)) (addGroup (fsOf a w m) (metaOf m))
 
-pub alloc-is : (a w m : List ℕ) → getD m 4370 0 ≡ 1 → allocBlock (fsOf a w m) ≡ bind (roomFor a w m) (λ s. bind (s .meta) (takeBit s))
+pub alloc-is : (a w m : List ℕ) → getD m 4402 0 ≡ 1 → allocBlock (fsOf a w m) ≡ bind (roomFor a w m) (λ s. bind (s .meta) (takeBit s))
 unfolding allocBlock fsOf
 alloc-is a w m h = rw (meta-is m h)
 
-pub take-is : (a w m : List ℕ) → getD m 4370 0 ≡ 1 → bind (fsOf a w m .meta) (takeBit (fsOf a w m)) ≡ takeBit (fsOf a w m) (metaOf m)
+pub take-is : (a w m : List ℕ) → getD m 4402 0 ≡ 1 → bind (fsOf a w m .meta) (takeBit (fsOf a w m)) ≡ takeBit (fsOf a w m) (metaOf m)
 unfolding fsOf
 take-is a w m h = rw (meta-is m h)
 
-pub spare-room : (a w u m n : List ℕ) → length (mapsIn m) ≡ 128 * superIn m .groups → getD m 4370 0 ≡ 1 → roomFor a w m ≡ done (fsOf a u n) → Has n
+pub spare-room : (a w u m n : List ℕ) → length (mapsIn m) ≡ 128 * superIn m .groups → getD m 4402 0 ≡ 1 → roomFor a w m ≡ done (fsOf a u n) → Has n
 unfolding fsOf
 spare-room a w u m n l h e = spare-has a u n (spare-after (fsOf a w m) (fsOf a u n) (metaOf m) (meta-is m h) l e)
 
 -- ---- an id is freed
 
-pub free-none : (m : List ℕ) (id : ℕ) → eqb (getD m 4370 0) 1 ≡ false → (a w : List ℕ) → freeBlock (fsOf a w m) id ≡ refused 19
+pub free-none : (m : List ℕ) (id : ℕ) → eqb (getD m 4402 0) 1 ≡ false → (a w : List ℕ) → freeBlock (fsOf a w m) id ≡ refused 19
 unfolding freeBlock fsOf
 free-none m id h a w = rw (meta-none m h)
 
-pub free-unused : (m : List ℕ) (id : ℕ) → getD m 4370 0 ≡ 1 → isUsed (metaOf m) id ≡ false → (a w : List ℕ) → freeBlock (fsOf a w m) id ≡ refused 19
+pub free-unused : (m : List ℕ) (id : ℕ) → getD m 4402 0 ≡ 1 → isUsed (metaOf m) id ≡ false → (a w : List ℕ) → freeBlock (fsOf a w m) id ≡ refused 19
 unfolding freeBlock fsOf
 free-unused m id h u a w = rw (meta-is m h, u)
 
-pub free-full : (m : List ℕ) (id : ℕ) → getD m 4370 0 ≡ 1 → isUsed (metaOf m) id ≡ true → superIn m .unused ≡ 4294967295 → (a w : List ℕ) → freeBlock (fsOf a w m) id ≡ refused 19
+pub free-full : (m : List ℕ) (id : ℕ) → getD m 4402 0 ≡ 1 → isUsed (metaOf m) id ≡ true → superIn m .unused ≡ 4294967295 → (a w : List ℕ) → freeBlock (fsOf a w m) id ≡ refused 19
 unfolding freeBlock fsOf
 free-full m id h u z a w = rw (meta-is m h, u, le-ltb (superIn m .unused + 1) 4294967296 (omega arith))
 
@@ -195,11 +195,11 @@ used-below m id e =
     let p = and-parts (not (eqb id 0)) (ltb id (1024 * superIn m .groups) && not (bitAt (mapsIn m) id)) e in
     ltb-true id (1024 * superIn m .groups) (and-parts (ltb id (1024 * superIn m .groups)) (not (bitAt (mapsIn m) id)) (p .1) .0)
 
-meta-in : (a w m : List ℕ) → getD m 4370 0 ≡ 1 → fsOf a w m .meta ≡ done (metaOf m)
+meta-in : (a w m : List ℕ) → getD m 4402 0 ≡ 1 → fsOf a w m .meta ≡ done (metaOf m)
 unfolding fsOf
 meta-in a w m h = meta-is m h
 
-pub bit-freed : (m n : List ℕ) (id : ℕ) → getD m 4370 0 ≡ 1 → isUsed (metaOf m) id ≡ true → superIn m .unused + 1 < 4294967296 → Mapped m n (record { super = superWith (superIn m) (superIn m .blocks) (superIn m .unused + 1) (superIn m .groups); maps = withBit (mapsIn m) id true }) → (a w : List ℕ) → Went (freeBlock (fsOf a w m) id) (fsOf a w n) (Whole n) 0
+pub bit-freed : (m n : List ℕ) (id : ℕ) → getD m 4402 0 ≡ 1 → isUsed (metaOf m) id ≡ true → superIn m .unused + 1 < 4294967296 → Mapped m n (record { super = superWith (superIn m) (superIn m .blocks) (superIn m .unused + 1) (superIn m .groups); maps = withBit (mapsIn m) id true }) → (a w : List ℕ) → Went (freeBlock (fsOf a w m) id) (fsOf a w n) (Whole n) 0
 unfolding freeBlock
 bit-freed m n id h u z c a w =
     well (rw (meta-in a w m h, u, lt-ltb (superIn m .unused + 1) 4294967296 z) (ap done (sym (fs-mapped a w c)))) (c .whole)

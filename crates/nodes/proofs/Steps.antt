@@ -123,23 +123,23 @@ well-did e = went (e .is) (record { is = refl; fine = e .fine; room = e .room })
 
 -- what `syncMeta` is where they could be read
 abbrev pub storesAll : List ℕ → List ℕ → List ℕ → Out (List ℕ)
-storesAll a w m = bind (putFile (view a w) metaFile 0 (part m 4371 4387)) (λ d. storeMaps d (mapsIn m) (superIn m .groups))
+storesAll a w m = bind (putFile (view a w) metaFile 0 (part m 4403 4419)) (λ d. storeMaps d (mapsIn m) (superIn m .groups))
 
-pub sync-is : (a w m : List ℕ) → Bytes m → length m ≡ memorySize → getD m 4370 0 ≡ 1 → syncMeta (fsOf a w m) ≡ bind (storesAll a w m) (λ d. done (withArena (fsOf a w m) d))
+pub sync-is : (a w m : List ℕ) → Bytes m → length m ≡ memorySize → getD m 4402 0 ≡ 1 → syncMeta (fsOf a w m) ≡ bind (storesAll a w m) (λ d. done (withArena (fsOf a w m) d))
 unfolding syncMeta fsOf
 sync-is a w m b h f =
-    let e : syncMeta (fsOf a w m) ≡ bind (putFile (view a w) metaFile 0 (part m 4371 4387)) (λ d. bind (storeMaps d (mapsIn m) (superIn m .groups)) (λ x. done (withArena (fsOf a w m) x))) = rw (meta-is m f, super-part m b h) in
-    e ∙ sym (bind-assoc (putFile (view a w) metaFile 0 (part m 4371 4387)) (λ d. storeMaps d (mapsIn m) (superIn m .groups)) (λ x. done (withArena (fsOf a w m) x)))
+    let e : syncMeta (fsOf a w m) ≡ bind (putFile (view a w) metaFile 0 (part m 4403 4419)) (λ d. bind (storeMaps d (mapsIn m) (superIn m .groups)) (λ x. done (withArena (fsOf a w m) x))) = rw (meta-is m f, super-part m b h) in
+    e ∙ sym (bind-assoc (putFile (view a w) metaFile 0 (part m 4403 4419)) (λ d. storeMaps d (mapsIn m) (superIn m .groups)) (λ x. done (withArena (fsOf a w m) x)))
 
-pub sync-none : (a w m : List ℕ) → eqb (getD m 4370 0) 1 ≡ false → syncMeta (fsOf a w m) ≡ refused 19
+pub sync-none : (a w m : List ℕ) → eqb (getD m 4402 0) 1 ≡ false → syncMeta (fsOf a w m) ≡ refused 19
 unfolding syncMeta fsOf
 sync-none a w m h = rw (meta-none m h)
 
-module _ (a w u m : List ℕ) (r : ℕ) (b : Bytes m) (h : Whole m) (f : getD m 4370 0 ≡ 1) (d : Did (putFile (view a w) metaFile 0 (part m 4371 4387)) a w u (1 + touched 0 (length (part m 4371 4387))) r) where
-  super-did : Did (putFile (view a w) metaFile 0 (part m 4371 4387)) a w u 2 r
+module _ (a w u m : List ℕ) (r : ℕ) (b : Bytes m) (h : Whole m) (f : getD m 4402 0 ≡ 1) (d : Did (putFile (view a w) metaFile 0 (part m 4403 4419)) a w u (1 + touched 0 (length (part m 4403 4419))) r) where
+  super-did : Did (putFile (view a w) metaFile 0 (part m 4403 4419)) a w u 2 r
   super-did =
-      let n = length-part m 4371 4387 (omega arith) (omega (arith, h .size)) in
-      let l = touched-within 0 (length (part m 4371 4387)) (omega arith) in
+      let n = length-part m 4403 4419 (omega arith) (omega (arith, h .size)) in
+      let l = touched-within 0 (length (part m 4403 4419)) (omega arith) in
       did-more 2 (omega arith) d
 
   pub sync-stop : (r ≡ 0 → ⊥) → Stepped (syncMeta (fsOf a w m)) a w u m 10 r

@@ -47,7 +47,7 @@ pub fn map_at(g: usize) -> usize
 
 fn store_map(arena: &[u8], work: &mut [u8], mem: &[u8], g: usize) -> u8
     requires { ⌜ Ready (now arena) (now work) (now mem) × (2 ≤ left (now work)) ⌝ }
-    requires { ⌜ (getD (now mem) 4370 0 ≡ 1) × (g < superIn (now mem) .groups) ⌝ }
+    requires { ⌜ (getD (now mem) 4402 0 ≡ 1) × (g < superIn (now mem) .groups) ⌝ }
     ensures { λ r. ⌜ Did (putFile (view (now (arena .entry)) (now (work .entry))) metaFile (mapAt g) (part (mapsIn (now (mem .entry))) (128 * g) (128 * g + 128))) (now (arena .entry)) (now (work .entry)) (now (work .exit)) 2 r ⌝ }
 {
     let meta = [0u8; 16];
@@ -56,7 +56,7 @@ fn store_map(arena: &[u8], work: &mut [u8], mem: &[u8], g: usize) -> u8
 
 fn store_maps(arena: &[u8], work: &mut [u8], mem: &[u8], n: usize) -> u8
     requires { ⌜ Ready (now arena) (now work) (now mem) × (2 * n ≤ left (now work)) ⌝ }
-    requires { ⌜ (getD (now mem) 4370 0 ≡ 1) × (n ≤ superIn (now mem) .groups) ⌝ }
+    requires { ⌜ (getD (now mem) 4402 0 ≡ 1) × (n ≤ superIn (now mem) .groups) ⌝ }
     ensures { λ r. ⌜ Did (storeMaps (view (now (arena .entry)) (now (work .entry))) (mapsIn (now (mem .entry))) n) (now (arena .entry)) (now (work .entry)) (now (work .exit)) (2 * n) r ⌝ }
 {
     let mut g: usize = 0;
@@ -90,7 +90,7 @@ pub fn sync_meta(arena: &[u8], work: &mut [u8], mem: &[u8]) -> u8
 
 // An id that a node may have: not 0, below the maps' end, and its bit clear.
 pub fn is_used(mem: &[u8], id: u32) -> bool
-    requires { ⌜ Whole (now mem) × (getD (now mem) 4370 0 ≡ 1) ⌝ }
+    requires { ⌜ Whole (now mem) × (getD (now mem) 4402 0 ≡ 1) ⌝ }
     ensures { λ r. ⌜ r ≡ isUsed (metaOf (now (mem .entry))) id ⌝ }
 {
     let groups = super_at(mem).groups;
@@ -106,7 +106,7 @@ pub fn is_used(mem: &[u8], id: u32) -> bool
 // The group that comes after the last: the file gets its length, and in memory there are its map and its blocks.
 fn grow(arena: &[u8], work: &mut [u8], mem: &mut [u8], groups: u32) -> u8
     requires { ⌜ Ready (now arena) (now work) (now mem) × (2 ≤ left (now work)) ⌝ }
-    requires { ⌜ (getD (now mem) 4370 0 ≡ 1) × (groups ≡ superIn (now mem) .groups) ⌝ }
+    requires { ⌜ (getD (now mem) 4402 0 ≡ 1) × (groups ≡ superIn (now mem) .groups) ⌝ }
     requires { ⌜ (superIn (now mem) .groups < 4) × ((superIn (now mem) .blocks + 1024 < 4294967296) × (superIn (now mem) .unused + 1023 < 4294967296)) ⌝ }
     ensures { λ r. ⌜ Stepped (addGroup (fsOf (now (arena .entry)) (now (work .entry)) (now (mem .entry))) (metaOf (now (mem .entry)))) (now (arena .entry)) (now (work .entry)) (now (work .exit)) (now (mem .exit)) 2 r ⌝ }
 {
@@ -122,7 +122,7 @@ fn grow(arena: &[u8], work: &mut [u8], mem: &mut [u8], groups: u32) -> u8
 // 17 at 4 groups; an overflow sticks.
 fn new_group(arena: &[u8], work: &mut [u8], mem: &mut [u8]) -> u8
     requires { ⌜ Ready (now arena) (now work) (now mem) × (2 ≤ left (now work)) ⌝ }
-    requires { ⌜ getD (now mem) 4370 0 ≡ 1 ⌝ }
+    requires { ⌜ getD (now mem) 4402 0 ≡ 1 ⌝ }
     ensures { λ r. ⌜ Stepped (addGroup (fsOf (now (arena .entry)) (now (work .entry)) (now (mem .entry))) (metaOf (now (mem .entry)))) (now (arena .entry)) (now (work .entry)) (now (work .exit)) (now (mem .exit)) 2 r ⌝ }
 {
     let b = super_at(&mem[..]);
@@ -141,7 +141,7 @@ fn new_group(arena: &[u8], work: &mut [u8], mem: &mut [u8]) -> u8
 // Only if no bit is set does a group come.
 fn ensure_bit(arena: &[u8], work: &mut [u8], mem: &mut [u8]) -> u8
     requires { ⌜ Ready (now arena) (now work) (now mem) × (2 ≤ left (now work)) ⌝ }
-    requires { ⌜ getD (now mem) 4370 0 ≡ 1 ⌝ }
+    requires { ⌜ getD (now mem) 4402 0 ≡ 1 ⌝ }
     ensures { λ r. ⌜ Stepped (pick (ltb (firstBit (metaOf (now (mem .entry)))) (1024 * superIn (now (mem .entry)) .groups)) (done (fsOf (now (arena .entry)) (now (work .entry)) (now (mem .entry)))) (addGroup (fsOf (now (arena .entry)) (now (work .entry)) (now (mem .entry))) (metaOf (now (mem .entry))))) (now (arena .entry)) (now (work .entry)) (now (work .exit)) (now (mem .exit)) 2 r ⌝ }
 {
     let f = first_bit(&mem[..]);
@@ -153,7 +153,7 @@ fn ensure_bit(arena: &[u8], work: &mut [u8], mem: &mut [u8]) -> u8
 
 // Bit i is cleared, and unused falls by one; it sticks at 0.
 fn take_bit_at(mem: &mut [u8], i: usize) -> Allocated
-    requires { ⌜ Whole (now mem) × (getD (now mem) 4370 0 ≡ 1) ⌝ }
+    requires { ⌜ Whole (now mem) × (getD (now mem) 4402 0 ≡ 1) ⌝ }
     requires { ⌜ (i ≡ firstBit (metaOf (now mem))) × (i < 1024 * superIn (now mem) .groups) ⌝ }
     ensures { λ r. ⌜ ((a w : List ℕ) → Went (takeBit (fsOf a w (now (mem .entry))) (metaOf (now (mem .entry)))) (record { state = fsOf a w (now (mem .exit)); id = r .id }) (Whole (now (mem .exit))) (r .reason)) ⌝ }
 {
@@ -170,7 +170,7 @@ fn take_bit_at(mem: &mut [u8], i: usize) -> Allocated
 
 // The lowest set bit; there is one.
 fn take_bit(mem: &mut [u8]) -> Allocated
-    requires { ⌜ Whole (now mem) × (getD (now mem) 4370 0 ≡ 1) ⌝ }
+    requires { ⌜ Whole (now mem) × (getD (now mem) 4402 0 ≡ 1) ⌝ }
     requires { ⌜ firstBit (metaOf (now mem)) < 1024 * superIn (now mem) .groups ⌝ }
     ensures { λ r. ⌜ ((a w : List ℕ) → Went (takeBit (fsOf a w (now (mem .entry))) (metaOf (now (mem .entry)))) (record { state = fsOf a w (now (mem .exit)); id = r .id }) (Whole (now (mem .exit))) (r .reason)) ⌝ }
 {
@@ -197,7 +197,7 @@ pub fn alloc_block(arena: &[u8], work: &mut [u8], mem: &mut [u8]) -> Allocated
 
 // The bit of an id in use is set, and unused rises by one; it sticks at 2^32-1.
 fn set_free(mem: &mut [u8], id: u32) -> u8
-    requires { ⌜ Whole (now mem) × (getD (now mem) 4370 0 ≡ 1) ⌝ }
+    requires { ⌜ Whole (now mem) × (getD (now mem) 4402 0 ≡ 1) ⌝ }
     requires { ⌜ isUsed (metaOf (now mem)) id ≡ true ⌝ }
     ensures { λ r. ⌜ ((a w : List ℕ) → Went (freeBlock (fsOf a w (now (mem .entry))) id) (fsOf a w (now (mem .exit))) (Whole (now (mem .exit))) r) ⌝ }
 {

@@ -51,21 +51,21 @@ maps-suc : (a : List ℕ) (n : ℕ) → loadMaps a (suc n) ≡ bind (loadMaps a 
 unfolding loadMaps
 maps-suc a n = refl
 
-pub maps-none : (a m : List ℕ) → loadMaps a 0 ≡ done (part m 4387 (4387 + 128 * 0))
+pub maps-none : (a m : List ℕ) → loadMaps a 0 ≡ done (part m 4419 (4419 + 128 * 0))
 unfolding loadMaps
 maps-none a m = refl
 
-module _ (a m n : List ℕ) (g r : ℕ) (so-far : loadMaps a g ≡ done (part m 4387 (4387 + 128 * g))) (w : Went (readFile a metaFile (mapAt g) 128) (part n (4387 + 128 * g) (4387 + 128 * g + 128)) Unit r) where
+module _ (a m n : List ℕ) (g r : ℕ) (so-far : loadMaps a g ≡ done (part m 4419 (4419 + 128 * g))) (w : Went (readFile a metaFile (mapAt g) 128) (part n (4419 + 128 * g) (4419 + 128 * g + 128)) Unit r) where
   next-is : loadMaps a (g + 1) ≡ bind (loadMaps a g) (λ m. bind (readFile a metaFile (mapAt g) 128) (λ l. done (m ++ l)))
   next-is = rw add-one (maps-suc a g)
 
   -- one map more
-  pub maps-turn : r ≡ 0 → part n 0 (4387 + 128 * g) ≡ part m 0 (4387 + 128 * g) → loadMaps a (g + 1) ≡ done (part n 4387 (4387 + 128 * (g + 1)))
+  pub maps-turn : r ≡ 0 → part n 0 (4419 + 128 * g) ≡ part m 0 (4419 + 128 * g) → loadMaps a (g + 1) ≡ done (part n 4419 (4419 + 128 * (g + 1)))
   maps-turn z h =
       next-is
       ∙ rw (so-far, went-is w z)
-      (ap (λ (l : List ℕ). done (l ++ part n (4387 + 128 * g) (4387 + 128 * g + 128))) (sym (part-agree n m (4387 + 128 * g) 4387 (4387 + 128 * g) (omega arith) h))
-      ∙ ap done (sym (part-join n 4387 (128 * g) 128) ∙ ap (part n 4387) (let q : 4387 + (128 * g + 128) ≡ 4387 + 128 * (g + 1) = omega arith in q)))
+      (ap (λ (l : List ℕ). done (l ++ part n (4419 + 128 * g) (4419 + 128 * g + 128))) (sym (part-agree n m (4419 + 128 * g) 4419 (4419 + 128 * g) (omega arith) h))
+      ∙ ap done (sym (part-join n 4419 (128 * g) 128) ∙ ap (part n 4419) (let q : 4419 + (128 * g + 128) ≡ 4419 + 128 * (g + 1) = omega arith in q)))
 
   -- a map that cannot be read
   pub maps-stop : (k : ℕ) → g < k → (r ≡ 0 → ⊥) → (v : List ℕ) → Went (loadMaps a k) v Unit r
@@ -75,7 +75,7 @@ module _ (a m n : List ℕ) (g r : ℕ) (so-far : loadMaps a g ≡ done (part m 
 
 -- ---- both
 
-pub super-is : (m : List ℕ) → superOf (part m 4371 4387) ≡ superIn m
+pub super-is : (m : List ℕ) → superOf (part m 4403 4419) ≡ superIn m
 unfolding superIn
 super-is m = refl
 
@@ -84,22 +84,22 @@ pub meta-stop : (a l : List ℕ) (r : ℕ) → Went (readFile a metaFile 0 16) l
 unfolding loadMeta
 meta-stop a l r g v P z = ill (above-zero r z) (rw (went-not g z))
 
-module _ (a m : List ℕ) (read : readFile a metaFile 0 16 ≡ done (part m 4371 4387)) where
+module _ (a m : List ℕ) (read : readFile a metaFile 0 16 ≡ done (part m 4403 4419)) where
   -- no group, or too many
   pub meta-few : (n : List ℕ) (P : Type 0) → superIn m .groups ≡ 0 → Went (loadMeta a) (metaOf n) P 19
   unfolding loadMeta superIn
-  meta-few n P h = ill {r = 19} (omega arith) (rw (read, le-ltb 0 (superOf (part m 4371 4387) .groups) (omega arith)))
+  meta-few n P h = ill {r = 19} (omega arith) (rw (read, le-ltb 0 (superOf (part m 4403 4419) .groups) (omega arith)))
 
   pub meta-many : (n : List ℕ) (P : Type 0) → 4 < superIn m .groups → Went (loadMeta a) (metaOf n) P 19
   unfolding loadMeta superIn
   meta-many n P h =
       ill {r = 19} (omega arith)
-      (rw (read, lt-ltb 0 (superOf (part m 4371 4387) .groups) (omega arith), le-ltb (superOf (part m 4371 4387) .groups) 5 (omega arith)))
+      (rw (read, lt-ltb 0 (superOf (part m 4403 4419) .groups) (omega arith), le-ltb (superOf (part m 4403 4419) .groups) 5 (omega arith)))
 
-  module _ (n : List ℕ) (some : superIn m .groups ≡ 0 → ⊥) (few : superIn m .groups ≤ 4) (same : part n 0 4387 ≡ part m 0 4387) where
+  module _ (n : List ℕ) (some : superIn m .groups ≡ 0 → ⊥) (few : superIn m .groups ≤ 4) (same : part n 0 4419 ≡ part m 0 4419) where
     super-same : superIn n ≡ superIn m
     unfolding superIn
-    super-same = ap superOf (part-agree n m 4387 4371 4387 (omega arith) same)
+    super-same = ap superOf (part-agree n m 4419 4403 4419 (omega arith) same)
 
     groups-same : superIn n .groups ≡ superIn m .groups
     groups-same = ap (λ (s : SuperBlock). s .groups) super-same
@@ -107,15 +107,15 @@ module _ (a m : List ℕ) (read : readFile a metaFile 0 16 ≡ done (part m 4371
     meta-bind : loadMeta a ≡ bind (loadMaps a (superIn m .groups)) (λ l. done (record { super = superIn m; maps = l }))
     unfolding loadMeta superIn
     meta-bind =
-        rw (read, lt-ltb 0 (superOf (part m 4371 4387) .groups) (above-zero _ some), lt-ltb (superOf (part m 4371 4387) .groups) 5 (omega arith))
+        rw (read, lt-ltb 0 (superOf (part m 4403 4419) .groups) (above-zero _ some), lt-ltb (superOf (part m 4403 4419) .groups) 5 (omega arith))
 
-    joined : (record { super = superIn m; maps = part n 4387 (4387 + 128 * superIn m .groups) }) ≡ metaOf n
+    joined : (record { super = superIn m; maps = part n 4419 (4419 + 128 * superIn m .groups) }) ≡ metaOf n
     unfolding mapsIn
     joined =
-        ap (λ (s : SuperBlock). record { super = s; maps = part n 4387 (4387 + 128 * s .groups) }) (sym super-same)
+        ap (λ (s : SuperBlock). record { super = s; maps = part n 4419 (4419 + 128 * s .groups) }) (sym super-same)
 
     -- the maps were read, or not
-    pub meta-read : {r : ℕ} → Went (loadMaps a (superIn m .groups)) (part n 4387 (4387 + 128 * superIn m .groups)) Unit r → Went (loadMeta a) (metaOf n) ((0 < superIn n .groups) × (superIn n .groups ≤ 4)) r
+    pub meta-read : {r : ℕ} → Went (loadMaps a (superIn m .groups)) (part n 4419 (4419 + 128 * superIn m .groups)) Unit r → Went (loadMeta a) (metaOf n) ((0 < superIn n .groups) × (superIn n .groups ≤ 4)) r
     meta-read (well e u) = well (meta-bind ∙ rw e (ap done joined)) (omega (arith, groups-same, above-zero _ some), omega (arith, groups-same))
     meta-read (ill l e) = ill l (meta-bind ∙ rw e)
 
@@ -126,11 +126,11 @@ pub record Loaded (a m p : List ℕ) : Type 0 where
   pub table : tableIn p ≡ tableIn m
   pub whole : Whole p
 
-pub loaded : (a m n : List ℕ) (r : ℕ) → length n ≡ memorySize → part n 0 4371 ≡ part m 0 4371 → Went (loadMeta a) (metaOf n) ((0 < superIn n .groups) × (superIn n .groups ≤ 4)) r → Loaded a m (set n 4370 (bit (eqb r 0)))
+pub loaded : (a m n : List ℕ) (r : ℕ) → length n ≡ memorySize → part n 0 4403 ≡ part m 0 4403 → Went (loadMeta a) (metaOf n) ((0 < superIn n .groups) × (superIn n .groups ≤ 4)) r → Loaded a m (set n 4402 (bit (eqb r 0)))
 loaded a m n r h s (well e p) =
     record {
-      meta = meta-is (set n 4370 1) (mark-at n 1 h) ∙ (ap done (mark-meta n 1 h) ∙ sym e);
-      table = mark-table n 1 h ∙ table-agree m n (part-agree n m 4371 0 4370 (omega arith) s);
+      meta = meta-is (set n 4402 1) (mark-at n 1 h) ∙ (ap done (mark-meta n 1 h) ∙ sym e);
+      table = mark-table n 1 h ∙ table-agree m n (part-agree n m 4403 0 4402 (omega arith) s);
       whole = record {
         size = mark-size n 1 h;
         some = λ _. rw (mark-super n 1 h) (p .0);
@@ -139,11 +139,11 @@ loaded a m n r h s (well e p) =
     }
 loaded a m n r h s (ill l e) =
     let z : bit (eqb r 0) ≡ 0 = rw (ne-eqb r 0 (λ q. omega arith)) in
-    let x = set n 4370 (bit (eqb r 0)) in
-    let v : getD x 4370 0 ≡ 0 = mark-at n (bit (eqb r 0)) h ∙ z in
+    let x = set n 4402 (bit (eqb r 0)) in
+    let v : getD x 4402 0 ≡ 0 = mark-at n (bit (eqb r 0)) h ∙ z in
     record {
-      meta = meta-none x (ne-eqb (getD x 4370 0) 1 (λ q. omega arith)) ∙ (ap refused (sym (ok-refused (meta-ok a) r e)) ∙ sym e);
-      table = mark-table n (bit (eqb r 0)) h ∙ table-agree m n (part-agree n m 4371 0 4370 (omega arith) s);
+      meta = meta-none x (ne-eqb (getD x 4402 0) 1 (λ q. omega arith)) ∙ (ap refused (sym (ok-refused (meta-ok a) r e)) ∙ sym e);
+      table = mark-table n (bit (eqb r 0)) h ∙ table-agree m n (part-agree n m 4403 0 4402 (omega arith) s);
       whole = record {
         size = mark-size n (bit (eqb r 0)) h;
         some = λ q. absurd (omega arith);

@@ -18,15 +18,15 @@ use Rattle.mem.specs.State.{fsAt}
 use Rattle.nodes.specs.Steps.{metaOf}
 use Rattle.nodes.proofs.Bytes.{meta-is, meta-none}
 
-pub record-none : (a m : List ℕ) (id : ℕ) → eqb (getD m 4370 0) 1 ≡ false → recordOn (fsAt a m) id ≡ refused 19
+pub record-none : (a m : List ℕ) (id : ℕ) → eqb (getD m 4402 0) 1 ≡ false → recordOn (fsAt a m) id ≡ refused 19
 unfolding recordOn
 record-none a m id h = rw (meta-none m h)
 
-pub record-unused : (a m : List ℕ) (id : ℕ) → getD m 4370 0 ≡ 1 → isUsed (metaOf m) id ≡ false → recordOn (fsAt a m) id ≡ refused 19
+pub record-unused : (a m : List ℕ) (id : ℕ) → getD m 4402 0 ≡ 1 → isUsed (metaOf m) id ≡ false → recordOn (fsAt a m) id ≡ refused 19
 unfolding recordOn
 record-unused a m id h u = rw (meta-is m h, u)
 
-pub record-used : (a m : List ℕ) (id : ℕ) → getD m 4370 0 ≡ 1 → isUsed (metaOf m) id ≡ true → recordOn (fsAt a m) id ≡ recordBy (fsAt a m) id (rowOf (tableIn m) id)
+pub record-used : (a m : List ℕ) (id : ℕ) → getD m 4402 0 ≡ 1 → isUsed (metaOf m) id ≡ true → recordOn (fsAt a m) id ≡ recordBy (fsAt a m) id (rowOf (tableIn m) id)
 unfolding recordOn
 record-used a m id h u = rw (meta-is m h, u)
 

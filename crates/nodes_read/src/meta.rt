@@ -27,19 +27,19 @@ pub fn read_meta(arena: &[u8], first: &[u16], next: &[u16], pos: usize, out: &mu
 pub fn load_super(arena: &[u8], first: &[u16], next: &[u16], mem: &mut [u8]) -> u8
     requires { ⌜ Led (now arena) (now first) (now next) ⌝ }
     requires { ⌜ length (now mem) ≡ memorySize ⌝ }
-    ensures { λ r. ⌜ Went (readFile (now (arena .entry)) metaFile 0 16) (part (now (mem .exit)) 4371 4387) Unit r ⌝ }
-    ensures { λ _. ⌜ part (now (mem .exit)) 0 4371 ≡ part (now (mem .entry)) 0 4371 ⌝ }
+    ensures { λ r. ⌜ Went (readFile (now (arena .entry)) metaFile 0 16) (part (now (mem .exit)) 4403 4419) Unit r ⌝ }
+    ensures { λ _. ⌜ part (now (mem .exit)) 0 4403 ≡ part (now (mem .entry)) 0 4403 ⌝ }
 {
-    read_meta(arena, first, next, 0, &mut mem[4371..4387])
+    read_meta(arena, first, next, 0, &mut mem[4403..4419])
 }
 
 fn load_map(arena: &[u8], first: &[u16], next: &[u16], mem: &mut [u8], g: usize) -> u8
     requires { ⌜ Led (now arena) (now first) (now next) ⌝ }
     requires { ⌜ (length (now mem) ≡ memorySize) × (g < 4) ⌝ }
-    ensures { λ r. ⌜ Went (readFile (now (arena .entry)) metaFile (mapAt g) 128) (part (now (mem .exit)) (4387 + 128 * g) (4387 + 128 * g + 128)) Unit r ⌝ }
-    ensures { λ _. ⌜ part (now (mem .exit)) 0 (4387 + 128 * g) ≡ part (now (mem .entry)) 0 (4387 + 128 * g) ⌝ }
+    ensures { λ r. ⌜ Went (readFile (now (arena .entry)) metaFile (mapAt g) 128) (part (now (mem .exit)) (4419 + 128 * g) (4419 + 128 * g + 128)) Unit r ⌝ }
+    ensures { λ _. ⌜ part (now (mem .exit)) 0 (4419 + 128 * g) ≡ part (now (mem .entry)) 0 (4419 + 128 * g) ⌝ }
 {
-    let o = 4387 + 128 * g;
+    let o = 4419 + 128 * g;
     read_meta(arena, first, next, map_at(g), &mut mem[o..o + 128])
 }
 
@@ -47,8 +47,8 @@ fn load_map(arena: &[u8], first: &[u16], next: &[u16], mem: &mut [u8], g: usize)
 pub fn load_maps(arena: &[u8], first: &[u16], next: &[u16], mem: &mut [u8], n: usize) -> u8
     requires { ⌜ Led (now arena) (now first) (now next) ⌝ }
     requires { ⌜ (length (now mem) ≡ memorySize) × (n ≤ 4) ⌝ }
-    ensures { λ r. ⌜ Went (loadMaps (now (arena .entry)) n) (part (now (mem .exit)) 4387 (4387 + 128 * n)) Unit r ⌝ }
-    ensures { λ _. ⌜ part (now (mem .exit)) 0 4387 ≡ part (now (mem .entry)) 0 4387 ⌝ }
+    ensures { λ r. ⌜ Went (loadMaps (now (arena .entry)) n) (part (now (mem .exit)) 4419 (4419 + 128 * n)) Unit r ⌝ }
+    ensures { λ _. ⌜ part (now (mem .exit)) 0 4419 ≡ part (now (mem .entry)) 0 4419 ⌝ }
 {
     let mut g: usize = 0;
     while g < n {
@@ -65,13 +65,13 @@ fn read_all(arena: &[u8], first: &[u16], next: &[u16], mem: &mut [u8]) -> u8
     requires { ⌜ Led (now arena) (now first) (now next) ⌝ }
     requires { ⌜ length (now mem) ≡ memorySize ⌝ }
     ensures { λ r. ⌜ Went (loadMeta (now (arena .entry))) (metaOf (now (mem .exit))) ((0 < superIn (now (mem .exit)) .groups) × (superIn (now (mem .exit)) .groups ≤ 4)) r ⌝ }
-    ensures { λ _. ⌜ part (now (mem .exit)) 0 4371 ≡ part (now (mem .entry)) 0 4371 ⌝ }
+    ensures { λ _. ⌜ part (now (mem .exit)) 0 4403 ≡ part (now (mem .entry)) 0 4403 ⌝ }
 {
     let r = load_super(arena, first, next, mem);
     if r != 0 {
         return r;
     }
-    let groups = super_block_at(&mem[..], 4371).groups;
+    let groups = super_block_at(&mem[..], 4403).groups;
     if groups == 0 {
         return 19;
     }

@@ -26,7 +26,7 @@ pub record Owned (a c t : List ℕ) : Type 0 where
   pub whole : legal a ≡ true
   pub fine : sound a ≡ true
   pub chained : Chained a c
-  pub size : length t ≡ 4370
+  pub size : length t ≡ 4402
   pub formed : wellFormed (tableOf t) ≡ true
 
 -- the same while a call runs, with the table in the memory m

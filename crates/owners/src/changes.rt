@@ -61,13 +61,13 @@ fn close_kept(arena: &mut [u8], chains: &mut [u16], mem: &mut [u8], last: bool, 
     r
 }
 
-pub fn close_on(arena: &mut [u8], chains: &mut [u16], mem: &mut [u8], h: Handle) -> u8
+pub fn close_on(arena: &mut [u8], chains: &mut [u16], mem: &mut [u8], who: u8, h: Handle) -> u8
     requires { ⌜ Kept (now arena) (now chains) (now mem) ⌝ }
-    ensures { λ r. ⌜ Ended (callClose (now (arena .entry)) (tableIn (now (mem .entry))) h) (now (arena .entry)) (now (arena .exit)) (tableIn (now (mem .exit))) r ⌝ }
+    ensures { λ r. ⌜ Ended (callClose (now (arena .entry)) (tableIn (now (mem .entry))) who h) (now (arena .entry)) (now (arena .exit)) (tableIn (now (mem .exit))) r ⌝ }
     ensures { λ _. ⌜ Chained (now (arena .exit)) (now (chains .exit)) ⌝ }
 {
     let c = &chains[..];
-    let b = close_led(&arena[..], &c[..4096], &c[4096..8192], mem, h);
+    let b = close_led(&arena[..], &c[..4096], &c[4096..8192], mem, who, h);
     if b.reason != 0 {
         return b.reason;
     }
@@ -94,20 +94,21 @@ pub fn create_on(
     arena: &mut [u8],
     chains: &mut [u16],
     mem: &mut [u8],
+    who: u8,
     h: Handle,
     name: &[u8],
     new: New,
 ) -> Handed
     requires { ⌜ Kept (now arena) (now chains) (now mem) ⌝ }
-    ensures { λ r. ⌜ EndedHeld (callCreate (now (arena .entry)) (tableIn (now (mem .entry))) h (now (name .entry)) (new .kind) (new .mode) (new .time) (new .file)) (now (arena .entry)) (now (arena .exit)) (addedAs (r .handle) (tableIn (now (mem .exit)))) (r .reason) ⌝ }
+    ensures { λ r. ⌜ EndedHeld (callCreate (now (arena .entry)) (tableIn (now (mem .entry))) who h (now (name .entry)) (new .kind) (new .mode) (new .time) (new .file)) (now (arena .entry)) (now (arena .exit)) (addedAs (r .handle) (tableIn (now (mem .exit)))) (r .reason) ⌝ }
     ensures { λ _. ⌜ Chained (now (arena .exit)) (now (chains .exit)) ⌝ }
 {
     let c = &chains[..];
-    let b = create_led(&arena[..], &c[..4096], &c[4096..8192], mem, h, name, new);
+    let b = create_led(&arena[..], &c[..4096], &c[4096..8192], mem, who, h, name, new);
     if b.reason != 0 {
         return not_handed(b.reason);
     }
-    let r = create_rows(arena, mem, b.row, name, new);
+    let r = create_rows(arena, mem, who, b.row, name, new);
     chain_all(&arena[..], chains);
     r
 }
@@ -116,16 +117,17 @@ pub fn link_on(
     arena: &mut [u8],
     chains: &mut [u16],
     mem: &mut [u8],
+    who: u8,
     h: Handle,
     name: &[u8],
     child: Handle,
 ) -> u8
     requires { ⌜ Kept (now arena) (now chains) (now mem) ⌝ }
-    ensures { λ r. ⌜ Ended (callLink (now (arena .entry)) (tableIn (now (mem .entry))) h (now (name .entry)) child) (now (arena .entry)) (now (arena .exit)) (tableIn (now (mem .exit))) r ⌝ }
+    ensures { λ r. ⌜ Ended (callLink (now (arena .entry)) (tableIn (now (mem .entry))) who h (now (name .entry)) child) (now (arena .entry)) (now (arena .exit)) (tableIn (now (mem .exit))) r ⌝ }
     ensures { λ _. ⌜ Chained (now (arena .exit)) (now (chains .exit)) ⌝ }
 {
     let c = &chains[..];
-    let b = link_led(&arena[..], &c[..4096], &c[4096..8192], mem, h, name, child);
+    let b = link_led(&arena[..], &c[..4096], &c[4096..8192], mem, who, h, name, child);
     if b.reason != 0 {
         return b.reason;
     }
@@ -134,13 +136,13 @@ pub fn link_on(
     r
 }
 
-pub fn unlink_on(arena: &mut [u8], chains: &mut [u16], mem: &mut [u8], h: Handle, name: &[u8]) -> u8
+pub fn unlink_on(arena: &mut [u8], chains: &mut [u16], mem: &mut [u8], who: u8, h: Handle, name: &[u8]) -> u8
     requires { ⌜ Kept (now arena) (now chains) (now mem) ⌝ }
-    ensures { λ r. ⌜ Ended (callUnlink (now (arena .entry)) (tableIn (now (mem .entry))) h (now (name .entry))) (now (arena .entry)) (now (arena .exit)) (tableIn (now (mem .exit))) r ⌝ }
+    ensures { λ r. ⌜ Ended (callUnlink (now (arena .entry)) (tableIn (now (mem .entry))) who h (now (name .entry))) (now (arena .entry)) (now (arena .exit)) (tableIn (now (mem .exit))) r ⌝ }
     ensures { λ _. ⌜ Chained (now (arena .exit)) (now (chains .exit)) ⌝ }
 {
     let c = &chains[..];
-    let b = unlink_led(&arena[..], &c[..4096], &c[4096..8192], mem, h, name);
+    let b = unlink_led(&arena[..], &c[..4096], &c[4096..8192], mem, who, h, name);
     if b.reason != 0 {
         return b.reason;
     }
@@ -156,14 +158,15 @@ fn move_slot(
     mem: &mut [u8],
     slot: &mut [u8],
     table: &[u8],
+    who: u8,
     h: Handle,
     old: &[u8],
     target: Handle,
     name: &[u8],
 ) -> u8
     requires { ⌜ Kept (now arena) (now chains) (now mem) ⌝ }
-    requires { ⌜ (length (now slot) ≡ 264) × ((length (now table) ≡ 4370) × (tableIn (now mem) ≡ tableOf (now table))) ⌝ }
-    ensures { λ r. ⌜ Ended (callMove (now (arena .entry)) (tableIn (now (mem .entry))) h (now (old .entry)) target (now (name .entry))) (now (arena .entry)) (now (arena .exit)) (tableIn (now (mem .exit))) r ⌝ }
+    requires { ⌜ (length (now slot) ≡ 264) × ((length (now table) ≡ 4402) × (tableIn (now mem) ≡ tableOf (now table))) ⌝ }
+    ensures { λ r. ⌜ Ended (callMove (now (arena .entry)) (tableIn (now (mem .entry))) who h (now (old .entry)) target (now (name .entry))) (now (arena .entry)) (now (arena .exit)) (tableIn (now (mem .exit))) r ⌝ }
     ensures { λ _. ⌜ Chained (now (arena .exit)) (now (chains .exit)) ⌝ }
 {
     let c = &chains[..];
@@ -173,6 +176,7 @@ fn move_slot(
         &c[4096..8192],
         mem,
         slot,
+        who,
         h,
         old,
         target,
@@ -195,16 +199,17 @@ pub fn move_on(
     chains: &mut [u16],
     mem: &mut [u8],
     table: &[u8],
+    who: u8,
     h: Handle,
     old: &[u8],
     target: Handle,
     name: &[u8],
 ) -> u8
     requires { ⌜ Kept (now arena) (now chains) (now mem) ⌝ }
-    requires { ⌜ (length (now table) ≡ 4370) × (tableIn (now mem) ≡ tableOf (now table)) ⌝ }
-    ensures { λ r. ⌜ Ended (callMove (now (arena .entry)) (tableIn (now (mem .entry))) h (now (old .entry)) target (now (name .entry))) (now (arena .entry)) (now (arena .exit)) (tableIn (now (mem .exit))) r ⌝ }
+    requires { ⌜ (length (now table) ≡ 4402) × (tableIn (now mem) ≡ tableOf (now table)) ⌝ }
+    ensures { λ r. ⌜ Ended (callMove (now (arena .entry)) (tableIn (now (mem .entry))) who h (now (old .entry)) target (now (name .entry))) (now (arena .entry)) (now (arena .exit)) (tableIn (now (mem .exit))) r ⌝ }
     ensures { λ _. ⌜ Chained (now (arena .exit)) (now (chains .exit)) ⌝ }
 {
     let mut slot = [0u8; 264];
-    move_slot(arena, chains, mem, &mut slot, table, h, old, target, name)
+    move_slot(arena, chains, mem, &mut slot, table, who, h, old, target, name)
 }

@@ -87,17 +87,24 @@ pub extern "C" fn dz_own_root(
     arena: &[u8],
     chains: &[u16],
     table: &mut [u8],
+    owner: u8,
     out: &mut [u64],
 ) -> u32
     requires { ⌜ Owned (now arena) (now chains) (now table) ⌝ }
-    ensures { λ r. ⌜ Holds (sized 2 (now (out .entry)) (callRoot (now (arena .entry)) (tableOf (now (table .entry))))) (now (table .entry)) (now (table .exit)) (now (out .entry)) (now (out .exit)) r ⌝ }
+    ensures { λ r. ⌜ Holds (sized 2 (now (out .entry)) (callRoot (now (arena .entry)) (tableOf (now (table .entry))) owner)) (now (table .entry)) (now (table .exit)) (now (out .entry)) (now (out .exit)) r ⌝ }
 {
     if out.len() != HANDLE_WORDS {
         return WRONG_SIZE;
     }
     let mut mem = [0u8; MEMORY];
     begin(&mut mem, &table[..]);
-    let h = root_led(arena, &chains[..4096], &chains[4096..8192], &mut mem);
+    let h = root_led(
+        arena,
+        &chains[..4096],
+        &chains[4096..8192],
+        &mut mem,
+        owner,
+    );
     end_held(table, out, &mem, h)
 }
 
@@ -106,13 +113,14 @@ pub extern "C" fn dz_own_find(
     arena: &[u8],
     chains: &[u16],
     table: &mut [u8],
+    owner: u8,
     hold: u32,
     stamp: u64,
     name: &[u8],
     out: &mut [u64],
 ) -> u32
     requires { ⌜ Owned (now arena) (now chains) (now table) ⌝ }
-    ensures { λ r. ⌜ Holds (sized 2 (now (out .entry)) (callFind (now (arena .entry)) (tableOf (now (table .entry))) (handleOf hold stamp) (now (name .entry)))) (now (table .entry)) (now (table .exit)) (now (out .entry)) (now (out .exit)) r ⌝ }
+    ensures { λ r. ⌜ Holds (sized 2 (now (out .entry)) (callFind (now (arena .entry)) (tableOf (now (table .entry))) owner (handleOf hold stamp) (now (name .entry)))) (now (table .entry)) (now (table .exit)) (now (out .entry)) (now (out .exit)) r ⌝ }
 {
     if out.len() != HANDLE_WORDS {
         return WRONG_SIZE;
@@ -124,6 +132,7 @@ pub extern "C" fn dz_own_find(
         &chains[..4096],
         &chains[4096..8192],
         &mut mem,
+        owner,
         handle(hold, stamp),
         name,
     );
@@ -135,16 +144,17 @@ pub extern "C" fn dz_own_close(
     arena: &mut [u8],
     chains: &mut [u16],
     table: &mut [u8],
+    owner: u8,
     hold: u32,
     stamp: u64,
 ) -> u32
     requires { ⌜ Owned (now arena) (now chains) (now table) ⌝ }
-    ensures { λ r. ⌜ Leaves (callClose (now (arena .entry)) (tableOf (now (table .entry))) (handleOf hold stamp)) (now (arena .entry)) (now (arena .exit)) (now (table .entry)) (now (table .exit)) r ⌝ }
+    ensures { λ r. ⌜ Leaves (callClose (now (arena .entry)) (tableOf (now (table .entry))) owner (handleOf hold stamp)) (now (arena .entry)) (now (arena .exit)) (now (table .entry)) (now (table .exit)) r ⌝ }
     ensures { λ _. ⌜ Chained (now (arena .exit)) (now (chains .exit)) ⌝ }
 {
     let mut mem = [0u8; MEMORY];
     begin(&mut mem, &table[..]);
-    let r = close_on(arena, chains, &mut mem, handle(hold, stamp));
+    let r = close_on(arena, chains, &mut mem, owner, handle(hold, stamp));
     end_after(table, &mem, r)
 }
 
@@ -155,6 +165,7 @@ pub extern "C" fn dz_own_create(
     arena: &mut [u8],
     chains: &mut [u16],
     table: &mut [u8],
+    owner: u8,
     hold: u32,
     stamp: u64,
     name: &[u8],
@@ -166,7 +177,7 @@ pub extern "C" fn dz_own_create(
     out: &mut [u64],
 ) -> u32
     requires { ⌜ Owned (now arena) (now chains) (now table) ⌝ }
-    ensures { λ r. ⌜ Makes (sized 16 (now (file .entry)) (sized 2 (now (out .entry)) (callCreate (now (arena .entry)) (tableOf (now (table .entry))) (handleOf hold stamp) (now (name .entry)) kind mode (timeOf sec nsec) (now (file .entry))))) (now (arena .entry)) (now (arena .exit)) (now (table .entry)) (now (table .exit)) (now (out .entry)) (now (out .exit)) r ⌝ }
+    ensures { λ r. ⌜ Makes (sized 16 (now (file .entry)) (sized 2 (now (out .entry)) (callCreate (now (arena .entry)) (tableOf (now (table .entry))) owner (handleOf hold stamp) (now (name .entry)) kind mode (timeOf sec nsec) (now (file .entry))))) (now (arena .entry)) (now (arena .exit)) (now (table .entry)) (now (table .exit)) (now (out .entry)) (now (out .exit)) r ⌝ }
     ensures { λ _. ⌜ Chained (now (arena .exit)) (now (chains .exit)) ⌝ }
 {
     if file.len() != FILE_NAME {
@@ -178,7 +189,7 @@ pub extern "C" fn dz_own_create(
     let new = new_node(kind, mode, time(sec, nsec), file_of(file));
     let mut mem = [0u8; MEMORY];
     begin(&mut mem, &table[..]);
-    let h = create_on(arena, chains, &mut mem, handle(hold, stamp), name, new);
+    let h = create_on(arena, chains, &mut mem, owner, handle(hold, stamp), name, new);
     end_held(table, out, &mem, h)
 }
 
@@ -187,6 +198,7 @@ pub extern "C" fn dz_own_link(
     arena: &mut [u8],
     chains: &mut [u16],
     table: &mut [u8],
+    owner: u8,
     hold: u32,
     stamp: u64,
     name: &[u8],
@@ -194,13 +206,13 @@ pub extern "C" fn dz_own_link(
     child_stamp: u64,
 ) -> u32
     requires { ⌜ Owned (now arena) (now chains) (now table) ⌝ }
-    ensures { λ r. ⌜ Leaves (callLink (now (arena .entry)) (tableOf (now (table .entry))) (handleOf hold stamp) (now (name .entry)) (handleOf «child_hold» «child_stamp»)) (now (arena .entry)) (now (arena .exit)) (now (table .entry)) (now (table .exit)) r ⌝ }
+    ensures { λ r. ⌜ Leaves (callLink (now (arena .entry)) (tableOf (now (table .entry))) owner (handleOf hold stamp) (now (name .entry)) (handleOf «child_hold» «child_stamp»)) (now (arena .entry)) (now (arena .exit)) (now (table .entry)) (now (table .exit)) r ⌝ }
     ensures { λ _. ⌜ Chained (now (arena .exit)) (now (chains .exit)) ⌝ }
 {
     let child = handle(child_hold, child_stamp);
     let mut mem = [0u8; MEMORY];
     begin(&mut mem, &table[..]);
-    let r = link_on(arena, chains, &mut mem, handle(hold, stamp), name, child);
+    let r = link_on(arena, chains, &mut mem, owner, handle(hold, stamp), name, child);
     end_after(table, &mem, r)
 }
 
@@ -209,17 +221,18 @@ pub extern "C" fn dz_own_unlink(
     arena: &mut [u8],
     chains: &mut [u16],
     table: &mut [u8],
+    owner: u8,
     hold: u32,
     stamp: u64,
     name: &[u8],
 ) -> u32
     requires { ⌜ Owned (now arena) (now chains) (now table) ⌝ }
-    ensures { λ r. ⌜ Leaves (callUnlink (now (arena .entry)) (tableOf (now (table .entry))) (handleOf hold stamp) (now (name .entry))) (now (arena .entry)) (now (arena .exit)) (now (table .entry)) (now (table .exit)) r ⌝ }
+    ensures { λ r. ⌜ Leaves (callUnlink (now (arena .entry)) (tableOf (now (table .entry))) owner (handleOf hold stamp) (now (name .entry))) (now (arena .entry)) (now (arena .exit)) (now (table .entry)) (now (table .exit)) r ⌝ }
     ensures { λ _. ⌜ Chained (now (arena .exit)) (now (chains .exit)) ⌝ }
 {
     let mut mem = [0u8; MEMORY];
     begin(&mut mem, &table[..]);
-    let r = unlink_on(arena, chains, &mut mem, handle(hold, stamp), name);
+    let r = unlink_on(arena, chains, &mut mem, owner, handle(hold, stamp), name);
     end_after(table, &mem, r)
 }
 
@@ -228,6 +241,7 @@ pub extern "C" fn dz_own_move(
     arena: &mut [u8],
     chains: &mut [u16],
     table: &mut [u8],
+    owner: u8,
     hold: u32,
     stamp: u64,
     old: &[u8],
@@ -236,14 +250,14 @@ pub extern "C" fn dz_own_move(
     name: &[u8],
 ) -> u32
     requires { ⌜ Owned (now arena) (now chains) (now table) ⌝ }
-    ensures { λ r. ⌜ Leaves (callMove (now (arena .entry)) (tableOf (now (table .entry))) (handleOf hold stamp) (now (old .entry)) (handleOf «to_hold» «to_stamp») (now (name .entry))) (now (arena .entry)) (now (arena .exit)) (now (table .entry)) (now (table .exit)) r ⌝ }
+    ensures { λ r. ⌜ Leaves (callMove (now (arena .entry)) (tableOf (now (table .entry))) owner (handleOf hold stamp) (now (old .entry)) (handleOf «to_hold» «to_stamp») (now (name .entry))) (now (arena .entry)) (now (arena .exit)) (now (table .entry)) (now (table .exit)) r ⌝ }
     ensures { λ _. ⌜ Chained (now (arena .exit)) (now (chains .exit)) ⌝ }
 {
     let to = handle(to_hold, to_stamp);
     let mut mem = [0u8; MEMORY];
     begin(&mut mem, &table[..]);
     let h = handle(hold, stamp);
-    let r = move_on(arena, chains, &mut mem, &table[..], h, old, to, name);
+    let r = move_on(arena, chains, &mut mem, &table[..], owner, h, old, to, name);
     end_after(table, &mem, r)
 }
 
@@ -255,19 +269,20 @@ pub extern "C" fn dz_own_metadata(
     arena: &[u8],
     chains: &[u16],
     table: &[u8],
+    owner: u8,
     hold: u32,
     stamp: u64,
     out: &mut [u64],
 ) -> u32
     requires { ⌜ Owned (now arena) (now chains) (now table) ⌝ }
-    ensures { λ r. ⌜ Tells (sized 14 (now (out .entry)) (callMetadata (now (arena .entry)) (tableOf (now (table .entry))) (handleOf hold stamp))) (now (out .entry)) (now (out .exit)) r ⌝ }
+    ensures { λ r. ⌜ Tells (sized 14 (now (out .entry)) (callMetadata (now (arena .entry)) (tableOf (now (table .entry))) owner (handleOf hold stamp))) (now (out .entry)) (now (out .exit)) r ⌝ }
 {
     if out.len() != METADATA_WORDS {
         return WRONG_SIZE;
     }
     let mut mem = [0u8; MEMORY];
     begin(&mut mem, table);
-    let t = metadata_in(&mem, handle(hold, stamp));
+    let t = metadata_in(&mem, owner, handle(hold, stamp));
     end_told(out, t)
 }
 
@@ -276,6 +291,7 @@ pub extern "C" fn dz_own_set_metadata(
     arena: &[u8],
     chains: &[u16],
     table: &mut [u8],
+    owner: u8,
     hold: u32,
     stamp: u64,
     mode: u16,
@@ -289,7 +305,7 @@ pub extern "C" fn dz_own_set_metadata(
     cnsec: i64,
 ) -> u32
     requires { ⌜ Owned (now arena) (now chains) (now table) ⌝ }
-    ensures { λ r. ⌜ Sets (callSet (now (arena .entry)) (tableOf (now (table .entry))) (handleOf hold stamp) mode uid gid (timeOf asec ansec) (timeOf msec mnsec) (timeOf csec cnsec)) (now (table .entry)) (now (table .exit)) r ⌝ }
+    ensures { λ r. ⌜ Sets (callSet (now (arena .entry)) (tableOf (now (table .entry))) owner (handleOf hold stamp) mode uid gid (timeOf asec ansec) (timeOf msec mnsec) (timeOf csec cnsec)) (now (table .entry)) (now (table .exit)) r ⌝ }
 {
     let h = handle(hold, stamp);
     let atime = time(asec, ansec);
@@ -297,7 +313,7 @@ pub extern "C" fn dz_own_set_metadata(
     let ctime = time(csec, cnsec);
     let mut mem = [0u8; MEMORY];
     begin(&mut mem, &table[..]);
-    let r = set_in(&mut mem, h, mode, uid, gid, atime, mtime, ctime);
+    let r = set_in(&mut mem, owner, h, mode, uid, gid, atime, mtime, ctime);
     end_after(table, &mem, r)
 }
 
@@ -308,13 +324,14 @@ pub extern "C" fn dz_own_get_entry(
     arena: &[u8],
     chains: &[u16],
     table: &[u8],
+    owner: u8,
     hold: u32,
     stamp: u64,
     slot: u64,
     out: &mut [u8],
 ) -> u32
     requires { ⌜ Owned (now arena) (now chains) (now table) ⌝ }
-    ensures { λ r. ⌜ Shows (callEntry (now (arena .entry)) (tableOf (now (table .entry))) (handleOf hold stamp) slot (length (now (out .entry)))) (now (out .entry)) (now (out .exit)) r ⌝ }
+    ensures { λ r. ⌜ Shows (callEntry (now (arena .entry)) (tableOf (now (table .entry))) owner (handleOf hold stamp) slot (length (now (out .entry)))) (now (out .entry)) (now (out .exit)) r ⌝ }
 {
     let mut mem = [0u8; MEMORY];
     begin(&mut mem, table);
@@ -323,6 +340,7 @@ pub extern "C" fn dz_own_get_entry(
         &chains[..4096],
         &chains[4096..8192],
         &mem,
+        owner,
         handle(hold, stamp),
         slot,
         out,
@@ -336,13 +354,14 @@ pub extern "C" fn dz_own_list(
     arena: &[u8],
     chains: &[u16],
     table: &[u8],
+    owner: u8,
     hold: u32,
     stamp: u64,
     next: &mut [u64],
     out: &mut [u8],
 ) -> u32
     requires { ⌜ Owned (now arena) (now chains) (now table) ⌝ }
-    ensures { λ r. ⌜ Lists (sized 1 (now (next .entry)) (callListing (now (arena .entry)) (tableOf (now (table .entry))) (handleOf hold stamp) (getD (now (next .entry)) 0 0) (length (now (out .entry))))) (now (out .entry)) (now (out .exit)) (now (next .entry)) (now (next .exit)) r ⌝ }
+    ensures { λ r. ⌜ Lists (sized 1 (now (next .entry)) (callListing (now (arena .entry)) (tableOf (now (table .entry))) owner (handleOf hold stamp) (getD (now (next .entry)) 0 0) (length (now (out .entry))))) (now (out .entry)) (now (out .exit)) (now (next .entry)) (now (next .exit)) r ⌝ }
 {
     if next.len() != NEXT_WORDS {
         return WRONG_SIZE;
@@ -355,6 +374,7 @@ pub extern "C" fn dz_own_list(
         &chains[..4096],
         &chains[4096..8192],
         &mem,
+        owner,
         handle(hold, stamp),
         from,
         out,

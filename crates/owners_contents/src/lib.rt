@@ -34,6 +34,7 @@ pub extern "C" fn dz_own_read(
     arena: &[u8],
     chains: &[u16],
     table: &[u8],
+    owner: u8,
     hold: u32,
     stamp: u64,
     place: u64,
@@ -41,7 +42,7 @@ pub extern "C" fn dz_own_read(
     count: &mut [u64],
 ) -> u32
     requires { ⌜ Owned (now arena) (now chains) (now table) ⌝ }
-    ensures { λ r. ⌜ Takes (sized 1 (now (count .entry)) (callRead (now (arena .entry)) (tableOf (now (table .entry))) (handleOf hold stamp) place (length (now (out .entry))))) (now (out .entry)) (now (out .exit)) (now (count .entry)) (now (count .exit)) r ⌝ }
+    ensures { λ r. ⌜ Takes (sized 1 (now (count .entry)) (callRead (now (arena .entry)) (tableOf (now (table .entry))) owner (handleOf hold stamp) place (length (now (out .entry))))) (now (out .entry)) (now (out .exit)) (now (count .entry)) (now (count .exit)) r ⌝ }
 {
     if count.len() != READ_WORDS {
         return WRONG_SIZE;
@@ -53,6 +54,7 @@ pub extern "C" fn dz_own_read(
         &chains[..4096],
         &chains[4096..8192],
         &mem,
+        owner,
         handle(hold, stamp),
         place,
         out,
@@ -66,13 +68,14 @@ fn write_in(
     arena: &mut [u8],
     chains: &mut [u16],
     mem: &mut [u8],
+    who: u8,
     h: Handle,
     place: u64,
     src: &[u8],
     plan: &mut [u16],
 ) -> u8
     requires { ⌜ Kept (now arena) (now chains) (now mem) × (length (now plan) ≡ 4096) ⌝ }
-    ensures { λ r. ⌜ Ended (callWrite (now (arena .entry)) (tableIn (now (mem .entry))) h place (now (src .entry))) (now (arena .entry)) (now (arena .exit)) (tableIn (now (mem .exit))) r ⌝ }
+    ensures { λ r. ⌜ Ended (callWrite (now (arena .entry)) (tableIn (now (mem .entry))) who h place (now (src .entry))) (now (arena .entry)) (now (arena .exit)) (tableIn (now (mem .exit))) r ⌝ }
     ensures { λ _. ⌜ Chained (now (arena .exit)) (now (chains .exit)) ⌝ }
 {
     let c = &chains[..];
@@ -81,6 +84,7 @@ fn write_in(
         &c[..4096],
         &c[4096..8192],
         &mem[..],
+        who,
         h,
         place,
         src.len(),
@@ -98,16 +102,17 @@ fn write_on(
     arena: &mut [u8],
     chains: &mut [u16],
     mem: &mut [u8],
+    who: u8,
     h: Handle,
     place: u64,
     src: &[u8],
 ) -> u8
     requires { ⌜ Kept (now arena) (now chains) (now mem) ⌝ }
-    ensures { λ r. ⌜ Ended (callWrite (now (arena .entry)) (tableIn (now (mem .entry))) h place (now (src .entry))) (now (arena .entry)) (now (arena .exit)) (tableIn (now (mem .exit))) r ⌝ }
+    ensures { λ r. ⌜ Ended (callWrite (now (arena .entry)) (tableIn (now (mem .entry))) who h place (now (src .entry))) (now (arena .entry)) (now (arena .exit)) (tableIn (now (mem .exit))) r ⌝ }
     ensures { λ _. ⌜ Chained (now (arena .exit)) (now (chains .exit)) ⌝ }
 {
     let mut plan = [0u16; 4096];
-    write_in(arena, chains, mem, h, place, src, &mut plan)
+    write_in(arena, chains, mem, who, h, place, src, &mut plan)
 }
 
 #[no_mangle]
@@ -115,30 +120,31 @@ pub extern "C" fn dz_own_write(
     arena: &mut [u8],
     chains: &mut [u16],
     table: &mut [u8],
+    owner: u8,
     hold: u32,
     stamp: u64,
     place: u64,
     src: &[u8],
 ) -> u32
     requires { ⌜ Owned (now arena) (now chains) (now table) ⌝ }
-    ensures { λ r. ⌜ Leaves (callWrite (now (arena .entry)) (tableOf (now (table .entry))) (handleOf hold stamp) place (now (src .entry))) (now (arena .entry)) (now (arena .exit)) (now (table .entry)) (now (table .exit)) r ⌝ }
+    ensures { λ r. ⌜ Leaves (callWrite (now (arena .entry)) (tableOf (now (table .entry))) owner (handleOf hold stamp) place (now (src .entry))) (now (arena .entry)) (now (arena .exit)) (now (table .entry)) (now (table .exit)) r ⌝ }
     ensures { λ _. ⌜ Chained (now (arena .exit)) (now (chains .exit)) ⌝ }
 {
     let mut mem = [0u8; MEMORY];
     begin(&mut mem, &table[..]);
-    let r = write_on(arena, chains, &mut mem, handle(hold, stamp), place, src);
+    let r = write_on(arena, chains, &mut mem, owner, handle(hold, stamp), place, src);
     end_after(table, &mem, r)
 }
 
 // ---- resize
 
-fn resize_on(arena: &mut [u8], chains: &mut [u16], mem: &mut [u8], h: Handle, n: u64) -> u8
+fn resize_on(arena: &mut [u8], chains: &mut [u16], mem: &mut [u8], who: u8, h: Handle, n: u64) -> u8
     requires { ⌜ Kept (now arena) (now chains) (now mem) ⌝ }
-    ensures { λ r. ⌜ Ended (callResize (now (arena .entry)) (tableIn (now (mem .entry))) h n) (now (arena .entry)) (now (arena .exit)) (tableIn (now (mem .exit))) r ⌝ }
+    ensures { λ r. ⌜ Ended (callResize (now (arena .entry)) (tableIn (now (mem .entry))) who h n) (now (arena .entry)) (now (arena .exit)) (tableIn (now (mem .exit))) r ⌝ }
     ensures { λ _. ⌜ Chained (now (arena .exit)) (now (chains .exit)) ⌝ }
 {
     let c = &chains[..];
-    let s = resize_led(&arena[..], &c[..4096], &c[4096..8192], &mem[..], h, n);
+    let s = resize_led(&arena[..], &c[..4096], &c[4096..8192], &mem[..], who, h, n);
     if s.reason != 0 {
         return s.reason;
     }
@@ -152,16 +158,17 @@ pub extern "C" fn dz_own_resize(
     arena: &mut [u8],
     chains: &mut [u16],
     table: &mut [u8],
+    owner: u8,
     hold: u32,
     stamp: u64,
     size: u64,
 ) -> u32
     requires { ⌜ Owned (now arena) (now chains) (now table) ⌝ }
-    ensures { λ r. ⌜ Leaves (callResize (now (arena .entry)) (tableOf (now (table .entry))) (handleOf hold stamp) size) (now (arena .entry)) (now (arena .exit)) (now (table .entry)) (now (table .exit)) r ⌝ }
+    ensures { λ r. ⌜ Leaves (callResize (now (arena .entry)) (tableOf (now (table .entry))) owner (handleOf hold stamp) size) (now (arena .entry)) (now (arena .exit)) (now (table .entry)) (now (table .exit)) r ⌝ }
     ensures { λ _. ⌜ Chained (now (arena .exit)) (now (chains .exit)) ⌝ }
 {
     let mut mem = [0u8; MEMORY];
     begin(&mut mem, &table[..]);
-    let r = resize_on(arena, chains, &mut mem, handle(hold, stamp), size);
+    let r = resize_on(arena, chains, &mut mem, owner, handle(hold, stamp), size);
     end_after(table, &mem, r)
 }

@@ -34,7 +34,7 @@ use Rattle.calls_create.specs.Held.{ReturnedHeld}
 use Rattle.calls_format.specs.Format.{formatted}
 use Rattle.calls_find.specs.Finds.{Gives}
 use Rattle.sequences.specs.Pairs.{Pair, pair, Passed}
-use Rattle.sequences.specs.Calls.{Call, root, find, create, link, unlink, move, metadata, setMetadata, getEntry, listing, read, write, resize, sync, close, Fits, HandleFits, NewFits, SetFits, does, reasonOf, next}
+use Rattle.sequences.specs.Calls.{Call, root, find, create, link, unlink, move, metadata, setMetadata, getEntry, listing, read, write, resize, sync, close, Fits, AskerFits, HandleFits, NewFits, SetFits, does, reasonOf, next}
 use Rattle.sequences.specs.Promises.{Keeps, Well, Fresh}
 use Rattle.sequences.proofs.Sequences.{keeps}
 use Rattle.sequences.proofs.Fresh.{fresh}
@@ -131,83 +131,83 @@ module _ (p : Pair) (y : Passed p) where
   unfolding Keeps
   held c f = keeps p c y f
 
-  pub root-keeps : (r : handed.HeldReply) → Gives (p .table) (callRoot (p .arena) (p .table)) r → Stays (p .arena) (r .table) (gotNumber (r .answer))
+  pub root-keeps : (who : ℕ) → AskerFits who → (r : handed.HeldReply) → Gives (p .table) (callRoot (p .arena) (p .table) who) r → Stays (p .arena) (r .table) (gotNumber (r .answer))
   unfolding does
-  root-keeps = by-gift root p (callRoot (p .arena) (p .table)) (held root tt) refl
+  root-keeps who Q = by-gift (root who) p (callRoot (p .arena) (p .table) who) (held (root who) Q) refl
 
-  module _ (h : Handle) (H : HandleFits h) where
-    pub find-keeps : (name : List ℕ) → Bytes name → (r : handed.HeldReply) → Gives (p .table) (callFind (p .arena) (p .table) h name) r → Stays (p .arena) (r .table) (gotNumber (r .answer))
+  module _ (who : ℕ) (Q : AskerFits who) (h : Handle) (H : HandleFits h) where
+    pub find-keeps : (name : List ℕ) → Bytes name → (r : handed.HeldReply) → Gives (p .table) (callFind (p .arena) (p .table) who h name) r → Stays (p .arena) (r .table) (gotNumber (r .answer))
     unfolding does
-    find-keeps name n = by-gift (find h name) p (callFind (p .arena) (p .table) h name) (held (find h name) (H, n)) refl
+    find-keeps name n = by-gift (find who h name) p (callFind (p .arena) (p .table) who h name) (held (find who h name) (Q, H, n)) refl
 
     pub create-keeps : (name : List ℕ) → Bytes name → (kind mode : ℕ) (time : Timespec) (file : List ℕ) → NewFits kind mode time file → (b : List ℕ) (r : handed.HeldReply)
-        → ReturnedHeld (p .table) (callCreate (p .arena) (p .table) h name kind mode time file) (p .arena) b r → Stays b (r .table) (gotNumber (r .answer))
+        → ReturnedHeld (p .table) (callCreate (p .arena) (p .table) who h name kind mode time file) (p .arena) b r → Stays b (r .table) (gotNumber (r .answer))
     unfolding does
     create-keeps name n kind mode time file N =
-        by-held (create h name kind mode time file) p (callCreate (p .arena) (p .table) h name kind mode time file) (held (create h name kind mode time file) (H, n, N)) refl
+        by-held (create who h name kind mode time file) p (callCreate (p .arena) (p .table) who h name kind mode time file) (held (create who h name kind mode time file) (Q, H, n, N)) refl
 
     pub link-keeps : (name : List ℕ) → Bytes name → (child : Handle) → HandleFits child → (b : List ℕ) (r : answered.Reply)
-        → Returned (p .table) (callLink (p .arena) (p .table) h name child) (p .arena) b r → Stays b (r .table) (answerNumber (r .answer))
+        → Returned (p .table) (callLink (p .arena) (p .table) who h name child) (p .arena) b r → Stays b (r .table) (answerNumber (r .answer))
     unfolding does
-    link-keeps name n child C = by-return (link h name child) p (callLink (p .arena) (p .table) h name child) (held (link h name child) (H, n, C)) refl
+    link-keeps name n child C = by-return (link who h name child) p (callLink (p .arena) (p .table) who h name child) (held (link who h name child) (Q, H, n, C)) refl
 
     pub unlink-keeps : (name : List ℕ) → Bytes name → (b : List ℕ) (r : answered.Reply)
-        → Returned (p .table) (callUnlink (p .arena) (p .table) h name) (p .arena) b r → Stays b (r .table) (answerNumber (r .answer))
+        → Returned (p .table) (callUnlink (p .arena) (p .table) who h name) (p .arena) b r → Stays b (r .table) (answerNumber (r .answer))
     unfolding does
-    unlink-keeps name n = by-return (unlink h name) p (callUnlink (p .arena) (p .table) h name) (held (unlink h name) (H, n)) refl
+    unlink-keeps name n = by-return (unlink who h name) p (callUnlink (p .arena) (p .table) who h name) (held (unlink who h name) (Q, H, n)) refl
 
     pub move-keeps : (old : List ℕ) → Bytes old → (target : Handle) → HandleFits target → (name : List ℕ) → Bytes name
         → (b : List ℕ) (r : answered.Reply)
-        → Returned (p .table) (callMove (p .arena) (p .table) h old target name) (p .arena) b r → Stays b (r .table) (answerNumber (r .answer))
+        → Returned (p .table) (callMove (p .arena) (p .table) who h old target name) (p .arena) b r → Stays b (r .table) (answerNumber (r .answer))
     unfolding does
     move-keeps old o target T name n =
-        by-return (move h old target name) p (callMove (p .arena) (p .table) h old target name) (held (move h old target name) (H, o, T, n)) refl
+        by-return (move who h old target name) p (callMove (p .arena) (p .table) who h old target name) (held (move who h old target name) (Q, H, o, T, n)) refl
 
-    pub metadata-keeps : (r : Told) → r ≡ toldOf (callMetadata (p .arena) (p .table) h) → Stays (p .arena) (p .table) (toldNumber r)
+    pub metadata-keeps : (r : Told) → r ≡ toldOf (callMetadata (p .arena) (p .table) who h) → Stays (p .arena) (p .table) (toldNumber r)
     unfolding does
     metadata-keeps r e =
-        let o : Out Metadata = callMetadata (p .arena) (p .table) h in
-        subst (Stays (p .arena) (p .table)) (sym (ap toldNumber e ∙ told-number o)) (by-none (metadata h) p (callMetadata (p .arena) (p .table) h) (held (metadata h) H) refl)
+        let o : Out Metadata = callMetadata (p .arena) (p .table) who h in
+        subst (Stays (p .arena) (p .table)) (sym (ap toldNumber e ∙ told-number o)) (by-none (metadata who h) p (callMetadata (p .arena) (p .table) who h) (held (metadata who h) (Q, H)) refl)
 
     pub set-metadata-keeps : (mode uid gid : ℕ) (atime mtime ctime : Timespec) → SetFits mode uid gid atime mtime ctime → (r : answered.Reply)
-        → Replies (p .table) (callSet (p .arena) (p .table) h mode uid gid atime mtime ctime) r → Stays (p .arena) (r .table) (answerNumber (r .answer))
+        → Replies (p .table) (callSet (p .arena) (p .table) who h mode uid gid atime mtime ctime) r → Stays (p .arena) (r .table) (answerNumber (r .answer))
     unfolding does
     set-metadata-keeps mode uid gid atime mtime ctime S =
-        by-reply (setMetadata h mode uid gid atime mtime ctime) p (callSet (p .arena) (p .table) h mode uid gid atime mtime ctime) (held (setMetadata h mode uid gid atime mtime ctime) (H, S)) refl
+        by-reply (setMetadata who h mode uid gid atime mtime ctime) p (callSet (p .arena) (p .table) who h mode uid gid atime mtime ctime) (held (setMetadata who h mode uid gid atime mtime ctime) (Q, H, S)) refl
 
     -- the output was `out` and is `now`
     module _ (k : ℕ) (out now : List ℕ) (K : k < 2 ^ 64) (R : length out < 2 ^ 64) where
-      pub get-entry-keeps : (r : Answer) → Lays answerOf (callEntry (p .arena) (p .table) h k (length out)) out now r → Stays (p .arena) (p .table) (answerNumber r)
+      pub get-entry-keeps : (r : Answer) → Lays answerOf (callEntry (p .arena) (p .table) who h k (length out)) out now r → Stays (p .arena) (p .table) (answerNumber r)
       unfolding does
       get-entry-keeps r e =
-          subst (Stays (p .arena) (p .table)) (sym (ap answerNumber (e .0) ∙ answer-number (callEntry (p .arena) (p .table) h k (length out))))
-          (by-none (getEntry h k (length out)) p (callEntry (p .arena) (p .table) h k (length out)) (held (getEntry h k (length out)) (H, K, R)) refl)
+          subst (Stays (p .arena) (p .table)) (sym (ap answerNumber (e .0) ∙ answer-number (callEntry (p .arena) (p .table) who h k (length out))))
+          (by-none (getEntry who h k (length out)) p (callEntry (p .arena) (p .table) who h k (length out)) (held (getEntry who h k (length out)) (Q, H, K, R)) refl)
 
-      pub listing-keeps : (r : Listed) → Lays listedOf (callListing (p .arena) (p .table) h k (length out)) out now r → Stays (p .arena) (p .table) (listedNumber r)
+      pub listing-keeps : (r : Listed) → Lays listedOf (callListing (p .arena) (p .table) who h k (length out)) out now r → Stays (p .arena) (p .table) (listedNumber r)
       unfolding does
       listing-keeps r e =
-          subst (Stays (p .arena) (p .table)) (sym (ap listedNumber (e .0) ∙ listed-number (callListing (p .arena) (p .table) h k (length out))))
-          (by-none (listing h k (length out)) p (callListing (p .arena) (p .table) h k (length out)) (held (listing h k (length out)) (H, K, R)) refl)
+          subst (Stays (p .arena) (p .table)) (sym (ap listedNumber (e .0) ∙ listed-number (callListing (p .arena) (p .table) who h k (length out))))
+          (by-none (listing who h k (length out)) p (callListing (p .arena) (p .table) who h k (length out)) (held (listing who h k (length out)) (Q, H, K, R)) refl)
 
-      pub read-keeps : (r : Taken) → Lays takenOf (callRead (p .arena) (p .table) h k (length out)) out now r → Stays (p .arena) (p .table) (takenNumber r)
+      pub read-keeps : (r : Taken) → Lays takenOf (callRead (p .arena) (p .table) who h k (length out)) out now r → Stays (p .arena) (p .table) (takenNumber r)
       unfolding does
       read-keeps r e =
-          subst (Stays (p .arena) (p .table)) (sym (ap takenNumber (e .0) ∙ taken-number (callRead (p .arena) (p .table) h k (length out))))
-          (by-none (read h k (length out)) p (callRead (p .arena) (p .table) h k (length out)) (held (read h k (length out)) (H, K, R)) refl)
+          subst (Stays (p .arena) (p .table)) (sym (ap takenNumber (e .0) ∙ taken-number (callRead (p .arena) (p .table) who h k (length out))))
+          (by-none (read who h k (length out)) p (callRead (p .arena) (p .table) who h k (length out)) (held (read who h k (length out)) (Q, H, K, R)) refl)
 
     pub write-keeps : (place : ℕ) → place < 2 ^ 64 → (src : List ℕ) → Bytes src → (b : List ℕ) (r : answered.Reply)
-        → Returned (p .table) (callWrite (p .arena) (p .table) h place src) (p .arena) b r → Stays b (r .table) (answerNumber (r .answer))
+        → Returned (p .table) (callWrite (p .arena) (p .table) who h place src) (p .arena) b r → Stays b (r .table) (answerNumber (r .answer))
     unfolding does
-    write-keeps place P src S = by-return (write h place src) p (callWrite (p .arena) (p .table) h place src) (held (write h place src) (H, P, S)) refl
+    write-keeps place P src S = by-return (write who h place src) p (callWrite (p .arena) (p .table) who h place src) (held (write who h place src) (Q, H, P, S)) refl
 
     pub resize-keeps : (n : ℕ) → n < 2 ^ 64 → (b : List ℕ) (r : answered.Reply)
-        → Returned (p .table) (callResize (p .arena) (p .table) h n) (p .arena) b r → Stays b (r .table) (answerNumber (r .answer))
+        → Returned (p .table) (callResize (p .arena) (p .table) who h n) (p .arena) b r → Stays b (r .table) (answerNumber (r .answer))
     unfolding does
-    resize-keeps n N = by-return (resize h n) p (callResize (p .arena) (p .table) h n) (held (resize h n) (H, N)) refl
+    resize-keeps n N = by-return (resize who h n) p (callResize (p .arena) (p .table) who h n) (held (resize who h n) (Q, H, N)) refl
 
-    pub close-keeps : (b : List ℕ) (r : answered.Reply) → Returned (p .table) (callClose (p .arena) (p .table) h) (p .arena) b r → Stays b (r .table) (answerNumber (r .answer))
+    pub close-keeps : (b : List ℕ) (r : answered.Reply) → Returned (p .table) (callClose (p .arena) (p .table) who h) (p .arena) b r → Stays b (r .table) (answerNumber (r .answer))
     unfolding does
-    close-keeps = by-return (close h) p (callClose (p .arena) (p .table) h) (held (close h) H) refl
+    close-keeps = by-return (close who h) p (callClose (p .arena) (p .table) who h) (held (close who h) (Q, H)) refl
 
   pub sync-keeps : (b : List ℕ) (r : answered.Reply) → Returned (p .table) (callSync (p .arena) (p .table)) (p .arena) b r → Stays b (r .table) (answerNumber (r .answer))
   unfolding does

@@ -35,22 +35,22 @@ unfolding isDone
 did t (done x) a b r R e = λ i. done (record { arena = sym (R .arena) i; table = sym (R .answer) i .table })
 did t (refused n) a b r R e = absurd (true-false refl (ap isDone (sym e ∙ ap (λ (q : Reply). q .answer) (R .answer))))
 
-module _ (a b : List ℕ) (t : Table) (h : Handle) (place : ℕ) (src : List ℕ) (r : Reply) (A : Bytes a) (S : Bytes src)
-    (R : Returned t (callWrite a t h place src) a b r) (e : r .answer ≡ answers.Done) where
+module _ (a b : List ℕ) (t : Table) (w : ℕ) (h : Handle) (place : ℕ) (src : List ℕ) (r : Reply) (A : Bytes a) (S : Bytes src)
+    (R : Returned t (callWrite a t w h place src) a b r) (e : r .answer ≡ answers.Done) where
   -- as many bytes from the same place on: they are those that were written
-  pub write-read : (out now : List ℕ) (s : Taken) → length out ≡ length src → Lays takenOf (callRead b (r .table) h place (length out)) out now s
+  pub write-read : (out now : List ℕ) (s : Taken) → length out ≡ length src → Lays takenOf (callRead b (r .table) w h place (length out)) out now s
       → (s ≡ takens.Bytes (length src)) × (now ≡ paste out 0 src)
   unfolding WrittenRead
   write-read out now s n L =
-      let o : callRead b (r .table) h place (length out) ≡ done src =
-      ap (callRead b (r .table) h place) n ∙ written-read a t h place src (left b r) A S (did t (callWrite a t h place src) a b r R e) in
+      let o : callRead b (r .table) w h place (length out) ≡ done src =
+      ap (callRead b (r .table) w h place) n ∙ written-read a t w h place src (left b r) A S (did t (callWrite a t w h place src) a b r R e) in
       (L .0 ∙ ap takenOf o, L .1 ∙ ap (laid out) o)
 
-  -- through a handle g on another file: what was to be read before
-  pub write-read-other : (g : Handle) (i j at : ℕ) → liveRow t h ≡ At i → liveRow t g ≡ At j → fileAt t i ≢ fileAt t j
-      → (out now : List ℕ) (s : Taken) → Lays takenOf (callRead b (r .table) g at (length out)) out now s → Lays takenOf (callRead a t g at (length out)) out now s
+  -- through anybody's handle g on another file: what was to be read before
+  pub write-read-other : (v : ℕ) (g : Handle) (i j at : ℕ) → liveRow t w h ≡ At i → liveRow t v g ≡ At j → fileAt t i ≢ fileAt t j
+      → (out now : List ℕ) (s : Taken) → Lays takenOf (callRead b (r .table) v g at (length out)) out now s → Lays takenOf (callRead a t v g at (length out)) out now s
   unfolding ReadOther
-  write-read-other g i j at l k d out now s L =
-      let o : callRead b (r .table) g at (length out) ≡ callRead a t g at (length out) =
-      read-other a t h g i j place src (left b r) at (length out) A S l k d (did t (callWrite a t h place src) a b r R e) in
+  write-read-other v g i j at l k d out now s L =
+      let o : callRead b (r .table) v g at (length out) ≡ callRead a t v g at (length out) =
+      read-other a t v w h g i j place src (left b r) at (length out) A S l k d (did t (callWrite a t w h place src) a b r R e) in
       (L .0 ∙ ap takenOf o, L .1 ∙ ap (laid out) o)

@@ -22,7 +22,7 @@ use Rattle.sefs.specs.Contents.{callWrite, callResize}
 use Rattle.sefs.specs.Close.{callSync, callClose}
 use Rattle.rules.proofs.Check.{check-pass}
 use Rattle.sequences.specs.Pairs.{Pair, pair, Passed}
-use Rattle.sequences.specs.Calls.{Call, root, find, create, link, unlink, move, setMetadata, write, resize, sync, close, Fits, HandleFits, NewFits, SetFits, does, next}
+use Rattle.sequences.specs.Calls.{Call, root, find, create, link, unlink, move, setMetadata, write, resize, sync, close, Fits, AskerFits, HandleFits, NewFits, SetFits, does, next}
 use Rattle.sequences.specs.Promises.{Keeps}
 use Rattle.sequences.proofs.Sequences.{keeps}
 use Rattle.edge.specs.Edge.{sized, Leaves, Makes, Holds, Sets}
@@ -83,48 +83,48 @@ module _ (a t : List ℕ) (y : Trusted a t) where
     unfolding does
     sync-owned = leaves-trusted sync tt (callSync a (tableOf t)) refl
 
-    pub root-owned : (w : List ℕ) {v : List ℕ} → Holds (sized 2 w (callRoot a (tableOf t))) t u w v n → Trusted a u
+    pub root-owned : (who : ℕ) → AskerFits who → (w : List ℕ) {v : List ℕ} → Holds (sized 2 w (callRoot a (tableOf t) who)) t u w v n → Trusted a u
     unfolding does
-    root-owned w = holds-trusted root tt (callRoot a (tableOf t)) refl (eqb (length w) 2)
+    root-owned who Q w = holds-trusted (root who) Q (callRoot a (tableOf t) who) refl (eqb (length w) 2)
 
-    module _ (h : Handle) (H : HandleFits h) where
-      pub find-owned : (name w : List ℕ) {v : List ℕ} → Bytes name → Holds (sized 2 w (callFind a (tableOf t) h name)) t u w v n → Trusted a u
+    module _ (who : ℕ) (Q : AskerFits who) (h : Handle) (H : HandleFits h) where
+      pub find-owned : (name w : List ℕ) {v : List ℕ} → Bytes name → Holds (sized 2 w (callFind a (tableOf t) who h name)) t u w v n → Trusted a u
       unfolding does
-      find-owned name w N = holds-trusted (find h name) (H, N) (callFind a (tableOf t) h name) refl (eqb (length w) 2)
+      find-owned name w N = holds-trusted (find who h name) (Q, H, N) (callFind a (tableOf t) who h name) refl (eqb (length w) 2)
 
-      pub close-owned : {b : List ℕ} → Leaves (callClose a (tableOf t) h) a b t u n → Trusted b u
+      pub close-owned : {b : List ℕ} → Leaves (callClose a (tableOf t) who h) a b t u n → Trusted b u
       unfolding does
-      close-owned = leaves-trusted (close h) H (callClose a (tableOf t) h) refl
+      close-owned = leaves-trusted (close who h) (Q, H) (callClose a (tableOf t) who h) refl
 
       pub create-owned : (name w : List ℕ) {b v : List ℕ} (kind mode : ℕ) (time : Timespec) (file : List ℕ) → Bytes name → NewFits kind mode time file
-          → Makes (sized 16 file (sized 2 w (callCreate a (tableOf t) h name kind mode time file))) a b t u w v n → Trusted b u
+          → Makes (sized 16 file (sized 2 w (callCreate a (tableOf t) who h name kind mode time file))) a b t u w v n → Trusted b u
       unfolding does
       create-owned name w kind mode time file N F =
-          makes-trusted (create h name kind mode time file) (H, N, F) (callCreate a (tableOf t) h name kind mode time file) refl (eqb (length file) 16) (eqb (length w) 2)
+          makes-trusted (create who h name kind mode time file) (Q, H, N, F) (callCreate a (tableOf t) who h name kind mode time file) refl (eqb (length file) 16) (eqb (length w) 2)
 
-      pub link-owned : (name : List ℕ) → Bytes name → (child : Handle) → HandleFits child → {b : List ℕ} → Leaves (callLink a (tableOf t) h name child) a b t u n → Trusted b u
+      pub link-owned : (name : List ℕ) → Bytes name → (child : Handle) → HandleFits child → {b : List ℕ} → Leaves (callLink a (tableOf t) who h name child) a b t u n → Trusted b u
       unfolding does
-      link-owned name N child C = leaves-trusted (link h name child) (H, N, C) (callLink a (tableOf t) h name child) refl
+      link-owned name N child C = leaves-trusted (link who h name child) (Q, H, N, C) (callLink a (tableOf t) who h name child) refl
 
-      pub unlink-owned : (name : List ℕ) → Bytes name → {b : List ℕ} → Leaves (callUnlink a (tableOf t) h name) a b t u n → Trusted b u
+      pub unlink-owned : (name : List ℕ) → Bytes name → {b : List ℕ} → Leaves (callUnlink a (tableOf t) who h name) a b t u n → Trusted b u
       unfolding does
-      unlink-owned name N = leaves-trusted (unlink h name) (H, N) (callUnlink a (tableOf t) h name) refl
+      unlink-owned name N = leaves-trusted (unlink who h name) (Q, H, N) (callUnlink a (tableOf t) who h name) refl
 
       pub move-owned : (old : List ℕ) → Bytes old → (target : Handle) → HandleFits target → (name : List ℕ) → Bytes name
-          → {b : List ℕ} → Leaves (callMove a (tableOf t) h old target name) a b t u n → Trusted b u
+          → {b : List ℕ} → Leaves (callMove a (tableOf t) who h old target name) a b t u n → Trusted b u
       unfolding does
-      move-owned old O target T name N = leaves-trusted (move h old target name) (H, O, T, N) (callMove a (tableOf t) h old target name) refl
+      move-owned old O target T name N = leaves-trusted (move who h old target name) (Q, H, O, T, N) (callMove a (tableOf t) who h old target name) refl
 
-      pub write-owned : (place : ℕ) → place < 2 ^ 64 → (src : List ℕ) → Bytes src → {b : List ℕ} → Leaves (callWrite a (tableOf t) h place src) a b t u n → Trusted b u
+      pub write-owned : (place : ℕ) → place < 2 ^ 64 → (src : List ℕ) → Bytes src → {b : List ℕ} → Leaves (callWrite a (tableOf t) who h place src) a b t u n → Trusted b u
       unfolding does
-      write-owned place P src S = leaves-trusted (write h place src) (H, P, S) (callWrite a (tableOf t) h place src) refl
+      write-owned place P src S = leaves-trusted (write who h place src) (Q, H, P, S) (callWrite a (tableOf t) who h place src) refl
 
-      pub resize-owned : (m : ℕ) → m < 2 ^ 64 → {b : List ℕ} → Leaves (callResize a (tableOf t) h m) a b t u n → Trusted b u
+      pub resize-owned : (m : ℕ) → m < 2 ^ 64 → {b : List ℕ} → Leaves (callResize a (tableOf t) who h m) a b t u n → Trusted b u
       unfolding does
-      resize-owned m M = leaves-trusted (resize h m) (H, M) (callResize a (tableOf t) h m) refl
+      resize-owned m M = leaves-trusted (resize who h m) (Q, H, M) (callResize a (tableOf t) who h m) refl
 
       pub set-metadata-owned : (mode uid gid : ℕ) (atime mtime ctime : Timespec) → SetFits mode uid gid atime mtime ctime
-          → Sets (callSet a (tableOf t) h mode uid gid atime mtime ctime) t u n → Trusted a u
+          → Sets (callSet a (tableOf t) who h mode uid gid atime mtime ctime) t u n → Trusted a u
       unfolding does
       set-metadata-owned mode uid gid atime mtime ctime S =
-          sets-trusted (setMetadata h mode uid gid atime mtime ctime) (H, S) (callSet a (tableOf t) h mode uid gid atime mtime ctime) refl
+          sets-trusted (setMetadata who h mode uid gid atime mtime ctime) (Q, H, S) (callSet a (tableOf t) who h mode uid gid atime mtime ctime) refl

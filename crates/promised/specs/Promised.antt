@@ -36,5 +36,5 @@ pub record Lowest (a : List ℕ) (t : Table) (n : ℕ) : Type 0 where
 
 -- ---- what an owner has: the arena a, and the bytes t of a table, that pass together
 pub record Trusted (a t : List ℕ) : Type 0 where
-  pub size : length t ≡ 4370
+  pub size : length t ≡ 4402
   pub passes : Passed (pair a (tableOf t))

@@ -17,7 +17,7 @@ fn play(script: &[u8], desk: &mut [u8], arena: &mut [u8], text: &mut [u8])
 
 // With buffers of its own.
 fn play_fresh(script: &[u8]) {
-    let mut desk = [0u8; 4387];
+    let mut desk = [0u8; 4419];
     let mut arena = [0u8; 65536];
     let mut text = [0u8; 4096];
     play(script, &mut desk, &mut arena, &mut text);

@@ -15,7 +15,7 @@ use perform::perform;
 use script::text::put_word;
 use table_bytes::write_table;
 
-pub const DESK: usize = 4387;
+pub const DESK: usize = 4419;
 
 // Room for the longest line.
 pub const LINE: usize = 512;
@@ -35,11 +35,11 @@ fn mark(at: usize, end: usize) -> u8
 
 // The desk takes the place, and whether it is the end.
 fn stand(desk: &mut [u8], at: usize, end: usize)
-    requires { ⌜ length (now desk) ≡ 4387 ⌝ }
-    ensures { λ _. ⌜ (leAt (now (desk .exit)) 4378 8 ≡ at) × (getD (now (desk .exit)) 4386 0 ≡ 0 → at < end) ⌝ }
+    requires { ⌜ length (now desk) ≡ 4419 ⌝ }
+    ensures { λ _. ⌜ (leAt (now (desk .exit)) 4410 8 ≡ at) × (getD (now (desk .exit)) 4418 0 ≡ 0 → at < end) ⌝ }
 {
-    desk[4386] = mark(at, end);
-    put_u64(desk, 4378, at as u64);
+    desk[4418] = mark(at, end);
+    put_u64(desk, 4410, at as u64);
 }
 
 // At the start: 16 blocks of zeros and the empty table. Buffers that are too small stay as they are.
@@ -52,7 +52,7 @@ pub fn begin(desk: &mut [u8], arena: &mut [u8]) {
     }
     write_table(desk, table::empty());
     base::clear(&mut arena[..8192]);
-    put_u64(desk, 4370, 8192);
+    put_u64(desk, 4402, 8192);
     stand(desk, 0, 1);
 }
 
@@ -86,7 +86,7 @@ fn advance(
 
 // On from a place until the script ends or the text may not take another line.
 fn run_from(script: &[u8], from: usize, desk: &mut [u8], arena: &mut [u8], text: &mut [u8]) -> Step
-    requires { ⌜ length (now desk) ≡ 4387 ⌝ }
+    requires { ⌜ length (now desk) ≡ 4419 ⌝ }
     ensures { λ r. ⌜ (from ≤ r .at) × (r .w ≤ length (now (text .entry))) ⌝ }
     ensures { λ r. ⌜ (512 ≤ length (now (text .entry)) → from < length (now (script .entry)) → from < r .at) ⌝ }
 {
@@ -109,7 +109,7 @@ pub fn ended(desk: &[u8]) -> bool
     if desk.len() != DESK {
         return true;
     }
-    desk[4386] != 0
+    desk[4418] != 0
 }
 
 // Runs the script on and answers how much text there is. With room for a line each run goes on, so that a loop over it ends.
@@ -120,7 +120,7 @@ pub fn run(script: &[u8], desk: &mut [u8], arena: &mut [u8], text: &mut [u8]) ->
     if ended(&desk[..]) {
         return 0;
     }
-    let from = u64_at(&desk[..], 4378) as usize;
+    let from = u64_at(&desk[..], 4410) as usize;
     let s = run_from(script, from, desk, arena, text);
     stand(desk, s.at, script.len());
     s.w

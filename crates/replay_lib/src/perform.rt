@@ -31,7 +31,7 @@ fn do_call(
     w: usize,
 ) -> usize
     requires { ⌜ There (now script) at ⌝ }
-    requires { ⌜ (length (now desk) ≡ 4387) × (w + 400 ≤ length (now text)) ⌝ }
+    requires { ⌜ (length (now desk) ≡ 4419) × (w + 400 ≤ length (now text)) ⌝ }
     ensures { λ r. ⌜ r ≤ w + 400 ⌝ }
 {
     match script[at] {
@@ -58,7 +58,7 @@ fn do_line(
     w: usize,
 ) -> usize
     requires { ⌜ There (now script) at ⌝ }
-    requires { ⌜ (length (now desk) ≡ 4387) × (w + 512 ≤ length (now text)) ⌝ }
+    requires { ⌜ (length (now desk) ≡ 4419) × (w + 512 ≤ length (now text)) ⌝ }
     ensures { λ r. ⌜ r ≤ w + 512 ⌝ }
 {
     let a = put_name(text, w, script[at]);

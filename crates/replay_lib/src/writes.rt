@@ -1,4 +1,5 @@
-// The calls that change the arena. The caller has seen that the command is whole, and put the call's name.
+// The calls that change the arena. The caller has seen that the command is whole, and put the call's name. Who asks stands right after the
+// command's byte.
 ghost use mathlib.Core.Path.{_≡_};
 ghost use Prim.Native.Nat.{_+_, _≤_};
 ghost use lib.ListN.{length};
@@ -29,7 +30,7 @@ pub fn call_format(
     w: usize,
 ) -> usize
     requires { ⌜ at + 33 ≤ length (now script) ⌝ }
-    requires { ⌜ (length (now desk) ≡ 4387) × (w + 400 ≤ length (now text)) ⌝ }
+    requires { ⌜ (length (now desk) ≡ 4419) × (w + 400 ≤ length (now text)) ⌝ }
     ensures { λ r. ⌜ r ≤ w + 400 ⌝ }
 {
     let time = time_at(script, at + 1);
@@ -39,7 +40,7 @@ pub fn call_format(
 }
 
 pub fn call_sync(desk: &mut [u8], arena: &mut [u8], text: &mut [u8], w: usize) -> usize
-    requires { ⌜ (length (now desk) ≡ 4387) × (w + 400 ≤ length (now text)) ⌝ }
+    requires { ⌜ (length (now desk) ≡ 4419) × (w + 400 ≤ length (now text)) ⌝ }
     ensures { λ r. ⌜ r ≤ w + 400 ⌝ }
 {
     let a = calls_sync::sync(arena, read_table(&desk[..]));
@@ -54,26 +55,33 @@ pub fn call_close(
     text: &mut [u8],
     w: usize,
 ) -> usize
-    requires { ⌜ at + 13 ≤ length (now script) ⌝ }
-    requires { ⌜ (length (now desk) ≡ 4387) × (w + 400 ≤ length (now text)) ⌝ }
+    requires { ⌜ at + 14 ≤ length (now script) ⌝ }
+    requires { ⌜ (length (now desk) ≡ 4419) × (w + 400 ≤ length (now text)) ⌝ }
     ensures { λ r. ⌜ r ≤ w + 400 ⌝ }
 {
-    let h = handle_at(script, at + 1);
-    let a = calls_close::close(arena, read_table(&desk[..]), h);
+    let h = handle_at(script, at + 2);
+    let a = calls_close::close(arena, read_table(&desk[..]), script[at + 1], h);
     put_after(desk, text, w, a)
 }
 
 // ---- write, resize
 
 fn write(script: &[u8], at: usize, desk: &[u8], arena: &mut [u8]) -> Reply
-    requires { ⌜ at + named1 (now script) at 21 ≤ length (now script) ⌝ }
-    requires { ⌜ length (now desk) ≡ 4387 ⌝ }
+    requires { ⌜ at + named1 (now script) at 22 ≤ length (now script) ⌝ }
+    requires { ⌜ length (now desk) ≡ 4419 ⌝ }
 {
-    let h = handle_at(script, at + 1);
-    let place = u64_at(script, at + 13);
-    let s = at + 23;
-    let e = name_end(script, at + 21);
-    calls_write::write(arena, read_table(desk), h, place, &script[s..e])
+    let h = handle_at(script, at + 2);
+    let place = u64_at(script, at + 14);
+    let s = at + 24;
+    let e = name_end(script, at + 22);
+    calls_write::write(
+        arena,
+        read_table(desk),
+        script[at + 1],
+        h,
+        place,
+        &script[s..e],
+    )
 }
 
 pub fn call_write(
@@ -84,8 +92,8 @@ pub fn call_write(
     text: &mut [u8],
     w: usize,
 ) -> usize
-    requires { ⌜ at + named1 (now script) at 21 ≤ length (now script) ⌝ }
-    requires { ⌜ (length (now desk) ≡ 4387) × (w + 400 ≤ length (now text)) ⌝ }
+    requires { ⌜ at + named1 (now script) at 22 ≤ length (now script) ⌝ }
+    requires { ⌜ (length (now desk) ≡ 4419) × (w + 400 ≤ length (now text)) ⌝ }
     ensures { λ r. ⌜ r ≤ w + 400 ⌝ }
 {
     let a = write(script, at, &desk[..], arena);
@@ -100,13 +108,13 @@ pub fn call_resize(
     text: &mut [u8],
     w: usize,
 ) -> usize
-    requires { ⌜ at + 21 ≤ length (now script) ⌝ }
-    requires { ⌜ (length (now desk) ≡ 4387) × (w + 400 ≤ length (now text)) ⌝ }
+    requires { ⌜ at + 22 ≤ length (now script) ⌝ }
+    requires { ⌜ (length (now desk) ≡ 4419) × (w + 400 ≤ length (now text)) ⌝ }
     ensures { λ r. ⌜ r ≤ w + 400 ⌝ }
 {
-    let h = handle_at(script, at + 1);
-    let n = u64_at(script, at + 13);
-    let a = calls_resize::resize(arena, read_table(&desk[..]), h, n);
+    let h = handle_at(script, at + 2);
+    let n = u64_at(script, at + 14);
+    let a = calls_resize::resize(arena, read_table(&desk[..]), script[at + 1], h, n);
     put_after(desk, text, w, a)
 }
 
@@ -125,14 +133,21 @@ fn new_at(script: &[u8], at: usize) -> New
 }
 
 fn create(script: &[u8], at: usize, desk: &[u8], arena: &mut [u8]) -> HeldReply
-    requires { ⌜ at + (named1 (now script) at 13 + 38) ≤ length (now script) ⌝ }
-    requires { ⌜ length (now desk) ≡ 4387 ⌝ }
+    requires { ⌜ at + (named1 (now script) at 14 + 38) ≤ length (now script) ⌝ }
+    requires { ⌜ length (now desk) ≡ 4419 ⌝ }
 {
-    let h = handle_at(script, at + 1);
-    let s = at + 15;
-    let e = name_end(script, at + 13);
+    let h = handle_at(script, at + 2);
+    let s = at + 16;
+    let e = name_end(script, at + 14);
     let new = new_at(script, e);
-    calls_create::create(arena, read_table(desk), h, &script[s..e], new)
+    calls_create::create(
+        arena,
+        read_table(desk),
+        script[at + 1],
+        h,
+        &script[s..e],
+        new,
+    )
 }
 
 pub fn call_create(
@@ -143,8 +158,8 @@ pub fn call_create(
     text: &mut [u8],
     w: usize,
 ) -> usize
-    requires { ⌜ at + (named1 (now script) at 13 + 38) ≤ length (now script) ⌝ }
-    requires { ⌜ (length (now desk) ≡ 4387) × (w + 400 ≤ length (now text)) ⌝ }
+    requires { ⌜ at + (named1 (now script) at 14 + 38) ≤ length (now script) ⌝ }
+    requires { ⌜ (length (now desk) ≡ 4419) × (w + 400 ≤ length (now text)) ⌝ }
     ensures { λ r. ⌜ r ≤ w + 400 ⌝ }
 {
     let g = create(script, at, &desk[..], arena);
@@ -152,14 +167,21 @@ pub fn call_create(
 }
 
 fn link(script: &[u8], at: usize, desk: &[u8], arena: &mut [u8]) -> Reply
-    requires { ⌜ at + (named1 (now script) at 13 + 12) ≤ length (now script) ⌝ }
-    requires { ⌜ length (now desk) ≡ 4387 ⌝ }
+    requires { ⌜ at + (named1 (now script) at 14 + 12) ≤ length (now script) ⌝ }
+    requires { ⌜ length (now desk) ≡ 4419 ⌝ }
 {
-    let h = handle_at(script, at + 1);
-    let s = at + 15;
-    let e = name_end(script, at + 13);
+    let h = handle_at(script, at + 2);
+    let s = at + 16;
+    let e = name_end(script, at + 14);
     let child = handle_at(script, e);
-    calls_link::link(arena, read_table(desk), h, &script[s..e], child)
+    calls_link::link(
+        arena,
+        read_table(desk),
+        script[at + 1],
+        h,
+        &script[s..e],
+        child,
+    )
 }
 
 pub fn call_link(
@@ -170,8 +192,8 @@ pub fn call_link(
     text: &mut [u8],
     w: usize,
 ) -> usize
-    requires { ⌜ at + (named1 (now script) at 13 + 12) ≤ length (now script) ⌝ }
-    requires { ⌜ (length (now desk) ≡ 4387) × (w + 400 ≤ length (now text)) ⌝ }
+    requires { ⌜ at + (named1 (now script) at 14 + 12) ≤ length (now script) ⌝ }
+    requires { ⌜ (length (now desk) ≡ 4419) × (w + 400 ≤ length (now text)) ⌝ }
     ensures { λ r. ⌜ r ≤ w + 400 ⌝ }
 {
     let a = link(script, at, &desk[..], arena);
@@ -186,14 +208,20 @@ pub fn call_unlink(
     text: &mut [u8],
     w: usize,
 ) -> usize
-    requires { ⌜ at + named1 (now script) at 13 ≤ length (now script) ⌝ }
-    requires { ⌜ (length (now desk) ≡ 4387) × (w + 400 ≤ length (now text)) ⌝ }
+    requires { ⌜ at + named1 (now script) at 14 ≤ length (now script) ⌝ }
+    requires { ⌜ (length (now desk) ≡ 4419) × (w + 400 ≤ length (now text)) ⌝ }
     ensures { λ r. ⌜ r ≤ w + 400 ⌝ }
 {
-    let h = handle_at(script, at + 1);
-    let s = at + 15;
-    let e = name_end(script, at + 13);
-    let a = calls_unlink::unlink(arena, read_table(&desk[..]), h, &script[s..e]);
+    let h = handle_at(script, at + 2);
+    let s = at + 16;
+    let e = name_end(script, at + 14);
+    let a = calls_unlink::unlink(
+        arena,
+        read_table(&desk[..]),
+        script[at + 1],
+        h,
+        &script[s..e],
+    );
     put_after(desk, text, w, a)
 }
 
@@ -206,18 +234,19 @@ pub fn call_move(
     w: usize,
 ) -> usize
     requires { ⌜ at + named2 (now script) at ≤ length (now script) ⌝ }
-    requires { ⌜ (length (now desk) ≡ 4387) × (w + 400 ≤ length (now text)) ⌝ }
+    requires { ⌜ (length (now desk) ≡ 4419) × (w + 400 ≤ length (now text)) ⌝ }
     ensures { λ r. ⌜ r ≤ w + 400 ⌝ }
 {
-    let h = handle_at(script, at + 1);
-    let s = at + 15;
-    let e = name_end(script, at + 13);
+    let h = handle_at(script, at + 2);
+    let s = at + 16;
+    let e = name_end(script, at + 14);
     let target = handle_at(script, e);
     let from = e + 14;
     let to = name_end(script, e + 12);
     let a = calls_move::move_(
         arena,
         read_table(&desk[..]),
+        script[at + 1],
         h,
         &script[s..e],
         target,

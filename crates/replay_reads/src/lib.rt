@@ -1,4 +1,5 @@
-// The call script's calls that change no byte of the arena. The caller has seen that the command is whole, and put the call's name.
+// The call script's calls that change no byte of the arena. The caller has seen that the command is whole, and put the call's name. Who asks
+// stands right after the command's byte.
 ghost use mathlib.Core.Path.{_≡_};
 ghost use Prim.Native.Nat.{_+_, _≤_};
 ghost use lib.ListN.{length};
@@ -28,21 +29,29 @@ use script::text::put_value;
 use script::text::put_word;
 use table_bytes::read_table;
 
-// ---- open, root, check: no arguments
+// ---- open, root, check
 
 fn call_open(desk: &mut [u8], arena: &[u8], text: &mut [u8], w: usize) -> usize
-    requires { ⌜ (length (now desk) ≡ 4387) × (w + 400 ≤ length (now text)) ⌝ }
+    requires { ⌜ (length (now desk) ≡ 4419) × (w + 400 ≤ length (now text)) ⌝ }
     ensures { λ r. ⌜ r ≤ w + 400 ⌝ }
 {
     let a = calls_open::open(arena);
     put_fresh(desk, text, w, a)
 }
 
-fn call_root(desk: &mut [u8], arena: &[u8], text: &mut [u8], w: usize) -> usize
-    requires { ⌜ (length (now desk) ≡ 4387) × (w + 400 ≤ length (now text)) ⌝ }
+fn call_root(
+    script: &[u8],
+    at: usize,
+    desk: &mut [u8],
+    arena: &[u8],
+    text: &mut [u8],
+    w: usize,
+) -> usize
+    requires { ⌜ at + 2 ≤ length (now script) ⌝ }
+    requires { ⌜ (length (now desk) ≡ 4419) × (w + 400 ≤ length (now text)) ⌝ }
     ensures { λ r. ⌜ r ≤ w + 400 ⌝ }
 {
-    let g = calls_find::root(arena, read_table(&desk[..]));
+    let g = calls_find::root(arena, read_table(&desk[..]), script[at + 1]);
     put_given(desk, text, w, g)
 }
 
@@ -61,7 +70,7 @@ fn put_verdict(text: &mut [u8], w: usize, v: Verdict) -> usize
 }
 
 fn call_check(desk: &[u8], arena: &[u8], text: &mut [u8], w: usize) -> usize
-    requires { ⌜ (length (now desk) ≡ 4387) × (w + 400 ≤ length (now text)) ⌝ }
+    requires { ⌜ (length (now desk) ≡ 4419) × (w + 400 ≤ length (now text)) ⌝ }
     ensures { λ r. ⌜ r ≤ w + 400 ⌝ }
 {
     let r = fsck::check(arena, read_table(desk));
@@ -78,14 +87,14 @@ fn call_find(
     text: &mut [u8],
     w: usize,
 ) -> usize
-    requires { ⌜ at + named1 (now script) at 13 ≤ length (now script) ⌝ }
-    requires { ⌜ (length (now desk) ≡ 4387) × (w + 400 ≤ length (now text)) ⌝ }
+    requires { ⌜ at + named1 (now script) at 14 ≤ length (now script) ⌝ }
+    requires { ⌜ (length (now desk) ≡ 4419) × (w + 400 ≤ length (now text)) ⌝ }
     ensures { λ r. ⌜ r ≤ w + 400 ⌝ }
 {
-    let h = handle_at(script, at + 1);
-    let s = at + 15;
-    let e = name_end(script, at + 13);
-    let g = calls_find::find(arena, read_table(&desk[..]), h, &script[s..e]);
+    let h = handle_at(script, at + 2);
+    let s = at + 16;
+    let e = name_end(script, at + 14);
+    let g = calls_find::find(arena, read_table(&desk[..]), script[at + 1], h, &script[s..e]);
     put_given(desk, text, w, g)
 }
 
@@ -99,28 +108,29 @@ fn call_metadata(
     text: &mut [u8],
     w: usize,
 ) -> usize
-    requires { ⌜ at + 13 ≤ length (now script) ⌝ }
-    requires { ⌜ (length (now desk) ≡ 4387) × (w + 400 ≤ length (now text)) ⌝ }
+    requires { ⌜ at + 14 ≤ length (now script) ⌝ }
+    requires { ⌜ (length (now desk) ≡ 4419) × (w + 400 ≤ length (now text)) ⌝ }
     ensures { λ r. ⌜ r ≤ w + 400 ⌝ }
 {
-    let h = handle_at(script, at + 1);
-    let t = calls_metadata::metadata(arena, read_table(desk), h);
+    let h = handle_at(script, at + 2);
+    let t = calls_metadata::metadata(arena, read_table(desk), script[at + 1], h);
     put_told(text, w, t)
 }
 
 fn set(script: &[u8], at: usize, desk: &[u8], arena: &[u8]) -> Reply
-    requires { ⌜ (at + 79 ≤ length (now script)) × (length (now desk) ≡ 4387) ⌝ }
+    requires { ⌜ (at + 80 ≤ length (now script)) × (length (now desk) ≡ 4419) ⌝ }
 {
     calls_metadata::set_metadata(
         arena,
         read_table(desk),
-        handle_at(script, at + 1),
-        u16_at(script, at + 13),
-        u64_at(script, at + 15),
-        u64_at(script, at + 23),
-        time_at(script, at + 31),
-        time_at(script, at + 47),
-        time_at(script, at + 63),
+        script[at + 1],
+        handle_at(script, at + 2),
+        u16_at(script, at + 14),
+        u64_at(script, at + 16),
+        u64_at(script, at + 24),
+        time_at(script, at + 32),
+        time_at(script, at + 48),
+        time_at(script, at + 64),
     )
 }
 
@@ -132,8 +142,8 @@ fn call_set(
     text: &mut [u8],
     w: usize,
 ) -> usize
-    requires { ⌜ at + 79 ≤ length (now script) ⌝ }
-    requires { ⌜ (length (now desk) ≡ 4387) × (w + 400 ≤ length (now text)) ⌝ }
+    requires { ⌜ at + 80 ≤ length (now script) ⌝ }
+    requires { ⌜ (length (now desk) ≡ 4419) × (w + 400 ≤ length (now text)) ⌝ }
     ensures { λ r. ⌜ r ≤ w + 400 ⌝ }
 {
     let a = set(script, at, &desk[..], arena);
@@ -160,13 +170,13 @@ fn put_entry(
     text: &mut [u8],
     w: usize,
 ) -> usize
-    requires { ⌜ at + 23 ≤ length (now script) ⌝ }
-    requires { ⌜ (length (now desk) ≡ 4387) × (w + 24 ≤ length (now text)) ⌝ }
+    requires { ⌜ at + 24 ≤ length (now script) ⌝ }
+    requires { ⌜ (length (now desk) ≡ 4419) × (w + 24 ≤ length (now text)) ⌝ }
     ensures { λ r. ⌜ r ≤ w + 24 ⌝ }
 {
-    let h = handle_at(script, at + 1);
-    let k = u64_at(script, at + 13);
-    let a = calls_entry::get_entry(arena, read_table(desk), h, k, out);
+    let h = handle_at(script, at + 2);
+    let k = u64_at(script, at + 14);
+    let a = calls_entry::get_entry(arena, read_table(desk), script[at + 1], h, k, out);
     put_answer(text, w, a)
 }
 
@@ -179,13 +189,13 @@ fn put_read(
     text: &mut [u8],
     w: usize,
 ) -> usize
-    requires { ⌜ at + 23 ≤ length (now script) ⌝ }
-    requires { ⌜ (length (now desk) ≡ 4387) × (w + 24 ≤ length (now text)) ⌝ }
+    requires { ⌜ at + 24 ≤ length (now script) ⌝ }
+    requires { ⌜ (length (now desk) ≡ 4419) × (w + 24 ≤ length (now text)) ⌝ }
     ensures { λ r. ⌜ r ≤ w + 24 ⌝ }
 {
-    let h = handle_at(script, at + 1);
-    let place = u64_at(script, at + 13);
-    let t = calls_read::read(arena, read_table(desk), h, place, out);
+    let h = handle_at(script, at + 2);
+    let place = u64_at(script, at + 14);
+    let t = calls_read::read(arena, read_table(desk), script[at + 1], h, place, out);
     put_taken(text, w, t)
 }
 
@@ -199,8 +209,8 @@ fn put_shown(
     text: &mut [u8],
     w: usize,
 ) -> usize
-    requires { ⌜ at + 23 ≤ length (now script) ⌝ }
-    requires { ⌜ (length (now desk) ≡ 4387) × (w + 24 ≤ length (now text)) ⌝ }
+    requires { ⌜ at + 24 ≤ length (now script) ⌝ }
+    requires { ⌜ (length (now desk) ≡ 4419) × (w + 24 ≤ length (now text)) ⌝ }
     ensures { λ r. ⌜ r ≤ w + 24 ⌝ }
 {
     if script[at] == 26 {
@@ -218,12 +228,12 @@ fn shown_words(
     text: &mut [u8],
     w: usize,
 ) -> usize
-    requires { ⌜ (at + 23 ≤ length (now script)) × (leAt (now script) (at + 21) 2 ≤ length (now out)) ⌝ }
-    requires { ⌜ (length (now desk) ≡ 4387) × (w + 400 ≤ length (now text)) ⌝ }
+    requires { ⌜ (at + 24 ≤ length (now script)) × (leAt (now script) (at + 22) 2 ≤ length (now out)) ⌝ }
+    requires { ⌜ (length (now desk) ≡ 4419) × (w + 400 ≤ length (now text)) ⌝ }
     ensures { λ r. ⌜ r ≤ w + 400 ⌝ }
 {
     put_238(out);
-    let n = index16(u16_at(script, at + 21));
+    let n = index16(u16_at(script, at + 22));
     let u = put_shown(script, at, desk, arena, &mut out[..n], text, w);
     put_output(text, u, &out[..])
 }
@@ -236,8 +246,8 @@ fn call_shown(
     text: &mut [u8],
     w: usize,
 ) -> usize
-    requires { ⌜ (at + 23 ≤ length (now script)) × (leAt (now script) (at + 21) 2 ≤ 8192) ⌝ }
-    requires { ⌜ (length (now desk) ≡ 4387) × (w + 400 ≤ length (now text)) ⌝ }
+    requires { ⌜ (at + 24 ≤ length (now script)) × (leAt (now script) (at + 22) 2 ≤ 8192) ⌝ }
+    requires { ⌜ (length (now desk) ≡ 4419) × (w + 400 ≤ length (now text)) ⌝ }
     ensures { λ r. ⌜ r ≤ w + 400 ⌝ }
 {
     let mut out = [0u8; 8192];
@@ -256,11 +266,11 @@ fn put_list(text: &mut [u8], w: usize, m: Moved, out: &[u8]) -> usize
 }
 
 fn list(script: &[u8], at: usize, desk: &[u8], arena: &[u8], out: &mut [u8]) -> Moved
-    requires { ⌜ (at + 23 ≤ length (now script)) × (length (now desk) ≡ 4387) ⌝ }
+    requires { ⌜ (at + 24 ≤ length (now script)) × (length (now desk) ≡ 4419) ⌝ }
 {
-    let h = handle_at(script, at + 1);
-    let next = u64_at(script, at + 13);
-    list_on(arena, read_table(desk), h, next, out)
+    let h = handle_at(script, at + 2);
+    let next = u64_at(script, at + 14);
+    list_on(arena, read_table(desk), script[at + 1], h, next, out)
 }
 
 fn list_words(
@@ -272,12 +282,12 @@ fn list_words(
     text: &mut [u8],
     w: usize,
 ) -> usize
-    requires { ⌜ (at + 23 ≤ length (now script)) × (leAt (now script) (at + 21) 2 ≤ length (now out)) ⌝ }
-    requires { ⌜ (length (now desk) ≡ 4387) × (w + 400 ≤ length (now text)) ⌝ }
+    requires { ⌜ (at + 24 ≤ length (now script)) × (leAt (now script) (at + 22) 2 ≤ length (now out)) ⌝ }
+    requires { ⌜ (length (now desk) ≡ 4419) × (w + 400 ≤ length (now text)) ⌝ }
     ensures { λ r. ⌜ r ≤ w + 400 ⌝ }
 {
     put_238(out);
-    let n = index16(u16_at(script, at + 21));
+    let n = index16(u16_at(script, at + 22));
     let m = list(script, at, desk, arena, &mut out[..n]);
     put_list(text, w, m, &out[..])
 }
@@ -290,8 +300,8 @@ fn call_list(
     text: &mut [u8],
     w: usize,
 ) -> usize
-    requires { ⌜ (at + 23 ≤ length (now script)) × (leAt (now script) (at + 21) 2 ≤ 8192) ⌝ }
-    requires { ⌜ (length (now desk) ≡ 4387) × (w + 400 ≤ length (now text)) ⌝ }
+    requires { ⌜ (at + 24 ≤ length (now script)) × (leAt (now script) (at + 22) 2 ≤ 8192) ⌝ }
+    requires { ⌜ (length (now desk) ≡ 4419) × (w + 400 ≤ length (now text)) ⌝ }
     ensures { λ r. ⌜ r ≤ w + 400 ⌝ }
 {
     let mut out = [0u8; 8192];
@@ -309,12 +319,12 @@ pub fn do_read(
     w: usize,
 ) -> usize
     requires { ⌜ There (now script) at ⌝ }
-    requires { ⌜ (length (now desk) ≡ 4387) × (w + 400 ≤ length (now text)) ⌝ }
+    requires { ⌜ (length (now desk) ≡ 4419) × (w + 400 ≤ length (now text)) ⌝ }
     ensures { λ r. ⌜ r ≤ w + 400 ⌝ }
 {
     match script[at] {
         17 => call_open(desk, arena, text, w),
-        18 => call_root(desk, arena, text, w),
+        18 => call_root(script, at, desk, arena, text, w),
         19 => call_find(script, at, desk, arena, text, w),
         24 => call_metadata(script, at, &desk[..], arena, text, w),
         25 => call_set(script, at, desk, arena, text, w),

@@ -17,9 +17,9 @@ pub record Sized (s : List ℕ) (at r n : ℕ) : Type 0 where
 abbrev pub named1 : List ℕ → ℕ → ℕ → ℕ
 named1 s at n = n + (2 + leAt s (at + n) 2)
 
--- a command, a handle and a name, and once more a handle and a name
+-- a command, who asks, a handle and a name, and once more a handle and a name
 abbrev pub named2 : List ℕ → ℕ → ℕ
-named2 s at = named1 s at (named1 s at 13 + 12)
+named2 s at = named1 s at (named1 s at 14 + 12)
 
 -- the bytes of the command that begins with the byte c at `at`; none where c begins no command
 unfoldable pub sizeBy : ℕ → List ℕ → ℕ → ℕ
@@ -27,25 +27,25 @@ sizeBy c s at =
     cond (eqb c 1) (5 + leAt s (at + 1) 4)
     (cond (eqb c 2) 5
     (cond (eqb c 3) 6
-    (cond (eqb c 4) 4371
+    (cond (eqb c 4) 4403
     (cond (eqb c 16) 33
     (cond (eqb c 17) 1
-    (cond (eqb c 18) 1
-    (cond (eqb c 19) (named1 s at 13)
-    (cond (eqb c 20) (named1 s at 13 + 38)
-    (cond (eqb c 21) (named1 s at 13 + 12)
-    (cond (eqb c 22) (named1 s at 13)
+    (cond (eqb c 18) 2
+    (cond (eqb c 19) (named1 s at 14)
+    (cond (eqb c 20) (named1 s at 14 + 38)
+    (cond (eqb c 21) (named1 s at 14 + 12)
+    (cond (eqb c 22) (named1 s at 14)
     (cond (eqb c 23) (named2 s at)
-    (cond (eqb c 24) 13
-    (cond (eqb c 25) 79
-    (cond (eqb c 26) 23
-    (cond (eqb c 27) 23
+    (cond (eqb c 24) 14
+    (cond (eqb c 25) 80
+    (cond (eqb c 26) 24
+    (cond (eqb c 27) 24
     (cond (eqb c 28) 1
-    (cond (eqb c 29) 13
+    (cond (eqb c 29) 14
     (cond (eqb c 30) 1
-    (cond (eqb c 32) 23
-    (cond (eqb c 33) (named1 s at 21)
-    (cond (eqb c 34) 21 0)))))))))))))))))))))
+    (cond (eqb c 32) 24
+    (cond (eqb c 33) (named1 s at 22)
+    (cond (eqb c 34) 22 0)))))))))))))))))))))
 
 abbrev pub sizeOf : List ℕ → ℕ → ℕ
 sizeOf s at = sizeBy (getD s at 0) s at
@@ -55,7 +55,7 @@ unfoldable pub arenaBy : ℕ → List ℕ → ℕ → ℕ
 arenaBy c s at = cond (eqb c 1) (leAt s (at + 1) 4) (cond (eqb c 2) (leAt s (at + 1) 4) 0)
 
 unfoldable pub outputBy : ℕ → List ℕ → ℕ → ℕ
-outputBy c s at = cond (eqb c 26) (leAt s (at + 21) 2) (cond (eqb c 27) (leAt s (at + 21) 2) (cond (eqb c 32) (leAt s (at + 21) 2) 0))
+outputBy c s at = cond (eqb c 26) (leAt s (at + 22) 2) (cond (eqb c 27) (leAt s (at + 22) 2) (cond (eqb c 32) (leAt s (at + 22) 2) 0))
 
 abbrev pub arenaOf : List ℕ → ℕ → ℕ
 arenaOf s at = arenaBy (getD s at 0) s at

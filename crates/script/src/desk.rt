@@ -15,10 +15,10 @@ use table_bytes::write_table;
 
 // How much of the lent arena the desk says is there: no more than there is.
 pub fn arena_len(desk: &[u8], limit: usize) -> usize
-    requires { ⌜ length (now desk) ≡ 4387 ⌝ }
+    requires { ⌜ length (now desk) ≡ 4419 ⌝ }
     ensures { λ r. ⌜ r ≤ limit ⌝ }
 {
-    let n = u64_at(desk, 4370);
+    let n = u64_at(desk, 4402);
     if n < (limit as u64) {
         return n as usize;
     }
@@ -27,27 +27,27 @@ pub fn arena_len(desk: &[u8], limit: usize) -> usize
 
 fn set_arena(script: &[u8], at: usize, desk: &mut [u8], arena: &mut [u8])
     requires { ⌜ at + (5 + leAt (now script) (at + 1) 4) ≤ length (now script) ⌝ }
-    requires { ⌜ (length (now desk) ≡ 4387) × (leAt (now script) (at + 1) 4 ≤ length (now arena)) ⌝ }
+    requires { ⌜ (length (now desk) ≡ 4419) × (leAt (now script) (at + 1) 4 ≤ length (now arena)) ⌝ }
 {
     let n = index(u32_at(script, at + 1));
     let s = at + 5;
     let e = s + n;
     copy(&mut arena[..n], &script[s..e]);
-    put_u64(desk, 4370, n as u64);
+    put_u64(desk, 4402, n as u64);
 }
 
 fn clear_arena(script: &[u8], at: usize, desk: &mut [u8], arena: &mut [u8])
     requires { ⌜ at + 5 ≤ length (now script) ⌝ }
-    requires { ⌜ (length (now desk) ≡ 4387) × (leAt (now script) (at + 1) 4 ≤ length (now arena)) ⌝ }
+    requires { ⌜ (length (now desk) ≡ 4419) × (leAt (now script) (at + 1) 4 ≤ length (now arena)) ⌝ }
 {
     let n = index(u32_at(script, at + 1));
     clear(&mut arena[..n]);
-    put_u64(desk, 4370, n as u64);
+    put_u64(desk, 4402, n as u64);
 }
 
 // A place past the arena's end changes nothing.
 fn set_byte(script: &[u8], at: usize, desk: &[u8], arena: &mut [u8])
-    requires { ⌜ (at + 6 ≤ length (now script)) × (length (now desk) ≡ 4387) ⌝ }
+    requires { ⌜ (at + 6 ≤ length (now script)) × (length (now desk) ≡ 4419) ⌝ }
 {
     let p = index(u32_at(script, at + 1));
     if p < arena_len(desk, arena.len()) {
@@ -56,17 +56,17 @@ fn set_byte(script: &[u8], at: usize, desk: &[u8], arena: &mut [u8])
 }
 
 fn set_table(script: &[u8], at: usize, desk: &mut [u8])
-    requires { ⌜ (at + 4371 ≤ length (now script)) × (length (now desk) ≡ 4387) ⌝ }
+    requires { ⌜ (at + 4403 ≤ length (now script)) × (length (now desk) ≡ 4419) ⌝ }
 {
     let s = at + 1;
-    let e = at + 4371;
+    let e = at + 4403;
     write_table(desk, read_table(&script[s..e]));
 }
 
 // They print nothing.
 pub fn do_quiet(script: &[u8], at: usize, desk: &mut [u8], arena: &mut [u8])
     requires { ⌜ There (now script) at × (arenaOf (now script) at ≤ length (now arena)) ⌝ }
-    requires { ⌜ (length (now desk) ≡ 4387) × ((0 < getD (now script) at 0) × (getD (now script) at 0 ≤ 4)) ⌝ }
+    requires { ⌜ (length (now desk) ≡ 4419) × ((0 < getD (now script) at 0) × (getD (now script) at 0 ≤ 4)) ⌝ }
 {
     match script[at] {
         1 => set_arena(script, at, desk, arena),

@@ -219,7 +219,7 @@ pub fn put_fail(text: &mut [u8], w: usize, rule: u8) -> usize
 // ---- answers with a table: the desk takes it
 
 pub fn put_after(desk: &mut [u8], text: &mut [u8], w: usize, a: Reply) -> usize
-    requires { ⌜ (length (now desk) ≡ 4387) × (w + 24 ≤ length (now text)) ⌝ }
+    requires { ⌜ (length (now desk) ≡ 4419) × (w + 24 ≤ length (now text)) ⌝ }
     ensures { λ r. ⌜ r ≤ w + 24 ⌝ }
 {
     let t = a.table;
@@ -230,7 +230,7 @@ pub fn put_after(desk: &mut [u8], text: &mut [u8], w: usize, a: Reply) -> usize
 
 // Format and open set the empty table on success only.
 pub fn put_fresh(desk: &mut [u8], text: &mut [u8], w: usize, a: Reply) -> usize
-    requires { ⌜ (length (now desk) ≡ 4387) × (w + 24 ≤ length (now text)) ⌝ }
+    requires { ⌜ (length (now desk) ≡ 4419) × (w + 24 ≤ length (now text)) ⌝ }
     ensures { λ r. ⌜ r ≤ w + 24 ⌝ }
 {
     let r = a.answer;
@@ -241,7 +241,7 @@ pub fn put_fresh(desk: &mut [u8], text: &mut [u8], w: usize, a: Reply) -> usize
 }
 
 pub fn put_given(desk: &mut [u8], text: &mut [u8], w: usize, g: HeldReply) -> usize
-    requires { ⌜ (length (now desk) ≡ 4387) × (w + 45 ≤ length (now text)) ⌝ }
+    requires { ⌜ (length (now desk) ≡ 4419) × (w + 45 ≤ length (now text)) ⌝ }
     ensures { λ r. ⌜ r ≤ w + 45 ⌝ }
 {
     let t = g.table;
@@ -252,12 +252,12 @@ pub fn put_given(desk: &mut [u8], text: &mut [u8], w: usize, g: HeldReply) -> us
 
 // The end of a line: the sums over the arena and over the table's bytes.
 pub fn put_sums(desk: &[u8], arena: &[u8], text: &mut [u8], w: usize) -> usize
-    requires { ⌜ (length (now desk) ≡ 4387) × (w + 47 ≤ length (now text)) ⌝ }
+    requires { ⌜ (length (now desk) ≡ 4419) × (w + 47 ≤ length (now text)) ⌝ }
     ensures { λ r. ⌜ r ≤ w + 47 ⌝ }
 {
     let a = put_word(text, w, b" a ");
     let b = put_number(text, a, sum(arena));
     let c = put_word(text, b, b" t ");
-    let d = put_number(text, c, sum(&desk[..4370]));
+    let d = put_number(text, c, sum(&desk[..4402]));
     put_word(text, d, b"\n")
 }

@@ -57,12 +57,12 @@ fn named_more(script: &[u8], at: usize, n: usize, more: usize) -> usize
     whole(script, at, m + more)
 }
 
-// Two names, each after a handle: move.
+// Two names, each after a handle, behind who asks: move.
 fn named_twice(script: &[u8], at: usize) -> usize
     requires { ⌜ at ≤ length (now script) ⌝ }
     ensures { λ r. ⌜ Sized (now (script .entry)) at r (named2 (now (script .entry)) at) ⌝ }
 {
-    let m = named_more(script, at, 13, 12);
+    let m = named_more(script, at, 14, 12);
     if m == 0 {
         return 0;
     }
@@ -99,16 +99,16 @@ fn arena_bytes(script: &[u8], at: usize, limit: usize) -> usize
 // An output of at most 8,192 bytes.
 fn with_output(script: &[u8], at: usize) -> usize
     requires { ⌜ at ≤ length (now script) ⌝ }
-    ensures { λ r. ⌜ Sized (now (script .entry)) at r 23 ⌝ }
-    ensures { λ r. ⌜ (0 < r → leAt (now (script .entry)) (at + 21) 2 ≤ 8192) ⌝ }
+    ensures { λ r. ⌜ Sized (now (script .entry)) at r 24 ⌝ }
+    ensures { λ r. ⌜ (0 < r → leAt (now (script .entry)) (at + 22) 2 ≤ 8192) ⌝ }
 {
-    if whole(script, at, 23) == 0 {
+    if whole(script, at, 24) == 0 {
         return 0;
     }
-    if u16_at(script, at + 21) > 8192 {
+    if u16_at(script, at + 22) > 8192 {
         return 0;
     }
-    23
+    24
 }
 
 // The command at `at`, by its first byte: all sizes of docs/REPLAY.md. An arena may have `limit` bytes.
@@ -121,25 +121,25 @@ pub fn size_at(script: &[u8], at: usize, limit: usize) -> usize
         1 => arena_bytes(script, at, limit),
         2 => arena_length(script, at, limit),
         3 => whole(script, at, 6),
-        4 => whole(script, at, 4371),
+        4 => whole(script, at, 4403),
         16 => whole(script, at, 33),
         17 => whole(script, at, 1),
-        18 => whole(script, at, 1),
-        19 => named(script, at, 13),
-        20 => named_more(script, at, 13, 38),
-        21 => named_more(script, at, 13, 12),
-        22 => named(script, at, 13),
+        18 => whole(script, at, 2),
+        19 => named(script, at, 14),
+        20 => named_more(script, at, 14, 38),
+        21 => named_more(script, at, 14, 12),
+        22 => named(script, at, 14),
         23 => named_twice(script, at),
-        24 => whole(script, at, 13),
-        25 => whole(script, at, 79),
+        24 => whole(script, at, 14),
+        25 => whole(script, at, 80),
         26 => with_output(script, at),
         27 => with_output(script, at),
         28 => whole(script, at, 1),
-        29 => whole(script, at, 13),
+        29 => whole(script, at, 14),
         30 => whole(script, at, 1),
         32 => with_output(script, at),
-        33 => lengthy(script, at, 21, 8192),
-        34 => whole(script, at, 21),
+        33 => lengthy(script, at, 22, 8192),
+        34 => whole(script, at, 22),
         _ => 0,
     }
 }

@@ -6,14 +6,14 @@ use lib.ListN.{length}
 use lib.Dec.{eqb, ltb, leb}
 use Rattle.structs.specs.Types.{isFolder, isType}
 use Rattle.base.specs.Out.{Out, done, refused, ensure, _>>=_}
-use Rattle.base.specs.Reasons.{badArena, damaged, badTable, badHandle, badName, notDir, dirRemoved, nameTooLong, stuck, entryExist, isDir}
+use Rattle.base.specs.Reasons.{badArena, damaged, badTable, badHandle, badName, invalidParam, notDir, dirRemoved, nameTooLong, stuck, entryExist, isDir}
 use Rattle.base.specs.declared.Found.{Found}
 use Rattle.base.specs.declared.Found.the-variants.{At, Nothing}
 use Rattle.structs.specs.declared.DiskINode.{DiskINode}
 use Rattle.utf8.specs.Names.{nameVerdict, earlyReason, newReason, isSpecial}
 use Rattle.table.specs.declared.Table.{Table}
 use Rattle.table.specs.declared.Handle.{Handle}
-use Rattle.table.specs.Table.{liveRow}
+use Rattle.table.specs.Table.{liveRow, isOwner}
 use Rattle.table.specs.Formed.{wellFormed}
 use Rattle.arena.specs.Blocks.{legal}
 use Rattle.sound.specs.Sound.{sound}
@@ -32,13 +32,20 @@ admit a t = do
   _ ← admitArena a
   ensure (wellFormed t) badTable
 
+-- order 5: "6 for an owner outside 1 to 4, right after 3"
+abbrev pub anOwner : ℕ → Out Unit
+anOwner w = ensure (isOwner w) invalidParam
+
 -- reason 4: "not a live hold with that stamp"; else its row
 abbrev pub orBadHandle : Found → Out ℕ
 orBadHandle (At i) = done i
 orBadHandle Nothing = refused badHandle
 
-abbrev pub byHandle : Table → Handle → Out ℕ
-byHandle t h = orBadHandle (liveRow t h)
+-- order 5: "Every call that takes or makes a handle says who asks": w, and so "4 for another's handle"
+unfoldable pub byHandle : Table → ℕ → Handle → Out ℕ
+byHandle t w h = do
+  _ ← anOwner w
+  orBadHandle (liveRow t w h)
 
 -- reason 5: "zero byte inside, or not UTF-8"
 abbrev pub goodName : List ℕ → Out Unit

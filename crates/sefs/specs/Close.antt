@@ -39,9 +39,9 @@ callSync a t = do
 unfoldable pub closeSteps : Fs → Bool → ℕ → Out Fs
 closeSteps s last i = pick last (dropNode s i) (done s)
 
-unfoldable pub callClose : List ℕ → Table → Handle → Out After
-callClose a t h = do
+unfoldable pub callClose : List ℕ → Table → ℕ → Handle → Out After
+callClose a t w h = do
   _ ← admit a t
-  i ← byHandle t h
+  i ← byHandle t w h
   s ← closeSteps (withTable (start a t) (closeHold t (h .hold) .table)) (closeHold t (h .hold) .last) i
   done (after s)

@@ -43,10 +43,10 @@ unfoldable pub readBytes : List ℕ → File → ℕ → ℕ → Out (List ℕ)
 readBytes a f place n = guard (there a f) stuck (done (tab (byteAt a f) place n))
 
 -- what is written at the start of an output of `room` bytes
-unfoldable pub callRead : List ℕ → Table → Handle → ℕ → ℕ → Out (List ℕ)
-callRead a t h place room = do
+unfoldable pub callRead : List ℕ → Table → ℕ → Handle → ℕ → ℕ → Out (List ℕ)
+callRead a t w h place room = do
   _ ← admit a t
-  i ← byHandle t h
+  i ← byHandle t w h
   _ ← hasContents (rowAt t i .rec)
   readBytes a (nodeFile (rowAt t i .rec)) place (readCount (rowAt t i .rec .size) place room)
 
@@ -57,10 +57,10 @@ resizeSteps s i n = do
   a ← cutFile (s .arena) (nodeFile (recAt s i)) n
   done (setRec (withArena s a) i (withSize (recAt s i) n))
 
-unfoldable pub callResize : List ℕ → Table → Handle → ℕ → Out After
-callResize a t h n = do
+unfoldable pub callResize : List ℕ → Table → ℕ → Handle → ℕ → Out After
+callResize a t w h n = do
   _ ← admit a t
-  i ← byHandle t h
+  i ← byHandle t w h
   _ ← hasContents (rowAt t i .rec)
   _ ← notTooBig n
   s ← resizeSteps (start a t) i n
@@ -74,10 +74,10 @@ writeSteps s i place bytes = do
   a ← putFile (s .arena) (nodeFile (recAt s i)) place bytes
   pick (ltb (recAt s i .size) (place + length bytes)) (resizeSteps (withArena s a) i (place + length bytes)) (done (withArena s a))
 
-unfoldable pub callWrite : List ℕ → Table → Handle → ℕ → List ℕ → Out After
-callWrite a t h place bytes = do
+unfoldable pub callWrite : List ℕ → Table → ℕ → Handle → ℕ → List ℕ → Out After
+callWrite a t w h place bytes = do
   _ ← admit a t
-  i ← byHandle t h
+  i ← byHandle t w h
   _ ← hasContents (rowAt t i .rec)
   _ ← notTooBig (place + length bytes)
   s ← writeSteps (start a t) i place bytes

@@ -88,8 +88,8 @@ named s i c kind = do
   s ← nlinksInc s c
   pick (isFolder kind) (nameFolder s i c) (done s)
 
-unfoldable pub createSteps : Fs → ℕ → List ℕ → ℕ → ℕ → Timespec → List ℕ → Out Given
-createSteps s i name kind mode time uuid = do
+unfoldable pub createSteps : Fs → ℕ → ℕ → List ℕ → ℕ → ℕ → Timespec → List ℕ → Out Given
+createSteps s w i name kind mode time uuid = do
   o ← newNode s kind mode time uuid
   s ← birth (o .state) i (o .row) kind
   s ← direntAppend s i (entry (idAt s (o .row)) name kind)
@@ -97,12 +97,12 @@ createSteps s i name kind mode time uuid = do
   s ← syncMeta s
   s ← syncRow s (o .row)
   s ← syncRow s i
-  done (given s (addHold (s .table) (o .row)))
+  done (given s (addHold (s .table) w (o .row)))
 
-unfoldable pub callCreate : List ℕ → Table → Handle → List ℕ → ℕ → ℕ → Timespec → List ℕ → Out Given
-callCreate a t h name kind mode time uuid = do
+unfoldable pub callCreate : List ℕ → Table → ℕ → Handle → List ℕ → ℕ → ℕ → Timespec → List ℕ → Out Given
+callCreate a t w h name kind mode time uuid = do
   _ ← admit a t
-  i ← byHandle t h
+  i ← byHandle t w h
   _ ← newName name
   _ ← ensure (isType kind) invalidParam
   _ ← liveFolder (rowAt t i .rec)
@@ -111,8 +111,8 @@ callCreate a t h name kind mode time uuid = do
   _ ← orExists f
   _ ← ensure (not (there a (file 1 uuid))) fileTaken
   _ ← ensure (not (isFolder kind && eqb (rowAt t i .rec .nlinks) 65535)) tooManyLinks
-  _ ← ensure (canHold t) tableFull
-  createSteps (start a t) i name kind mode time uuid
+  _ ← ensure (canHold t w) tableFull
+  createSteps (start a t) w i name kind mode time uuid
 
 -- ---- link: 7, 8, 10, 12, 9 (child a folder), 15, then the steps: slot, child's record, folder's record
 
@@ -124,11 +124,11 @@ linkSteps s i name c = do
   s ← syncRow s i
   done (after s)
 
-unfoldable pub callLink : List ℕ → Table → Handle → List ℕ → Handle → Out After
-callLink a t h name child = do
+unfoldable pub callLink : List ℕ → Table → ℕ → Handle → List ℕ → Handle → Out After
+callLink a t w h name child = do
   _ ← admit a t
-  i ← byHandle t h
-  c ← byHandle t child
+  i ← byHandle t w h
+  c ← byHandle t w child
   _ ← newName name
   _ ← liveFolder (rowAt t i .rec)
   _ ← notLong name

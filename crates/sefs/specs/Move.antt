@@ -165,11 +165,11 @@ moveTo s i j old name Nothing = moveFree s i j old name
 
 -- ---- the order of reasons: source 7, 8; 9 for either name; 10; target 7, 8; then as above
 
-unfoldable pub callMove : List ℕ → Table → Handle → List ℕ → Handle → List ℕ → Out After
-callMove a t h old target name = do
+unfoldable pub callMove : List ℕ → Table → ℕ → Handle → List ℕ → Handle → List ℕ → Out After
+callMove a t w h old target name = do
   _ ← admit a t
-  i ← byHandle t h
-  j ← byHandle t target
+  i ← byHandle t w h
+  j ← byHandle t w target
   _ ← goodName old
   _ ← newName name
   _ ← liveFolder (rowAt t i .rec)

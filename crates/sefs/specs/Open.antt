@@ -20,7 +20,7 @@ use Rattle.sefs.specs.State.{Fs}
 use Rattle.sefs.specs.Meta.{metaFile, loadMaps}
 use Rattle.sefs.specs.Nodes.{getNode}
 use Rattle.sefs.specs.Slots.{findSlot}
-use Rattle.sefs.specs.Ask.{admitArena, admit, byHandle, goodName, notLong, known, folder, start}
+use Rattle.sefs.specs.Ask.{admitArena, admit, anOwner, byHandle, goodName, notLong, known, folder, start}
 
 -- ---- open: "18: magic, or groups not 1 to 4". The superblock is read before, the maps after
 
@@ -34,30 +34,31 @@ callOpen a = do
 
 -- ---- a node opened with a hold of its own: "Each successful root, find or create makes its own hold with the next stamp"
 
-unfoldable pub holdNode : Fs → ℕ → Out Added
-holdNode s id = do
+unfoldable pub holdNode : Fs → ℕ → ℕ → Out Added
+holdNode s w id = do
   o ← getNode s id
-  done (addHold (o .state .table) (o .row))
+  done (addHold (o .state .table) w (o .row))
 
--- ---- root: 16, then the opening
+-- ---- root: 6, 16, then the opening
 
-unfoldable pub callRoot : List ℕ → Table → Out Added
-callRoot a t = do
+unfoldable pub callRoot : List ℕ → Table → ℕ → Out Added
+callRoot a t w = do
   _ ← admit a t
-  _ ← ensure (canHold t) tableFull
-  holdNode (start a t) 2
+  _ ← anOwner w
+  _ ← ensure (canHold t w) tableFull
+  holdNode (start a t) w 2
 
 -- ---- find: 7, 10, 8 (only `..`), 11, 16, then the opening
 
-unfoldable pub callFind : List ℕ → Table → Handle → List ℕ → Out Added
-callFind a t h name = do
+unfoldable pub callFind : List ℕ → Table → ℕ → Handle → List ℕ → Out Added
+callFind a t w h name = do
   _ ← admit a t
-  i ← byHandle t h
+  i ← byHandle t w h
   _ ← goodName name
   _ ← known (rowAt t i .rec)
   _ ← folder (rowAt t i .rec)
   _ ← notLong name
   _ ← ensure (not (isDots name && eqb (rowAt t i .rec .nlinks) 0)) dirRemoved
   s ← findSlot a (rowAt t i .rec) name
-  _ ← ensure (canHold t) tableFull
-  holdNode (start a t) (s .entry .id)
+  _ ← ensure (canHold t w) tableFull
+  holdNode (start a t) w (s .entry .id)

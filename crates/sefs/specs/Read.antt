@@ -35,10 +35,10 @@ metadataOf id r = record {
   gid = r .gid;
 }
 
-unfoldable pub callMetadata : List ℕ → Table → Handle → Out Metadata
-callMetadata a t h = do
+unfoldable pub callMetadata : List ℕ → Table → ℕ → Handle → Out Metadata
+callMetadata a t w h = do
   _ ← admit a t
-  i ← byHandle t h
+  i ← byHandle t w h
   _ ← known (rowAt t i .rec)
   done (metadataOf (rowAt t i .id) (rowAt t i .rec))
 
@@ -61,10 +61,10 @@ changed r mode uid gid atime mtime ctime = record {
   mac = r .mac;
 }
 
-unfoldable pub callSet : List ℕ → Table → Handle → ℕ → ℕ → ℕ → Timespec → Timespec → Timespec → Out Table
-callSet a t h mode uid gid atime mtime ctime = do
+unfoldable pub callSet : List ℕ → Table → ℕ → Handle → ℕ → ℕ → ℕ → Timespec → Timespec → Timespec → Out Table
+callSet a t w h mode uid gid atime mtime ctime = do
   _ ← admit a t
-  i ← byHandle t h
+  i ← byHandle t w h
   done (takeRow t i (rowAt t i .id) (changed (rowAt t i .rec) mode uid gid atime mtime ctime) true)
 
 -- ---- get entry: 7, 11, 20, then the slot, as stored. A type above 4 sticks before 7; type 0 is 7
@@ -82,10 +82,10 @@ namedSlot a r k = do
   done l
 
 -- what is written at the start of an output of `room` bytes
-unfoldable pub callEntry : List ℕ → Table → Handle → ℕ → ℕ → Out (List ℕ)
-callEntry a t h k room = do
+unfoldable pub callEntry : List ℕ → Table → ℕ → Handle → ℕ → ℕ → Out (List ℕ)
+callEntry a t w h k room = do
   _ ← admit a t
-  i ← byHandle t h
+  i ← byHandle t w h
   _ ← readable (rowAt t i .rec)
   _ ← ensure (ltb k (rowAt t i .rec .blocks)) entryNotFound
   _ ← ensure (leb 264 room) outFull
@@ -108,10 +108,10 @@ listTo a r next (suc n) = do
   done (l ++ b)
 
 -- 20: "a slot remains, output under 264 bytes". What is written at the output's start: as many slots as it is long / 264
-unfoldable pub callListing : List ℕ → Table → Handle → ℕ → ℕ → Out (List ℕ)
-callListing a t h next room = do
+unfoldable pub callListing : List ℕ → Table → ℕ → Handle → ℕ → ℕ → Out (List ℕ)
+callListing a t w h next room = do
   _ ← admit a t
-  i ← byHandle t h
+  i ← byHandle t w h
   _ ← readable (rowAt t i .rec)
   _ ← ensure (not (ltb next (rowAt t i .rec .blocks) && ltb room 264)) outFull
   listTo a (rowAt t i .rec) next (min (rowAt t i .rec .blocks - next) (room / 264))

@@ -32,10 +32,10 @@ unlinkSteps s i c k = do
   s ← syncRow s i
   done (after s)
 
-unfoldable pub callUnlink : List ℕ → Table → Handle → List ℕ → Out After
-callUnlink a t h name = do
+unfoldable pub callUnlink : List ℕ → Table → ℕ → Handle → List ℕ → Out After
+callUnlink a t w h name = do
   _ ← admit a t
-  i ← byHandle t h
+  i ← byHandle t w h
   _ ← goodName name
   _ ← liveFolder (rowAt t i .rec)
   _ ← notSpecial name

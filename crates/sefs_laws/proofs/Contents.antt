@@ -11,7 +11,6 @@ use borrow.Author.Tests.{lt-ltb, le-ltb, ltb-true, ltb-false}
 use Rattle.base.specs.Out.{Out, done, refused, bind, Ok, went, said}
 use Rattle.base.specs.Parts.{tab}
 use Rattle.base.specs.Search.{pick, foundBelow}
-use Rattle.base.specs.declared.Found.{Found}
 use Rattle.base.specs.declared.Found.the-variants.{At, Nothing}
 use Rattle.base.proofs.Numbers.{lt-or-le}
 use Rattle.base.proofs.Lists.{tab-cong, tab-getD, tab-zeros}
@@ -43,11 +42,12 @@ use Rattle.files_laws.proofs.Cut.{cut-law}
 use Rattle.sefs.specs.State.{Fs}
 use Rattle.sefs.specs.Records.{withSize}
 use Rattle.sefs.specs.Nodes.{nodeFile}
-use Rattle.sefs.specs.Ask.{admitArena, admit, orBadHandle, byHandle, start}
+use Rattle.sefs.specs.Ask.{admitArena, admit, start}
 use Rattle.sefs.specs.Create.{After, after}
 use Rattle.sefs.specs.Contents.{hasContents, readCount, readBytes, callRead, resizeSteps, callResize, writeSteps, callWrite}
 use Rattle.sefs_laws.specs.Contents.{fileAt, sizeAt, Exact, sized, Only, Written, IsWritten, WrittenRead, ReadSame, ReadOther, HoleZero, Resized, IsResized, CutOff}
 use Rattle.sefs_laws.proofs.Says.{ensure-asks}
+use Rattle.sefs_laws.proofs.Handles.{Owns, live-owns, handle-asks, handle-done}
 use Rattle.sefs_laws.proofs.Rows.{Any, any-pick}
 
 -- ---- what the three calls ask first
@@ -57,9 +57,9 @@ record Admitted (a : List ℕ) (t : Table) : Type 0 where
   whole : sound a ≡ true
   formed : wellFormed t ≡ true
 
-record Asked (a : List ℕ) (t : Table) (h : Handle) (i : ℕ) : Type 0 where
+record Asked (a : List ℕ) (t : Table) (w : ℕ) (h : Handle) (i : ℕ) : Type 0 where
   admits : Admitted a t
-  live : liveRow t h ≡ At i
+  owns : Owns t w h i
   contents : hasContents (rowAt t i .rec) ≡ done tt
 
 admit-asks : (a : List ℕ) (t : Table) → Ok (λ _. Admitted a t) Any (admit a t)
@@ -69,29 +69,24 @@ admit-asks a t =
     (ok-bind (ensure-asks (legal a) 1 tt) λ _ l. ok-weaken (λ _ s. (l, s)) (λ _ _. tt) (ensure-asks {R = Any} (sound a) 2 tt)) λ _ p.
     ok-weaken (λ _ w. record { right = p .0; whole = p .1; formed = w }) (λ _ _. tt) (ensure-asks {R = Any} (wellFormed t) 3 tt)
 
-handle-asks : (t : Table) (h : Handle) → Ok (λ i. liveRow t h ≡ At i) Any (byHandle t h)
-handle-asks t h = go (liveRow t h) refl
-  where
-    go : (f : Found) → liveRow t h ≡ f → Ok (λ i. liveRow t h ≡ At i) Any (orBadHandle f)
-    go (At i) e = went e
-    go Nothing e = said tt
-
 -- an outcome that is done is done
 asks : (o : Out Unit) → Ok (λ _. o ≡ done tt) Any o
 asks (done tt) = went refl
 asks (refused n) = said tt
 
 -- a read through a handle on row j
-reads-at : (a : List ℕ) (t : Table) (g : Handle) (j at room : ℕ) → Admitted a t → liveRow t g ≡ At j
-    → callRead a t g at room ≡ bind (hasContents (rowAt t j .rec)) (λ _. readBytes a (fileAt t j) at (readCount (sizeAt t j) at room))
+reads-at : (a : List ℕ) (t : Table) (w : ℕ) (g : Handle) (j at room : ℕ) → Admitted a t → liveRow t w g ≡ At j
+    → callRead a t w g at room ≡ bind (hasContents (rowAt t j .rec)) (λ _. readBytes a (fileAt t j) at (readCount (sizeAt t j) at room))
 unfolding callRead admit admitArena
-reads-at a t g j at room A e = rw (A .right, A .whole, A .formed, e) refl
+reads-at a t w g j at room A e =
+    let o : Owns t w g j = live-owns t w g j (well-formed t .0 (A .formed)) e in
+    rw (A .right, A .whole, A .formed, handle-done t w g j o) refl
 
 -- where the file is there, it gives the bytes below the size
-reads : (a : List ℕ) (t : Table) (h : Handle) (i at room : ℕ) → Asked a t h i → there a (fileAt t i) ≡ true
-    → callRead a t h at room ≡ done (tab (byteAt a (fileAt t i)) at (readCount (sizeAt t i) at room))
+reads : (a : List ℕ) (t : Table) (w : ℕ) (h : Handle) (i at room : ℕ) → Asked a t w h i → there a (fileAt t i) ≡ true
+    → callRead a t w h at room ≡ done (tab (byteAt a (fileAt t i)) at (readCount (sizeAt t i) at room))
 unfolding readBytes
-reads a t h i at room A e = reads-at a t h i at room (A .admits) (A .live) ∙ rw (A .contents, e) refl
+reads a t w h i at room A e = reads-at a t w h i at room (A .admits) (A .owns .live) ∙ rw (A .contents, e) refl
 
 -- a file that is as it was reads as it did
 reads-kept : (a d : List ℕ) (f : File) (at n : ℕ) → Kept a d f → readBytes d f at n ≡ readBytes a f at n
@@ -118,14 +113,14 @@ tab-zero f at n z = tab-cong f (λ _. 0) at at n z ∙ tab-zeros at n
 
 -- ---- a row with another size
 
-one-row : (t : Table) (h : Handle) (i j : ℕ) → liveRow t h ≡ At i → liveRow t h ≡ At j → i ≡ j
-one-row t h i j e f = sym (live-means t h i .0 e .names) ∙ live-means t h j .0 f .names
+one-row : (t : Table) (w : ℕ) (h : Handle) (i j : ℕ) → liveRow t w h ≡ At i → liveRow t w h ≡ At j → i ≡ j
+one-row t w h i j e f = sym (live-means t w h i .0 e .names) ∙ live-means t w h j .0 f .names
 
 -- the holds alone say which row a handle has
-live-same : (t u : Table) (h : Handle) → u .holds ≡ t .holds → liveRow u h ≡ liveRow t h
+live-same : (t u : Table) (w : ℕ) (h : Handle) → u .holds ≡ t .holds → liveRow u w h ≡ liveRow t w h
 unfolding liveRow
-live-same t u h e =
-    ap (λ (l : List Hold). pick (ltb (h .hold) 32 && (not (eqb (h .stamp) 0) && eqb (getD l (h .hold) zeroHold .stamp) (h .stamp))) (foundBelow (getD l (h .hold) zeroHold .row) 34) Nothing) e
+live-same t u w h e =
+    ap (λ (l : List Hold). pick ((ltb (h .hold) 32 && (not (eqb (h .stamp) 0) && eqb (getD l (h .hold) zeroHold .stamp) (h .stamp))) && eqb (getD l (h .hold) zeroHold .owner) w) (foundBelow (getD l (h .hold) zeroHold .row) 34) Nothing) e
 
 contents-same : (r : DiskINode) (n : ℕ) → hasContents (withSize r n) ≡ hasContents r
 unfolding hasContents
@@ -138,17 +133,17 @@ module _ {a : List ℕ} {t : Table} {i n : ℕ} {dirty : Bool} {x : After} (O : 
   file-after : fileAt (x .table) i ≡ fileAt t i
   file-after = ap (λ (r : Row). nodeFile (r .rec)) (O .row)
 
-  asked-after : (h : Handle) → Asked a t h i → Asked (x .arena) (x .table) h i
-  asked-after h A = record {
+  asked-after : (w : ℕ) (h : Handle) → Asked a t w h i → Asked (x .arena) (x .table) w h i
+  asked-after w h A = record {
     admits = record { right = legal-same a (x .arena) (O .long) ∙ A .admits .right; whole = O .keeps; formed = O .formed };
-    live = live-same t (x .table) h (O .holds) ∙ A .live;
+    owns = record { owner = A .owns .owner; live = live-same t (x .table) w h (O .holds) ∙ A .owns .live };
     contents = ap (λ (r : Row). hasContents (r .rec)) (O .row) ∙ contents-same (rowAt t i .rec) n ∙ A .contents;
   }
 
-  reads-after : (h : Handle) (at room : ℕ) → Asked a t h i
-      → callRead (x .arena) (x .table) h at room ≡ done (tab (byteAt (x .arena) (fileAt t i)) at (readCount n at room))
-  reads-after h at room A =
-      reads (x .arena) (x .table) h i at room (asked-after h A) (ap (there (x .arena)) file-after ∙ O .exists)
+  reads-after : (w : ℕ) (h : Handle) (at room : ℕ) → Asked a t w h i
+      → callRead (x .arena) (x .table) w h at room ≡ done (tab (byteAt (x .arena) (fileAt t i)) at (readCount n at room))
+  reads-after w h at room A =
+      reads (x .arena) (x .table) w h i at room (asked-after w h A) (ap (there (x .arena)) file-after ∙ O .exists)
       ∙ ap₂ (λ (f : File) (m : ℕ). done (tab (byteAt (x .arena) f) at (readCount m at room))) file-after size-after
 
 only-as : {a : List ℕ} {t : Table} {i m n : ℕ} {b c : Bool} {x : After} → m ≡ n → b ≡ c → Only a t i n c x → Only a t i m b x
@@ -163,7 +158,7 @@ record Stored (a : List ℕ) (f : File) (d : List ℕ) : Type 0 where
   bytes : Bytes d
   keeps : sound d ≡ true
 
-module _ (a : List ℕ) (t : Table) (h : Handle) (i : ℕ) (A : Asked a t h i) (d : List ℕ) (S : Stored a (fileAt t i) d) where
+module _ (a : List ℕ) (t : Table) (w : ℕ) (h : Handle) (i : ℕ) (A : Asked a t w h i) (d : List ℕ) (S : Stored a (fileAt t i) d) where
   -- the table stays
   only-file : Only a t i (sizeAt t i) (rowAt t i .dirty) (record { arena = d; table = t })
   only-file = record {
@@ -183,15 +178,15 @@ module _ (a : List ℕ) (t : Table) (h : Handle) (i : ℕ) (A : Asked a t h i) (
   -- row i gets another size
   only-sized : (n : ℕ) → Only a t i n true (record { arena = d; table = takeRow t i (rowAt t i .id) (withSize (rowAt t i .rec) n) true })
   only-sized n =
-      let w : WellFormed t = well-formed t .0 (A .admits .formed) in
-      let L = live-means t h i .0 (A .live) in
+      let y : WellFormed t = well-formed t .0 (A .admits .formed) in
+      let L = live-means t w h i .0 (A .owns .live) in
       let r : Row = sized (rowAt t i) n true in
       record {
-        row = row-here t i r (omega (arith, w .rows-34, L .is-row));
+        row = row-here t i r (omega (arith, y .rows-34, L .is-row));
         rows = λ j e. row-apart t i r j e;
         holds = refl;
         next = refl;
-        formed = well-formed _ .1 (change-row t w i (L .is-row) r (live-used t h i w L) refl);
+        formed = well-formed _ .1 (change-row t y i (L .is-row) r (live-used t w h i y L) refl);
         files = S .files;
         was = S .was;
         exists = S .exists;
@@ -202,13 +197,13 @@ module _ (a : List ℕ) (t : Table) (h : Handle) (i : ℕ) (A : Asked a t h i) (
 
 -- ---- resize
 
-module _ (a : List ℕ) (t : Table) (h : Handle) (bytes-a : Bytes a) where
+module _ (a : List ℕ) (t : Table) (w : ℕ) (h : Handle) (bytes-a : Bytes a) where
   cut-stored : (f : File) (n : ℕ) (d : List ℕ) → sound a ≡ true → Cut a f n d → Stored a f d
   cut-stored f n d ok C = record { was = C .was; files = C .others; exists = C .exists; long = C .size; bytes = C .bytes bytes-a; keeps = C .keeps bytes-a ok }
 
-  cut-resized : (i n : ℕ) (d : List ℕ) → Asked a t h i → Cut a (fileAt t i) n d → Resized a t i n (record { arena = d; table = takeRow t i (rowAt t i .id) (withSize (rowAt t i .rec) n) true })
+  cut-resized : (i n : ℕ) (d : List ℕ) → Asked a t w h i → Cut a (fileAt t i) n d → Resized a t i n (record { arena = d; table = takeRow t i (rowAt t i .id) (withSize (rowAt t i .rec) n) true })
   cut-resized i n d A C =
-      let O = only-sized a t h i A d (cut-stored (fileAt t i) n d (A .admits .whole) C) n in
+      let O = only-sized a t w h i A d (cut-stored (fileAt t i) n d (A .admits .whole) C) n in
       record {
         below = C .below;
         beyond = λ p l. ⊎-elim
@@ -219,24 +214,24 @@ module _ (a : List ℕ) (t : Table) (h : Handle) (bytes-a : Bytes a) where
         only = O;
       }
 
-  resize-law : (n : ℕ) → Ok (λ x. (i : ℕ) × Asked a t h i × Resized a t i n x) Any (callResize a t h n)
+  resize-law : (n : ℕ) → Ok (λ x. (i : ℕ) × Asked a t w h i × Resized a t i n x) Any (callResize a t w h n)
   unfolding callResize resizeSteps
   resize-law n =
       ok-bind (admit-asks a t) λ _ A.
-      ok-bind (handle-asks t h) λ i l.
+      ok-bind (handle-asks {R = Any} tt tt t w h) λ i o.
       ok-bind (asks (hasContents (rowAt t i .rec))) λ _ c.
       ok-bind (ensure-asks {R = Any} (leb n longest) 22 tt) λ _ _.
-      let Q : Asked a t h i = record { admits = A; live = l; contents = c } in
+      let Q : Asked a t w h i = record { admits = A; owns = o; contents = c } in
       ok-bind {P = λ (s : Fs). Resized a t i n (after s)}
       (ok-bind (ok-weaken (λ d C. C) (λ _ _. tt) (cut-law a (fileAt t i) n)) λ d C. went (cut-resized i n d Q C))
       λ s R. went (i, Q, R)
 
-  resizes : (n : ℕ) (x : After) → callResize a t h n ≡ done x → (i : ℕ) × Asked a t h i × Resized a t i n x
+  resizes : (n : ℕ) (x : After) → callResize a t w h n ≡ done x → (i : ℕ) × Asked a t w h i × Resized a t i n x
   resizes n x e = ok-done (subst (Ok _ _) e (resize-law n))
 
 -- ---- write
 
-module _ (a : List ℕ) (t : Table) (h : Handle) (i place : ℕ) (src : List ℕ) (bytes-a : Bytes a) (bytes-s : Bytes src) (A : Asked a t h i) where
+module _ (a : List ℕ) (t : Table) (w : ℕ) (h : Handle) (i place : ℕ) (src : List ℕ) (bytes-a : Bytes a) (bytes-s : Bytes src) (A : Asked a t w h i) where
   -- past the size: the length is set to the end
   grown : (d e : List ℕ) → Put a (fileAt t i) place src d → Cut d (fileAt t i) (place + length src) e → sizeAt t i < place + length src
       → Written a t i place src (record { arena = e; table = takeRow t i (rowAt t i .id) (withSize (rowAt t i .rec) (place + length src)) true })
@@ -251,7 +246,7 @@ module _ (a : List ℕ) (t : Table) (h : Handle) (i place : ℕ) (src : List ℕ
         bytes = C .bytes (P .bytes bytes-a bytes-s);
         keeps = C .keeps (P .bytes bytes-a bytes-s) (P .keeps bytes-a bytes-s (A .admits .whole));
       } in
-      let O = only-sized a t h i A e S (place + length src) in
+      let O = only-sized a t w h i A e S (place + length src) in
       record {
         inside = λ p k l. C .below p l ∙ P .inside p k l;
         outside = λ p k l. C .below p (omega arith) ∙ P .outside p k;
@@ -278,7 +273,7 @@ module _ (a : List ℕ) (t : Table) (h : Handle) (i place : ℕ) (src : List ℕ
         outside = λ p k _. P .outside p k;
         hole = λ _ p k l. absurd (omega arith);
         exact = λ x. omega (arith, P .long, x);
-        only = only-as m b (only-file a t h i A d S);
+        only = only-as m b (only-file a t w h i A d S);
       }
 
   steps-law : Ok (λ s. Written a t i place src (after s)) Any (writeSteps (start a t) i place src)
@@ -289,39 +284,39 @@ module _ (a : List ℕ) (t : Table) (h : Handle) (i place : ℕ) (src : List ℕ
       (λ y. ok-bind (ok-weaken (λ e C. C) (λ _ _. tt) (cut-law d (fileAt t i) (place + length src))) λ e C. went (grown d e P C (ltb-true _ _ y)))
       (λ n. went (within d P (ltb-false _ _ n)))
 
-module _ (a : List ℕ) (t : Table) (h : Handle) (place : ℕ) (src : List ℕ) (bytes-a : Bytes a) (bytes-s : Bytes src) where
-  write-law : Ok (λ x. (i : ℕ) × Asked a t h i × Written a t i place src x) Any (callWrite a t h place src)
+module _ (a : List ℕ) (t : Table) (w : ℕ) (h : Handle) (place : ℕ) (src : List ℕ) (bytes-a : Bytes a) (bytes-s : Bytes src) where
+  write-law : Ok (λ x. (i : ℕ) × Asked a t w h i × Written a t i place src x) Any (callWrite a t w h place src)
   unfolding callWrite
   write-law =
       ok-bind (admit-asks a t) λ _ A.
-      ok-bind (handle-asks t h) λ i l.
+      ok-bind (handle-asks {R = Any} tt tt t w h) λ i o.
       ok-bind (asks (hasContents (rowAt t i .rec))) λ _ c.
       ok-bind (ensure-asks {R = Any} (leb (place + length src) longest) 22 tt) λ _ _.
-      let Q : Asked a t h i = record { admits = A; live = l; contents = c } in
-      ok-bind (steps-law a t h i place src bytes-a bytes-s Q) λ s W. went (i, Q, W)
+      let Q : Asked a t w h i = record { admits = A; owns = o; contents = c } in
+      ok-bind (steps-law a t w h i place src bytes-a bytes-s Q) λ s W. went (i, Q, W)
 
-  writes : (x : After) → callWrite a t h place src ≡ done x → (i : ℕ) × Asked a t h i × Written a t i place src x
+  writes : (x : After) → callWrite a t w h place src ≡ done x → (i : ℕ) × Asked a t w h i × Written a t i place src x
   writes x e = ok-done (subst (Ok _ _) e write-law)
 
 -- ---- the laws
 
 pub is-written : IsWritten
 unfolding IsWritten
-is-written a t h i place src x b s l e =
-    let W = writes a t h place src b s x e in
-    subst (λ (j : ℕ). Written a t j place src x) (one-row t h (W .0) i (W .1 .live) l) (W .2)
+is-written a t w h i place src x b s l e =
+    let W = writes a t w h place src b s x e in
+    subst (λ (j : ℕ). Written a t j place src x) (one-row t w h (W .0) i (W .1 .owns .live) l) (W .2)
 
 pub is-resized : IsResized
 unfolding IsResized
-is-resized a t h i n x b l e =
-    let R = resizes a t h b n x e in
-    subst (λ (j : ℕ). Resized a t j n x) (one-row t h (R .0) i (R .1 .live) l) (R .2)
+is-resized a t w h i n x b l e =
+    let R = resizes a t w h b n x e in
+    subst (λ (j : ℕ). Resized a t j n x) (one-row t w h (R .0) i (R .1 .owns .live) l) (R .2)
 
-module _ (a : List ℕ) (t : Table) (h : Handle) (place : ℕ) (src : List ℕ) (x : After) (i : ℕ) (A : Asked a t h i) (W : Written a t i place src x) where
-  read-back : callRead (x .arena) (x .table) h place (length src) ≡ done src
+module _ (a : List ℕ) (t : Table) (w : ℕ) (h : Handle) (place : ℕ) (src : List ℕ) (x : After) (i : ℕ) (A : Asked a t w h i) (W : Written a t i place src x) where
+  read-back : callRead (x .arena) (x .table) w h place (length src) ≡ done src
   read-back =
       let n : readCount (max (sizeAt t i) (place + length src)) place (length src) ≡ length src = count-all (max (sizeAt t i) (place + length src)) place (length src) (omega arith) in
-      reads-after (W .only) h place (length src) A
+      reads-after (W .only) w h place (length src) A
       ∙ ap done
       (ap (tab (byteAt (x .arena) (fileAt t i)) place) n
       ∙ tab-cong (byteAt (x .arena) (fileAt t i)) (λ k. getD src k 0) place 0 (length src) (λ k l.
@@ -329,62 +324,62 @@ module _ (a : List ℕ) (t : Table) (h : Handle) (place : ℕ) (src : List ℕ) 
       ∙ tab-getD src)
 
   read-apart : (at room : ℕ) → (at < place + length src → at + room ≤ place) → (at + room ≤ sizeAt t i) ⊎ (place + length src ≤ sizeAt t i)
-      → callRead (x .arena) (x .table) h at room ≡ callRead a t h at room
+      → callRead (x .arena) (x .table) w h at room ≡ callRead a t w h at room
   read-apart at room out low =
       let n : readCount (max (sizeAt t i) (place + length src)) at room ≡ readCount (sizeAt t i) at room = count-same (sizeAt t i) (place + length src) at room low in
-      reads-after (W .only) h at room A
+      reads-after (W .only) w h at room A
       ∙ ap done
       (ap (tab (byteAt (x .arena) (fileAt t i)) at) n
       ∙ tab-cong (byteAt (x .arena) (fileAt t i)) (byteAt a (fileAt t i)) at at (readCount (sizeAt t i) at room) (λ k l. let c = count-below (sizeAt t i) (place + length src) at room k l in W .outside (at + k) (apart k (c .0)) (c .1)))
-      ∙ sym (reads a t h i at room A (W .only .was))
+      ∙ sym (reads a t w h i at room A (W .only .was))
     where
       apart : (k : ℕ) → k < room → place ≤ at + k → place + length src ≤ at + k
       apart k l g = ⊎-elim (λ m. absurd (omega (arith, out m))) (λ m. omega arith) (lt-or-le at (place + length src))
 
-  read-hole : (at room : ℕ) → Exact a t i → sizeAt t i ≤ at → at + room ≤ place → callRead (x .arena) (x .table) h at room ≡ done (replicate room 0)
+  read-hole : (at room : ℕ) → Exact a t i → sizeAt t i ≤ at → at + room ≤ place → callRead (x .arena) (x .table) w h at room ≡ done (replicate room 0)
   read-hole at room e l m =
       let n : readCount (max (sizeAt t i) (place + length src)) at room ≡ room = count-all (max (sizeAt t i) (place + length src)) at room (omega arith) in
-      reads-after (W .only) h at room A
+      reads-after (W .only) w h at room A
       ∙ ap done (ap (tab (byteAt (x .arena) (fileAt t i)) at) n ∙ tab-zero (byteAt (x .arena) (fileAt t i)) at room (λ k y. W .hole e (at + k) (omega arith) (omega arith)))
 
 pub written-read : WrittenRead
 unfolding WrittenRead
-written-read a t h place src x b s e = let W = writes a t h place src b s x e in read-back a t h place src x (W .0) (W .1) (W .2)
+written-read a t w h place src x b s e = let W = writes a t w h place src b s x e in read-back a t w h place src x (W .0) (W .1) (W .2)
 
 pub read-same : ReadSame
 unfolding ReadSame
-read-same a t h i place src x at room b s l e out low =
-    let W = writes a t h place src b s x e in
-    let q : W .0 ≡ i = one-row t h (W .0) i (W .1 .live) l in
-    read-apart a t h place src x (W .0) (W .1) (W .2) at room out (subst (λ (j : ℕ). (at + room ≤ sizeAt t j) ⊎ (place + length src ≤ sizeAt t j)) (sym q) low)
+read-same a t w h i place src x at room b s l e out low =
+    let W = writes a t w h place src b s x e in
+    let q : W .0 ≡ i = one-row t w h (W .0) i (W .1 .owns .live) l in
+    read-apart a t w h place src x (W .0) (W .1) (W .2) at room out (subst (λ (j : ℕ). (at + room ≤ sizeAt t j) ⊎ (place + length src ≤ sizeAt t j)) (sym q) low)
 
 pub hole-zero : HoleZero
 unfolding HoleZero
-hole-zero a t h i place src x at room b s l ex e m n =
-    let W = writes a t h place src b s x e in
-    let q : W .0 ≡ i = one-row t h (W .0) i (W .1 .live) l in
-    read-hole a t h place src x (W .0) (W .1) (W .2) at room (subst (Exact a t) (sym q) ex) (subst (λ (j : ℕ). sizeAt t j ≤ at) (sym q) m) n
+hole-zero a t w h i place src x at room b s l ex e m n =
+    let W = writes a t w h place src b s x e in
+    let q : W .0 ≡ i = one-row t w h (W .0) i (W .1 .owns .live) l in
+    read-hole a t w h place src x (W .0) (W .1) (W .2) at room (subst (Exact a t) (sym q) ex) (subst (λ (j : ℕ). sizeAt t j ≤ at) (sym q) m) n
 
 pub read-other : ReadOther
 unfolding ReadOther
-read-other a t h g i j place src x at room b s l k ne e =
-    let W = writes a t h place src b s x e in
-    let q : W .0 ≡ i = one-row t h (W .0) i (W .1 .live) l in
+read-other a t v w h g i j place src x at room b s l k ne e =
+    let W = writes a t w h place src b s x e in
+    let q : W .0 ≡ i = one-row t w h (W .0) i (W .1 .owns .live) l in
     let O = W .2 .only in
     let d : fileAt t (W .0) ≢ fileAt t j = subst (λ (n : ℕ). fileAt t n ≢ fileAt t j) (sym q) ne in
-    let u : Admitted (x .arena) (x .table) = asked-after O h (W .1) .admits in
-    reads-at (x .arena) (x .table) g j at room u (live-same t (x .table) g (O .holds) ∙ k)
+    let u : Admitted (x .arena) (x .table) = asked-after O w h (W .1) .admits in
+    reads-at (x .arena) (x .table) v g j at room u (live-same t (x .table) v g (O .holds) ∙ k)
     ∙ ap (λ (r : Row). bind (hasContents (r .rec)) (λ _. readBytes (x .arena) (nodeFile (r .rec)) at (readCount (r .rec .size) at room))) (O .rows j (λ z. d (ap (fileAt t) (sym z))))
     ∙ ap (λ (o : Out (List ℕ)). bind (hasContents (rowAt t j .rec)) (λ _. o)) (reads-kept a (x .arena) (fileAt t j) at (readCount (sizeAt t j) at room) (O .files (fileAt t j) d))
-    ∙ sym (reads-at a t g j at room (W .1 .admits) k)
+    ∙ sym (reads-at a t v g j at room (W .1 .admits) k)
 
 pub cut-off : CutOff
 unfolding CutOff
-cut-off a t h n m x y at room b e f l =
-    let R = resizes a t h b n x e in
-    let Q = resizes (x .arena) (x .table) h (R .2 .only .bytes) m y f in
-    let q : R .0 ≡ Q .0 = one-row (x .table) h (R .0) (Q .0) (asked-after (R .2 .only) h (R .1) .live) (Q .1 .live) in
+cut-off a t w h n m x y at room b e f l =
+    let R = resizes a t w h b n x e in
+    let Q = resizes (x .arena) (x .table) w h (R .2 .only .bytes) m y f in
+    let q : R .0 ≡ Q .0 = one-row (x .table) w h (R .0) (Q .0) (asked-after (R .2 .only) w h (R .1) .owns .live) (Q .1 .owns .live) in
     let z : lengthOf (x .arena) (fileAt (x .table) (Q .0)) ≡ n =
     subst (λ (i : ℕ). lengthOf (x .arena) (fileAt (x .table) i) ≡ n) q (R .2 .exact ∙ size-after (R .2 .only)) in
-    reads-after (Q .2 .only) h at room (Q .1)
+    reads-after (Q .2 .only) w h at room (Q .1)
     ∙ ap done (tab-zero (byteAt (y .arena) (fileAt (x .table) (Q .0))) at (readCount m at room) (λ k _. Q .2 .beyond (at + k) (omega arith)))

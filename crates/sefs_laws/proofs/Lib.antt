@@ -1,4 +1,5 @@
 pub mod Clear
 pub mod Rows
 pub mod Says
+pub mod Handles
 pub mod Contents

@@ -19,8 +19,7 @@ use Rattle.structs.specs.declared.DiskEntry.{DiskEntry}
 use Rattle.structs.specs.declared.Timespec.{Timespec}
 use Rattle.arena.specs.Fields.{File, file}
 use Rattle.table.specs.declared.Table.{Table}
-use Rattle.table.specs.declared.Handle.{Handle}
-use Rattle.table.specs.Table.{rowAt, rowOf, freeRow, rowUsed, liveRow}
+use Rattle.table.specs.Table.{rowAt, rowOf, freeRow, rowUsed}
 use Rattle.table.specs.Formed.{wellFormed}
 use Rattle.arena.specs.Blocks.{legal, blocks}
 use Rattle.arena.specs.Places.{freeOf}
@@ -39,7 +38,7 @@ use Rattle.sefs.specs.Nodes.{Opened, setRec, nodeFile, recAt, noRow, openIn, op
 use Rattle.sefs.specs.Slots.{isEnded, slotBytes, slotAt, lookTo, lookup, orNotFound, findSlot}
 use Rattle.sefs.specs.Folders.{putSlot, direntInit, direntAppend, direntRemove, direntNodeRemove, nlinksInc, nlinksDec, unlinkFolder}
 use Rattle.sefs.specs.Contents.{hasContents, notTooBig, readBytes, resizeSteps, writeSteps}
-use Rattle.sefs.specs.Ask.{admitArena, admit, orBadHandle, byHandle, liveFolder, orExists}
+use Rattle.sefs.specs.Ask.{admitArena, admit, liveFolder, orExists}
 use mathlib.Core.Path.{refl, _≡_, sym, subst}
 use Rattle.files_laws.specs.Laws as laws
 
@@ -363,13 +362,6 @@ module _ {R : ℕ → Type 0} (one : R 1) (two : R 2) where
   pub says-admit : R 3 → (a : List ℕ) (t : Table) → Says R (admit a t)
   unfolding admit
   says-admit three a t = says-then (says-arena a) λ _. says-ensure (wellFormed t) 3 three
-
-pub says-handle : {R : ℕ → Type 0} → R 4 → (t : Table) (h : Handle) → Says R (byHandle t h)
-says-handle {R} four t h = go (liveRow t h)
-  where
-    go : (f : Found) → Says R (orBadHandle f)
-    go (At i) = says-done
-    go Nothing = said four
 
 pub says-live : {R : ℕ → Type 0} → R 19 → R 7 → R 8 → (r : DiskINode) → Says R (liveFolder r)
 unfolding liveFolder

@@ -1,5 +1,5 @@
 -- Order 1, as those who write and read see it: "Both ways are wanted: what was written is what is read, all other bytes stay." Said of any
--- arena and table, any place and any bytes: a call that is done has asked the rest. i is the row of the handle, x what the call left.
+-- arena and table, any place and any bytes: a call that is done has asked the rest. w asks; i is the row of the handle, x what the call left.
 use mathlib.Core.Path.{_≡_}
 use mathlib.Core.Bool.{Bool, true, _||_}
 use mathlib.Core.List.{List}
@@ -66,32 +66,32 @@ pub record Written (a : List ℕ) (t : Table) (i place : ℕ) (src : List ℕ) (
   pub only : Only a t i (max (sizeAt t i) (place + length src)) (ltb (sizeAt t i) (place + length src) || rowAt t i .dirty) x
 
 unfoldable pub IsWritten : Type 0
-IsWritten = (a : List ℕ) (t : Table) (h : Handle) (i place : ℕ) (src : List ℕ) (x : After) → Bytes a → Bytes src
-    → liveRow t h ≡ At i → callWrite a t h place src ≡ done x → Written a t i place src x
+IsWritten = (a : List ℕ) (t : Table) (w : ℕ) (h : Handle) (i place : ℕ) (src : List ℕ) (x : After) → Bytes a → Bytes src
+    → liveRow t w h ≡ At i → callWrite a t w h place src ≡ done x → Written a t i place src x
 
 -- "what was written is what is read"
 unfoldable pub WrittenRead : Type 0
-WrittenRead = (a : List ℕ) (t : Table) (h : Handle) (place : ℕ) (src : List ℕ) (x : After) → Bytes a → Bytes src
-    → callWrite a t h place src ≡ done x → callRead (x .arena) (x .table) h place (length src) ≡ done src
+WrittenRead = (a : List ℕ) (t : Table) (w : ℕ) (h : Handle) (place : ℕ) (src : List ℕ) (x : After) → Bytes a → Bytes src
+    → callWrite a t w h place src ≡ done x → callRead (x .arena) (x .table) w h place (length src) ≡ done src
 
 -- "all other bytes stay": a read of a part that the write doesn't touch, below the old size or where the size didn't change
 unfoldable pub ReadSame : Type 0
-ReadSame = (a : List ℕ) (t : Table) (h : Handle) (i place : ℕ) (src : List ℕ) (x : After) (at room : ℕ) → Bytes a → Bytes src
-    → liveRow t h ≡ At i → callWrite a t h place src ≡ done x
+ReadSame = (a : List ℕ) (t : Table) (w : ℕ) (h : Handle) (i place : ℕ) (src : List ℕ) (x : After) (at room : ℕ) → Bytes a → Bytes src
+    → liveRow t w h ≡ At i → callWrite a t w h place src ≡ done x
     → (at < place + length src → at + room ≤ place) → (at + room ≤ sizeAt t i) ⊎ (place + length src ≤ sizeAt t i)
-    → callRead (x .arena) (x .table) h at room ≡ callRead a t h at room
+    → callRead (x .arena) (x .table) w h at room ≡ callRead a t w h at room
 
--- and what other files hold: through a handle g on a row j with another file
+-- and what other files hold: through anybody's handle g on a row j with another file
 unfoldable pub ReadOther : Type 0
-ReadOther = (a : List ℕ) (t : Table) (h g : Handle) (i j place : ℕ) (src : List ℕ) (x : After) (at room : ℕ) → Bytes a → Bytes src
-    → liveRow t h ≡ At i → liveRow t g ≡ At j → fileAt t i ≢ fileAt t j → callWrite a t h place src ≡ done x
-    → callRead (x .arena) (x .table) g at room ≡ callRead a t g at room
+ReadOther = (a : List ℕ) (t : Table) (v w : ℕ) (h g : Handle) (i j place : ℕ) (src : List ℕ) (x : After) (at room : ℕ) → Bytes a → Bytes src
+    → liveRow t w h ≡ At i → liveRow t v g ≡ At j → fileAt t i ≢ fileAt t j → callWrite a t w h place src ≡ done x
+    → callRead (x .arena) (x .table) v g at room ≡ callRead a t v g at room
 
 -- a read between the old end and the place of a write past it
 unfoldable pub HoleZero : Type 0
-HoleZero = (a : List ℕ) (t : Table) (h : Handle) (i place : ℕ) (src : List ℕ) (x : After) (at room : ℕ) → Bytes a → Bytes src
-    → liveRow t h ≡ At i → Exact a t i → callWrite a t h place src ≡ done x
-    → sizeAt t i ≤ at → at + room ≤ place → callRead (x .arena) (x .table) h at room ≡ done (replicate room 0)
+HoleZero = (a : List ℕ) (t : Table) (w : ℕ) (h : Handle) (i place : ℕ) (src : List ℕ) (x : After) (at room : ℕ) → Bytes a → Bytes src
+    → liveRow t w h ≡ At i → Exact a t i → callWrite a t w h place src ≡ done x
+    → sizeAt t i ≤ at → at + room ≤ place → callRead (x .arena) (x .table) w h at room ≡ done (replicate room 0)
 
 -- ---- resize
 
@@ -103,10 +103,10 @@ pub record Resized (a : List ℕ) (t : Table) (i n : ℕ) (x : After) : Type 0 w
   pub only : Only a t i n true x
 
 unfoldable pub IsResized : Type 0
-IsResized = (a : List ℕ) (t : Table) (h : Handle) (i n : ℕ) (x : After) → Bytes a → liveRow t h ≡ At i → callResize a t h n ≡ done x → Resized a t i n x
+IsResized = (a : List ℕ) (t : Table) (w : ℕ) (h : Handle) (i n : ℕ) (x : After) → Bytes a → liveRow t w h ≡ At i → callResize a t w h n ≡ done x → Resized a t i n x
 
 -- what a resize to n cut off is read by nobody, whatever the size is made afterwards
 unfoldable pub CutOff : Type 0
-CutOff = (a : List ℕ) (t : Table) (h : Handle) (n m : ℕ) (x y : After) (at room : ℕ) → Bytes a
-    → callResize a t h n ≡ done x → callResize (x .arena) (x .table) h m ≡ done y
-    → n ≤ at → callRead (y .arena) (y .table) h at room ≡ done (replicate (readCount m at room) 0)
+CutOff = (a : List ℕ) (t : Table) (w : ℕ) (h : Handle) (n m : ℕ) (x y : After) (at room : ℕ) → Bytes a
+    → callResize a t w h n ≡ done x → callResize (x .arena) (x .table) w h m ≡ done y
+    → n ≤ at → callRead (y .arena) (y .table) w h at room ≡ done (replicate (readCount m at room) 0)

@@ -150,7 +150,7 @@ module _ (o : List ℕ) (v : Table) (f : List ℕ) where
 
 -- ---- the calls
 
-module _ (p : Pair) (y : Passed p) (h : Handle) (n : ℕ) (f : List ℕ) (on : On (p .table) h n f) (no-dir : isFolder (recOf (p .arena) (p .table) n .kind) ≡ false) where
+module _ (p : Pair) (y : Passed p) (who : ℕ) (h : Handle) (n : ℕ) (f : List ℕ) (on : On (p .table) who h n f) (no-dir : isFolder (recOf (p .arena) (p .table) n .kind) ≡ false) where
   abbrev a : List ℕ
   a = p .arena
 
@@ -164,7 +164,7 @@ module _ (p : Pair) (y : Passed p) (h : Handle) (n : ℕ) (f : List ℕ) (on : O
   A = allowed p y
 
   row-n : Used t (on .row)
-  row-n = on-used a t A h n f on
+  row-n = on-used a t A who h n f on
 
   node-n : isNode a n ≡ true
   node-n = ap (isNode a) (sym (on .node)) ∙ row-node a t A (on .row) row-n
@@ -172,33 +172,33 @@ module _ (p : Pair) (y : Passed p) (h : Handle) (n : ℕ) (f : List ℕ) (on : O
   file-n : recOf a t n .file ≡ f
   file-n = ap (λ (k : ℕ). recOf a t k .file) (sym (on .node)) ∙ ap (λ (r : DiskINode). r .file) (row-rec a t A (on .row) row-n) ∙ on .file
 
-  used : (g : Handle) (i : ℕ) → Live t g i → Used t i
-  used g i l = record { below = l .is-row; node = live-used t g i (formed a t A) l }
+  used : (v : ℕ) (g : Handle) (i : ℕ) → Live t v g i → Used t i
+  used v g i l = record { below = l .is-row; node = live-used t v g i (formed a t A) l }
 
-  firm : (g : Handle) (i : ℕ) → Live t g i → Firm t t i
-  firm g i l = record {
+  firm : (v : ℕ) (g : Handle) (i : ℕ) → Live t v g i → Firm t t i
+  firm v g i l = record {
     used = of-holder t i (record { hold = g .hold; is-hold = l .is-hold; live = λ z. l .given (sym (l .stamp) ∙ z); names = l .names });
-    some = used g i l .node;
+    some = used v g i l .node;
     same = refl;
   }
 
   -- another node has another file
-  off : (g : Handle) (i : ℕ) → Live t g i → rowAt t i .id ≢ n → rowAt t i .rec .file ≢ f
-  off g i l d q =
-      let u = used g i l in
+  off : (v : ℕ) (g : Handle) (i : ℕ) → Live t v g i → rowAt t i .id ≢ n → rowAt t i .rec .file ≢ f
+  off v g i l d q =
+      let u = used v g i l in
       d (A .rule5 .distinct (rowAt t i .id) n (row-node a t A i u) node-n (ap (λ (r : DiskINode). r .file) (row-rec a t A i u) ∙ q ∙ sym file-n))
 
-  folder-off : (g : Handle) (i : ℕ) → Live t g i → isFolder (rowAt t i .rec .kind) ≡ true → rowAt t i .rec .file ≢ f
-  folder-off g i l dir = off g i l (λ q.
-      true-false (ap (λ (r : DiskINode). isFolder (r .kind)) (row-rec a t A i (used g i l)) ∙ dir) (ap (λ (k : ℕ). isFolder (recOf a t k .kind)) q ∙ no-dir))
+  folder-off : (v : ℕ) (g : Handle) (i : ℕ) → Live t v g i → isFolder (rowAt t i .rec .kind) ≡ true → rowAt t i .rec .file ≢ f
+  folder-off v g i l dir = off v g i l (λ q.
+      true-false (ap (λ (r : DiskINode). isFolder (r .kind)) (row-rec a t A i (used v g i l)) ∙ dir) (ap (λ (k : ℕ). isFolder (recOf a t k .kind)) q ∙ no-dir))
 
   folders : FillsFolders (Calm (p .arena) (p .table) f) (p .table)
-  folders g i l dir = calm-fills a t f i (firm g i l) (folder-off g i l dir)
+  folders v g i l dir = calm-fills a t f i (firm v g i l) (folder-off v g i l dir)
 
-  create-steps : (g : Handle) (i : ℕ) → Live (p .table) g i → isFolder (rowAt (p .table) i .rec .kind) ≡ true → (name : List ℕ) (kind mode : ℕ) (time : Timespec) (uuid : List ℕ) → Named (file 1 uuid) → there (p .arena) (file 1 uuid) ≡ false
-      → Ok (λ (x : Given). Stays (p .arena) f (x .arena)) Any (createSteps (start (p .arena) (p .table)) i name kind mode time uuid)
+  create-steps : (v : ℕ) (g : Handle) (i : ℕ) → Live (p .table) v g i → isFolder (rowAt (p .table) i .rec .kind) ≡ true → (name : List ℕ) (kind mode : ℕ) (time : Timespec) (uuid : List ℕ) → Named (file 1 uuid) → there (p .arena) (file 1 uuid) ≡ false
+      → Ok (λ (x : Given). Stays (p .arena) f (x .arena)) Any (createSteps (start (p .arena) (p .table)) v i name kind mode time uuid)
   unfolding createSteps
-  create-steps g i l dir name kind mode time uuid N none =
+  create-steps v g i l dir name kind mode time uuid N none =
       ok-bind (ok-both (new-law (start a t) kind mode time uuid (formed a t A .rows-34)) (leaves-new C (calm-changes a t f) (calm-stores a t f) (calm-takes a t f) (start a t) kind mode time uuid (calm-makes a t f uuid N other) (calm-start a t f))) λ x k.
       let c : ℕ = x .row in
       let m : ℕ = k .0 .id in
@@ -206,45 +206,45 @@ module _ (p : Pair) (y : Passed p) (h : Handle) (n : ℕ) (f : List ℕ) (on : O
       let ch : Changes (Making a t f (x .row) (k .0 .id) uuid other) = making-changes a t f (x .row) (k .0 .id) uuid other in
       let st : Stores (Making a t f (x .row) (k .0 .id) uuid other) = making-stores a t f (x .row) (k .0 .id) uuid other in
       ok-bind (leaves-birth M c (making-own a t f (x .row) (k .0 .id) uuid other) ch (x .state) i kind (k .1, k .0 .has)) λ s q.
-      ok-bind (leaves-append M i (making-fills a t f (x .row) (k .0 .id) uuid other i (firm g i l) (folder-off g i l dir)) ch s (entry (idAt s c) name kind) q) λ s q.
+      ok-bind (leaves-append M i (making-fills a t f (x .row) (k .0 .id) uuid other i (firm v g i l) (folder-off v g i l dir)) ch s (entry (idAt s c) name kind) q) λ s q.
       ok-bind (leaves-named M ch s i c kind q) λ s q.
       ok-bind (leaves-meta M st s q) λ s q.
       ok-bind (leaves-sync M ch st s c q) λ s q.
       ok-bind (leaves-sync M ch st s i q) λ s q. went (q .0 .stays)
     where
       other : uuid ≢ f
-      other e = true-false (ap (λ (x : List ℕ). there (p .arena) (file 1 x)) e ∙ on-there (p .arena) (p .table) (allowed p y) h n f on) none
+      other e = true-false (ap (λ (x : List ℕ). there (p .arena) (file 1 x)) e ∙ on-there (p .arena) (p .table) (allowed p y) who h n f on) none
 
   -- ---- a move fills the moved folder's file too, once it has found it again: while the handle is on the node, that is another's
 
   abbrev Watched : List ℕ → Table → Type 0
-  Watched b u = Calm (p .arena) (p .table) f b u × On u h n f
+  Watched b u = Calm (p .arena) (p .table) f b u × On u who h n f
 
   some-n : n ≢ 0
   some-n z = row-n .node (on .node ∙ z)
 
-  watched : Bears (λ b u. Calm (p .arena) (p .table) f b u × On u h n f)
+  watched : Bears (λ b u. Calm (p .arena) (p .table) f b u × On u who h n f)
   watched = record {
     stores = λ b d u k w. (calm-stores a t f b d u k (w .0), w .1);
     drops = λ b d u g k w. (calm-drops a t f b d u g k (w .0), w .1);
-    changes = λ b u i r e q w. (calm-changes a t f b u i r e q (w .0), on-changes h n f b u i r e q (w .1));
-    takes = λ b u i r e w. (calm-takes a t f b u i r e (w .0), on-takes h n f some-n b u i r e (w .1));
-    frees = λ b u i e w. (calm-frees a t f b u i e (w .0), on-frees h n f b u i e (w .1));
+    changes = λ b u i r e q w. (calm-changes a t f b u i r e q (w .0), on-changes who h n f b u i r e q (w .1));
+    takes = λ b u i r e w. (calm-takes a t f b u i r e (w .0), on-takes who h n f some-n b u i r e (w .1));
+    frees = λ b u i e w. (calm-frees a t f b u i e (w .0), on-frees who h n f b u i e (w .1));
   }
 
-  module _ (style : Spelling) (c e g kd i j row : ℕ) (x z : Fs) (dir : isFolder (recOf (p .arena) (p .table) c .kind) ≡ true) (R : Ready (turning style c e g) c e g kd i j row x) (L : Relinked e g row x z) (o : On (z .table) h n f) where
+  module _ (style : Spelling) (c e g kd i j row : ℕ) (x z : Fs) (dir : isFolder (recOf (p .arena) (p .table) c .kind) ≡ true) (R : Ready (turning style c e g) c e g kd i j row x) (L : Relinked e g row x z) (o : On (z .table) who h n f) where
     S : Counts (also none row) (x .arena) (x .table) (λ m. recOf (x .arena) (x .table) m .blocks) (L .L) (L .table)
     S = L .rows
 
-    here : On (L .table) h n f
-    here = subst (λ (v : Fs). On (v .table) h n f) (L .is) o
+    here : On (L .table) who h n f
+    here = subst (λ (v : Fs). On (v .table) who h n f) (L .is) o
 
     -- the node's row, before the links changed
     was : rowAt (x .table) (here .row) .id ≡ n
     was = sym (S .ids (here .row)) ∙ here .node
 
     row-here : Used (x .table) (here .row)
-    row-here = record { below = live-means (L .table) h (here .row) .0 (here .live) .is-row; node = λ z. some-n (sym was ∙ z) }
+    row-here = record { below = live-means (L .table) who h (here .row) .0 (here .live) .is-row; node = λ z. some-n (sym was ∙ z) }
 
     file-of : (m id : ℕ) → Used (x .table) m → rowAt (x .table) m .id ≡ id → rowAt (L .table) m .rec .file ≡ recOf (x .arena) (x .table) id .file
     file-of m id w q =
@@ -261,37 +261,37 @@ module _ (p : Pair) (y : Passed p) (h : Handle) (n : ℕ) (f : List ℕ) (on : O
         let d : n ≡ c = R .mid .fair .rule5 .distinct n c (node-of (here .row) n row-here was) (node-of row c (R .used) (R .same)) q in
         true-false (ap (λ (k : ℕ). isFolder (recOf a t k .kind)) d ∙ dir) no-dir
 
-  moved : Turns (λ b u. Calm (p .arena) (p .table) f b u × On u h n f) (p .arena) (p .table)
+  moved : Turns (λ b u. Calm (p .arena) (p .table) f b u × On u who h n f) (p .arena) (p .table)
   moved style c e g kd i j row x z dir R L b k w =
       (record { stays = stays-kept a t f (z .arena) b (k f (moved-off style c e g kd i j row x z dir R L (w .1))) (w .0 .stays); firm = w .0 .firm }, w .1)
 
   calls : (c : Call) → Fits c → (Through n (p .table) c → ⊥) → Ok (λ (q : Pair). Stays (p .arena) f (q .arena)) Any (does c p)
   unfolding does
-  calls root F z = ok-bind (any (callRoot a t)) λ x _. went (λ e. kept-same a (file 1 f))
-  calls (find g name) F z = ok-bind (any (callFind a t g name)) λ x _. went (λ e. kept-same a (file 1 f))
-  calls (create g name kind mode time uuid) F z =
-      ok-bind (keeps-create (λ b u. Stays a f b) a t g name kind mode time uuid (λ i l dir none. create-steps g i l dir name kind mode time uuid (named-node uuid (F .2 .file) (F .2 .bytes)) none)) λ x k. went k
-  calls (link g name child) F z =
-      ok-bind (keeps-link C (calm-stores a t f) (calm-drops a t f) (calm-changes a t f) (calm-takes a t f) (calm-frees a t f) a t folders g name child (calm-start a t f)) λ x k. went (k .stays)
-  calls (unlink g name) F z =
-      ok-bind (keeps-unlink C (calm-stores a t f) (calm-drops a t f) (calm-changes a t f) (calm-takes a t f) (calm-frees a t f) a t folders g name (calm-start a t f)) λ x k. went (k .stays)
-  calls (move g old target name) F z =
-      ok-bind (ok-weaken (λ x k. k) (λ m r. tt) (move-call (λ b u. Calm a t f b u × On u h n f) watched p (spelled-any p y) (λ g i l dir b d u k w. (folders g i l dir b d u k (w .0), w .1)) moved (calm-start a t f, on) g old target name (F .3))) λ x k. went (k .1 .0 .stays)
-  calls (metadata g) F z = ok-bind (any (callMetadata a t g)) λ x _. went (λ e. kept-same a (file 1 f))
-  calls (setMetadata g mode uid gid at mt ct) F z = ok-bind (any (callSet a t g mode uid gid at mt ct)) λ x _. went (λ e. kept-same a (file 1 f))
-  calls (getEntry g k room) F z = ok-bind (any (callEntry a t g k room)) λ x _. went (λ e. kept-same a (file 1 f))
-  calls (listing g m room) F z = ok-bind (any (callListing a t g m room)) λ x _. went (λ e. kept-same a (file 1 f))
-  calls (read g place room) F z = ok-bind (any (callRead a t g place room)) λ x _. went (λ e. kept-same a (file 1 f))
-  calls (write g place bytes) F z =
-      ok-bind (keeps-write C (calm-stores a t f) (calm-drops a t f) (calm-changes a t f) (calm-takes a t f) (calm-frees a t f) a t g place bytes
-      (λ i l. calm-fills a t f i (firm g i l) (off g i l (λ q. z (writes (live-means t g i .1 l) q)))) (calm-start a t f)) λ x k. went (k .stays)
-  calls (resize g m) F z =
-      ok-bind (keeps-resize C (calm-stores a t f) (calm-drops a t f) (calm-changes a t f) (calm-takes a t f) (calm-frees a t f) a t g m
-      (λ i l. calm-fills a t f i (firm g i l) (off g i l (λ q. z (resizes (live-means t g i .1 l) q)))) (calm-start a t f)) λ x k. went (k .stays)
+  calls (root v) F z = ok-bind (any (callRoot a t v)) λ x _. went (λ e. kept-same a (file 1 f))
+  calls (find v g name) F z = ok-bind (any (callFind a t v g name)) λ x _. went (λ e. kept-same a (file 1 f))
+  calls (create v g name kind mode time uuid) F z =
+      ok-bind (keeps-create (λ b u. Stays a f b) a t v g name kind mode time uuid (λ i l dir none. create-steps v g i l dir name kind mode time uuid (named-node uuid (F .3 .file) (F .3 .bytes)) none)) λ x k. went k
+  calls (link v g name child) F z =
+      ok-bind (keeps-link C (calm-stores a t f) (calm-drops a t f) (calm-changes a t f) (calm-takes a t f) (calm-frees a t f) a t folders v g name child (calm-start a t f)) λ x k. went (k .stays)
+  calls (unlink v g name) F z =
+      ok-bind (keeps-unlink C (calm-stores a t f) (calm-drops a t f) (calm-changes a t f) (calm-takes a t f) (calm-frees a t f) a t folders v g name (calm-start a t f)) λ x k. went (k .stays)
+  calls (move v g old target name) F z =
+      ok-bind (ok-weaken (λ x k. k) (λ m r. tt) (move-call (λ b u. Calm a t f b u × On u who h n f) watched p (spelled-any p y) (λ v g i l dir b d u k w. (folders v g i l dir b d u k (w .0), w .1)) moved (calm-start a t f, on) v g old target name (F .4))) λ x k. went (k .1 .0 .stays)
+  calls (metadata v g) F z = ok-bind (any (callMetadata a t v g)) λ x _. went (λ e. kept-same a (file 1 f))
+  calls (setMetadata v g mode uid gid at mt ct) F z = ok-bind (any (callSet a t v g mode uid gid at mt ct)) λ x _. went (λ e. kept-same a (file 1 f))
+  calls (getEntry v g k room) F z = ok-bind (any (callEntry a t v g k room)) λ x _. went (λ e. kept-same a (file 1 f))
+  calls (listing v g m room) F z = ok-bind (any (callListing a t v g m room)) λ x _. went (λ e. kept-same a (file 1 f))
+  calls (read v g place room) F z = ok-bind (any (callRead a t v g place room)) λ x _. went (λ e. kept-same a (file 1 f))
+  calls (write v g place bytes) F z =
+      ok-bind (keeps-write C (calm-stores a t f) (calm-drops a t f) (calm-changes a t f) (calm-takes a t f) (calm-frees a t f) a t v g place bytes
+      (λ i l. calm-fills a t f i (firm v g i l) (off v g i l (λ q. z (writes (live-means t v g i .1 l) q)))) (calm-start a t f)) λ x k. went (k .stays)
+  calls (resize v g m) F z =
+      ok-bind (keeps-resize C (calm-stores a t f) (calm-drops a t f) (calm-changes a t f) (calm-takes a t f) (calm-frees a t f) a t v g m
+      (λ i l. calm-fills a t f i (firm v g i l) (off v g i l (λ q. z (resizes (live-means t v g i .1 l) q)))) (calm-start a t f)) λ x k. went (k .stays)
   calls sync F z = ok-bind (keeps-sync C (calm-stores a t f) (calm-drops a t f) (calm-changes a t f) (calm-takes a t f) (calm-frees a t f) a t (calm-start a t f)) λ x k. went (k .stays)
   -- the closed hold's row is firm no more
-  calls (close g) F z =
-      ok-bind (keeps-close (λ b u. Stays a f b) (λ b c u k. stays-kept a t f b c (k f)) (λ b c u g d. stays-drop a t f b c g d) (λ b u i r e q k. k) (λ b u i r e k. k) (λ b u i e k. k) a t g
+  calls (close v g) F z =
+      ok-bind (keeps-close (λ b u. Stays a f b) (λ b c u k. stays-kept a t f b c (k f)) (λ b c u g d. stays-drop a t f b c g d) (λ b u i r e q k. k) (λ b u i r e k. k) (λ b u i e k. k) a t v g
       (λ i l e. kept-same a (file 1 f))) λ x k. went k
   calls check F z = went (λ e. kept-same a (file 1 f))
 

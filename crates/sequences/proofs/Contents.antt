@@ -46,46 +46,46 @@ module _ (a : List ℕ) (t : Table) (A : Allowed a t) (i : ℕ) (u : Used t i) w
   unfolding readBytes
   read-law place n = rw (ap (λ (r : DiskINode). there a (nodeFile r)) (sym (row-rec a t A i u)) ∙ A .rule5 .own (rowAt t i .id) (row-node a t A i u)) says-done
 
-module _ {style : Spelling} (p : Pair) (y : Spelled style p) (h : Handle) where
+module _ {style : Spelling} (p : Pair) (y : Spelled style p) (w : ℕ) (h : Handle) where
   A : Allowed (p .arena) (p .table)
   A = allowed p (y .passes)
 
-  read-call : (place room : ℕ) → Says Clear (callRead (p .arena) (p .table) h place room)
+  read-call : (place room : ℕ) → Says Clear (callRead (p .arena) (p .table) w h place room)
   unfolding callRead
   read-call place room =
       says-then (says-is (admitted (p .arena) (p .table) A)) λ _.
-      ok-bind (handle-law (p .arena) (p .table) A h) λ i u.
+      ok-bind (handle-law (p .arena) (p .table) A w h) λ i u.
       ok-bind (contents-law (p .arena) (p .table) A i (u .used)) λ _ _.
       read-law (p .arena) (p .table) A i (u .used) place _
 
-  write-call : (place : ℕ) (bytes : List ℕ) → Bytes bytes → Ok (λ (x : After). Spelled style (pair (x .arena) (x .table))) Clear (callWrite (p .arena) (p .table) h place bytes)
+  write-call : (place : ℕ) (bytes : List ℕ) → Bytes bytes → Ok (λ (x : After). Spelled style (pair (x .arena) (x .table))) Clear (callWrite (p .arena) (p .table) w h place bytes)
   unfolding callWrite
   write-call place bytes b =
       ok-bind (says-is (admitted (p .arena) (p .table) A)) λ _ _.
-      ok-bind (handle-law (p .arena) (p .table) A h) λ i u.
+      ok-bind (handle-law (p .arena) (p .table) A w h) λ i u.
       ok-bind (contents-law (p .arena) (p .table) A i (u .used)) λ _ f.
       ok-bind (says-end (clear 22 refl) (place + length bytes)) λ _ l.
       ok-bind (ok-weaken (λ s m. m) clear-17 (write-mid (start (p .arena) (p .table)) (spelled-midway (p .arena) (p .table) y) i (u .used) f place bytes b l)) λ s m.
       went (midway-spelled (s .arena) (s .table) m)
 
-  resize-call : (n : ℕ) → Ok (λ (x : After). Spelled style (pair (x .arena) (x .table))) Clear (callResize (p .arena) (p .table) h n)
+  resize-call : (n : ℕ) → Ok (λ (x : After). Spelled style (pair (x .arena) (x .table))) Clear (callResize (p .arena) (p .table) w h n)
   unfolding callResize
   resize-call n =
       ok-bind (says-is (admitted (p .arena) (p .table) A)) λ _ _.
-      ok-bind (handle-law (p .arena) (p .table) A h) λ i u.
+      ok-bind (handle-law (p .arena) (p .table) A w h) λ i u.
       ok-bind (contents-law (p .arena) (p .table) A i (u .used)) λ _ f.
       ok-bind (says-end (clear 22 refl) n) λ _ l.
       ok-bind (ok-weaken (λ s m. m) clear-17 (resize-mid (start (p .arena) (p .table)) (spelled-midway (p .arena) (p .table) y) i (u .used) f n l)) λ s m.
       went (midway-spelled (s .arena) (s .table) m)
 
-pub keeps-read : {style : Spelling} (p : Pair) (h : Handle) (place room : ℕ) → Spelled style p → Ok (Spelled style) Clear (does (read h place room) p)
+pub keeps-read : {style : Spelling} (p : Pair) (w : ℕ) (h : Handle) (place room : ℕ) → Spelled style p → Ok (Spelled style) Clear (does (read w h place room) p)
 unfolding does
-keeps-read p h place room y = ok-bind (read-call p y h place room) λ _ _. went y
+keeps-read p w h place room y = ok-bind (read-call p y w h place room) λ _ _. went y
 
-pub keeps-write : {style : Spelling} (p : Pair) (h : Handle) (place : ℕ) (bytes : List ℕ) → Spelled style p → Bytes bytes → Ok (Spelled style) Clear (does (write h place bytes) p)
+pub keeps-write : {style : Spelling} (p : Pair) (w : ℕ) (h : Handle) (place : ℕ) (bytes : List ℕ) → Spelled style p → Bytes bytes → Ok (Spelled style) Clear (does (write w h place bytes) p)
 unfolding does
-keeps-write p h place bytes y b = ok-bind (write-call p y h place bytes b) λ x q. went q
+keeps-write p w h place bytes y b = ok-bind (write-call p y w h place bytes b) λ x q. went q
 
-pub keeps-resize : {style : Spelling} (p : Pair) (h : Handle) (n : ℕ) → Spelled style p → Ok (Spelled style) Clear (does (resize h n) p)
+pub keeps-resize : {style : Spelling} (p : Pair) (w : ℕ) (h : Handle) (n : ℕ) → Spelled style p → Ok (Spelled style) Clear (does (resize w h n) p)
 unfolding does
-keeps-resize p h n y = ok-bind (resize-call p y h n) λ x q. went q
+keeps-resize p w h n y = ok-bind (resize-call p y w h n) λ x q. went q

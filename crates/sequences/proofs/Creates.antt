@@ -28,7 +28,7 @@ use Rattle.arena.specs.Fields.{file}
 use Rattle.table.specs.declared.Table.{Table}
 use Rattle.table.specs.declared.Handle.{Handle}
 use Rattle.table.specs.Table.{rowAt, canHold, addHold}
-use Rattle.table_laws.specs.Rules.{also, none}
+use Rattle.table_laws.specs.Rules.{Owner, also, none}
 use Rattle.table_laws.proofs.Holds.{can-row}
 use Rattle.table_laws.proofs.Spare.{first-spare}
 use Rattle.files.specs.Read.{there, lengthOf, byteAt}
@@ -118,7 +118,7 @@ module _ {style : Spelling} (a : List ℕ) (t : Table) (M : Midway style none a 
     (dir : isFolder (rowAt t i .rec .kind) ≡ true) (lives : rowAt t i .rec .nlinks ≢ 0)
     (name : List ℕ) (N : NewName a (recOf a t (rowAt t i .id)) name) (short : length name ≤ 255) (nb : Bytes name)
     (kind mode : ℕ) (time : Timespec) (uuid : List ℕ) (F : NewFits kind mode time uuid) (least : 1 ≤ kind) (most : kind ≤ 4)
-    (absent : there a (file 1 uuid) ≡ false) (few : isFolder kind ≡ true → rowAt t i .rec .nlinks < 65535) (can : canHold t ≡ true) where
+    (absent : there a (file 1 uuid) ≡ false) (few : isFolder kind ≡ true → rowAt t i .rec .nlinks < 65535) (w : ℕ) (who : Owner w) (can : canHold t w ≡ true) where
   abbrev d : ℕ
   d = rowAt t i .id
 
@@ -231,16 +231,16 @@ module _ {style : Spelling} (a : List ℕ) (t : Table) (M : Midway style none a 
         fits = S .rows .fits;
       }
 
-      keeps-can : (y : Fs) (j : ℕ) → canHold (y .table) ≡ true → Ok (λ (z : Fs). canHold (z .table) ≡ true) (λ n. Unit) (syncRow y j)
-      keeps-can y j h = leaves-sync (λ a u. canHold u ≡ true) (λ a u k r p q g. can-row u k r ∙ g) (tabled-stores (λ u. canHold u ≡ true)) y j h
+      keeps-can : (y : Fs) (j : ℕ) → canHold (y .table) w ≡ true → Ok (λ (z : Fs). canHold (z .table) w ≡ true) (λ n. Unit) (syncRow y j)
+      keeps-can y j h = leaves-sync (λ a u. canHold u w ≡ true) (λ a u k r p q g. can-row u k r w ∙ g) (tabled-stores (λ u. canHold u w ≡ true)) y j h
 
       last : (y : Fs) → y .table ≡ x .table → MetaPut (x .arena) m (y .arena)
-          → Ok (λ (g : Given). Spelled style (pair (g .arena) (g .table))) (λ r. r ≡ 17) (bind (syncRow y c) (λ z. bind (syncRow z i) (λ w. done (given w (addHold (w .table) c)))))
+          → Ok (λ (g : Given). Spelled style (pair (g .arena) (g .table))) (λ r. r ≡ 17) (bind (syncRow y c) (λ z. bind (syncRow z i) (λ v. done (given v (addHold (v .table) w c)))))
       last y q P =
-          ok-bind (both (sync-mid y (subst (Midway style (also none c) (y .arena)) (sym q) (bred-mid (y .arena) P)) c uc) (keeps-can y c (ap canHold q ∙ S .rows .can ∙ can))) λ z Z.
-          ok-bind (both (sync-mid z (Z .0 .mid) i (record { below = ui .below; node = λ n. ud .node (sym (Z .0 .ids i) ∙ n) })) (keeps-can z i (Z .1))) λ w W.
-          went (midway-spelled (w .arena) (addHold (w .table) c .table)
-          (hold-mid (w .arena) (w .table) c (W .0 .mid) (W .1) (record { below = uc .below; node = λ n. uc .node (sym (W .0 .ids c ∙ Z .0 .ids c) ∙ n) })))
+          ok-bind (both (sync-mid y (subst (Midway style (also none c) (y .arena)) (sym q) (bred-mid (y .arena) P)) c uc) (keeps-can y c (ap (λ (u : Table). canHold u w) q ∙ S .rows .can w ∙ can))) λ z Z.
+          ok-bind (both (sync-mid z (Z .0 .mid) i (record { below = ui .below; node = λ n. ud .node (sym (Z .0 .ids i) ∙ n) })) (keeps-can z i (Z .1))) λ v W.
+          went (midway-spelled (v .arena) (addHold (v .table) w c .table)
+          (hold-mid (v .arena) (v .table) w c (W .0 .mid) who (W .1) (record { below = uc .below; node = λ n. uc .node (sym (W .0 .ids c ∙ Z .0 .ids c) ∙ n) })))
         where
           uc : Used (y .table) c
           uc = subst (λ (u : Table). Used u c) (sym q) (used-child a t M c i id (Q .free) ui some rc rd (x .table) (S .rows))
@@ -248,7 +248,7 @@ module _ {style : Spelling} (a : List ℕ) (t : Table) (M : Midway style none a 
           ud : Used (y .table) i
           ud = subst (λ (u : Table). Used u i) (sym q) (used-own a t M c i id (Q .free) ui some rc rd (x .table) (S .rows))
 
-  pub create-law : Ok (λ (g : Given). Spelled style (pair (g .arena) (g .table))) (λ r. r ≡ 17) (createSteps (start a t) i name kind mode time uuid)
+  pub create-law : Ok (λ (g : Given). Spelled style (pair (g .arena) (g .table))) (λ r. r ≡ 17) (createSteps (start a t) w i name kind mode time uuid)
   unfolding createSteps
   create-law =
       ok-bind make λ o Q.
@@ -260,12 +260,12 @@ module _ {style : Spelling} (a : List ℕ) (t : Table) (M : Midway style none a 
 
 -- ---- the call
 
-create-call : {style : Spelling} (p : Pair) → Spelled style p → (h : Handle) (name : List ℕ) (kind mode : ℕ) (time : Timespec) (uuid : List ℕ) → Bytes name → NewFits kind mode time uuid
-    → Ok (λ (g : Given). Spelled style (pair (g .arena) (g .table))) Clear (callCreate (p .arena) (p .table) h name kind mode time uuid)
+create-call : {style : Spelling} (p : Pair) → Spelled style p → (w : ℕ) (h : Handle) (name : List ℕ) (kind mode : ℕ) (time : Timespec) (uuid : List ℕ) → Bytes name → NewFits kind mode time uuid
+    → Ok (λ (g : Given). Spelled style (pair (g .arena) (g .table))) Clear (callCreate (p .arena) (p .table) w h name kind mode time uuid)
 unfolding callCreate
-create-call p y h name kind mode time uuid nb F =
+create-call p y w h name kind mode time uuid nb F =
     ok-bind (says-is (admitted a t A)) λ _ _.
-    ok-bind (handle-law a t A h) λ i u.
+    ok-bind (handle-law a t A w h) λ i u.
     ok-bind (ensure-asks (eqb (newReason (nameVerdict name)) 0) 5 (clear 5 refl)) λ _ good.
     ok-bind (ensure-asks (isType kind) 6 (clear 6 refl)) λ _ type.
     ok-bind (live-folder a t A i (u .used)) λ _ l.
@@ -274,11 +274,11 @@ create-call p y h name kind mode time uuid nb F =
     ok-bind (exists-law f) λ _ none.
     ok-bind (ensure-asks (not (there a (file 1 uuid))) 14 (clear 14 refl)) λ _ absent.
     ok-bind (ensure-asks (not (isFolder kind && eqb (rowAt t i .rec .nlinks) 65535)) 15 (clear 15 refl)) λ _ few.
-    ok-bind (ensure-asks (canHold t) 16 (clear 16 refl)) λ _ can.
+    ok-bind (ensure-asks (canHold t w) 16 (clear 16 refl)) λ _ can.
     ok-weaken (λ x q. q) clear-17
     (create-law a t (spelled-midway a t y) i (u .used) (l .0) (l .1) name (new none) (is-most (length name) 255 short) nb kind mode time uuid F
     (ltb-true 0 kind (and-parts (ltb 0 kind) (leb kind 4) type .0)) (is-most kind 4 (and-parts (ltb 0 kind) (leb kind 4) type .1))
-    (not-true (there a (file 1 uuid)) absent) (below i (u .used) few) can)
+    (not-true (there a (file 1 uuid)) absent) (below i (u .used) few) w (u .owns .owner) can)
   where
     a : List ℕ
     a = p .arena
@@ -299,7 +299,7 @@ create-call p y h name kind mode time uuid nb F =
         let l : rowAt (p .table) i .rec .nlinks < 2 ^ 16 = y .passes .typed .fits .rows i (u .below) .rec .nlinks in
         ⊎-elim (λ q. q) (λ q. absurd (n (omega arith))) (lt-or-le (rowAt (p .table) i .rec .nlinks) 65535)
 
-pub keeps-create : {style : Spelling} (p : Pair) (h : Handle) (name : List ℕ) (kind mode : ℕ) (time : Timespec) (file : List ℕ)
-    → Spelled style p → Bytes name → NewFits kind mode time file → Ok (Spelled style) Clear (does (create h name kind mode time file) p)
+pub keeps-create : {style : Spelling} (p : Pair) (w : ℕ) (h : Handle) (name : List ℕ) (kind mode : ℕ) (time : Timespec) (file : List ℕ)
+    → Spelled style p → Bytes name → NewFits kind mode time file → Ok (Spelled style) Clear (does (create w h name kind mode time file) p)
 unfolding does
-keeps-create p h name kind mode time file y nb F = ok-bind (create-call p y h name kind mode time file nb F) λ x q. went q
+keeps-create p w h name kind mode time file y nb F = ok-bind (create-call p y w h name kind mode time file nb F) λ x q. went q

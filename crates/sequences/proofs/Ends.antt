@@ -32,11 +32,11 @@ module _ (h : Handle) where
   spent-frees a t i e s = record { some = s .some; given = s .given; gone = s .gone }
 
   -- a new hold's stamp is the next, which was not given
-  spent-adds : (t : Table) (row : ℕ) → Spent t h → Spent (addHold t row .table) h
-  spent-adds t row s = record {
+  spent-adds : (t : Table) (w row : ℕ) → Spent t h → Spent (addHold t w row .table) h
+  spent-adds t w row s = record {
     some = s .some;
-    given = add-cases (λ u. h .stamp < u .next) t row (s .given) (λ g. omega (arith, s .given));
-    gone = add-dead t row h (λ v e. s .gone e) (s .given) (s .some);
+    given = add-cases (λ u. h .stamp < u .next) t w row (s .given) (λ g. omega (arith, s .given));
+    gone = add-dead t w row h (λ v e. s .gone e) (s .given) (s .some);
   }
 
   spent-closes : (t : Table) (k : ℕ) → Spent t h → Spent (closeHold t k .table) h
@@ -47,34 +47,34 @@ module _ (h : Handle) where
   }
 
   spent-does : (c : Call) (p : Pair) → Spent (p .table) h → Spent (next c p .table) h
-  spent-does c p s = stays (keeps-table (λ t. Spent t h) spent-changes spent-takes spent-frees spent-adds c p (λ g e i l s. spent-closes (p .table) (g .hold) s) s)
+  spent-does c p s = stays (keeps-table (λ t. Spent t h) spent-changes spent-takes spent-frees spent-adds c p (λ w g e i l s. spent-closes (p .table) (g .hold) s) s)
     where
       stays : {o : Out Pair} → Ok (λ (q : Pair). Spent (q .table) h) Any o → Spent (kept p o .table) h
       stays (went q) = q
       stays (said r) = s
 
   -- its own close
-  spent-own : (p : Pair) → Passed p → (i : ℕ) → Live (p .table) h i → Spent (closeHold (p .table) (h .hold) .table) h
-  spent-own p y i l =
-      let w = formed (p .arena) (p .table) (allowed p y) in
-      let b : h .stamp < p .table .next = live-below (p .table) h i w l in
+  spent-own : (p : Pair) → Passed p → (w i : ℕ) → Live (p .table) w h i → Spent (closeHold (p .table) (h .hold) .table) h
+  spent-own p y w i l =
+      let f = formed (p .arena) (p .table) (allowed p y) in
+      let b : h .stamp < p .table .next = live-below (p .table) w h i f l in
       record {
         some = l .given;
         given = close-cases (λ u. h .stamp < u .next) (p .table) (h .hold) b (λ g. b);
-        gone = close-ends (p .table) h w (l .is-hold) (l .given);
+        gone = close-ends (p .table) h f (l .is-hold) (l .given);
       }
 
 pub closed : Closed
 unfolding Closed does
-closed p q h y e =
+closed p q w h y e =
     ok-done (subst (Ok (λ (x : Pair). Spent (x .table) h) Any) e
-    (ok-bind (keeps-close (λ a t. Spent t h) (tabled-stores (λ t. Spent t h)) (tabled-drops (λ t. Spent t h)) (spent-changes h) (spent-takes h) (spent-frees h) (p .arena) (p .table) h (spent-own h p y)) λ x s. went s))
+    (ok-bind (keeps-close (λ a t. Spent t h) (tabled-stores (λ t. Spent t h)) (tabled-drops (λ t. Spent t h)) (spent-changes h) (spent-takes h) (spent-frees h) (p .arena) (p .table) w h (spent-own h p y w)) λ x s. went s))
 
 pub ended : Ended
 unfolding Ended
 ended p [] h s = ends
 ended p (c ∷ l) h s = goes (spent-does h c p s) (ended (next c p) l h (spent-does h c p s))
 
--- it is live nowhere, so every call with it is refused with 4
-pub spent-dead : (t : Table) (h : Handle) → Spent t h → liveRow t h ≡ Nothing
-spent-dead t h s = dead-nothing t h (λ v e. s .gone e)
+-- it is live nowhere, so every owner's call with it is refused with 4
+pub spent-dead : (t : Table) (w : ℕ) (h : Handle) → Spent t h → liveRow t w h ≡ Nothing
+spent-dead t w h s = dead-nothing t w h (λ v e. s .gone e)

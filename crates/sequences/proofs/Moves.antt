@@ -64,13 +64,13 @@ look-law a t A b j u f name g s =
 
 -- P holds of arena and table through all of it
 pub move-call : {style : Spelling} (P : List ℕ → Table → Type 0) → Bears P → (p : Pair) → Spelled style p → FillsFolders P (p .table) → Turns P (p .arena) (p .table) → P (p .arena) (p .table)
-    → (h : Handle) (old : List ℕ) (target : Handle) (name : List ℕ) → Bytes name
-    → Ok (λ (x : After). Spelled style (pair (x .arena) (x .table)) × P (x .arena) (x .table)) Clear (callMove (p .arena) (p .table) h old target name)
+    → (w : ℕ) (h : Handle) (old : List ℕ) (target : Handle) (name : List ℕ) → Bytes name
+    → Ok (λ (x : After). Spelled style (pair (x .arena) (x .table)) × P (x .arena) (x .table)) Clear (callMove (p .arena) (p .table) w h old target name)
 unfolding callMove
-move-call {style = style} P K p y fills turns start-p h old target name nb =
+move-call {style = style} P K p y fills turns start-p w h old target name nb =
     ok-bind (says-is (admitted a t A)) λ _ _.
-    ok-bind (handle-law a t A h) λ i u.
-    ok-bind (handle-law a t A target) λ j v.
+    ok-bind (handle-law a t A w h) λ i u.
+    ok-bind (handle-law a t A w target) λ j v.
     ok-bind (says-ensure (eqb (earlyReason (nameVerdict old)) 0) 5 (clear 5 refl)) λ _ _.
     ok-bind (ensure-asks (eqb (newReason (nameVerdict name)) 0) 5 (clear 5 refl)) λ _ good.
     ok-bind (live-folder a t A i (u .used)) λ _ from.
@@ -82,7 +82,7 @@ move-call {style = style} P K p y fills turns start-p h old target name nb =
     ok-bind (look-law a t A (y .passes .typed .bytes) j (v .used) (to .0) name (good-name name good) (is-short short)) λ f l.
     goes i j (record { used = u .used; folder = from .0; links = from .1 }) (record { used = v .used; folder = to .0; links = to .1 })
     (not-true (isSpecial old) plain-old) (good-name name good) (not-true (isSpecial name) plain) (is-short short)
-    (fills h i (live-means t h i .0 (u .live)) (from .0)) (fills target j (live-means t target j .0 (v .live)) (to .0)) f l
+    (fills w h i (live-means t w h i .0 (u .owns .live)) (from .0)) (fills w target j (live-means t w target j .0 (v .owns .live)) (to .0)) f l
   where
     a : List ℕ
     a = p .arena
@@ -104,8 +104,8 @@ move-call {style = style} P K p y fills turns start-p h old target name nb =
     goes i j from to plain-old good plain short fills-i fills-j f (new N) =
         none-law (p .arena) (p .table) A y i j from to old name plain-old good plain short nb P K fills-i fills-j turns start-p N
 
-pub keeps-move : {style : Spelling} (p : Pair) (h : Handle) (old : List ℕ) (target : Handle) (name : List ℕ) → Spelled style p → Bytes name → Ok (Spelled style) Clear (does (move h old target name) p)
+pub keeps-move : {style : Spelling} (p : Pair) (w : ℕ) (h : Handle) (old : List ℕ) (target : Handle) (name : List ℕ) → Spelled style p → Bytes name → Ok (Spelled style) Clear (does (move w h old target name) p)
 unfolding does
-keeps-move p h old target name y nb =
+keeps-move p w h old target name y nb =
     ok-bind (move-call (λ b u. Unit) (record { stores = λ b c u k o. o; drops = λ b c u g d o. o; changes = λ b u i r e q o. o; takes = λ b u i r e o. o; frees = λ b u i e o. o }) p y
-    (λ g i l f b c u k o. o) (λ style c f g kd i j row x z d R L b k o. o) tt h old target name nb) λ x q. went (q .0)
+    (λ v g i l f b c u k o. o) (λ style c f g kd i j row x z d R L b k o. o) tt w h old target name nb) λ x q. went (q .0)

@@ -28,12 +28,19 @@ use table::Handle;
 
 // ---- before the first store: what a call asks, and reads by the chains of `sound`, once arena and table are tested
 
-// 4, and superblock and maps.
-pub fn reach_read(arena: &[u8], first: &[u16], next: &[u16], mem: &mut [u8], h: Handle) -> ByHandle
+// 6, 4, and superblock and maps.
+pub fn reach_read(
+    arena: &[u8],
+    first: &[u16],
+    next: &[u16],
+    mem: &mut [u8],
+    who: u8,
+    h: Handle,
+) -> ByHandle
     requires { ⌜ Admitted (now arena) (now first) (now next) (now mem) ⌝ }
-    ensures { λ r. ⌜ Went (byHandle (tableIn (now (mem .entry))) h) (r .row) (Begun (now (arena .entry)) (now (first .entry)) (now (next .entry)) (now (mem .entry)) (now (mem .exit)) × (r .row < 34)) (r .reason) ⌝ }
+    ensures { λ r. ⌜ Went (byHandle (tableIn (now (mem .entry))) who h) (r .row) (Begun (now (arena .entry)) (now (first .entry)) (now (next .entry)) (now (mem .entry)) (now (mem .exit)) × (r .row < 34)) (r .reason) ⌝ }
 {
-    let b = by_handle(&mem[..], h);
+    let b = by_handle(&mem[..], who, h);
     if b.reason != 0 {
         return b;
     }
@@ -47,13 +54,14 @@ pub fn reach_two_read(
     first: &[u16],
     next: &[u16],
     mem: &mut [u8],
+    who: u8,
     h: Handle,
     k: Handle,
 ) -> ByTwo
     requires { ⌜ Admitted (now arena) (now first) (now next) (now mem) ⌝ }
-    ensures { λ r. ⌜ Went (byTwo (tableIn (now (mem .entry))) h k) (r .row, r .other) (Begun (now (arena .entry)) (now (first .entry)) (now (next .entry)) (now (mem .entry)) (now (mem .exit)) × ((r .row < 34) × (r .other < 34))) (r .reason) ⌝ }
+    ensures { λ r. ⌜ Went (byTwo (tableIn (now (mem .entry))) who h k) (r .row, r .other) (Begun (now (arena .entry)) (now (first .entry)) (now (next .entry)) (now (mem .entry)) (now (mem .exit)) × ((r .row < 34) × (r .other < 34))) (r .reason) ⌝ }
 {
-    let b = by_two(&mem[..], h, k);
+    let b = by_two(&mem[..], who, h, k);
     if b.reason != 0 {
         return b;
     }

@@ -17,7 +17,7 @@ use Rattle.table.specs.declared.Handle.{Handle}
 use Rattle.table.specs.declared.Added.{Added}
 use Rattle.table.specs.declared.Closed.{Closed}
 
--- "34 rows (id, cached record, dirty mark), 32 holds (row, stamp)"; "the next stamp, from 1"
+-- "34 rows (id, cached record, dirty mark), 32 holds (row, stamp)"; "the next stamp, from 1"; order 5: "Every hold now carries an owner"
 abbrev pub emptyTable : Table
 emptyTable = record { rows = replicate 34 zeroRow; holds = replicate 32 zeroHold; next = 1 }
 
@@ -115,33 +115,41 @@ freeHold t = holdOf t 0
 abbrev pub isLive : Table → Handle → Bool
 isLive t h = ltb (h .hold) 32 && (not (eqb (h .stamp) 0) && eqb (holdAt t (h .hold) .stamp) (h .stamp))
 
--- the row of a live handle; none for a hold whose row is no row
-unfoldable pub liveRow : Table → Handle → Found
-liveRow t h = pick (isLive t h) (foundBelow (holdAt t (h .hold) .row) 34) Nothing
+-- order 5: "a handle works only for its owner": it is live, and w's
+abbrev pub isOwn : Table → ℕ → Handle → Bool
+isOwn t w h = isLive t h && eqb (holdAt t (h .hold) .owner) w
 
--- the hold at i is live
-abbrev pub liveAt : Table → ℕ → Bool
-liveAt t i = not (eqb (holdAt t i .stamp) 0)
+-- the row of a live handle of w's; none for a hold whose row is no row
+unfoldable pub liveRow : Table → ℕ → Handle → Found
+liveRow t w h = pick (isOwn t w h) (foundBelow (holdAt t (h .hold) .row) 34) Nothing
 
--- how many holds are live
-unfoldable pub liveHolds : Table → ℕ
-liveHolds t = countTo (liveAt t) 32
+-- "an owner from 1 to 4"
+abbrev pub isOwner : ℕ → Bool
+isOwner w = ltb 0 w && ltb w 5
 
--- a hold can be given. Reason 16 otherwise: "32 live holds, or next stamp 2^64-1". (2^64-2 is still given out.)
-unfoldable pub canHold : Table → Bool
-canHold t = ltb (liveHolds t) 32 && ltb (t .next) 18446744073709551615
+-- the hold at i is live, and w's
+abbrev pub ownAt : Table → ℕ → ℕ → Bool
+ownAt t w i = not (eqb (holdAt t i .stamp) 0) && eqb (holdAt t i .owner) w
 
--- "Each successful root, find or create makes its own hold with the next stamp": a hold on the row, at the place that was found
-abbrev pub addAt : Table → ℕ → Found → Added
-addAt t row (At i) = record {
+-- how many live holds w has
+unfoldable pub ownHolds : Table → ℕ → ℕ
+ownHolds t w = countTo (ownAt t w) 32
+
+-- w can be given a hold: "each owner may have 8". Reason 16 otherwise: "16 at 8 own holds", "or next stamp 2^64-1". (2^64-2 is still given out.)
+unfoldable pub canHold : Table → ℕ → Bool
+canHold t w = ltb (ownHolds t w) 8 && ltb (t .next) 18446744073709551615
+
+-- "Each successful root, find or create makes its own hold with the next stamp": a hold of w's on the row, at the place that was found
+abbrev pub addAt : Table → ℕ → ℕ → Found → Added
+addAt t w row (At i) = record {
   handle = record { hold = i; stamp = t .next };
-  table = record { rows = t .rows; holds = set (t .holds) i (record { row = row; stamp = t .next }); next = t .next + 1 };
+  table = record { rows = t .rows; holds = set (t .holds) i (record { row = row; stamp = t .next; owner = w }); next = t .next + 1 };
 }
-addAt t row Nothing = record { handle = record { hold = 0; stamp = 0 }; table = t }
+addAt t w row Nothing = record { handle = record { hold = 0; stamp = 0 }; table = t }
 
 -- the lowest free hold, where one can be given; else a handle that is never live, and the same table
-unfoldable pub addHold : Table → ℕ → Added
-addHold t row = addAt t row (pick (canHold t) (freeHold t) Nothing)
+unfoldable pub addHold : Table → ℕ → ℕ → Added
+addHold t w row = addAt t w row (pick (canHold t w) (freeHold t) Nothing)
 
 -- the hold at i is live and names the row
 abbrev pub namesRow : Table → ℕ → ℕ → Bool

@@ -35,7 +35,7 @@ abbrev pub zeroRow : Row
 zeroRow = record { id = 0; dirty = false; rec = zeroRecord }
 
 abbrev pub zeroHold : Hold
-zeroHold = record { row = 0; stamp = 0 }
+zeroHold = record { row = 0; stamp = 0; owner = 0 }
 
 abbrev pub isZeroAt : List ℕ → ℕ → Bool
 isZeroAt l i = eqb (getD l i 0) 0

@@ -1,4 +1,4 @@
-// The table of open nodes, by value: 34 rows with a cached record, 32 holds on them, and the next stamp. Its rows and holds are found and
+// The table of open nodes, by value: 34 rows with a cached record, 32 holds on them, each with an owner, and the next stamp. Its rows and holds are found and
 // changed in a call's memory, on the table's bytes.
 // A refused call returns the table that it was given.
 ghost use mathlib.Core.Path.{_≡_};
@@ -15,11 +15,12 @@ pub struct Row {
     pub rec: DiskINode,
 }
 
-// One opening of a row. Stamp 0 is a free hold.
+// One opening of a row, and whose it is: an owner from 1 to 4. Stamp 0 is a free hold.
 #[repr(C)]
 pub struct Hold {
     pub row: u32,
     pub stamp: u64,
+    pub owner: u8,
 }
 
 #[repr(C)]
@@ -124,7 +125,11 @@ pub fn empty() -> Table
     ensures { λ r. ⌜ r ≡ emptyTable ⌝ }
 {
     let r = zero_row();
-    let h = Hold { row: 0, stamp: 0 };
+    let h = Hold {
+        row: 0,
+        stamp: 0,
+        owner: 0,
+    };
     Table {
         rows: [r; 34],
         holds: [h; 32],

@@ -50,25 +50,25 @@ empty-fits = record {
   rows-34 = refl;
   holds-32 = refl;
   rows = λ i l. subst RowFits (sym (getD-replicate 34 i zeroRow offRow l)) (record { id = omega arith; rec = zero-fits });
-  holds = λ i l. subst HoldFits (sym (getD-replicate 32 i zeroHold zeroHold l)) (record { row = omega arith; stamp = omega arith });
+  holds = λ i l. subst HoldFits (sym (getD-replicate 32 i zeroHold zeroHold l)) (record { row = omega arith; stamp = omega arith; owner = omega arith });
   next = omega arith;
 }
 
 -- zeros up to the next stamp, which is 1
 
-empty-bytes : tableBytes emptyTable ≡ replicate 4362 0 ++ leBytes 8 1
+empty-bytes : tableBytes emptyTable ≡ replicate 4394 0 ++ leBytes 8 1
 unfolding join leBytes bitsOf timeBytes timeFields recordBytes recordFields rowBytes rowFields holdBytes holdFields runTo tableBytes tableFields
 empty-bytes = refl
 
 -- the two, laid over one after the other
-pub empty-put : (l a c d : List ℕ) → 4370 ≤ length l → c ≡ replicate (length (part l 0 4362)) 0 → a ≡ back l 0 4362 c → d ≡ lePut a 4362 8 1 → d ≡ paste l 0 (tableBytes emptyTable)
+pub empty-put : (l a c d : List ℕ) → 4402 ≤ length l → c ≡ replicate (length (part l 0 4394)) 0 → a ≡ back l 0 4394 c → d ≡ lePut a 4394 8 1 → d ≡ paste l 0 (tableBytes emptyTable)
 unfolding lePut
 empty-put l a c d long ec ea ed =
-    let z : List ℕ = replicate 4362 0 in
-    let n : length z ≡ 4362 = length-replicate {A = ℕ} 4362 0 in
-    let b : a ≡ paste l 0 z = ea ∙ back-zeros l c 0 4362 4362 refl (omega arith) ec in
+    let z : List ℕ = replicate 4394 0 in
+    let n : length z ≡ 4394 = length-replicate {A = ℕ} 4394 0 in
+    let b : a ≡ paste l 0 z = ea ∙ back-zeros l c 0 4394 4394 refl (omega arith) ec in
     ed
-    ∙ ap (λ (k : List ℕ). paste k 4362 (leBytes 8 1)) b
-    ∙ ap (λ (k : ℕ). paste (paste l 0 z) k (leBytes 8 1)) (let q : 4362 ≡ 0 + length z = omega (arith, n) in q)
+    ∙ ap (λ (k : List ℕ). paste k 4394 (leBytes 8 1)) b
+    ∙ ap (λ (k : ℕ). paste (paste l 0 z) k (leBytes 8 1)) (let q : 4394 ≡ 0 + length z = omega (arith, n) in q)
     ∙ paste-paste l 0 z (leBytes 8 1) (omega (arith, n, length-leBytes 8 1))
     ∙ ap (paste l 0) (sym empty-bytes)

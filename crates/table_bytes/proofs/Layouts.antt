@@ -75,11 +75,11 @@ rowBytes-rowFrom l h e k =
 
 -- ---- a hold
 
-hold-widths : (h : Hold) → map length (holdFields h) ≡ 4 ∷ 8 ∷ []
+hold-widths : (h : Hold) → map length (holdFields h) ≡ 4 ∷ 8 ∷ 1 ∷ []
 unfolding holdFields
-hold-widths h = λ x. length-leBytes 4 (h .row) x ∷ length-leBytes 8 (h .stamp) x ∷ []
+hold-widths h = λ x. length-leBytes 4 (h .row) x ∷ length-leBytes 8 (h .stamp) x ∷ 1 ∷ []
 
-pub length-holdBytes : (h : Hold) → length (holdBytes h) ≡ 12
+pub length-holdBytes : (h : Hold) → length (holdBytes h) ≡ 13
 unfolding holdBytes
 length-holdBytes h = length-join (holdFields h) ∙ ap total (hold-widths h)
 
@@ -87,16 +87,18 @@ pub holdFrom-holdBytes : (h : Hold) → HoldFits h → holdFrom (holdBytes h) �
 unfolding holdFrom holdBytes holdFields
 holdFrom-holdBytes h F =
     let l : List ℕ = holdBytes h in
-    let ws : List ℕ = 4 ∷ 8 ∷ [] in
+    let ws : List ℕ = 4 ∷ 8 ∷ 1 ∷ [] in
     let at : (k : ℕ) → part l (total (take k ws)) (total (take k ws) + getD ws k 0) ≡ getD (holdFields h) k [] = field-of (holdFields h) ws (hold-widths h) in
-    λ x. record { row = number-back l 0 4 (h .row) (F .row) (at 0) x; stamp = number-back l 4 8 (h .stamp) (F .stamp) (at 1) x }
+    let o : getD l 12 0 ≡ h .owner = sym (getD-part l 12 13 0 (omega arith)) ∙ ap (λ (y : List ℕ). getD y 0 0) (at 2) in
+    λ x. record { row = number-back l 0 4 (h .row) (F .row) (at 0) x; stamp = number-back l 4 8 (h .stamp) (F .stamp) (at 1) x; owner = o x }
 
-pub holdBytes-holdFrom : (l : List ℕ) → Bytes l → length l ≡ 12 → holdBytes (holdFrom l) ≡ l
+pub holdBytes-holdFrom : (l : List ℕ) → Bytes l → length l ≡ 13 → holdBytes (holdFrom l) ≡ l
 unfolding holdFrom holdBytes holdFields
 holdBytes-holdFrom l h e =
     let a = bytes-at l 0 4 h (omega arith) in
     let b = bytes-at l 4 8 h (omega arith) in
-    ap join (λ x. a x ∷ b x ∷ []) ∙ whole l (4 ∷ 8 ∷ []) e
+    let c : (getD l 12 0 ∷ []) ≡ part l 12 13 = sym (part-one l 12 (omega arith)) in
+    ap join (λ x. a x ∷ b x ∷ c x ∷ []) ∙ whole l (4 ∷ 8 ∷ 1 ∷ []) e
 
 -- ---- the table
 
@@ -106,14 +108,14 @@ run-bytes f zero h = bytes-nil
 run-bytes f (suc n) h = bytes-append (runTo f n) (f n) (run-bytes f n (λ i l. h i (omega arith))) (h n (omega arith))
 
 module _ (t : Table) (wide : (i : ℕ) → i < 34 → length (rowBytes (rowAt t i)) ≡ 117) where
-  pub table-widths : map length (tableFields t) ≡ 3978 ∷ 384 ∷ 8 ∷ []
+  pub table-widths : map length (tableFields t) ≡ 3978 ∷ 416 ∷ 8 ∷ []
   unfolding tableFields
   table-widths =
       let a : length (runTo (λ i. rowBytes (rowAt t i)) 34) ≡ 3978 = length-run 117 (λ i. rowBytes (rowAt t i)) 34 wide in
-      let b : length (runTo (λ i. holdBytes (holdAt t i)) 32) ≡ 384 = length-run 12 (λ i. holdBytes (holdAt t i)) 32 (λ i l. length-holdBytes (holdAt t i)) in
+      let b : length (runTo (λ i. holdBytes (holdAt t i)) 32) ≡ 416 = length-run 13 (λ i. holdBytes (holdAt t i)) 32 (λ i l. length-holdBytes (holdAt t i)) in
       λ x. a x ∷ b x ∷ length-leBytes 8 (t .next) x ∷ []
 
-  pub length-tableBytes : length (tableBytes t) ≡ 4370
+  pub length-tableBytes : length (tableBytes t) ≡ 4402
   unfolding tableBytes
   length-tableBytes = length-join (tableFields t) ∙ ap total table-widths
 
@@ -129,9 +131,9 @@ module _ (t : Table) (F : TableFits t) where
   wide : (i : ℕ) → i < 34 → length (rowBytes (rowAt t i)) ≡ 117
   wide i l = let r = F .rows i l .rec in length-rowBytes (rowAt t i) (r .file) (r .mac)
 
-  at : (k : ℕ) → let ws : List ℕ = 3978 ∷ 384 ∷ 8 ∷ [] in part (tableBytes t) (total (take k ws)) (total (take k ws) + getD ws k 0) ≡ getD (tableFields t) k []
+  at : (k : ℕ) → let ws : List ℕ = 3978 ∷ 416 ∷ 8 ∷ [] in part (tableBytes t) (total (take k ws)) (total (take k ws) + getD ws k 0) ≡ getD (tableFields t) k []
   unfolding tableBytes
-  at = field-of (tableFields t) (3978 ∷ 384 ∷ 8 ∷ []) (table-widths t wide)
+  at = field-of (tableFields t) (3978 ∷ 416 ∷ 8 ∷ []) (table-widths t wide)
 
   row-back : (i : ℕ) → i < 34 → rowAt t i ≡ rowAtPlace (tableBytes t) i
   unfolding rowAtPlace tableFields
@@ -143,11 +145,11 @@ module _ (t : Table) (F : TableFits t) where
   hold-back : (i : ℕ) → i < 32 → holdAt t i ≡ holdAtPlace (tableBytes t) i
   unfolding holdAtPlace tableFields
   hold-back i l =
-      let p = piece 12 (λ i. holdBytes (holdAt t i)) 32 (tableBytes t) 3978 4362 i (at 1) (λ j k. length-holdBytes (holdAt t j)) l (omega arith) in
-      let e : 3978 + 12 * i + 12 ≡ 3978 + (12 * i + 12) = omega arith in
-      sym (ap (λ (m : ℕ). holdFrom (part (tableBytes t) (3978 + 12 * i) m)) e ∙ ap holdFrom p ∙ holdFrom-holdBytes (holdAt t i) (F .holds i l))
+      let p = piece 13 (λ i. holdBytes (holdAt t i)) 32 (tableBytes t) 3978 4394 i (at 1) (λ j k. length-holdBytes (holdAt t j)) l (omega arith) in
+      let e : 3978 + 13 * i + 13 ≡ 3978 + (13 * i + 13) = omega arith in
+      sym (ap (λ (m : ℕ). holdFrom (part (tableBytes t) (3978 + 13 * i) m)) e ∙ ap holdFrom p ∙ holdFrom-holdBytes (holdAt t i) (F .holds i l))
 
-  pub length-fits : length (tableBytes t) ≡ 4370
+  pub length-fits : length (tableBytes t) ≡ 4402
   length-fits = length-tableBytes t wide
 
   -- a table that was written is read
@@ -156,30 +158,30 @@ module _ (t : Table) (F : TableFits t) where
   tableOf-tableBytes =
       let a : t .rows ≡ listTo (rowAtPlace (tableBytes t)) 34 = list-is (rowAtPlace (tableBytes t)) offRow (t .rows) 34 (F .rows-34) row-back in
       let b : t .holds ≡ listTo (holdAtPlace (tableBytes t)) 32 = list-is (holdAtPlace (tableBytes t)) zeroHold (t .holds) 32 (F .holds-32) hold-back in
-      let c : leAt (tableBytes t) 4362 8 ≡ t .next = number-back (tableBytes t) 4362 8 (t .next) (F .next) (at 2) in
+      let c : leAt (tableBytes t) 4394 8 ≡ t .next = number-back (tableBytes t) 4394 8 (t .next) (F .next) (at 2) in
       λ x. record { rows = sym a x; holds = sym b x; next = c x }
 
-module _ (l : List ℕ) (bytes : Bytes l) (size : length l ≡ 4370) where
+module _ (l : List ℕ) (bytes : Bytes l) (size : length l ≡ 4402) where
   bytes-part : (s e : ℕ) → Bytes (part l s e)
   bytes-part s e = part-all (λ x. x < 256) l (omega arith) bytes s e
 
   row-part : (i : ℕ) → i < 34 → length (part l (117 * i) (117 * i + 117)) ≡ 117
   row-part i k = length-part l (117 * i) (117 * i + 117) (omega arith) (omega arith) ∙ omega arith
 
-  hold-part : (i : ℕ) → i < 32 → length (part l (3978 + 12 * i) (3978 + 12 * i + 12)) ≡ 12
-  hold-part i k = length-part l (3978 + 12 * i) (3978 + 12 * i + 12) (omega arith) (omega arith) ∙ omega arith
+  hold-part : (i : ℕ) → i < 32 → length (part l (3978 + 13 * i) (3978 + 13 * i + 13)) ≡ 13
+  hold-part i k = length-part l (3978 + 13 * i) (3978 + 13 * i + 13) (omega arith) (omega arith) ∙ omega arith
 
   row-read : (i : ℕ) → i < 34 → rowAt (tableOf l) i ≡ rowFrom (part l (117 * i) (117 * i + 117))
   unfolding tableOf rowAtPlace
   row-read i k = getD-list (rowAtPlace l) offRow 34 i k
 
-  hold-read : (i : ℕ) → i < 32 → holdAt (tableOf l) i ≡ holdFrom (part l (3978 + 12 * i) (3978 + 12 * i + 12))
+  hold-read : (i : ℕ) → i < 32 → holdAt (tableOf l) i ≡ holdFrom (part l (3978 + 13 * i) (3978 + 13 * i + 13))
   unfolding tableOf holdAtPlace
   hold-read i k = getD-list (holdAtPlace l) zeroHold 32 i k
 
-  next-read : leBytes 8 (tableOf l .next) ≡ part l 4362 4370
+  next-read : leBytes 8 (tableOf l .next) ≡ part l 4394 4402
   unfolding tableOf
-  next-read = bytes-at l 4362 8 bytes (omega arith)
+  next-read = bytes-at l 4394 8 bytes (omega arith)
 
   -- bytes that were read are written, where the marks are 0 or 1
   pub tableBytes-tableOf : Marked l → tableBytes (tableOf l) ≡ l
@@ -188,9 +190,9 @@ module _ (l : List ℕ) (bytes : Bytes l) (size : length l ≡ 4370) where
       let f : ℕ → List ℕ = λ i. rowBytes (rowAt (tableOf l) i) in
       let g : ℕ → List ℕ = λ i. holdBytes (holdAt (tableOf l) i) in
       let a : runTo f 34 ≡ part l 0 3978 = run-cong f (λ i. part l (0 + 117 * i) (0 + 117 * i + 117)) 34 rows ∙ run-parts 117 l 0 34 in
-      let b : runTo g 32 ≡ part l 3978 4362 = run-cong g (λ i. part l (3978 + 12 * i) (3978 + 12 * i + 12)) 32 holds ∙ run-parts 12 l 3978 32 in
-      let c : leBytes 8 (tableOf l .next) ≡ part l 4362 4370 = next-read in
-      ap join (λ x. a x ∷ b x ∷ c x ∷ []) ∙ whole l (3978 ∷ 384 ∷ 8 ∷ []) size
+      let b : runTo g 32 ≡ part l 3978 4394 = run-cong g (λ i. part l (3978 + 13 * i) (3978 + 13 * i + 13)) 32 holds ∙ run-parts 13 l 3978 32 in
+      let c : leBytes 8 (tableOf l .next) ≡ part l 4394 4402 = next-read in
+      ap join (λ x. a x ∷ b x ∷ c x ∷ []) ∙ whole l (3978 ∷ 416 ∷ 8 ∷ []) size
     where
       rows : (i : ℕ) → i < 34 → rowBytes (rowAt (tableOf l) i) ≡ part l (0 + 117 * i) (0 + 117 * i + 117)
       rows i k =
@@ -198,5 +200,5 @@ module _ (l : List ℕ) (bytes : Bytes l) (size : length l ≡ 4370) where
           let e : getD m 4 0 ≤ 1 = rw (getD-part l (117 * i) (117 * i + 117) 4 (omega arith)) (marked i k) in
           ap rowBytes (row-read i k) ∙ rowBytes-rowFrom m (bytes-part (117 * i) (117 * i + 117)) (row-part i k) e ∙ ap (λ (n : ℕ). part l n (n + 117)) (sym (zero-add (117 * i)))
 
-      holds : (i : ℕ) → i < 32 → holdBytes (holdAt (tableOf l) i) ≡ part l (3978 + 12 * i) (3978 + 12 * i + 12)
-      holds i k = ap holdBytes (hold-read i k) ∙ holdBytes-holdFrom (part l (3978 + 12 * i) (3978 + 12 * i + 12)) (bytes-part (3978 + 12 * i) (3978 + 12 * i + 12)) (hold-part i k)
+      holds : (i : ℕ) → i < 32 → holdBytes (holdAt (tableOf l) i) ≡ part l (3978 + 13 * i) (3978 + 13 * i + 13)
+      holds i k = ap holdBytes (hold-read i k) ∙ holdBytes-holdFrom (part l (3978 + 13 * i) (3978 + 13 * i + 13)) (bytes-part (3978 + 13 * i) (3978 + 13 * i + 13)) (hold-part i k)

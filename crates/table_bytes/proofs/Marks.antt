@@ -23,7 +23,7 @@ use Rattle.table_bytes.proofs.Runs.{list-cong}
 
 -- ---- one mark
 
-module _ (l : List ℕ) (i v : ℕ) (size : length l ≡ 4370) (inside : i < 34) where
+module _ (l : List ℕ) (i v : ℕ) (size : length l ≡ 4402) (inside : i < 34) where
   fit : 117 * i + 4 + length (v ∷ []) ≤ length l
   fit = omega arith
 
@@ -62,8 +62,8 @@ module _ (l : List ℕ) (i v : ℕ) (size : length l ≡ 4370) (inside : i < 34)
   mark-same e =
       let m : List ℕ = paste l (117 * i + 4) (v ∷ []) in
       let rows = list-cong offRow (rowAtPlace m) (rowAtPlace l) 34 (λ j k. elim (ℕ-discrete j i) [ yes q ↦ rw q (row-same e) | no ne ↦ row-beside j ne ]) in
-      let holds = list-cong zeroHold (holdAtPlace m) (holdAtPlace l) 32 (λ j k. ap holdFrom (other (3978 + 12 * j) (3978 + 12 * j + 12) (λ q. absurd (omega arith)))) in
-      let next = other 4362 4370 (λ q. absurd (omega arith)) in
+      let holds = list-cong zeroHold (holdAtPlace m) (holdAtPlace l) 32 (λ j k. ap holdFrom (other (3978 + 13 * j) (3978 + 13 * j + 13) (λ q. absurd (omega arith)))) in
+      let next = other 4394 4402 (λ q. absurd (omega arith)) in
       λ x. record { rows = rows x; holds = holds x; next = leOf (next x) }
 
 -- ---- every mark
@@ -78,12 +78,12 @@ bit-again false = refl
 
 -- a loop over the marks of b has come to l: the marks below i are 0 or 1, and the table is the same
 pub record Settled (b l : List ℕ) (i : ℕ) : Type 0 where
-  pub size : length l ≡ 4370
+  pub size : length l ≡ 4402
   pub same : tableOf l ≡ tableOf b
   pub bytes : Bytes l
   pub marks : (j : ℕ) → j < i → getD l (117 * j + 4) 0 ≤ 1
 
-pub settled-none : (b : List ℕ) → length b ≡ 4370 → Bytes b → Settled b b 0
+pub settled-none : (b : List ℕ) → length b ≡ 4402 → Bytes b → Settled b b 0
 settled-none b size bytes = record { size = size; same = refl; bytes = bytes; marks = λ j k. absurd (omega arith) }
 
 pub settled-more : (b l n : List ℕ) (i : ℕ) → i < 34 → Settled b l i → n ≡ paste l (117 * i + 4) (bit (not (eqb (getD l (117 * i + 4) 0) 0)) ∷ []) → Settled b n (i + 1)

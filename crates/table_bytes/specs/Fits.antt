@@ -16,6 +16,7 @@ pub record RowFits (r : Row) : Type 0 where
 pub record HoldFits (h : Hold) : Type 0 where
   pub row : h .row < 2 ^ 32
   pub stamp : h .stamp < 2 ^ 64
+  pub owner : h .owner < 2 ^ 8
 
 pub record TableFits (t : Table) : Type 0 where
   pub rows-34 : length (t .rows) ≡ 34

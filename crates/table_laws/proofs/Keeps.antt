@@ -2,12 +2,12 @@
 use Prim.Native.Nat.{ℕ, _<_}
 use mathlib.Core.Path.{_≡_, refl}
 use mathlib.Core.Bool.{true, false}
-use Rattle.base.specs.Count.{allTo}
+use Rattle.base.specs.Count.{sumTo, allTo, countTo}
 use Rattle.base.specs.Search.{lowest, foundBelow}
 use Rattle.table.specs.declared.Table.{Table}
 use Rattle.table.specs.Zero.{bytesZero, timeZero, numbersZero, recordZero}
-use Rattle.table.specs.Table.{emptyTable, rowOf, holdOf, rowUsed, closeHold}
-use Rattle.table.specs.Formed.{holdOk, rowOk, holdsOk, rowsOk, shaped, wellFormed}
+use Rattle.table.specs.Table.{emptyTable, rowOf, holdOf, rowUsed, ownHolds, closeHold}
+use Rattle.table.specs.Formed.{holdOk, rowOk, holdsOk, rowsOk, ownersOk, shaped, wellFormed}
 use Rattle.table_laws.specs.Rules.{WellFormed}
 use Rattle.table_laws.proofs.Rules.{well-formed-means, means-well-formed}
 use Rattle.table_laws.proofs.Rows.{formed-held}
@@ -15,7 +15,7 @@ use Rattle.table_laws.proofs.Holds.{close-kept, close-others}
 
 -- "Format and open take no table and return an empty one"
 pub empty-formed : wellFormed emptyTable ≡ true
-unfolding wellFormed holdsOk rowsOk holdOk rowOk rowOf holdOf rowUsed shaped allTo lowest foundBelow recordZero bytesZero timeZero numbersZero
+unfolding wellFormed holdsOk rowsOk ownersOk holdOk rowOk rowOf holdOf rowUsed ownHolds shaped allTo countTo sumTo lowest foundBelow recordZero bytesZero timeZero numbersZero
 empty-formed = refl
 
 module _ (t : Table) (e : wellFormed t ≡ true) where

@@ -2,6 +2,7 @@ pub mod Zeros
 pub mod Rules
 pub mod Finds
 pub mod Rows
+pub mod Owners
 pub mod Holds
 pub mod Keeps
 pub mod Handles

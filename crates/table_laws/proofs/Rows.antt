@@ -1,5 +1,5 @@
 -- A row changed, taken or freed keeps the table formed.
-use Prim.Native.Nat.{ℕ, _<_}
+use Prim.Native.Nat.{ℕ, _<_, _≤_}
 use native.Mathlib.Omega.{arith}
 use mathlib.Core.Path.{_≡_, refl, sym, _∙_, ap}
 use mathlib.Core.Bool.{Bool}
@@ -11,7 +11,7 @@ use Rattle.structs.specs.declared.DiskINode.{DiskINode}
 use Rattle.table.specs.declared.Table.{Table}
 use Rattle.table.specs.declared.Row.{Row}
 use Rattle.table.specs.Zero.{zeroRow}
-use Rattle.table.specs.Table.{offRow, rowAt, holdAt, withRow, takeRow, withRecord, withDirty, freeRowAt}
+use Rattle.table.specs.Table.{offRow, rowAt, holdAt, withRow, takeRow, withRecord, withDirty, freeRowAt, ownHolds}
 use Rattle.table_laws.specs.Rules.{Holder, Formed, also}
 
 -- fewer rows need a hold where more are a call's own
@@ -28,6 +28,8 @@ formed-more t f w = record {
   one-stamp = w .one-stamp;
   stamp-below = w .stamp-below;
   next-one = w .next-one;
+  owned = w .owned;
+  few = w .few;
 }
 
 -- a call's own row that a hold names is an ordinary one
@@ -44,11 +46,18 @@ formed-held {own} t i o w = record {
   one-stamp = w .one-stamp;
   stamp-below = w .stamp-below;
   next-one = w .next-one;
+  owned = w .owned;
+  few = w .few;
 }
 
 -- the row put is there, and the others are as they were
 pub row-here : (t : Table) (i : ℕ) (r : Row) → i < length (t .rows) → rowAt (withRow t i r) i ≡ r
 row-here t i r l = getD-set-same (t .rows) i r offRow l
+
+-- rows have no say in whose holds there are
+own-row : (t : Table) (i : ℕ) (r : Row) (w : ℕ) → ownHolds t w ≤ 8 → ownHolds (withRow t i r) w ≤ 8
+unfolding ownHolds
+own-row t i r w l = l
 
 pub row-apart : (t : Table) (i : ℕ) (r : Row) (j : ℕ) → (j ≡ i → ⊥) → rowAt (withRow t i r) j ≡ rowAt t j
 row-apart t i r j n = getD-set-other (t .rows) i j r offRow n
@@ -102,6 +111,8 @@ module _ {own more : ℕ → Type 0} (t : Table) (w : Formed own t) (i : ℕ) (i
     one-stamp = w .one-stamp;
     stamp-below = w .stamp-below;
     next-one = w .next-one;
+    owned = w .owned;
+    few = λ v o. own-row t i r v (w .few v o);
   }
 
 module _ {own : ℕ → Type 0} (t : Table) (w : Formed own t) (i : ℕ) (in34 : i < 34) where

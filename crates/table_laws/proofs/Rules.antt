@@ -1,6 +1,7 @@
 -- The computed test is true exactly where document 01's rule holds.
-use Prim.Native.Nat.{ℕ, _<_, _≤_}
-use mathlib.Core.Path.{_≡_, refl, sym, _∙_, ap}
+use Prim.Native.Nat.{ℕ, suc, _+_, _-_, _<_, _≤_}
+use native.Mathlib.Omega.{arith}
+use mathlib.Core.Path.{_≡_, refl, sym, _∙_, ap, subst}
 use mathlib.Core.Bool.{true, false, not}
 use mathlib.Core.Logic.{inr, ⊎-elim, _↔_}
 use lib.ListN.{length}
@@ -13,14 +14,21 @@ use Rattle.base.proofs.Bools.{true-false, and-parts, and-both, bool-cases}
 use Rattle.base.proofs.Counts.{allTo-true, allTo-all}
 use Rattle.table.specs.declared.Table.{Table}
 use Rattle.table.specs.Zero.{zeroRow, zeroHold, zeroRecord, recordZero}
-use Rattle.table.specs.Table.{rowAt, holdAt, isRow, isHold, namesRow, rowOf, holdOf, rowUsed}
-use Rattle.table.specs.Formed.{isAt, holdOk, liveOk, rowOk, holdsOk, rowsOk, shaped, wellFormed}
-use Rattle.table_laws.specs.Rules.{Holder, Formed, WellFormed}
+use Rattle.table.specs.Table.{rowAt, holdAt, isRow, isHold, namesRow, rowOf, holdOf, rowUsed, isOwner, ownHolds}
+use Rattle.table.specs.Formed.{isAt, holdOk, liveOk, rowOk, holdsOk, rowsOk, ownersOk, shaped, wellFormed}
+use Rattle.table_laws.specs.Rules.{Owner, Holder, Formed, WellFormed}
 use Rattle.table_laws.proofs.Zeros.{record-zero, zero-passes}
 
 at-is : (f : Found) (i : ℕ) → isAt f i ≡ true → f ≡ At i
 at-is (At j) i e = ap At (eqb-true j i e)
 at-is Nothing i e = absurd (true-false e refl)
+
+-- an owner, as the test has it
+pub owner-of : (w : ℕ) → isOwner w ≡ true → Owner w
+owner-of w e = let a = and-parts (ltb 0 w) (ltb w 5) e in record { least = omega (arith, ltb-true 0 w (a .0)); most = omega (arith, ltb-true w 5 (a .1)) }
+
+pub of-owner : (w : ℕ) → Owner w → isOwner w ≡ true
+of-owner w o = and-both (lt-ltb 0 w (omega (arith, o .least))) (lt-ltb w 5 (omega (arith, o .most)))
 
 -- what the test says of a live hold
 record Named (t : Table) (i : ℕ) : Type 0 where
@@ -28,6 +36,7 @@ record Named (t : Table) (i : ℕ) : Type 0 where
   used : rowAt t (holdAt t i .row) .id ≡ 0 → ⊥
   below : holdAt t i .stamp < t .next
   first : holdOf t (holdAt t i .stamp) ≡ At i
+  owner : Owner (holdAt t i .owner)
 
 named-of : (t : Table) (i : ℕ) → holdOk t i ≡ true → (holdAt t i .stamp ≡ 0 → ⊥) → Named t i
 unfolding holdOk liveOk
@@ -36,12 +45,14 @@ named-of t i e live =
     let e0 = rw (ne-eqb (h .stamp) 0 live) at e in
     let e1 = and-parts (ltb (h .row) 34) _ e0 in
     let e2 = and-parts (not (eqb (rowAt t (h .row) .id) 0)) _ (e1 .1) in
-    let e3 = and-parts (ltb (h .stamp) (t .next)) (isAt (holdOf t (h .stamp)) i) (e2 .1) in
+    let e3 = and-parts (ltb (h .stamp) (t .next)) _ (e2 .1) in
+    let e4 = and-parts (isAt (holdOf t (h .stamp)) i) (isOwner (h .owner)) (e3 .1) in
     record {
       row = ltb-true _ _ (e1 .0);
       used = eqb-false _ _ (not-true _ (e2 .0));
       below = ltb-true _ _ (e3 .0);
-      first = at-is _ i (e3 .1);
+      first = at-is _ i (e4 .0);
+      owner = owner-of _ (e4 .1);
     }
 
 -- a live hold names the row, as the test has it
@@ -57,13 +68,14 @@ unfolding rowUsed
 of-holder t i o = test-yes (namesRow t i) 32 (o .hold) (o .is-hold) (and-both (ap not (ne-eqb _ _ (o .live))) (eq-eqb _ _ (o .names)))
 
 module _ (t : Table) (e : wellFormed t ≡ true) where
-  parts : (shaped t ≡ true) × (1 ≤ t .next) × (holdsOk t ≡ true) × (rowsOk t ≡ true)
+  parts : (shaped t ≡ true) × (1 ≤ t .next) × (holdsOk t ≡ true) × (ownersOk t ≡ true) × (rowsOk t ≡ true)
   unfolding wellFormed
   parts =
       let a = and-parts (shaped t) _ e in
       let b = and-parts (leb 1 (t .next)) _ (a .1) in
-      let c = and-parts (holdsOk t) (rowsOk t) (b .1) in
-      (a .0, leb-true _ _ (b .0), c .0, c .1)
+      let c = and-parts (holdsOk t) _ (b .1) in
+      let d = and-parts (ownersOk t) (rowsOk t) (c .1) in
+      (a .0, leb-true _ _ (b .0), c .0, d .0, d .1)
 
   hold : (i : ℕ) → i < 32 → holdOk t i ≡ true
   unfolding holdsOk
@@ -71,7 +83,7 @@ module _ (t : Table) (e : wellFormed t ≡ true) where
 
   row : (i : ℕ) → i < 34 → rowOk t i ≡ true
   unfolding rowsOk
-  row i h = allTo-true (rowOk t) 34 (parts .3) i h
+  row i h = allTo-true (rowOk t) 34 (parts .4) i h
 
   named : (i : ℕ) → i < 32 → (holdAt t i .stamp ≡ 0 → ⊥) → Named t i
   named i h n = named-of t i (hold i h) n
@@ -96,8 +108,10 @@ module _ (t : Table) (e : wellFormed t ≡ true) where
   unfolding holdOk liveOk
   free-hold i h z =
       let e0 = rw (eq-eqb (holdAt t i .stamp) 0 z) at (hold i h) in
-      let r : holdAt t i .row ≡ 0 = eqb-true _ _ e0 in
-      λ x. record { row = r x; stamp = z x }
+      let a = and-parts (eqb (holdAt t i .row) 0) (eqb (holdAt t i .owner) 0) e0 in
+      let r : holdAt t i .row ≡ 0 = eqb-true _ _ (a .0) in
+      let o : holdAt t i .owner ≡ 0 = eqb-true _ _ (a .1) in
+      λ x. record { row = r x; stamp = z x; owner = o x }
 
   one-row : (i j : ℕ) → i < 34 → j < 34 → (rowAt t i .id ≡ 0 → ⊥) → rowAt t i .id ≡ rowAt t j .id → i ≡ j
   one-row i j hi hj n same =
@@ -112,6 +126,12 @@ module _ (t : Table) (e : wellFormed t ≡ true) where
       let b = named j hj (λ z. n (same ∙ z)) .first in
       let c : At i ≡ At j = sym a ∙ ap (holdOf t) same ∙ b in
       cc
+
+  few : (w : ℕ) → Owner w → ownHolds t w ≤ 8
+  unfolding ownersOk
+  few w o =
+      let e : suc (w - 1) ≡ w = omega (arith, o .least) in
+      subst (λ (v : ℕ). ownHolds t v ≤ 8) e (leb-true _ _ (allTo-true (λ k. leb (ownHolds t (suc k)) 8) 4 (parts .3) (w - 1) (omega (arith, o .least, o .most))))
 
   shape : (length (t .rows) ≡ 34) × (length (t .holds) ≡ 32)
   unfolding shaped
@@ -132,6 +152,8 @@ module _ (t : Table) (e : wellFormed t ≡ true) where
     one-stamp = one-stamp;
     stamp-below = λ i h n. named i h n .below;
     next-one = parts .1;
+    owned = λ i h n. named i h n .owner;
+    few = few;
   }
 
 -- a used row is the one found by its id, and a live hold by its stamp
@@ -157,7 +179,7 @@ module _ (t : Table) (w : WellFormed t) where
       (λ z. rw z (let f = w .free-hold i h (eqb-true s 0 z) in rw f))
       (λ z. let n = eqb-false s 0 z in
       rw z (and-both (lt-ltb _ _ (w .named i h n)) (and-both (ap not (ne-eqb _ _ (w .in-use i h n)))
-      (and-both (lt-ltb _ _ (w .stamp-below i h n)) (rw (hold-is t w i h n) (eq-eqb i i refl))))))
+      (and-both (lt-ltb _ _ (w .stamp-below i h n)) (and-both {a = isAt (holdOf t s) i} (rw (hold-is t w i h n) (eq-eqb i i refl)) (of-owner (holdAt t i .owner) (w .owned i h n)))))))
       (bool-cases (eqb s 0))
 
   row-ok : (i : ℕ) → i < 34 → rowOk t i ≡ true
@@ -171,11 +193,13 @@ module _ (t : Table) (w : WellFormed t) where
       (bool-cases (eqb s 0))
 
   pub means-well-formed : wellFormed t ≡ true
-  unfolding wellFormed holdsOk rowsOk shaped
+  unfolding wellFormed holdsOk rowsOk ownersOk shaped
   means-well-formed =
       and-both (and-both (eq-eqb _ _ (w .rows-34)) (eq-eqb _ _ (w .holds-32)))
       (and-both (le-leb _ _ (w .next-one))
-      (and-both (allTo-all (holdOk t) 32 hold-ok) (allTo-all (rowOk t) 34 row-ok)))
+      (and-both (allTo-all (holdOk t) 32 hold-ok)
+      (and-both (allTo-all (λ k. leb (ownHolds t (suc k)) 8) 4 (λ k l. le-leb _ _ (w .few (suc k) (record { least = omega arith; most = omega (arith, l) }))))
+      (allTo-all (rowOk t) 34 row-ok))))
 
 -- The test and the rule say the same.
 pub well-formed : (t : Table) → (wellFormed t ≡ true) ↔ WellFormed t

@@ -6,7 +6,12 @@ use lib.ListN.{length}
 use Rattle.table.specs.declared.Table.{Table}
 use Rattle.table.specs.declared.Handle.{Handle}
 use Rattle.table.specs.Zero.{zeroRow, zeroHold}
-use Rattle.table.specs.Table.{rowAt, holdAt}
+use Rattle.table.specs.Table.{rowAt, holdAt, ownHolds}
+
+-- "an owner from 1 to 4"
+pub record Owner (w : ℕ) : Type 0 where
+  pub least : 1 ≤ w
+  pub most : w ≤ 4
 
 -- a live hold that names the row
 pub record Holder (t : Table) (row : ℕ) : Type 0 where
@@ -35,6 +40,9 @@ pub record Formed (own : ℕ → Type 0) (t : Table) : Type 0 where
   pub stamp-below : (i : ℕ) → i < 32 → (holdAt t i .stamp ≡ 0 → ⊥) → holdAt t i .stamp < t .next
   -- "itself at least 1"
   pub next-one : 1 ≤ t .next
+  -- order 5: "owners 1 to 4 with at most 8 each"
+  pub owned : (i : ℕ) → i < 32 → (holdAt t i .stamp ≡ 0 → ⊥) → Owner (holdAt t i .owner)
+  pub few : (w : ℕ) → Owner w → ownHolds t w ≤ 8
 
 -- no row is a call's own
 abbrev pub none : ℕ → Type 0
@@ -48,10 +56,11 @@ also own i j = own j ⊎ (j ≡ i)
 abbrev pub WellFormed : Table → Type 0
 WellFormed t = Formed none t
 
--- a handle that is live, on that row
-pub record Live (t : Table) (h : Handle) (row : ℕ) : Type 0 where
+-- a handle that is live, and w's, on that row
+pub record Live (t : Table) (w : ℕ) (h : Handle) (row : ℕ) : Type 0 where
   pub is-hold : h .hold < 32
   pub given : h .stamp ≡ 0 → ⊥
   pub stamp : holdAt t (h .hold) .stamp ≡ h .stamp
+  pub owner : holdAt t (h .hold) .owner ≡ w
   pub names : holdAt t (h .hold) .row ≡ row
   pub is-row : row < 34

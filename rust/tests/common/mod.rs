@@ -3,10 +3,18 @@
 pub mod damage;
 pub mod script;
 
+use std::ops::{Deref, DerefMut};
 use std::sync::atomic::{AtomicU64, Ordering};
 
-use dzomrelig::{FileName, Handle, Image, Kind, Reason, Time};
+use dzomrelig::{Editor, FileName, Handle, Image, Kind, Owner, Reason, Time};
 use script::{way, TESTED};
+
+/// The first owner with an image of his own.
+pub type Mine = Editor<Box<Image>>;
+
+pub fn mine(image: Image) -> Mine {
+    Editor::new(Box::new(image), Owner::One)
+}
 
 /// The time of every call that takes one; before 1970, so that signs are tried too.
 pub const TIME: Time = Time::new(-5, 6);
@@ -21,22 +29,22 @@ pub fn file(number: u64) -> FileName {
 }
 
 /// A fresh image and a handle on its root.
-pub fn fresh(blocks: usize) -> (Image, Handle) {
-    let mut image = way(&Image::format(blocks, TIME, ROOT_FILE).unwrap());
-    assert_ne!(image.is_owned(), TESTED);
+pub fn fresh(blocks: usize) -> (Mine, Handle) {
+    let mut image = mine(way(&Image::format(blocks, TIME, ROOT_FILE).unwrap()));
+    assert_ne!(image.is_trusted(), TESTED);
     let root = image.root().unwrap();
     (image, root)
 }
 
 /// A new node, its file's name new in every call.
-pub fn create(image: &mut Image, folder: Handle, name: &str, kind: Kind) -> Result<Handle, Reason> {
+pub fn create<I: DerefMut<Target = Image>>(editor: &mut Editor<I>, folder: Handle, name: &str, kind: Kind) -> Result<Handle, Reason> {
     static NEXT: AtomicU64 = AtomicU64::new(1 << 32);
-    image.create(folder, name, kind, 0o644, TIME, file(NEXT.fetch_add(1, Ordering::Relaxed)))
+    editor.create(folder, name, kind, 0o644, TIME, file(NEXT.fetch_add(1, Ordering::Relaxed)))
 }
 
 /// The names of a folder after `.` and `..`.
-pub fn names(image: &Image, folder: Handle) -> Vec<String> {
-    image.entries(folder).skip(2).map(|entry| entry.unwrap().name_str().unwrap().to_owned()).collect()
+pub fn names<I: Deref<Target = Image>>(editor: &Editor<I>, folder: Handle) -> Vec<String> {
+    editor.entries(folder).skip(2).map(|entry| entry.unwrap().name_str().unwrap().to_owned()).collect()
 }
 
 /// A row of numbers that is the same in every run.

@@ -1,7 +1,7 @@
 //! Call scripts (docs/REPLAY.md), interpreted over the crate's public calls: a line of text for each call.
 use std::fmt::Write as _;
 
-use dzomrelig::{Attributes, FileName, Handle, Image, Place, Reason, Time, BLOCK, BLOCKS_LEAST, BLOCKS_MOST, TABLE};
+use dzomrelig::{Attributes, Editor, FileName, Handle, Image, Place, Reason, Time, BLOCK, BLOCKS_LEAST, BLOCKS_MOST, TABLE};
 
 const SCRIPT_MOST: usize = 1 << 20;
 const ARENA_MOST: usize = BLOCK * (BLOCKS_MOST + 1);
@@ -153,11 +153,17 @@ impl Replay {
         writeln!(self.text, "{name} {answer} a {a} t {t}").unwrap();
     }
 
+    /// Who asks.
+    fn by(&mut self, who: u8) -> Editor<&mut Image> {
+        Editor::numbered(&mut self.image, who)
+    }
+
     fn set_arena(&mut self, bytes: Vec<u8>) {
         self.image = Image::from_parts(bytes, *self.image.table());
     }
 
     fn command(&mut self, byte: u8, s: &mut Reader) -> Read<()> {
+        let who = if matches!(byte, 18..=27 | 29 | 32..=34) { s.u8()? } else { 0 };
         match byte {
             1 => {
                 let length = s.length(ARENA_MOST)?;
@@ -195,36 +201,36 @@ impl Replay {
                 self.line("open", done(answer));
             }
             18 => {
-                let answer = self.image.root();
+                let answer = self.by(who).root();
                 self.line("root", held(answer));
             }
             19 => {
                 let (h, name) = (s.handle()?, s.name()?);
-                let answer = self.image.find(h, name);
+                let answer = self.by(who).find(h, name);
                 self.line("find", held(answer));
             }
             20 => {
                 let (h, name, kind, mode, time, file) = (s.handle()?, s.name()?, s.u32()?, s.u16()?, s.time()?, s.file()?);
-                let answer = self.image.create_numbered(h, name, kind, mode, time, file);
+                let answer = self.by(who).create_numbered(h, name, kind, mode, time, file);
                 self.line("create", held(answer));
             }
             21 => {
                 let (h, name, node) = (s.handle()?, s.name()?, s.handle()?);
-                let answer = self.image.link(h, name, node);
+                let answer = self.by(who).link(h, name, node);
                 self.line("link", done(answer));
             }
             22 => {
                 let (h, name) = (s.handle()?, s.name()?);
-                let answer = self.image.unlink(h, name);
+                let answer = self.by(who).unlink(h, name);
                 self.line("unlink", done(answer));
             }
             23 => {
                 let (h, old, to, new) = (s.handle()?, s.name()?, s.handle()?, s.name()?);
-                let answer = self.image.rename(h, old, to, new);
+                let answer = self.by(who).rename(h, old, to, new);
                 self.line("move", done(answer));
             }
             24 => {
-                let answer = self.image.metadata(s.handle()?);
+                let answer = self.by(who).metadata(s.handle()?);
                 let told = said(answer, |m| {
                     let stamps = [m.atime, m.mtime, m.ctime].map(times).join(" ");
                     let kind = m.kind.number();
@@ -235,19 +241,19 @@ impl Replay {
             25 => {
                 let (h, mode, uid, gid) = (s.handle()?, s.u16()?, s.u64()?, s.u64()?);
                 let (atime, mtime, ctime) = (s.time()?, s.time()?, s.time()?);
-                let answer = self.image.set_metadata(h, &Attributes { mode, uid, gid, atime, mtime, ctime });
+                let answer = self.by(who).set_metadata(h, &Attributes { mode, uid, gid, atime, mtime, ctime });
                 self.line("set", done(answer));
             }
             26 => {
                 let (h, slot, room) = (s.handle()?, s.u64()?, s.room()?);
                 let mut out = [238; OUT];
-                let answer = done(self.image.entry_into(h, slot, &mut out[..room]));
+                let answer = done(self.by(who).entry_into(h, slot, &mut out[..room]));
                 self.line("entry", format!("{answer} o {}", sum(&out)));
             }
             27 => {
                 let (h, next, room) = (s.handle()?, s.u64()?, s.room()?);
                 let (mut place, mut out) = (Place { folder: h, next }, [238; OUT]);
-                let answer = said(self.image.list(&mut place, &mut out[..room]), |n| n.to_string());
+                let answer = said(self.by(who).list(&mut place, &mut out[..room]), |n| n.to_string());
                 self.line("list", format!("{answer} o {} p {}", sum(&out), place.next));
             }
             28 => {
@@ -255,7 +261,7 @@ impl Replay {
                 self.line("sync", done(answer));
             }
             29 => {
-                let answer = self.image.close(s.handle()?);
+                let answer = self.by(who).close(s.handle()?);
                 self.line("close", done(answer));
             }
             30 => {
@@ -268,17 +274,17 @@ impl Replay {
             32 => {
                 let (h, place, room) = (s.handle()?, s.u64()?, s.room()?);
                 let mut out = [238; OUT];
-                let answer = said(self.image.read_at(h, place, &mut out[..room]), |n| n.to_string());
+                let answer = said(self.by(who).read_at(h, place, &mut out[..room]), |n| n.to_string());
                 self.line("read", format!("{answer} o {}", sum(&out)));
             }
             33 => {
                 let (h, place, length) = (s.handle()?, s.u64()?, s.room()?);
-                let answer = self.image.write_at(h, place, s.bytes(length)?);
+                let answer = self.by(who).write_at(h, place, s.bytes(length)?);
                 self.line("write", done(answer));
             }
             34 => {
                 let (h, length) = (s.handle()?, s.u64()?);
-                let answer = self.image.resize(h, length);
+                let answer = self.by(who).resize(h, length);
                 self.line("resize", done(answer));
             }
             _ => return Err(BadScript),

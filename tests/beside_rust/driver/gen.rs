@@ -74,7 +74,9 @@ pub struct Sequence {
     plan: Plan,
     pub script: Vec<u8>,
     pub lines: Vec<Line>,
-    /// How many holds to keep, for a while.
+    /// Who asks.
+    who: u8,
+    /// How many holds each owner keeps, for a while.
     holds: usize,
     made: u64,
     closed: Vec<Handle>,
@@ -86,7 +88,7 @@ fn begin(seed: u64, calls: usize, answered: bool) -> Sequence {
     let mut dice = Dice(seed);
     let plan = plan(seed, calls, &mut dice);
     let (script, lines, closed) = (vec![], vec![], vec![]);
-    Sequence { world: World::new(), dice, plan, script, lines, holds: 8, made: 0, closed, answered }
+    Sequence { world: World::new(), dice, plan, script, lines, who: 1, holds: 8, made: 0, closed, answered }
 }
 
 /// Short runs on one image after the other, as many as go into `bytes` bytes, of calls that the Rust answered.
@@ -128,10 +130,10 @@ impl Sequence {
         if self.answered && self.world.moved_folder(&call).is_some() {
             return true;
         }
-        let line = self.world.call(&call);
+        let line = self.world.call(self.who, &call);
         let on = !matches!(line, Line::Lost(_));
         if !self.answered || matches!(line, Line::Same(_)) {
-            call.write(&mut self.script);
+            call.write(self.who, &mut self.script);
             self.lines.push(line);
         }
         on
@@ -142,7 +144,18 @@ impl Sequence {
         self.world.outside(&command);
     }
 
+    /// Every hold is closed, by its owner; each stays once in `but`, where that is not 0.
+    fn close_all(&mut self, but: usize) {
+        for h in self.world.table.handles() {
+            if but == 0 || !self.dice.once(but) {
+                self.who = self.world.table.owner(h).unwrap();
+                self.call(Call::Close(h));
+            }
+        }
+    }
+
     fn start(&mut self) {
+        self.who = 1;
         self.outside(Command::Zeros(512 * self.plan.blocks));
         let (time, file) = (self.time(), self.file());
         self.call(Call::Format(time, file));
@@ -165,9 +178,7 @@ impl Sequence {
             let (time, file) = (self.time(), self.file());
             self.call(Call::Create(root, format!("x-y{n}").into_bytes(), kind, 420, time, file));
         }
-        for h in self.world.table.handles() {
-            self.call(Call::Close(h));
-        }
+        self.close_all(0);
         let arena = self.world.arena();
         for (k, block) in arena.chunks(512).enumerate() {
             let places: Vec<usize> = (24..501).filter(|p| block[0] == 2 && block[*p..].starts_with(b"x-y")).collect();
@@ -203,11 +214,7 @@ impl Sequence {
 
     /// Some fields of what is stored get other values, and the image is opened and called for a while; then all is as before or fresh.
     fn hurt(&mut self) {
-        for h in self.world.table.handles() {
-            if !self.dice.once(30) {
-                self.call(Call::Close(h));
-            }
-        }
+        self.close_all(30);
         self.call(Call::Sync);
         let before = self.world.arena();
         for _ in 0..1 + self.dice.below(3) {
@@ -277,24 +284,28 @@ impl Sequence {
 
     /// One more node, mostly in the folder made last.
     fn fill(&mut self) {
-        let live = self.world.table.handles();
+        let live = self.world.table.own(self.who);
         let folders: Vec<Handle> = live.iter().copied().filter(|h| self.is_folder(*h)).collect();
         let h = if self.dice.once(4) { self.dice.of(&folders) } else { *folders.last().unwrap() };
-        let kind = if folders.len() < 8 && self.dice.once(60) { 2 } else { self.dice.of(&[1, 1, 3, 4]) };
+        let kind = if folders.len() < 7 && self.dice.once(60) { 2 } else { self.dice.of(&[1, 1, 3, 4]) };
         let name = format!("node {}", self.made).into_bytes();
         let (time, file) = (self.time(), self.file());
         self.call(Call::Create(h, name, kind, 420, time, file));
         if kind != 2 {
-            let last = self.world.table.handles().into_iter().find(|h| !live.contains(h));
+            let last = self.world.table.own(self.who).into_iter().find(|h| !live.contains(h));
             last.map(|h| self.call(Call::Close(h)));
         }
     }
 
     fn step(&mut self) -> bool {
         if self.dice.once(60) {
-            self.holds = self.dice.of(&[1, 4, 8, 16, 30, 99]);
+            self.holds = self.dice.of(&[1, 2, 4, 6, 7, 99]);
         }
+        self.who = if self.dice.once(4) { self.dice.of(&[1, 1, 2, 3, 4]) } else { self.who.clamp(1, 4) };
         let call = self.draw();
+        if call.asks() && self.dice.once(300) {
+            self.who = self.dice.of(&[0, 1, 2, 3, 4, 5, 255]);
+        }
         if let Call::Close(h) = &call {
             self.closed.push(*h);
         }
@@ -302,7 +313,7 @@ impl Sequence {
     }
 
     fn draw(&mut self) -> Call {
-        let live = self.world.table.handles();
+        let live = self.world.table.own(self.who);
         if live.is_empty() {
             return Call::Root;
         }
@@ -339,9 +350,10 @@ impl Sequence {
         self.world.table.row(h).is_some_and(|row| row.kind() == 2)
     }
 
-    /// A live hold; now and then one that is not.
+    /// A live hold of who asks; now and then another's, or one that is none.
     fn any(&mut self) -> Handle {
-        let h = self.dice.of(&self.world.table.handles());
+        let others = self.dice.once(100);
+        let h = self.dice.of(&if others { self.world.table.handles() } else { self.world.table.own(self.who) });
         match self.dice.below(400) {
             0 => Handle { hold: h.hold, stamp: h.stamp + 1 },
             1 => Handle { hold: h.hold, stamp: 0 },
@@ -353,7 +365,7 @@ impl Sequence {
 
     /// A folder's hold, mostly of one that is not removed.
     fn folder(&mut self) -> Handle {
-        let live = self.world.table.handles();
+        let live = self.world.table.own(self.who);
         let folders: Vec<Handle> = live.into_iter().filter(|h| self.is_folder(*h)).collect();
         let linked = |h: &Handle| self.world.table.row(*h).is_some_and(|row| row.links() > 0);
         let named: Vec<Handle> = folders.iter().copied().filter(linked).collect();
@@ -366,7 +378,7 @@ impl Sequence {
 
     /// The same, of a folder that has something in it, if there is one.
     fn filled(&mut self) -> Handle {
-        let live = self.world.table.handles();
+        let live = self.world.table.own(self.who);
         let filled: Vec<Handle> = live.into_iter().filter(|h| self.world.slots(*h).len() > 2).collect();
         match filled.is_empty() || self.dice.once(10) {
             true => self.folder(),
@@ -469,7 +481,7 @@ impl Sequence {
 
     /// A hold of a node that is no folder, if there is one.
     fn other_kind(&mut self) -> Handle {
-        let live = self.world.table.handles();
+        let live = self.world.table.own(self.who);
         let others: Vec<Handle> = live.iter().copied().filter(|h| !self.is_folder(*h)).collect();
         if others.is_empty() || self.dice.once(20) {
             self.any()
@@ -563,7 +575,7 @@ impl Sequence {
 
     /// A read, write or resize, mostly of a node that has contents.
     fn contents(&mut self) -> Call {
-        if self.world.table.handles().iter().all(|h| self.is_folder(*h)) && !self.dice.once(8) {
+        if self.world.table.own(self.who).iter().all(|h| self.is_folder(*h)) && !self.dice.once(8) {
             return if self.dice.once(2) { self.find() } else { self.create() };
         }
         let h = self.other_kind();

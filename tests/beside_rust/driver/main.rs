@@ -34,8 +34,8 @@ fn run(out: &mut impl Write) -> std::io::Result<()> {
         match script.next() {
             Next::End => return Ok(()),
             Next::Bad => return writeln!(out, "= bad script"),
-            Next::Do(Command::Call(call)) => {
-                let line = world.call(&call);
+            Next::Do(Command::Call(who, call)) => {
+                let line = world.call(who, &call);
                 writeln!(out, "{}", shown(&line))?;
                 if let Line::Lost(_) = line {
                     return Ok(());
@@ -59,7 +59,7 @@ fn raw() -> std::io::Result<()> {
     let mut world = World::new();
     while let Next::Do(command) = script.next() {
         match command {
-            Command::Call(call) => println!("{}", world.raw(&call)),
+            Command::Call(who, call) => println!("{}", world.raw(who, &call)),
             outside => world.outside(&outside),
         }
     }

@@ -1,4 +1,5 @@
 //! Call scripts as REPLAY.md lays them out, read and written.
+use crate::table::TABLE;
 use rcore_fs::vfs::Timespec;
 
 #[derive(Clone, Copy, PartialEq, Debug)]
@@ -14,7 +15,8 @@ pub enum Command {
     Zeros(usize),
     Poke(usize, u8),
     Table(Vec<u8>),
-    Call(Call),
+    /// A call, and who asks: 0 where nobody has to.
+    Call(u8, Call),
 }
 
 #[derive(Debug)]
@@ -70,6 +72,11 @@ impl Call {
         }
     }
 
+    /// Whether it says who asks.
+    pub fn asks(&self) -> bool {
+        !matches!(self, Call::Format(..) | Call::Open | Call::Sync | Call::Check)
+    }
+
     /// The command's byte: from 16 on, and from 32 on for what document 02 adds.
     fn byte(&self) -> u8 {
         let number = self.number() as u8;
@@ -106,8 +113,11 @@ impl Call {
         }
     }
 
-    pub fn write(&self, out: &mut Vec<u8>) {
+    pub fn write(&self, who: u8, out: &mut Vec<u8>) {
         out.push(self.byte());
+        if self.asks() {
+            out.push(who);
+        }
         match self {
             Call::Format(time, file) => {
                 put_time(out, time);
@@ -184,7 +194,7 @@ impl Command {
                 out.push(4);
                 out.extend(bytes);
             }
-            Command::Call(call) => call.write(out),
+            Command::Call(who, call) => call.write(*who, out),
         }
     }
 }
@@ -233,8 +243,9 @@ impl Script<'_> {
             }
             2 => Command::Zeros(self.arena_length()?),
             3 => Command::Poke(self.u32()? as usize, self.bytes(1)?[0]),
-            4 => Command::Table(self.bytes(4370)?.to_vec()),
-            _ => Command::Call(self.call(byte)?),
+            4 => Command::Table(self.bytes(TABLE)?.to_vec()),
+            16 | 17 | 28 | 30 => Command::Call(0, self.call(byte)?),
+            _ => Command::Call(self.bytes(1)?[0], self.call(byte)?),
         })
     }
 

@@ -9,10 +9,16 @@ use std::sync::Arc;
 pub const ROWS: usize = 34;
 pub const HOLDS: usize = 32;
 const ROW: usize = 117;
+/// The table's bytes; a hold has 13 of them.
+pub const TABLE: usize = ROW * ROWS + 13 * HOLDS + 8;
+/// How many live holds an owner may have.
+pub const OWN_HOLDS: usize = 8;
 
+/// The Rust knows no owners: the script says who made a hold, and it is kept beside it.
 struct Hold {
     row: usize,
     stamp: u64,
+    owner: u8,
     node: Arc<dyn INode>,
 }
 
@@ -97,12 +103,17 @@ impl Table {
         self.holds.iter().enumerate().filter_map(at).collect()
     }
 
-    pub fn full(&self) -> bool {
-        self.holds.iter().all(|h| h.is_some())
+    pub fn owner(&self, h: Handle) -> Option<u8> {
+        self.live(h).map(|hold| hold.owner)
+    }
+
+    /// The live holds of one owner.
+    pub fn own(&self, who: u8) -> Vec<Handle> {
+        self.handles().into_iter().filter(|h| self.owner(*h) == Some(who)).collect()
     }
 
     /// A hold of its own for a node that root, find or create answered.
-    pub fn take(&mut self, node: Arc<dyn INode>) -> Handle {
+    pub fn take(&mut self, node: Arc<dyn INode>, owner: u8) -> Handle {
         let fresh = self.seen(&node);
         let row = match self.rows.iter().position(|row| row.id() == fresh.id()) {
             Some(row) => {
@@ -115,7 +126,7 @@ impl Table {
         let hold = self.holds.iter().position(|h| h.is_none()).unwrap();
         let stamp = self.next;
         self.rows[row] = fresh;
-        self.holds[hold] = Some(Hold { row, stamp, node });
+        self.holds[hold] = Some(Hold { row, stamp, owner, node });
         self.next += 1;
         Handle { hold: hold as u32, stamp }
     }
@@ -156,14 +167,15 @@ impl Table {
     }
 
     pub fn bytes(&self) -> Vec<u8> {
-        let mut out = Vec::with_capacity(4370);
+        let mut out = Vec::with_capacity(TABLE);
         for row in &self.rows {
             out.extend(row.0);
         }
         for hold in &self.holds {
-            let (row, stamp) = hold.as_ref().map_or((0, 0), |h| (h.row as u32, h.stamp));
+            let (row, stamp, owner) = hold.as_ref().map_or((0, 0, 0), |h| (h.row as u32, h.stamp, h.owner));
             out.extend(row.to_le_bytes());
             out.extend(stamp.to_le_bytes());
+            out.push(owner);
         }
         out.extend(self.next.to_le_bytes());
         out

@@ -136,7 +136,7 @@ pub fn timed(out: &mut impl Write, bytes: &[u8], rounds: u64) -> std::io::Result
         let (mut script, mut image, mut spent) = (Script(bytes), Image::default(), [0f64; KINDS]);
         counts = [0; KINDS];
         while let Next::Do(command) = script.next() {
-            let Command::Call(call) = command else { continue };
+            let Command::Call(_, call) = command else { continue };
             let from = Instant::now();
             image.perform(&call).expect("a call that is refused");
             spent[call.number()] += from.elapsed().as_nanos() as f64;

@@ -16,7 +16,7 @@ same-length c = search needs
 returns : tie.Need-returns
 returns c =
     let s = c .before .before .before .before .before .before .before .before in
-    close-not (s .args .arena .now) (tableIn (s .args .mem .now)) (s .args .h) (admitted (s .pre)) (c .before .before .by-handle .ensures) (c .if1 .taken)
+    close-not (s .args .arena .now) (tableIn (s .args .mem .now)) (s .args .who) (s .args .h) (admitted (s .pre)) (c .before .before .by-handle .ensures) (c .if1 .taken)
 
 close-hold-requires : tie.Need-close-hold-requires
 close-hold-requires c κs = search needs
@@ -33,7 +33,7 @@ returns-2 c =
     let b = c .before .before .before .before .before .before .before .before .before .before .by-handle .ensures in
     let z = c .before .before .before .before .before .before .before .before .if1 .left in
     let l = c .before .before .load-meta .ensures in
-    close-at (s .args .arena .now) (tableIn (s .args .mem .now)) (s .args .h) (admitted (s .pre)) b (c .before .before .before .before .before .before .close-hold .result) (tableIn (c .before .before .before .before .before .before .close-hold .last .0)) _ (c .before .before .before .before .before .before .close-hold .ensures) (l .0) (l .1 .0) z (s .pre .led .whole, (l .1 .1, went-has b z))
+    close-at (s .args .arena .now) (tableIn (s .args .mem .now)) (s .args .who) (s .args .h) (admitted (s .pre)) b (c .before .before .before .before .before .before .close-hold .result) (tableIn (c .before .before .before .before .before .before .close-hold .last .0)) _ (c .before .before .before .before .before .before .close-hold .ensures) (l .0) (l .1 .0) z (s .pre .led .whole, (l .1 .1, went-has b z))
 
 pub close-led-spec : {M : Type 1} → statement M
 close-led-spec =

@@ -29,7 +29,7 @@ same-length c = search needs
 returns : tie.Need-returns
 returns c =
     let s = c .before .before .before .before .before .before .before .before .before .before .before .before .before in
-    returned-table (λ u. callCreate (s .args .arena .now) u (s .args .h) (s .args .name .now) (s .args .new .kind) (s .args .new .mode) (s .args .new .time) (s .args .new .file)) _ (c .before .before .before .before .before .before .before .before .before .put-table .ensures .0) (c .before .before .before .before .before .create-on .ensures) (c .settle-held .ensures)
+    returned-table (λ u. callCreate (s .args .arena .now) u (s .args .who) (s .args .h) (s .args .name .now) (s .args .new .kind) (s .args .new .mode) (s .args .new .time) (s .args .new .file)) _ (c .before .before .before .before .before .before .before .before .before .put-table .ensures .0) (c .before .before .before .before .before .create-on .ensures) (c .settle-held .ensures)
 
 pub create-spec : {M : Type 1} → statement M
 create-spec = tie.close (tie.spec slice-aggregate-put-table put-table-requires slice-aggregate-create-on create-on-requires slice-aggregate-settle-held settle-held-requires same-length returns)

@@ -27,7 +27,7 @@ create-free-requires c κs = search needs
 returns-2 : tie.Need-returns-2
 returns-2 c =
     let s = c .before .before .before .before .before .before .before .before .before .before .before in
-    work-free (fsAt (s .args .arena .now) (s .args .mem .now)) (s .args .i) (s .args .name .now) (s .args .new .kind) (s .args .new .mode) (s .args .new .time) (s .args .new .file) _ (c .before .before .before .before .before .rec-at .ensures) (c .before .before .before .before .create-ask .ensures) {room = canHold (tableIn (s .args .mem .now))} (c .before .before .before .if1 .left) (c .before .can-hold .ensures) (c .create-free .ensures)
+    work-free (fsAt (s .args .arena .now) (s .args .mem .now)) (s .args .i) (s .args .name .now) (s .args .new .kind) (s .args .new .mode) (s .args .new .time) (s .args .new .file) _ (c .before .before .before .before .before .rec-at .ensures) (c .before .before .before .before .create-ask .ensures) {room = canHold (tableIn (s .args .mem .now)) (s .args .who)} (c .before .before .before .if1 .left) (c .before .can-hold .ensures) (c .create-free .ensures)
 
 pub create-asks-spec : {M : Type 1} → statement M
 create-asks-spec =

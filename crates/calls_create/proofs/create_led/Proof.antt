@@ -15,7 +15,7 @@ same-length c = search needs
 returns : tie.Need-returns
 returns c =
     let s = c .before .before .before .before .before .before .before .before .before .before .before in
-    create-not (s .args .arena .now) _ _ (s .args .mem .now) _ (s .args .h) (s .args .name .now) (s .args .new .kind) (s .args .new .mode) (s .args .new .time) (s .args .new .file) (admitted (s .pre)) (c .before .before .before .before .reach-read .ensures) (c .if1 .taken)
+    create-not (s .args .arena .now) _ _ (s .args .mem .now) _ (s .args .who) (s .args .h) (s .args .name .now) (s .args .new .kind) (s .args .new .mode) (s .args .new .time) (s .args .new .file) (admitted (s .pre)) (c .before .before .before .before .reach-read .ensures) (c .if1 .taken)
 
 create-asks-requires : tie.Need-create-asks-requires
 create-asks-requires c κs =
@@ -28,7 +28,7 @@ same-length-2 c = search needs
 returns-2 : tie.Need-returns-2
 returns-2 c =
     let s = c .before .before .before .before .before .before .before .before .before .before .before .before .before in
-    create-row (s .args .arena .now) _ _ (s .args .mem .now) _ (s .args .h) (s .args .name .now) (s .args .new .kind) (s .args .new .mode) (s .args .new .time) (s .args .new .file) (admitted (s .pre)) (c .before .before .before .before .before .before .reach-read .ensures) (c .before .before .if1 .left) (c .create-asks .ensures)
+    create-row (s .args .arena .now) _ _ (s .args .mem .now) _ (s .args .who) (s .args .h) (s .args .name .now) (s .args .new .kind) (s .args .new .mode) (s .args .new .time) (s .args .new .file) (admitted (s .pre)) (c .before .before .before .before .before .before .reach-read .ensures) (c .before .before .if1 .left) (c .create-asks .ensures)
 
 pub create-led-spec : {M : Type 1} → statement M
 create-led-spec =

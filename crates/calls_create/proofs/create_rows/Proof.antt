@@ -17,7 +17,7 @@ same-length-2 : tie.Need-same-length-2
 same-length-2 c = search needs
 
 returns : tie.Need-returns
-returns c = handed (c .before .before .hand .ensures .0) (c .before .before .hand .ensures .1) (c .before .before .before .before .before .before .before .before .create-begin .ensures)
+returns c = handed _ (c .before .before .hand .ensures .0) (c .before .before .hand .ensures .1) (c .before .before .before .before .before .before .before .before .create-begin .ensures)
 
 pub create-rows-spec : {M : Type 1} → statement M
 create-rows-spec =

@@ -14,7 +14,7 @@ by-handle-requires c κs = search needs
 returns : tie.Need-returns
 returns c =
     let s = c .before .before .before .before .before .before .before .before in
-    entry-dead (s .args .arena .now) (tableIn (s .args .mem .now)) (s .args .h) (admitted (s .pre)) (s .args .k) (length (s .args .out .now)) _ _ (c .before .before .by-handle .ensures) _ (c .if1 .taken)
+    entry-dead (s .args .arena .now) (tableIn (s .args .mem .now)) (s .args .who) (s .args .h) (admitted (s .pre)) (s .args .k) (length (s .args .out .now)) _ _ (c .before .before .by-handle .ensures) _ (c .if1 .taken)
 
 rec-at-requires : tie.Need-rec-at-requires
 rec-at-requires c κs = (c .before .before .before .before .before .before .before .before .pre .whole, went-has (c .before .before .by-handle .ensures) (c .if1 .left))
@@ -28,7 +28,7 @@ same-length c = search needs
 returns-2 : tie.Need-returns-2
 returns-2 c =
     let s = c .before .before .before .before .before .before .before .before .before .before .before .before .before in
-    entry-goes (s .args .arena .now) (tableIn (s .args .mem .now)) (s .args .h) (admitted (s .pre)) (s .args .k) (length (s .args .out .now)) _ _ (c .before .before .before .before .before .before .before .by-handle .ensures) _ (c .before .before .before .before .before .if1 .left) (c .before .before .before .before .rec-at .ensures) (c .before .before .entry-in .ensures)
+    entry-goes (s .args .arena .now) (tableIn (s .args .mem .now)) (s .args .who) (s .args .h) (admitted (s .pre)) (s .args .k) (length (s .args .out .now)) _ _ (c .before .before .before .before .before .before .before .by-handle .ensures) _ (c .before .before .before .before .before .if1 .left) (c .before .before .before .before .rec-at .ensures) (c .before .before .entry-in .ensures)
 
 pub entry-led-spec : {M : Type 1} → statement M
 entry-led-spec =

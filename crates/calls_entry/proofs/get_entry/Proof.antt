@@ -28,8 +28,8 @@ returns c =
     let s = c .before .before .before .before .before .before .before .before .before .before .args in
     let r = c .before .before .entry-on .ensures in
     let e = c .before .before .before .before .before .before .put-table .ensures .0 in (
-      r .0 ∙ ap (λ (u : Table). answerOf (callEntry (s .arena .now) u (s .h) (s .k) (length (s .out .now)))) e,
-      r .1 ∙ ap (λ (u : Table). laid (s .out .now) (callEntry (s .arena .now) u (s .h) (s .k) (length (s .out .now)))) e,
+      r .0 ∙ ap (λ (u : Table). answerOf (callEntry (s .arena .now) u (s .who) (s .h) (s .k) (length (s .out .now)))) e,
+      r .1 ∙ ap (λ (u : Table). laid (s .out .now) (callEntry (s .arena .now) u (s .who) (s .h) (s .k) (length (s .out .now)))) e,
     )
 
 pub get-entry-spec : {M : Type 1} → statement M

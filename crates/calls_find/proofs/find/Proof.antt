@@ -26,7 +26,7 @@ settle-held-requires c κs = search needs
 returns : tie.Need-returns
 returns c =
     let s = c .before .before .before .before .before .before .before .before .before .before .args in
-    given-table (λ u. callFind (s .arena .now) u (s .h) (s .name .now)) _ (c .before .before .before .before .before .before .put-table .ensures .0) (c .before .before .before .find-on .ensures) (c .settle-held .ensures)
+    given-table (λ u. callFind (s .arena .now) u (s .who) (s .h) (s .name .now)) _ (c .before .before .before .before .before .before .put-table .ensures .0) (c .before .before .before .find-on .ensures) (c .settle-held .ensures)
 
 pub find-spec : {M : Type 1} → statement M
 find-spec = tie.close (tie.spec slice-aggregate-put-table put-table-requires slice-aggregate-find-on find-on-requires slice-aggregate-settle-held settle-held-requires returns)

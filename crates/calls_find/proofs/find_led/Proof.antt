@@ -21,7 +21,7 @@ returns : tie.Need-returns
 returns c =
     let s = c .before .before .before .before .before .before .before .before .before .before in
     let n = c .before .if1 .taken in
-    not-handed (above-zero _ n) (find-stop (s .args .arena .now) (tableIn (s .args .mem .now)) (s .args .h) (s .args .name .now) (admitted (s .pre)) _ _ (c .before .before .before .by-handle .ensures) n) (c .not-handed .ensures)
+    not-handed (above-zero _ n) (find-stop (s .args .arena .now) (tableIn (s .args .mem .now)) (s .args .who) (s .args .h) (s .args .name .now) (admitted (s .pre)) _ _ (c .before .before .before .by-handle .ensures) n) (c .not-handed .ensures)
 
 give-named-requires : tie.Need-give-named-requires
 give-named-requires c κs =
@@ -34,7 +34,7 @@ same-length-2 c = search needs
 returns-2 : tie.Need-returns-2
 returns-2 c =
     let s = c .before .before .before .before .before .before .before .before .before .before .before .before .before in
-    went-as (find-next (s .args .arena .now) (tableIn (s .args .mem .now)) (s .args .h) (s .args .name .now) (admitted (s .pre)) _ _ (c .before .before .before .before .before .before .by-handle .ensures) (c .before .before .before .before .if1 .left)) (c .before .before .give-named .ensures)
+    went-as (find-next (s .args .arena .now) (tableIn (s .args .mem .now)) (s .args .who) (s .args .h) (s .args .name .now) (admitted (s .pre)) _ _ (c .before .before .before .before .before .before .by-handle .ensures) (c .before .before .before .before .if1 .left)) (c .before .before .give-named .ensures)
 
 pub find-led-spec : {M : Type 1} → statement M
 find-led-spec =

@@ -28,7 +28,7 @@ returns : tie.Need-returns
 returns c =
     let s = c .before .before .before .before .before .before .before .before .before .before .before .args in
     let f = subst (λ (w : DiskINode). Went (findIn (s .arena .now) w (s .name .now)) (c .before .before .before .find-in .result .id) Unit (c .before .before .before .find-in .result .reason)) (c .before .before .before .before .rec-at .ensures) (c .before .before .before .find-in .ensures) in
-    not-handed (above-zero _ (c .before .if1 .taken)) (named-not (s .arena .now) (tableIn (s .mem .now)) (rowAt (tableIn (s .mem .now)) (s .i) .rec) (s .name .now) f (c .before .if1 .taken)) (c .not-handed .ensures)
+    not-handed (above-zero _ (c .before .if1 .taken)) (named-not (s .arena .now) (tableIn (s .mem .now)) (s .who) (rowAt (tableIn (s .mem .now)) (s .i) .rec) (s .name .now) f (c .before .if1 .taken)) (c .not-handed .ensures)
 
 give-node-requires : tie.Need-give-node-requires
 give-node-requires c κs = search needs
@@ -40,7 +40,7 @@ returns-2 : tie.Need-returns-2
 returns-2 c =
     let s = c .before .before .before .before .before .before .before .before .before .before .before .before .before .before .args in
     let f = subst (λ (w : DiskINode). Went (findIn (s .arena .now) w (s .name .now)) (c .before .before .before .before .before .before .find-in .result .id) Unit (c .before .before .before .before .before .before .find-in .result .reason)) (c .before .before .before .before .before .before .before .rec-at .ensures) (c .before .before .before .before .before .before .find-in .ensures) in
-    went-as (named-give (s .arena .now) (tableIn (s .mem .now)) (rowAt (tableIn (s .mem .now)) (s .i) .rec) (s .name .now) f (c .before .before .before .before .if1 .left)) (c .before .before .give-node .ensures)
+    went-as (named-give (s .arena .now) (tableIn (s .mem .now)) (s .who) (rowAt (tableIn (s .mem .now)) (s .i) .rec) (s .name .now) f (c .before .before .before .before .if1 .left)) (c .before .before .give-node .ensures)
 
 pub give-named-spec : {M : Type 1} → statement M
 give-named-spec =

@@ -21,7 +21,7 @@ same-length c = search needs
 returns : tie.Need-returns
 returns c =
     let s = c .before .before .before .before .before .before .before .before .args in
-    not-handed (omega arith) (give-full (s .arena .now) (tableIn (s .mem .now)) (s .id) (sym (c .before .before .can-hold .ensures) ∙ not-true _ (c .before .if1 .taken))) (c .not-handed .ensures)
+    not-handed (omega arith) (give-full (s .arena .now) (tableIn (s .mem .now)) (s .who) (s .id) (sym (c .before .before .can-hold .ensures) ∙ not-true _ (c .before .if1 .taken))) (c .not-handed .ensures)
 
 hold-node-requires : tie.Need-hold-node-requires
 hold-node-requires c κs = (c .before .before .before .before .before .before .before .before .pre .0, c .before .before .before .before .before .before .before .before .pre .1 .size)
@@ -32,7 +32,7 @@ same-length-2 c = search needs
 returns-2 : tie.Need-returns-2
 returns-2 c =
     let s = c .before .before .before .before .before .before .before .before .before .before .before .args in
-    went-as (give-next (s .arena .now) (tableIn (s .mem .now)) (s .id) (sym (c .before .before .before .before .before .can-hold .ensures) ∙ not-false _ (c .before .before .before .before .if1 .left))) (c .before .before .hold-node .ensures)
+    went-as (give-next (s .arena .now) (tableIn (s .mem .now)) (s .who) (s .id) (sym (c .before .before .before .before .before .can-hold .ensures) ∙ not-false _ (c .before .before .before .before .if1 .left))) (c .before .before .hold-node .ensures)
 
 pub give-node-spec : {M : Type 1} → statement M
 give-node-spec =

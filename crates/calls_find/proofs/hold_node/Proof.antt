@@ -9,13 +9,15 @@ open-node-requires : tie.Need-open-node-requires
 open-node-requires c κs = search needs
 
 hand-requires : tie.Need-hand-requires
-hand-requires c κs = λ z. went-has (c .before .before .before .open-node .ensures) z
+hand-requires c κs = λ z. went-has (c .before .before .before .open-node .ensures 0) z
 
 same-length : tie.Need-same-length
 same-length c = search needs
 
 returns : tie.Need-returns
-returns c = handed (c .before .before .hand .ensures .0) (c .before .before .hand .ensures .1) (c .before .before .before .before .before .before .open-node .ensures)
+returns c =
+    let o = c .before .before .before .before .before .before in
+    handed (c .before .before .hand .ensures .0) (c .before .before .hand .ensures .1) (o .open-node .ensures (o .before .before .before .before .before .before .args .who))
 
 pub hold-node-spec : {M : Type 1} → statement M
 hold-node-spec = tie.close (tie.spec open-node-requires hand-requires same-length returns)

@@ -15,9 +15,9 @@ same-length : tie.Need-same-length
 same-length c = search needs
 
 returns : tie.Need-returns
-returns c =
+returns c w =
     let s = c .before .before .before .before .before .before .before .before .before .before .before .before .args in
-    hold-went (s .arena .now) (c .before .before .before .before .before .before .load-meta .last .1 .1 .1 .0) (c .before .before .get-node .last .1 .1 .1 .0) (tableIn (s .mem .now)) (s .id) _ _ (c .before .before .before .before .before .before .load-meta .ensures .1 .0) (c .before .before .before .before .before .before .load-meta .ensures .0) (c .before .before .get-node .ensures)
+    hold-went (s .arena .now) (c .before .before .before .before .before .before .load-meta .last .1 .1 .1 .0) (c .before .before .get-node .last .1 .1 .1 .0) (tableIn (s .mem .now)) w (s .id) _ _ (c .before .before .before .before .before .before .load-meta .ensures .1 .0) (c .before .before .before .before .before .before .load-meta .ensures .0) (c .before .before .get-node .ensures)
 
 pub open-node-spec : {M : Type 1} → statement M
 open-node-spec = tie.close (tie.spec load-meta-requires get-node-requires same-length returns)

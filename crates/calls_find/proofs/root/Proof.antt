@@ -26,7 +26,7 @@ settle-held-requires c κs = search needs
 returns : tie.Need-returns
 returns c =
     let s = c .before .before .before .before .before .before .before .before .before .args in
-    given-table (λ u. callRoot (s .arena .now) u) _ (c .before .before .before .before .before .before .put-table .ensures .0) (c .before .before .before .root-on .ensures) (c .settle-held .ensures)
+    given-table (λ u. callRoot (s .arena .now) u (s .who)) _ (c .before .before .before .before .before .before .put-table .ensures .0) (c .before .before .before .root-on .ensures) (c .settle-held .ensures)
 
 pub root-spec : {M : Type 1} → statement M
 root-spec = tie.close (tie.spec slice-aggregate-put-table put-table-requires slice-aggregate-root-on root-on-requires slice-aggregate-settle-held settle-held-requires returns)

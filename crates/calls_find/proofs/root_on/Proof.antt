@@ -25,7 +25,7 @@ returns : tie.Need-returns
 returns c =
     let s = c .before .before .before .before .before .before .before .before .args in
     let n = c .before .if1 .taken in
-    not-handed (above-zero _ n) (root-refused (s .arena .now) (tableIn (s .mem .now)) (went-not (c .before .before .before .admit .ensures) n)) (c .not-handed .ensures)
+    not-handed (above-zero _ n) (root-refused (s .arena .now) (tableIn (s .mem .now)) (s .who) (went-not (c .before .before .before .admit .ensures) n)) (c .not-handed .ensures)
 
 slice-aggregate-c : tie.Need-slice-aggregate-c
 slice-aggregate-c c = search needs

@@ -18,11 +18,11 @@ same-length c = search needs
 
 returns : tie.Need-returns
 returns c =
-    let empty : tie.After-empty = search needs in
-    let format : tie.After-format-on = search needs in
-    let t1 : tie.Then1 = search needs in
-    let refused : tie.After-refused = search needs in
-    call-stuck (empty .empty .ensures) (format .format-on .ensures) (t1 .if1 .taken) (refused .refused .ensures)
+    let empty = c .before .before .before .before .before .before .empty in
+    let format = c .before .before .before .before .format-on in
+    let yes1 = c .before .if1 in
+    let refused = c .refused in
+    call-stuck (empty .ensures) (format .ensures) (yes1 .taken) (refused .ensures)
 
 done-requires : tie.Need-done-requires
 done-requires c κs = search needs
@@ -32,11 +32,11 @@ same-length-2 c = search needs
 
 returns-2 : tie.Need-returns-2
 returns-2 c =
-    let empty : tie.After-empty = search needs in
-    let format : tie.After-format-on = search needs in
-    let e1 : tie.Else1 = search needs in
-    let d : tie.After-done = search needs in
-    call-went (empty .empty .ensures) (format .format-on .ensures) (e1 .if1 .left) (d .done .ensures)
+    let empty = c .before .before .before .before .before .before .empty in
+    let format = c .before .before .before .before .format-on in
+    let no1 = c .before .if1 in
+    let done = c .done in
+    call-went (empty .ensures) (format .ensures) (no1 .left) (done .ensures)
 
 pub format-spec : {M : Type 1} → statement M
 format-spec =

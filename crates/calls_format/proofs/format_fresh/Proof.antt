@@ -28,11 +28,11 @@ same-length c = search needs
 
 returns : tie.Need-returns
 returns c =
-    let s : tie.Start = search needs in
-    let fresh : tie.After-fresh-meta = search needs in
-    let put : tie.After-put-empty = search needs in
-    let format : tie.After-format-over = search needs in
-    ended-format _ (s .args .file) (s .args .time) _ (s .pre) (fresh .fresh-meta .ensures .1 ∙ put .put-empty .ensures .0) (fresh .fresh-meta .ensures .0) (format .format-over .ensures)
+    let s = c .before .before .before .before .before .before .before .before .before .before .before .before .before in
+    let freshmeta = c .before .before .before .before .before .before .before .fresh-meta in
+    let putempty = c .before .before .before .before .before .before .before .before .before .before .put-empty in
+    let formatover = c .before .before .before .format-over in
+    ended-format _ (s .args .file) (s .args .time) _ (s .pre) ((freshmeta .ensures .1) ∙ (putempty .ensures .0)) (freshmeta .ensures .0) (formatover .ensures)
 
 pub format-fresh-spec : {M : Type 1} → statement M
 format-fresh-spec =

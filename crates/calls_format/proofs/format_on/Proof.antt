@@ -16,22 +16,22 @@ same-length c = search needs
 
 returns : tie.Need-returns
 returns c =
-    let s : tie.Start = search needs in
-    stopped {r = 1} (omega arith) (format-stop _ (s .args .file) (s .args .time) (sym (let p : tie.After-legal = search needs in p .legal .ensures) ∙ not-true _ (let p : tie.Then1 = search needs in p .if1 .taken))) refl
+    let s = c .before .before .before .before in
+    stopped {r = 1} (omega arith) (format-stop _ (s .args .file) (s .args .time) (sym (c .before .legal .ensures) ∙ not-true _ (c .if1 .taken))) refl
 
 format-fresh-requires : tie.Need-format-fresh-requires
 format-fresh-requires c κs =
-    let legal : tie.After-legal = search needs in
-    let e1 : tie.Else1 = search needs in
-    sym (legal .legal .ensures) ∙ not-false _ (e1 .if1 .left)
+    let legal = c .before .before .legal in
+    let no1 = c .before .if1 in
+    sym (legal .ensures) ∙ not-false _ (no1 .left)
 
 same-length-2 : tie.Need-same-length-2
 same-length-2 c = search needs
 
 returns-2 : tie.Need-returns-2
 returns-2 c =
-    let format : tie.After-format-fresh = search needs in
-    format .format-fresh .ensures
+    let formatfresh = c .before .before .format-fresh in
+    (formatfresh .ensures)
 
 pub format-on-spec : {M : Type 1} → statement M
 format-on-spec =

@@ -15,7 +15,7 @@ same-length c = search needs
 returns : tie.Need-returns
 returns c =
     let s = c .before .before .before .before .before .before .before .before .before .before .before in
-    link-not (s .args .arena .now) _ _ (s .args .mem .now) _ (s .args .h) (s .args .child) (s .args .name .now) (admitted (s .pre)) (c .before .before .before .before .reach-two-read .ensures) (c .if1 .taken)
+    link-not (s .args .arena .now) _ _ (s .args .mem .now) _ (s .args .who) (s .args .h) (s .args .child) (s .args .name .now) (admitted (s .pre)) (c .before .before .before .before .reach-two-read .ensures) (c .if1 .taken)
 
 link-asks-requires : tie.Need-link-asks-requires
 link-asks-requires c κs =
@@ -28,7 +28,7 @@ same-length-2 c = search needs
 returns-2 : tie.Need-returns-2
 returns-2 c =
     let s = c .before .before .before .before .before .before .before .before .before .before .before .before .before in
-    link-rows (s .args .arena .now) _ _ (s .args .mem .now) _ (s .args .h) (s .args .child) (s .args .name .now) (admitted (s .pre)) (c .before .before .before .before .before .before .reach-two-read .ensures) (c .before .before .if1 .left) (c .link-asks .ensures)
+    link-rows (s .args .arena .now) _ _ (s .args .mem .now) _ (s .args .who) (s .args .h) (s .args .child) (s .args .name .now) (admitted (s .pre)) (c .before .before .before .before .before .before .reach-two-read .ensures) (c .before .before .if1 .left) (c .link-asks .ensures)
 
 pub link-led-spec : {M : Type 1} → statement M
 link-led-spec =

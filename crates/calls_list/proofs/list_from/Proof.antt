@@ -28,8 +28,8 @@ returns c =
     let s = c .before .before .before .before .before .before .before .before .before .before .args in
     let r = c .before .before .listing-on .ensures in
     let e = c .before .before .before .before .before .before .put-table .ensures .0 in (
-      r .0 ∙ ap (λ (u : Table). listedOf (callListing (s .arena .now) u (s .h) (s .next) (length (s .out .now)))) e,
-      r .1 ∙ ap (λ (u : Table). laid (s .out .now) (callListing (s .arena .now) u (s .h) (s .next) (length (s .out .now)))) e,
+      r .0 ∙ ap (λ (u : Table). listedOf (callListing (s .arena .now) u (s .who) (s .h) (s .next) (length (s .out .now)))) e,
+      r .1 ∙ ap (λ (u : Table). laid (s .out .now) (callListing (s .arena .now) u (s .who) (s .h) (s .next) (length (s .out .now)))) e,
     )
 
 pub list-from-spec : {M : Type 1} → statement M

@@ -16,7 +16,7 @@ by-handle-requires c κs = search needs
 returns : tie.Need-returns
 returns c =
     let s = c .before .before .before .before .before .before .before .before in
-    let e = listing-dead (s .args .arena .now) (tableIn (s .args .mem .now)) (s .args .h) (admitted (s .pre)) (s .args .at) (length (s .args .out .now)) _ _ (c .before .before .by-handle .ensures) (c .if1 .taken) in
+    let e = listing-dead (s .args .arena .now) (tableIn (s .args .mem .now)) (s .args .who) (s .args .h) (admitted (s .pre)) (s .args .at) (length (s .args .out .now)) _ _ (c .before .before .by-handle .ensures) (c .if1 .taken) in
     (sym (ap listedOf e), sym (ap (laid (s .args .out .now)) e))
 
 rec-at-requires : tie.Need-rec-at-requires
@@ -31,7 +31,7 @@ same-length c = search needs
 returns-2 : tie.Need-returns-2
 returns-2 c =
     let s = c .before .before .before .before .before .before .before .before .before .before .before .before .before in
-    let e = listing-goes (s .args .arena .now) (tableIn (s .args .mem .now)) (s .args .h) (admitted (s .pre)) (s .args .at) (length (s .args .out .now)) _ _ (c .before .before .before .before .before .before .before .by-handle .ensures) _ (c .before .before .before .before .before .if1 .left) (c .before .before .before .before .rec-at .ensures) in
+    let e = listing-goes (s .args .arena .now) (tableIn (s .args .mem .now)) (s .args .who) (s .args .h) (admitted (s .pre)) (s .args .at) (length (s .args .out .now)) _ _ (c .before .before .before .before .before .before .before .by-handle .ensures) _ (c .before .before .before .before .before .if1 .left) (c .before .before .before .before .rec-at .ensures) in
     let L = c .before .before .list-in .ensures in
     (L .0 ∙ ap listedOf e, L .1 ∙ ap (laid (s .args .out .now)) e)
 

@@ -25,7 +25,7 @@ blocks-fit s i k =
     row-fits (rowAt (s .args .t) i) (p .0) (p .1) .rec .blocks
 
 abbrev found : tie.Start → Out (List ℕ)
-found s = callListing (s .args .arena .now) (s .args .t) (s .args .h) (s .args .next) (length (s .args .out .now))
+found s = callListing (s .args .arena .now) (s .args .t) (s .args .who) (s .args .h) (s .args .next) (length (s .args .out .now))
 
 list-from-requires : tie.Need-list-from-requires
 list-from-requires c κs = search needs
@@ -33,11 +33,11 @@ list-from-requires c κs = search needs
 enum-known-l : tie.Need-enum-known-l
 enum-known-l c = search needs
 
-add-t14 : tie.Need-add-t14
-add-t14 c =
+add-t15 : tie.Need-add-t15
+add-t15 c =
     let s = c .before .before .before .before .before .before .before .before .before in
     let m = listed-slots _ (found s) _ (c .before .before .before .before .before .list-from .ensures .0) (c .before .l .given .1) in
-    let f = listing-left (s .args .arena .now) (s .args .t) (s .args .h) (s .args .next) (length (s .args .out .now)) (m .0) (m .1) in
+    let f = listing-left (s .args .arena .now) (s .args .t) (s .args .who) (s .args .h) (s .args .next) (length (s .args .out .now)) (m .0) (m .1) in
     omega (arith, m .2, f .2, blocks-fit s (f .0) (f .1), s .fits .next)
 
 enum-known-l-2 : tie.Need-enum-known-l-2
@@ -64,4 +64,4 @@ returns-2 c =
 pub list-on-spec : {M : Type 1} → statement M
 list-on-spec =
     tie.close
-    (tie.spec list-from-requires enum-known-l add-t14 enum-known-l-2 same-length returns same-length-2 returns-2)
+    (tie.spec list-from-requires enum-known-l add-t15 enum-known-l-2 same-length returns same-length-2 returns-2)

@@ -22,7 +22,7 @@ metadata-on-requires c κs = c .before .before .put-table .ensures .1
 returns : tie.Need-returns
 returns c =
     let s = c .before .before .before .before .before .before .args in
-    c .metadata-on .ensures ∙ ap (λ (u : Table). toldOf (callMetadata (s .arena .now) u (s .h))) (c .before .before .before .put-table .ensures .0)
+    c .metadata-on .ensures ∙ ap (λ (u : Table). toldOf (callMetadata (s .arena .now) u (s .who) (s .h))) (c .before .before .before .put-table .ensures .0)
 
 pub metadata-spec : {M : Type 1} → statement M
 metadata-spec =

@@ -16,7 +16,7 @@ by-handle-requires c κs = search needs
 returns : tie.Need-returns
 returns c =
     let s = c .before .before .before .before .args in
-    sym (ap toldOf (metadata-stop (tableIn (s .mem .now)) (s .h) (c .before .before .by-handle .ensures) (c .if1 .taken)))
+    sym (ap toldOf (metadata-stop (tableIn (s .mem .now)) (s .who) (s .h) (c .before .before .by-handle .ensures) (c .if1 .taken)))
 
 row-at-requires : tie.Need-row-at-requires
 row-at-requires c κs = (c .before .before .before .before .pre, went-has (c .before .before .by-handle .ensures) (c .if1 .left))
@@ -29,7 +29,7 @@ returns-2 c =
     let s = c .before .before .before .before .before .before .before .args in
     c .tell .ensures
     ∙ ap (λ (w : Row). toldOf (told (w .id) (w .rec))) (c .before .before .row-at .ensures)
-    ∙ sym (ap toldOf (metadata-next (tableIn (s .mem .now)) (s .h) (c .before .before .before .before .before .by-handle .ensures) (c .before .before .before .if1 .left)))
+    ∙ sym (ap toldOf (metadata-next (tableIn (s .mem .now)) (s .who) (s .h) (c .before .before .before .before .before .by-handle .ensures) (c .before .before .before .if1 .left)))
 
 pub metadata-in-spec : {M : Type 1} → statement M
 metadata-in-spec =

@@ -14,7 +14,7 @@ admitted-requires c κs = search needs
 returns : tie.Need-returns
 returns c =
     let s = c .before .before .before .before .args in
-    sym (ap toldOf (metadata-refused (s .arena .now) (tableIn (s .mem .now)) (s .h) (went-not (c .before .admitted .ensures) (c .if1 .taken))))
+    sym (ap toldOf (metadata-refused (s .arena .now) (tableIn (s .mem .now)) (s .who) (s .h) (went-not (c .before .admitted .ensures) (c .if1 .taken))))
 
 metadata-in-requires : tie.Need-metadata-in-requires
 metadata-in-requires c κs = search needs
@@ -22,7 +22,7 @@ metadata-in-requires c κs = search needs
 returns-2 : tie.Need-returns-2
 returns-2 c =
     let s = c .before .before .before .before .before .args in
-    c .metadata-in .ensures ∙ sym (ap toldOf (metadata-admitted (s .arena .now) (tableIn (s .mem .now)) (s .h) (went-is (c .before .before .admitted .ensures) (c .before .if1 .left))))
+    c .metadata-in .ensures ∙ sym (ap toldOf (metadata-admitted (s .arena .now) (tableIn (s .mem .now)) (s .who) (s .h) (went-is (c .before .before .admitted .ensures) (c .before .if1 .left))))
 
 pub metadata-on-spec : {M : Type 1} → statement M
 metadata-on-spec = tie.close (tie.spec admitted-requires returns metadata-in-requires returns-2)

@@ -21,7 +21,7 @@ same-length c = search needs
 returns : tie.Need-returns
 returns c =
     let a = c .before .before .before .before .before .args in
-    ill (above-zero _ (c .if1 .taken)) (set-stop (tableIn (a .mem .now)) (a .h) (c .before .before .by-handle .ensures) (a .mode) (a .uid) (a .gid) (a .atime) (a .mtime) (a .ctime) (c .if1 .taken))
+    ill (above-zero _ (c .if1 .taken)) (set-stop (tableIn (a .mem .now)) (a .who) (a .h) (c .before .before .by-handle .ensures) (a .mode) (a .uid) (a .gid) (a .atime) (a .mtime) (a .ctime) (c .if1 .taken))
 
 rec-at-requires : tie.Need-rec-at-requires
 rec-at-requires c κs = (c .before .before .before .before .before .before .pre, went-has (c .before .before .before .by-handle .ensures) (c .before .if1 .left))
@@ -41,7 +41,7 @@ returns-2 c =
     let t = tableIn (a .mem .now) in
     let i = c .before .before .before .before .before .before .before .before .before .by-handle .result .row in
     let e = c .before .before .before .changed .ensures ∙ ap (λ (w : DiskINode). changed w (a .mode) (a .uid) (a .gid) (a .atime) (a .mtime) (a .ctime)) (c .before .before .before .before .before .rec-at .ensures) in
-    well (set-next t (a .h) (c .before .before .before .before .before .before .before .before .before .by-handle .ensures) (a .mode) (a .uid) (a .gid) (a .atime) (a .mtime) (a .ctime) (c .before .before .before .before .before .before .before .if1 .left) ∙ ap done (sym (c .before .before .set-rec .ensures .table ∙ ap (λ (w : DiskINode). takeRow t i (rowAt t i .id) w true) e))) tt
+    well (set-next t (a .who) (a .h) (c .before .before .before .before .before .before .before .before .before .by-handle .ensures) (a .mode) (a .uid) (a .gid) (a .atime) (a .mtime) (a .ctime) (c .before .before .before .before .before .before .before .if1 .left) ∙ ap done (sym (c .before .before .set-rec .ensures .table ∙ ap (λ (w : DiskINode). takeRow t i (rowAt t i .id) w true) e))) tt
 
 pub set-in-spec : {M : Type 1} → statement M
 set-in-spec =

@@ -27,7 +27,7 @@ settle-requires c κs = search needs
 returns : tie.Need-returns
 returns c =
     let a = c .before .before .before .before .before .before .before .before .before .args in
-    settled (λ (u : Table). callSet (a .arena .now) u (a .h) (a .mode) (a .uid) (a .gid) (a .atime) (a .mtime) (a .ctime)) (c .before .before .before .before .before .before .put-table .ensures .0) (c .before .before .before .set-on .ensures) (c .settle .ensures)
+    settled (λ (u : Table). callSet (a .arena .now) u (a .who) (a .h) (a .mode) (a .uid) (a .gid) (a .atime) (a .mtime) (a .ctime)) (c .before .before .before .before .before .before .put-table .ensures .0) (c .before .before .before .set-on .ensures) (c .settle .ensures)
 
 pub set-metadata-spec : {M : Type 1} → statement M
 set-metadata-spec =

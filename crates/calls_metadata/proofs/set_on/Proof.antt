@@ -17,7 +17,7 @@ same-length c = search needs
 returns : tie.Need-returns
 returns c =
     let a = c .before .before .before .before .before .args in
-    ill (above-zero _ (c .if1 .taken)) (set-refused (a .arena .now) (tableIn (a .mem .now)) (a .h) (a .mode) (a .uid) (a .gid) (a .atime) (a .mtime) (a .ctime) (went-not (c .before .admitted .ensures) (c .if1 .taken)))
+    ill (above-zero _ (c .if1 .taken)) (set-refused (a .arena .now) (tableIn (a .mem .now)) (a .who) (a .h) (a .mode) (a .uid) (a .gid) (a .atime) (a .mtime) (a .ctime) (went-not (c .before .admitted .ensures) (c .if1 .taken)))
 
 set-in-requires : tie.Need-set-in-requires
 set-in-requires c κs = search needs
@@ -28,7 +28,7 @@ same-length-2 c = search needs
 returns-2 : tie.Need-returns-2
 returns-2 c =
     let a = c .before .before .before .before .before .before .before .before .before .args in
-    went-as (set-admitted (a .arena .now) (tableIn (a .mem .now)) (a .h) (a .mode) (a .uid) (a .gid) (a .atime) (a .mtime) (a .ctime) (went-is (c .before .before .before .before .before .admitted .ensures) (c .before .before .before .before .if1 .left))) (c .before .before .set-in .ensures)
+    went-as (set-admitted (a .arena .now) (tableIn (a .mem .now)) (a .who) (a .h) (a .mode) (a .uid) (a .gid) (a .atime) (a .mtime) (a .ctime) (went-is (c .before .before .before .before .before .admitted .ensures) (c .before .before .before .before .if1 .left))) (c .before .before .set-in .ensures)
 
 pub set-on-spec : {M : Type 1} → statement M
 set-on-spec =

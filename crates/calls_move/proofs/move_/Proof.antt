@@ -29,7 +29,7 @@ same-length c = search needs
 returns : tie.Need-returns
 returns c =
     let s = c .before .before .before .before .before .before .before .before .before .before .before .before .before .before in
-    returned-moved (λ u. callMove (s .args .arena .now) u (s .args .h) (s .args .old .now) (s .args .target) (s .args .name .now)) (c .before .before .before .before .before .before .before .before .before .put-table .ensures .0) (c .before .before .before .before .before .move-on .ensures) (c .settle-course .ensures)
+    returned-moved (λ u. callMove (s .args .arena .now) u (s .args .who) (s .args .h) (s .args .old .now) (s .args .target) (s .args .name .now)) (c .before .before .before .before .before .before .before .before .before .put-table .ensures .0) (c .before .before .before .before .before .move-on .ensures) (c .settle-course .ensures)
 
 pub move--spec : {M : Type 1} → statement M
 move--spec =

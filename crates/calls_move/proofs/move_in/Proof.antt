@@ -11,7 +11,7 @@ use Rattle.calls_move.proofs.move_in.Tie as tie
 
 move-planned-requires : tie.Need-move-planned-requires
 move-planned-requires c κs =
-    let s : tie.Start = search needs in
+    let s = c .before .before .before .before .before .before .before .before .before .before in
     let p = s .pre in
     ((record { fine = p .0 .fine; whole = p .1 .plan .whole }, omega (arith, p .0 .room)), p .1)
 
@@ -29,16 +29,16 @@ same-length-4 c = search needs
 
 returns : tie.Need-returns
 returns c =
-    let s : tie.Start = search needs in
-    let move : tie.After-move-planned = search needs in
-    let t1 : tie.Then1 = search needs in
-    ended-not (λ x. planSteps x (s .args .p .way) (s .args .p .row) (s .args .p .other) (s .args .old .now) (s .args .name .now) (entryOf (s .args .slot .now)) (s .args .p .place) (s .args .p .gone) (s .args .p .moved)) _ _ _ (fs-begun _ _ _ 71 (s .pre .0)) (move .move-planned .ensures) (t1 .if1 .taken) refl
+    let s = c .before .before .before .before .before .before .before .before .before .before .before .before .before .before .before .before .before .before in
+    let moveplanned = c .before .before .before .before .before .before .before .move-planned in
+    let yes1 = c .if1 in
+    ended-not (λ x. planSteps x (s .args .p .way) (s .args .p .row) (s .args .p .other) (s .args .old .now) (s .args .name .now) (entryOf (s .args .slot .now)) (s .args .p .place) (s .args .p .gone) (s .args .p .moved)) _ _ _ (fs-begun _ _ _ 71 (s .pre .0)) (moveplanned .ensures) (yes1 .taken) refl
 
 commit-requires : tie.Need-commit-requires
 commit-requires c κs =
-    let move : tie.After-move-planned = search needs in
-    let e1 : tie.Else1 = search needs in
-    went-has (move .move-planned .ensures) (e1 .if1 .left) .fine
+    let moveplanned = c .before .before .before .before .before .before .before .before .before .move-planned in
+    let no1 = c .before .before .if1 in
+    went-has (moveplanned .ensures) (no1 .left) .fine
 
 same-length-5 : tie.Need-same-length-5
 same-length-5 c = search needs
@@ -54,11 +54,11 @@ same-length-8 c = search needs
 
 returns-2 : tie.Need-returns-2
 returns-2 c =
-    let s : tie.Start = search needs in
-    let move : tie.After-move-planned = search needs in
-    let e1 : tie.Else1 = search needs in
-    let commit : tie.After-commit = search needs in
-    ended-done (λ x. planSteps x (s .args .p .way) (s .args .p .row) (s .args .p .other) (s .args .old .now) (s .args .name .now) (entryOf (s .args .slot .now)) (s .args .p .place) (s .args .p .gone) (s .args .p .moved)) _ _ _ _ (fs-begun _ _ _ 71 (s .pre .0)) (move .move-planned .ensures) (e1 .if1 .left) (commit .commit .ensures)
+    let s = c .before .before .before .before .before .before .before .before .before .before .before .before .before .before .before .before .before .before .before .before .before .before .before in
+    let moveplanned = c .before .before .before .before .before .before .before .before .before .before .before .before .move-planned in
+    let no1 = c .before .before .before .before .before .if1 in
+    let commit = c .before .before .commit in
+    ended-done (λ x. planSteps x (s .args .p .way) (s .args .p .row) (s .args .p .other) (s .args .old .now) (s .args .name .now) (entryOf (s .args .slot .now)) (s .args .p .place) (s .args .p .gone) (s .args .p .moved)) _ _ _ _ (fs-begun _ _ _ 71 (s .pre .0)) (moveplanned .ensures) (no1 .left) (commit .ensures)
 
 pub move-in-spec : {M : Type 1} → statement M
 move-in-spec =

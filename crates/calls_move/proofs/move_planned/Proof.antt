@@ -9,7 +9,7 @@ use Rattle.calls_move.proofs.move_planned.Tie as tie
 
 move-slot-requires : tie.Need-move-slot-requires
 move-slot-requires c κs =
-    let s : tie.Start = search needs in
+    let s = c .before .before .before .before .before .before .before .before .before .before .before in
     (s .pre .0 .0, (omega (arith, s .pre .0 .1), (s .pre .1 .plan .source, (s .pre .1 .plan .target, (s .pre .1 .long, tt)))))
 
 same-length : tie.Need-same-length
@@ -23,14 +23,14 @@ same-length-3 c = search needs
 
 returns : tie.Need-returns
 returns c =
-    let s : tie.Start = search needs in
-    let t1 : tie.Then1 = search needs in
-    let move : tie.After-move-slot = search needs in
-    rw (plan-free (fsOf (s .args .arena .now) (s .args .work .now) (s .args .mem .now)) (fsOf (s .args .arena .now) (s .args .work .now) (s .args .mem .now)) (s .args .p .row) (s .args .p .other) (s .args .old .now) (s .args .name .now) (entryOf (s .args .slot .now)) (s .args .p .place) (s .args .p .gone) (s .args .p .moved) (s .args .p .way) (t1 .if1 .taken)) (slot-more (move .move-slot .ensures))
+    let s = c .before .before .before .before .before .before .before .before .before .before .before .before .before .before .before .before .before .before in
+    let yes1 = c .before .before .before .before .before .before .before .before .before .before .if1 in
+    let moveslot = c .before .before .before .before .before .before .move-slot in
+    rw (plan-free (fsOf (s .args .arena .now) (s .args .work .now) (s .args .mem .now)) (fsOf (s .args .arena .now) (s .args .work .now) (s .args .mem .now)) (s .args .p .row) (s .args .p .other) (s .args .old .now) (s .args .name .now) (entryOf (s .args .slot .now)) (s .args .p .place) (s .args .p .gone) (s .args .p .moved) (s .args .p .way) (yes1 .taken)) (slot-more (moveslot .ensures))
 
 move-onto-requires : tie.Need-move-onto-requires
 move-onto-requires c κs =
-    let s : tie.Start = search needs in
+    let s = c .before .before .before .before .before .before .before .before .before .before .before in
     (s .pre .0 .0, (s .pre .0 .1, (s .pre .1 .plan .source, (s .pre .1 .plan .target, (s .pre .1 .plan .moved, (s .pre .1 .plan .gone, (s .pre .1 .short, s .pre .1 .long)))))))
 
 same-length-4 : tie.Need-same-length-4
@@ -44,10 +44,10 @@ same-length-6 c = search needs
 
 returns-2 : tie.Need-returns-2
 returns-2 c =
-    let s : tie.Start = search needs in
-    let e1 : tie.Else1 = search needs in
-    let move : tie.After-move-onto = search needs in
-    rw (plan-onto (fsOf (s .args .arena .now) (s .args .work .now) (s .args .mem .now)) (fsOf (s .args .arena .now) (s .args .work .now) (s .args .mem .now)) (s .args .p .row) (s .args .p .other) (s .args .old .now) (s .args .name .now) (entryOf (s .args .slot .now)) (s .args .p .place) (s .args .p .gone) (s .args .p .moved) (s .args .p .way) (e1 .if1 .left)) (move .move-onto .ensures)
+    let s = c .before .before .before .before .before .before .before .before .before .before .before .before .before .before .before .before .before .before in
+    let no1 = c .before .before .before .before .before .before .before .before .before .before .if1 in
+    let moveto = c .before .before .before .before .before .before .move-onto in
+    rw (plan-onto (fsOf (s .args .arena .now) (s .args .work .now) (s .args .mem .now)) (fsOf (s .args .arena .now) (s .args .work .now) (s .args .mem .now)) (s .args .p .row) (s .args .p .other) (s .args .old .now) (s .args .name .now) (entryOf (s .args .slot .now)) (s .args .p .place) (s .args .p .gone) (s .args .p .moved) (s .args .p .way) (no1 .left)) (moveto .ensures)
 
 pub move-planned-spec : {M : Type 1} → statement M
 move-planned-spec =

@@ -16,8 +16,8 @@ slice-aggregate-move-in c = search needs
 
 move-in-requires : tie.Need-move-in-requires
 move-in-requires c κs =
-    let s : tie.Start = search needs in
-    (started _ _ 71 (s .pre .legal) (omega arith) (omega arith) (let p : tie.After-begin = search needs in p .begin .ensures), s .pre)
+    let s = c .before .before .before .before .before .before .before .before .before .before .before .before in
+    (started _ _ 71 (s .pre .legal) (omega arith) (omega arith) (c .before .before .before .before .before .begin .ensures), s .pre)
 
 same-length : tie.Need-same-length
 same-length c = search needs

@@ -22,9 +22,9 @@ same-length-3 c = search needs
 
 returns : tie.Need-returns
 returns c =
-    let t1 : tie.Then1 = search needs in
-    let decide : tie.After-decide = search needs in
-    moved-refused (t1 .if1 .taken) (rest-not (decide .decide .ensures) (t1 .if1 .taken)) refl
+    let yes1 = c .if1 in
+    let decide = c .before .before .before .before .before .before .decide in
+    moved-refused (yes1 .taken) (rest-not (decide .ensures) (yes1 .taken)) refl
 
 same-length-4 : tie.Need-same-length-4
 same-length-4 c = search needs
@@ -37,16 +37,16 @@ same-length-6 c = search needs
 
 returns-2 : tie.Need-returns-2
 returns-2 c =
-    let decide : tie.After-decide = search needs in
-    let e1 : tie.Else1 = search needs in
-    let t2 : tie.Then2 = search needs in
-    rests (rest-is (decide .decide .ensures) (e1 .if1 .left) ∙ plan-same _ _ _ _ _ _ _ _ _ _ (decide .decide .result .way) (t2 .if2 .taken)) refl
+    let decide = c .before .before .before .before .before .before .before .before .decide in
+    let no1 = c .before .before .if1 in
+    let yes2 = c .if2 in
+    rests (rest-is (decide .ensures) (no1 .left) ∙ plan-same _ _ _ _ _ _ _ _ _ _ (decide .result .way) (yes2 .taken)) refl
 
 move-rows-requires : tie.Need-move-rows-requires
 move-rows-requires c κs =
-    let decide : tie.After-decide = search needs in
-    let e1 : tie.Else1 = search needs in
-    rest-has (decide .decide .ensures) (e1 .if1 .left)
+    let decide = c .before .before .before .before .before .before .before .before .before .before .before .decide in
+    let no1 = c .before .before .before .before .before .if1 in
+    rest-has (decide .ensures) (no1 .left)
 
 as-course-requires : tie.Need-as-course-requires
 as-course-requires c κs = search needs
@@ -62,12 +62,12 @@ same-length-9 c = search needs
 
 returns-3 : tie.Need-returns-3
 returns-3 c =
-    let decide : tie.After-decide = search needs in
-    let e1 : tie.Else1 = search needs in
-    let e2 : tie.Else2 = search needs in
-    let move : tie.After-move-rows = search needs in
-    let ac : tie.After-as-course = search needs in
-    moved-ended (rest-is (decide .decide .ensures) (e1 .if1 .left) ∙ plan-goes _ _ _ _ _ _ _ _ _ _ (decide .decide .result .way) (e2 .if2 .left)) (move .move-rows .ensures) (ac .as-course .ensures)
+    let decide = c .before .before .before .before .before .before .before .before .before .before .before .before .before .before .before .before .before .before .before .decide in
+    let no1 = c .before .before .before .before .before .before .before .before .before .before .before .before .before .if1 in
+    let no2 = c .before .before .before .before .before .before .before .before .before .before .before .if2 in
+    let moverows = c .before .before .before .before .before .before .before .move-rows in
+    let ascourse = c .as-course in
+    moved-ended (rest-is (decide .ensures) (no1 .left) ∙ plan-goes _ _ _ _ _ _ _ _ _ _ (decide .result .way) (no2 .left)) (moverows .ensures) (ascourse .ensures)
 
 pub move-with-spec : {M : Type 1} → statement M
 move-with-spec =

@@ -18,18 +18,18 @@ same-length c = search needs
 
 returns : tie.Need-returns
 returns c =
-    let s : tie.Start = search needs in
-    let id : tie.After-id-at = search needs in
-    let id2 : tie.After-id-at2 = search needs in
-    let t1 : tie.Then1 = search needs in
-    λ name. free-within _ _ (s .args .i) (s .args .j) (s .args .old .now) name _ _ (id .id-at .ensures) (id2 .id-at2 .ensures) (t1 .if1 .taken) (s .pre .1 .0)
+    let s = c .before .before .before .before .before .before .before .before .before .before .before in
+    let idat = c .before .before .before .id-at in
+    let idat2 = c .before .id-at2 in
+    let yes1 = c .if1 in
+    λ name. free-within _ _ (s .args .i) (s .args .j) (s .args .old .now) name _ _ (idat .ensures) (idat2 .ensures) (yes1 .taken) (s .pre .1 .0)
 
 rec-at-requires : tie.Need-rec-at-requires
 rec-at-requires c κs = search needs
 
 find-slot-requires : tie.Need-find-slot-requires
 find-slot-requires c κs =
-    let s : tie.Start = search needs in
+    let s = c .before .before .before .before .before .before .before .before .before .before .before .before .before .before in
     (s .pre .0, s .pre .1 .1 .1 .1)
 
 same-length-2 : tie.Need-same-length-2
@@ -40,14 +40,14 @@ same-length-3 c = search needs
 
 returns-2 : tie.Need-returns-2
 returns-2 c =
-    let s : tie.Start = search needs in
-    let id : tie.After-id-at = search needs in
-    let id2 : tie.After-id-at2 = search needs in
-    let e1 : tie.Else1 = search needs in
-    let rec : tie.After-rec-at = search needs in
-    let find : tie.After-find-slot = search needs in
-    let t2 : tie.Then2 = search needs in
-    λ name. free-missing _ _ (s .args .i) (s .args .j) (s .args .old .now) name _ _ (id .id-at .ensures) (id2 .id-at2 .ensures) (e1 .if1 .left) _ (rec .rec-at .ensures) (find .find-slot .last .1 .1 .1 .1 .1 .0) _ _ (find .find-slot .ensures) (t2 .if2 .taken)
+    let s = c .before .before .before .before .before .before .before .before .before .before .before .before .before .before .before .before .before .before .before in
+    let idat = c .before .before .before .before .before .before .before .before .before .before .before .id-at in
+    let idat2 = c .before .before .before .before .before .before .before .before .before .id-at2 in
+    let no1 = c .before .before .before .before .before .before .before .before .if1 in
+    let recat = c .before .before .before .before .before .before .rec-at in
+    let findslot = c .before .before .before .before .find-slot in
+    let yes2 = c .if2 in
+    λ name. free-missing _ _ (s .args .i) (s .args .j) (s .args .old .now) name _ _ (idat .ensures) (idat2 .ensures) (no1 .left) _ (recat .ensures) (findslot .last .1 .1 .1 .1 .1 .0) _ _ (findslot .ensures) (yes2 .taken)
 
 u32-at-requires : tie.Need-u32-at-requires
 u32-at-requires c κs =
@@ -56,7 +56,7 @@ u32-at-requires c κs =
 
 get-node-requires : tie.Need-get-node-requires
 get-node-requires c κs =
-    let s : tie.Start = search needs in
+    let s = c .before .before .before .before .before .before .before .before .before .before .before .before .before .before .before .before .before .before .before .before .before .before in
     (s .pre .0, s .pre .1 .0)
 
 same-length-4 : tie.Need-same-length-4
@@ -67,24 +67,24 @@ same-length-5 c = search needs
 
 returns-3 : tie.Need-returns-3
 returns-3 c =
-    let s : tie.Start = search needs in
-    let id : tie.After-id-at = search needs in
-    let id2 : tie.After-id-at2 = search needs in
-    let e1 : tie.Else1 = search needs in
-    let rec : tie.After-rec-at = search needs in
-    let find : tie.After-find-slot = search needs in
-    let e2 : tie.Else2 = search needs in
-    let u32 : tie.After-u32-at = search needs in
-    let gn : tie.After-get-node = search needs in
-    let t3 : tie.Then3 = search needs in
-    λ name. free-unopened _ _ (s .args .i) (s .args .j) (s .args .old .now) name _ _ (id .id-at .ensures) (id2 .id-at2 .ensures) (e1 .if1 .left) _ (rec .rec-at .ensures) (find .find-slot .last .1 .1 .1 .1 .1 .0) _ _ (find .find-slot .ensures) (e2 .if2 .left) _ (u32 .u32-at .ensures) (gn .get-node .last .1 .1 .1 .0) _ (gn .get-node .ensures) (t3 .if3 .taken)
+    let s = c .before .before .before .before .before .before .before .before .before .before .before .before .before .before .before .before .before .before .before .before .before .before .before .before .before .before .before in
+    let idat = c .before .before .before .before .before .before .before .before .before .before .before .before .before .before .before .before .before .before .before .id-at in
+    let idat2 = c .before .before .before .before .before .before .before .before .before .before .before .before .before .before .before .before .before .id-at2 in
+    let no1 = c .before .before .before .before .before .before .before .before .before .before .before .before .before .before .before .before .if1 in
+    let recat = c .before .before .before .before .before .before .before .before .before .before .before .before .before .before .rec-at in
+    let findslot = c .before .before .before .before .before .before .before .before .before .before .before .before .find-slot in
+    let no2 = c .before .before .before .before .before .before .before .before .if2 in
+    let u32at = c .before .before .before .before .before .u32-at in
+    let getnode = c .before .before .before .before .get-node in
+    let yes3 = c .if3 in
+    λ name. free-unopened _ _ (s .args .i) (s .args .j) (s .args .old .now) name _ _ (idat .ensures) (idat2 .ensures) (no1 .left) _ (recat .ensures) (findslot .last .1 .1 .1 .1 .1 .0) _ _ (findslot .ensures) (no2 .left) _ (u32at .ensures) (getnode .last .1 .1 .1 .0) _ (getnode .ensures) (yes3 .taken)
 
 not-below-requires : tie.Need-not-below-requires
 not-below-requires c κs =
-    let gn : tie.After-get-node = search needs in
-    let e3 : tie.Else3 = search needs in
-    let s : tie.Start = search needs in
-    let k = went-has (gn .get-node .ensures) (e3 .if3 .left) in
+    let s = c .before .before .before .before .before .before .before .before .before .before .before .before .before .before .before .before .before .before .before .before .before .before .before .before .before .before .before .before in
+    let getnode = c .before .before .before .before .before .get-node in
+    let no3 = c .before .if3 in
+    let k = went-has (getnode .ensures) (no3 .left) in
     (s .pre .0, (k .0, (s .pre .1 .1 .0, (s .pre .1 .1 .1 .0, k .1))))
 
 same-length-6 : tie.Need-same-length-6
@@ -95,18 +95,18 @@ same-length-7 c = search needs
 
 returns-4 : tie.Need-returns-4
 returns-4 c =
-    let s : tie.Start = search needs in
-    let id : tie.After-id-at = search needs in
-    let id2 : tie.After-id-at2 = search needs in
-    let e1 : tie.Else1 = search needs in
-    let rec : tie.After-rec-at = search needs in
-    let find : tie.After-find-slot = search needs in
-    let e2 : tie.Else2 = search needs in
-    let u32 : tie.After-u32-at = search needs in
-    let gn : tie.After-get-node = search needs in
-    let e3 : tie.Else3 = search needs in
-    let not : tie.After-not-below = search needs in
-    λ name. free-below _ _ (s .args .i) (s .args .j) (s .args .old .now) name _ _ (id .id-at .ensures) (id2 .id-at2 .ensures) (e1 .if1 .left) _ (rec .rec-at .ensures) (find .find-slot .last .1 .1 .1 .1 .1 .0) _ _ (find .find-slot .ensures) (e2 .if2 .left) _ (u32 .u32-at .ensures) (gn .get-node .last .1 .1 .1 .0) _ (gn .get-node .ensures) (e3 .if3 .left) (not .not-below .ensures) (went-has (gn .get-node .ensures) (e3 .if3 .left) .0)
+    let s = c .before .before .before .before .before .before .before .before .before .before .before .before .before .before .before .before .before .before .before .before .before .before .before .before .before .before .before .before .before in
+    let idat = c .before .before .before .before .before .before .before .before .before .before .before .before .before .before .before .before .before .before .before .before .before .id-at in
+    let idat2 = c .before .before .before .before .before .before .before .before .before .before .before .before .before .before .before .before .before .before .before .id-at2 in
+    let no1 = c .before .before .before .before .before .before .before .before .before .before .before .before .before .before .before .before .before .before .if1 in
+    let recat = c .before .before .before .before .before .before .before .before .before .before .before .before .before .before .before .before .rec-at in
+    let findslot = c .before .before .before .before .before .before .before .before .before .before .before .before .before .before .find-slot in
+    let no2 = c .before .before .before .before .before .before .before .before .before .before .if2 in
+    let u32at = c .before .before .before .before .before .before .before .u32-at in
+    let getnode = c .before .before .before .before .before .before .get-node in
+    let no3 = c .before .before .if3 in
+    let notbelow = c .not-below in
+    λ name. free-below _ _ (s .args .i) (s .args .j) (s .args .old .now) name _ _ (idat .ensures) (idat2 .ensures) (no1 .left) _ (recat .ensures) (findslot .last .1 .1 .1 .1 .1 .0) _ _ (findslot .ensures) (no2 .left) _ (u32at .ensures) (getnode .last .1 .1 .1 .0) _ (getnode .ensures) (no3 .left) (notbelow .ensures) (went-has (getnode .ensures) (no3 .left) .0)
 
 pub open-moved-spec : {M : Type 1} → statement M
 open-moved-spec =

@@ -22,25 +22,25 @@ same-length-2 c = search needs
 
 returns : tie.Need-returns
 returns c =
-    let s : tie.Start = search needs in
-    let rec : tie.After-rec-at = search needs in
-    let lookup : tie.After-lookup = search needs in
-    let t1 : tie.Then1 = search needs in
-    found-stop (s .args .arena .now) (s .args .mem .now) (s .args .i) (s .args .j) (s .args .old .now) (s .args .name .now) _ (rec .rec-at .ensures) (lookup .lookup .ensures) (t1 .if1 .taken)
+    let s = c .before .before .before .before .before .before .before .before .before .before .before .before .before .before .before in
+    let recat = c .before .before .before .before .before .before .rec-at in
+    let lookup = c .before .before .before .before .lookup in
+    let yes1 = c .if1 in
+    found-stop (s .args .arena .now) (s .args .mem .now) (s .args .i) (s .args .j) (s .args .old .now) (s .args .name .now) _ (recat .ensures) (lookup .ensures) (yes1 .taken)
 
 index-requires : tie.Need-index-requires
 index-requires c κs = search needs
 
 u32-at-requires : tie.Need-u32-at-requires
 u32-at-requires c κs =
-    let s : tie.Start = search needs in
-    omega (arith, (let p : tie.After-lookup = search needs in p .lookup .kept .1 .1 .1 .1 .1 .0) ∙ s .pre .1 .1 .1 .1 .1)
+    let s = c .before .before .before .before .before .before .before .before .before .before .before .before .before .before .before .before .before .before .before in
+    omega (arith, (c .before .before .before .before .before .before .before .before .lookup .kept .1 .1 .1 .1 .1 .0) ∙ s .pre .1 .1 .1 .1 .1)
 
 plan-named-requires : tie.Need-plan-named-requires
 plan-named-requires c κs =
-    let s : tie.Start = search needs in
-    let lookup : tie.After-lookup = search needs in
-    (s .pre .0, (s .pre .1 .0, (s .pre .1 .1 .0, (s .pre .1 .1 .1 .0, lookup .lookup .kept .1 .1 .1 .1 .1 .0 ∙ s .pre .1 .1 .1 .1 .1))))
+    let s = c .before .before .before .before .before .before .before .before .before .before .before .before .before .before .before .before .before .before .before .before .before .before in
+    let lookup = c .before .before .before .before .before .before .before .before .before .before .before .lookup in
+    (s .pre .0, (s .pre .1 .0, (s .pre .1 .1 .0, (s .pre .1 .1 .1 .0, (lookup .kept .1 .1 .1 .1 .1 .0) ∙ s .pre .1 .1 .1 .1 .1))))
 
 same-length-3 : tie.Need-same-length-3
 same-length-3 c = search needs
@@ -50,16 +50,16 @@ same-length-4 c = search needs
 
 returns-2 : tie.Need-returns-2
 returns-2 c =
-    let s : tie.Start = search needs in
-    let b : (let p : tie.After-lookup = search needs in p .lookup .result .place) < (let p : tie.After-rec-at = search needs in p .rec-at .result .blocks) = omega (arith, (let p : tie.Then2 = search needs in p .if2 .taken), (let p : tie.After-index = search needs in p .index .ensures)) in
-    found-there (s .args .arena .now) (s .args .mem .now) (s .args .i) (s .args .j) (s .args .old .now) (s .args .name .now) _ (let p : tie.After-rec-at = search needs in p .rec-at .ensures) (let p : tie.After-lookup = search needs in p .lookup .ensures) (let p : tie.After-lookup = search needs in p .lookup .last .1 .1 .1 .1 .1 .0) _ (let p : tie.Else1 = search needs in p .if1 .left) b (went-has (let p : tie.After-lookup = search needs in p .lookup .ensures) (let p : tie.Else1 = search needs in p .if1 .left) .0 b) (let p : tie.After-u32-at = search needs in p .u32-at .ensures) ((let p : tie.After-plan-named = search needs in p .plan-named .ensures) (s .args .name .now) _)
+    let s = c .before .before .before .before .before .before .before .before .before .before .before .before .before .before .before .before .before .before .before .before .before .before .before .before .before .before .before in
+    let b : (c .before .before .before .before .before .before .before .before .before .before .before .before .before .before .before .before .lookup .result .place) < (c .before .before .before .before .before .before .before .before .before .before .before .before .before .before .before .before .before .before .rec-at .result .blocks) = omega (arith, (c .before .before .before .before .before .before .before .before .before .if2 .taken), (c .before .before .before .before .before .before .before .before .before .before .before .index .ensures)) in
+    found-there (s .args .arena .now) (s .args .mem .now) (s .args .i) (s .args .j) (s .args .old .now) (s .args .name .now) _ (c .before .before .before .before .before .before .before .before .before .before .before .before .before .before .before .before .before .before .rec-at .ensures) (c .before .before .before .before .before .before .before .before .before .before .before .before .before .before .before .before .lookup .ensures) (c .before .before .before .before .before .before .before .before .before .before .before .before .before .before .before .before .lookup .last .1 .1 .1 .1 .1 .0) _ (c .before .before .before .before .before .before .before .before .before .before .before .before .if1 .left) b (went-has (c .before .before .before .before .before .before .before .before .before .before .before .before .before .before .before .before .lookup .ensures) (c .before .before .before .before .before .before .before .before .before .before .before .before .if1 .left) .0 b) (c .before .before .before .before .before .before .before .u32-at .ensures) ((c .before .before .before .before .plan-named .ensures) (s .args .name .now) _)
 
 plan-free-requires : tie.Need-plan-free-requires
 plan-free-requires c κs =
-    let s : tie.Start = search needs in
-    let lookup : tie.After-lookup = search needs in
+    let s = c .before .before .before .before .before .before .before .before .before .before .before .before .before .before .before .before .before .before .before .before in
+    let lookup = c .before .before .before .before .before .before .before .before .before .lookup in
     let p = s .pre in
-    (p .0, (p .1 .0, (p .1 .1 .0, (p .1 .1 .1 .0, (p .1 .1 .1 .1 .0, lookup .lookup .kept .1 .1 .1 .1 .1 .0 ∙ p .1 .1 .1 .1 .1)))))
+    (p .0, (p .1 .0, (p .1 .1 .0, (p .1 .1 .1 .0, (p .1 .1 .1 .1 .0, (lookup .kept .1 .1 .1 .1 .1 .0) ∙ p .1 .1 .1 .1 .1)))))
 
 same-length-5 : tie.Need-same-length-5
 same-length-5 c = search needs
@@ -69,8 +69,8 @@ same-length-6 c = search needs
 
 returns-3 : tie.Need-returns-3
 returns-3 c =
-    let s : tie.Start = search needs in
-    found-free (s .args .arena .now) (s .args .mem .now) (s .args .i) (s .args .j) (s .args .old .now) (s .args .name .now) _ (let p : tie.After-rec-at = search needs in p .rec-at .ensures) (let p : tie.After-lookup = search needs in p .lookup .ensures) (let p : tie.Else1 = search needs in p .if1 .left) (omega (arith, (let p : tie.Else2 = search needs in p .if2 .left), (let p : tie.After-index = search needs in p .index .ensures))) (let p : tie.After-plan-free = search needs in p .plan-free .ensures)
+    let s = c .before .before .before .before .before .before .before .before .before .before .before .before .before .before .before .before .before .before .before .before .before .before .before .before .before in
+    found-free (s .args .arena .now) (s .args .mem .now) (s .args .i) (s .args .j) (s .args .old .now) (s .args .name .now) _ (c .before .before .before .before .before .before .before .before .before .before .before .before .before .before .before .before .rec-at .ensures) (c .before .before .before .before .before .before .before .before .before .before .before .before .before .before .lookup .ensures) (c .before .before .before .before .before .before .before .before .before .before .if1 .left) (omega (arith, (c .before .before .before .before .before .before .before .if2 .left), (c .before .before .before .before .before .before .before .before .before .index .ensures))) (c .before .before .before .before .plan-free .ensures)
 
 pub plan-found-spec : {M : Type 1} → statement M
 plan-found-spec =

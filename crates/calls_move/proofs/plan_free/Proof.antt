@@ -7,7 +7,7 @@ use Rattle.calls_move.proofs.plan_free.Tie as tie
 
 open-moved-requires : tie.Need-open-moved-requires
 open-moved-requires c κs =
-    let s : tie.Start = search needs in
+    let s = c .before .before .before .before .before .before .before .before .before in
     (s .pre .0, (s .pre .1 .0, (s .pre .1 .1 .0, (s .pre .1 .1 .1 .0, s .pre .1 .1 .1 .1 .1))))
 
 same-length : tie.Need-same-length
@@ -18,17 +18,17 @@ same-length-2 c = search needs
 
 returns : tie.Need-returns
 returns c =
-    let t1 : tie.Then1 = search needs in
-    let om : tie.After-open-moved = search needs in
-    let s : tie.Start = search needs in
-    rest-off (t1 .if1 .taken) (rest-not (om .open-moved .ensures (s .args .name .now)) (t1 .if1 .taken))
+    let s = c .before .before .before .before .before .before .before .before .before .before .before .before .before .before .before in
+    let yes1 = c .if1 in
+    let openmoved = c .before .before .before .before .before .open-moved in
+    rest-off (yes1 .taken) (rest-not ((openmoved .ensures) (s .args .name .now)) (yes1 .taken))
 
 plan-slot-requires : tie.Need-plan-slot-requires
 plan-slot-requires c κs =
-    let s : tie.Start = search needs in
-    let om : tie.After-open-moved = search needs in
-    let e1 : tie.Else1 = search needs in
-    (s .pre .0, (rest-has (om .open-moved .ensures (s .args .name .now)) (e1 .if1 .left), (s .pre .1 .1 .0, (s .pre .1 .1 .1 .0, (s .pre .1 .1 .1 .1 .0, om .open-moved .kept .1 .1 .1 .1 .0 ∙ s .pre .1 .1 .1 .1 .1)))))
+    let s = c .before .before .before .before .before .before .before .before .before .before .before .before .before .before .before .before .before in
+    let openmoved = c .before .before .before .before .before .before .before .open-moved in
+    let no1 = c .before .before .if1 in
+    (s .pre .0, (rest-has ((openmoved .ensures) (s .args .name .now)) (no1 .left), (s .pre .1 .1 .0, (s .pre .1 .1 .1 .0, (s .pre .1 .1 .1 .1 .0, (openmoved .kept .1 .1 .1 .1 .0) ∙ s .pre .1 .1 .1 .1 .1)))))
 
 same-length-3 : tie.Need-same-length-3
 same-length-3 c = search needs
@@ -38,11 +38,11 @@ same-length-4 c = search needs
 
 returns-2 : tie.Need-returns-2
 returns-2 c =
-    let om : tie.After-open-moved = search needs in
-    let s : tie.Start = search needs in
-    let e1 : tie.Else1 = search needs in
-    let plan : tie.After-plan-slot = search needs in
-    rest-as (rest-is (om .open-moved .ensures (s .args .name .now)) (e1 .if1 .left)) (λ p. p) (plan .plan-slot .ensures _)
+    let s = c .before .before .before .before .before .before .before .before .before .before .before .before .before .before .before .before .before .before .before .before in
+    let openmoved = c .before .before .before .before .before .before .before .before .before .before .open-moved in
+    let no1 = c .before .before .before .before .before .if1 in
+    let planslot = c .before .before .plan-slot in
+    rest-as (rest-is ((openmoved .ensures) (s .args .name .now)) (no1 .left)) (λ p. p) ((planslot .ensures) _)
 
 pub plan-free-spec : {M : Type 1} → statement M
 plan-free-spec =

@@ -21,7 +21,7 @@ same-length c = search needs
 returns : tie.Need-returns
 returns c =
     let s = c .before .before .before .before .before .before .before .before .before .before .before .before .before in
-    move-not (s .args .arena .now) _ _ (s .args .mem .now) _ (s .args .h) (s .args .target) (s .args .old .now) (s .args .name .now) (admitted (s .pre .0)) (c .before .before .before .before .reach-two-read .ensures) (c .if1 .taken)
+    move-not (s .args .arena .now) _ _ (s .args .mem .now) _ (s .args .who) (s .args .h) (s .args .target) (s .args .old .now) (s .args .name .now) (admitted (s .pre .0)) (c .before .before .before .before .reach-two-read .ensures) (c .if1 .taken)
 
 -- src/lib.rt:406:5
 plan-work-requires : tie.Need-plan-work-requires
@@ -42,7 +42,7 @@ returns-2 : tie.Need-returns-2
 returns-2 c =
     let s = c .before .before .before .before .before .before .before .before .before .before .before .before .before .before .before .before .before .before .before .before in
     let w = c .before .before .before .before .plan-work in
-    move-rows (s .args .arena .now) _ _ (s .args .mem .now) _ (s .args .h) (s .args .target) (s .args .old .now) (s .args .name .now) (admitted (s .pre .0)) (c .before .before .before .before .before .before .before .before .before .before .before .reach-two-read .ensures) (λ z. planned z (fsAt (s .args .arena .now) (w .last .1 .1 .1 .0)) (w .result .way) (w .result .row) (w .result .other) (s .args .old .now) (s .args .name .now) (entryOf (w .last .1 .1 .1 .1 .0)) (w .result .place) (w .result .gone) (w .result .moved)) (c .before .before .before .before .before .before .before .if1 .left) (w .ensures)
+    move-rows (s .args .arena .now) _ _ (s .args .mem .now) _ (s .args .who) (s .args .h) (s .args .target) (s .args .old .now) (s .args .name .now) (admitted (s .pre .0)) (c .before .before .before .before .before .before .before .before .before .before .before .reach-two-read .ensures) (λ z. planned z (fsAt (s .args .arena .now) (w .last .1 .1 .1 .0)) (w .result .way) (w .result .row) (w .result .other) (s .args .old .now) (s .args .name .now) (entryOf (w .last .1 .1 .1 .1 .0)) (w .result .place) (w .result .gone) (w .result .moved)) (c .before .before .before .before .before .before .before .if1 .left) (w .ensures)
 
 pub plan-led-spec : {M : Type 1} → statement M
 plan-led-spec =

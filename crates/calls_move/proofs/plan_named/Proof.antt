@@ -11,7 +11,7 @@ rec-at-requires c κs = search needs
 
 find-slot-requires : tie.Need-find-slot-requires
 find-slot-requires c κs =
-    let s : tie.Start = search needs in
+    let s = c .before .before .before .before .before .before .before .before .before in
     (s .pre .0, s .pre .1 .1 .1 .1)
 
 same-length : tie.Need-same-length
@@ -22,11 +22,11 @@ same-length-2 c = search needs
 
 returns : tie.Need-returns
 returns c =
-    let s : tie.Start = search needs in
-    let find : tie.After-find-slot = search needs in
-    let rec : tie.After-rec-at = search needs in
-    let t1 : tie.Then1 = search needs in
-    λ name e. named-stop (s .args .arena .now) (s .args .mem .now) (s .args .i) (s .args .j) (s .args .old .now) name (find .find-slot .last .1 .1 .1 .1 .1 .0) _ _ _ (rec .rec-at .ensures) (find .find-slot .ensures) (s .args .k) (s .args .new) (t1 .if1 .taken)
+    let s = c .before .before .before .before .before .before .before .before .before .before .before .before .before .before in
+    let findslot = c .before .before .before .before .find-slot in
+    let recat = c .before .before .before .before .before .before .rec-at in
+    let yes1 = c .if1 in
+    λ name e. named-stop (s .args .arena .now) (s .args .mem .now) (s .args .i) (s .args .j) (s .args .old .now) name (findslot .last .1 .1 .1 .1 .1 .0) _ _ _ (recat .ensures) (findslot .ensures) (s .args .k) (s .args .new) (yes1 .taken)
 
 u32-at-requires : tie.Need-u32-at-requires
 u32-at-requires c κs =
@@ -35,7 +35,7 @@ u32-at-requires c κs =
 
 plan-node-requires : tie.Need-plan-node-requires
 plan-node-requires c κs =
-    let s : tie.Start = search needs in
+    let s = c .before .before .before .before .before .before .before .before .before .before .before .before .before .before .before .before .before in
     (s .pre .0, (s .pre .1 .0, (s .pre .1 .1 .0, s .pre .1 .1 .1 .0)))
 
 same-length-3 : tie.Need-same-length-3
@@ -46,13 +46,13 @@ same-length-4 c = search needs
 
 returns-2 : tie.Need-returns-2
 returns-2 c =
-    let s : tie.Start = search needs in
-    let find : tie.After-find-slot = search needs in
-    let rec : tie.After-rec-at = search needs in
-    let u32 : tie.After-u32-at = search needs in
-    let e1 : tie.Else1 = search needs in
-    let plan : tie.After-plan-node = search needs in
-    λ name e. named-next (s .args .arena .now) (s .args .mem .now) (s .args .i) (s .args .j) (s .args .old .now) name (find .find-slot .last .1 .1 .1 .1 .1 .0) _ _ _ (rec .rec-at .ensures) (find .find-slot .ensures) (s .args .k) (s .args .new) _ (u32 .u32-at .ensures) (e1 .if1 .left) (plan .plan-node .ensures (s .args .old .now) name e)
+    let s = c .before .before .before .before .before .before .before .before .before .before .before .before .before .before .before .before .before .before .before .before in
+    let findslot = c .before .before .before .before .before .before .before .before .before .before .find-slot in
+    let recat = c .before .before .before .before .before .before .before .before .before .before .before .before .rec-at in
+    let u32at = c .before .before .before .u32-at in
+    let no1 = c .before .before .before .before .before .before .if1 in
+    let plannode = c .before .before .plan-node in
+    λ name e. named-next (s .args .arena .now) (s .args .mem .now) (s .args .i) (s .args .j) (s .args .old .now) name (findslot .last .1 .1 .1 .1 .1 .0) _ _ _ (recat .ensures) (findslot .ensures) (s .args .k) (s .args .new) _ (u32at .ensures) (no1 .left) ((plannode .ensures) (s .args .old .now) name e)
 
 pub plan-named-spec : {M : Type 1} → statement M
 plan-named-spec =

@@ -30,7 +30,7 @@ same-length-2 : tie.Need-same-length-2
 same-length-2 c = search needs
 
 returns-2 : tie.Need-returns-2
-returns-2 c = read-other (c .before .before .before .before .before .before .before .before .before .before .before .before .before .args .arena .now) (part (c .before .before .before .before .before .before .before .load-super .last .1 .1 .1 .0) 4371 4387) (went-is (c .before .before .before .before .before .before .before .load-super .ensures .0) (c .before .before .before .before .if1 .left)) (ap (λ (b : SuperBlock). isSefs b) (sym (c .before .before .super-block-at .ensures)) ∙ (sym (c .before .is-sefs .ensures) ∙ not-true _ (c .if2 .taken)))
+returns-2 c = read-other (c .before .before .before .before .before .before .before .before .before .before .before .before .before .args .arena .now) (part (c .before .before .before .before .before .before .before .load-super .last .1 .1 .1 .0) 4403 4419) (went-is (c .before .before .before .before .before .before .before .load-super .ensures .0) (c .before .before .before .before .if1 .left)) (ap (λ (b : SuperBlock). isSefs b) (sym (c .before .before .super-block-at .ensures)) ∙ (sym (c .before .is-sefs .ensures) ∙ not-true _ (c .if2 .taken)))
 
 index-requires : tie.Need-index-requires
 index-requires c κs = search needs
@@ -44,7 +44,7 @@ same-length-3 : tie.Need-same-length-3
 same-length-3 c = search needs
 
 returns-3 : tie.Need-returns-3
-returns-3 c = read-maps (c .before .before .before .before .before .before .before .before .before .before .before .before .before .before .before .before .before .before .args .arena .now) (part (c .before .before .before .before .before .before .before .before .before .before .before .before .load-super .last .1 .1 .1 .0) 4371 4387) (went-is (c .before .before .before .before .before .before .before .before .before .before .before .before .load-super .ensures .0) (c .before .before .before .before .before .before .before .before .before .if1 .left)) _ (c .before .before .before .index .result) _ (ap (λ (b : SuperBlock). isSefs b) (sym (c .before .before .before .before .before .before .before .super-block-at .ensures)) ∙ (sym (c .before .before .before .before .before .before .is-sefs .ensures) ∙ not-false _ (c .before .before .before .before .before .if2 .left))) (c .before .before .before .index .ensures ∙ ap (λ (b : SuperBlock). b .groups) (c .before .before .before .before .before .before .before .super-block-at .ensures)) (c .before .before .load-maps .ensures .0)
+returns-3 c = read-maps (c .before .before .before .before .before .before .before .before .before .before .before .before .before .before .before .before .before .before .args .arena .now) (part (c .before .before .before .before .before .before .before .before .before .before .before .before .load-super .last .1 .1 .1 .0) 4403 4419) (went-is (c .before .before .before .before .before .before .before .before .before .before .before .before .load-super .ensures .0) (c .before .before .before .before .before .before .before .before .before .if1 .left)) _ (c .before .before .before .index .result) _ (ap (λ (b : SuperBlock). isSefs b) (sym (c .before .before .before .before .before .before .before .super-block-at .ensures)) ∙ (sym (c .before .before .before .before .before .before .is-sefs .ensures) ∙ not-false _ (c .before .before .before .before .before .if2 .left))) (c .before .before .before .index .ensures ∙ ap (λ (b : SuperBlock). b .groups) (c .before .before .before .before .before .before .before .super-block-at .ensures)) (c .before .before .load-maps .ensures .0)
 
 pub open-read-spec : {M : Type 1} → statement M
 open-read-spec =

@@ -28,8 +28,8 @@ returns c =
     let s = c .before .before .before .before .before .before .before .before .before .before .args in
     let r = c .before .before .read-on .ensures in
     let e = c .before .before .before .before .before .before .put-table .ensures .0 in (
-      r .0 ∙ ap (λ (u : Table). takenOf (callRead (s .arena .now) u (s .h) (s .place) (length (s .out .now)))) e,
-      r .1 ∙ ap (λ (u : Table). laid (s .out .now) (callRead (s .arena .now) u (s .h) (s .place) (length (s .out .now)))) e,
+      r .0 ∙ ap (λ (u : Table). takenOf (callRead (s .arena .now) u (s .who) (s .h) (s .place) (length (s .out .now)))) e,
+      r .1 ∙ ap (λ (u : Table). laid (s .out .now) (callRead (s .arena .now) u (s .who) (s .h) (s .place) (length (s .out .now)))) e,
     )
 
 pub read-spec : {M : Type 1} → statement M

@@ -14,7 +14,7 @@ by-handle-requires c κs = search needs
 returns : tie.Need-returns
 returns c =
     let s = c .before .before .before .before .before .before .before .before in
-    read-refused (s .args .arena .now) (tableIn (s .args .mem .now)) (s .args .h) (admitted (s .pre)) (s .args .place) (length (s .args .out .now)) _ _ (c .before .before .by-handle .ensures) _ (c .if1 .taken)
+    read-refused (s .args .arena .now) (tableIn (s .args .mem .now)) (s .args .who) (s .args .h) (admitted (s .pre)) (s .args .place) (length (s .args .out .now)) _ _ (c .before .before .by-handle .ensures) _ (c .if1 .taken)
 
 rec-at-requires : tie.Need-rec-at-requires
 rec-at-requires c κs = (c .before .before .before .before .before .before .before .before .pre .whole, went-has (c .before .before .by-handle .ensures) (c .if1 .left))
@@ -28,7 +28,7 @@ same-length c = search needs
 returns-2 : tie.Need-returns-2
 returns-2 c =
     let s = c .before .before .before .before .before .before .before .before .before .before .before .before .before in
-    read-goes (s .args .arena .now) (tableIn (s .args .mem .now)) (s .args .h) (admitted (s .pre)) (s .args .place) (length (s .args .out .now)) _ _ (c .before .before .before .before .before .before .before .by-handle .ensures) _ _ _ (c .before .before .before .before .before .if1 .left) (c .before .before .before .before .rec-at .ensures) (c .before .before .read-in .ensures)
+    read-goes (s .args .arena .now) (tableIn (s .args .mem .now)) (s .args .who) (s .args .h) (admitted (s .pre)) (s .args .place) (length (s .args .out .now)) _ _ (c .before .before .before .before .before .before .before .by-handle .ensures) _ _ _ (c .before .before .before .before .before .if1 .left) (c .before .before .before .before .rec-at .ensures) (c .before .before .read-in .ensures)
 
 pub read-led-spec : {M : Type 1} → statement M
 read-led-spec =

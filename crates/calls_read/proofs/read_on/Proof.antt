@@ -19,7 +19,7 @@ admit-requires c κs = (blank, c .before .before .before .before .pre)
 returns : tie.Need-returns
 returns c =
     let s = c .before .before .before .before .before .before .before .args in
-    read-unadmitted (s .arena .now) (tableIn (s .mem .now)) (s .h) (s .place) (length (s .out .now)) (s .out .now) (went-not (c .before .before .admit .ensures) (c .if1 .taken))
+    read-unadmitted (s .arena .now) (tableIn (s .mem .now)) (s .who) (s .h) (s .place) (length (s .out .now)) (s .out .now) (went-not (c .before .before .admit .ensures) (c .if1 .taken))
 
 slice-aggregate-c : tie.Need-slice-aggregate-c
 slice-aggregate-c c = search needs

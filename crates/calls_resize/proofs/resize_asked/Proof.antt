@@ -21,7 +21,7 @@ not-sized-requires c κs = search needs
 returns : tie.Need-returns
 returns c =
     let s = c .before .before .before .before .before .before .before .args in
-    went-reason (c .not-sized .ensures) (end-unadmitted (s .arena .now) (tableIn (s .mem .now)) (s .h) (s .n) _ _ (c .before .if1 .taken) (went-not (c .before .before .before .admit .ensures) (c .before .if1 .taken)))
+    went-reason (c .not-sized .ensures) (end-unadmitted (s .arena .now) (tableIn (s .mem .now)) (s .who) (s .h) (s .n) _ _ (c .before .if1 .taken) (went-not (c .before .before .before .admit .ensures) (c .before .if1 .taken)))
 
 slice-aggregate-c : tie.Need-slice-aggregate-c
 slice-aggregate-c c = search needs

@@ -20,7 +20,7 @@ same-length-2 c = search needs
 returns : tie.Need-returns
 returns c =
     let s = c .before .before .before .before .before .before .before .args in
-    ended-refused (c .if1 .taken) (resize-not (s .arena .now) (tableIn (s .mem .now)) (s .h) (s .n) (went-not (c .before .before .resize-asked .ensures) (c .if1 .taken))) refl
+    ended-refused (c .if1 .taken) (resize-not (s .arena .now) (tableIn (s .mem .now)) (s .who) (s .h) (s .n) (went-not (c .before .before .resize-asked .ensures) (c .if1 .taken))) refl
 
 set-size-requires : tie.Need-set-size-requires
 set-size-requires c κs = (c .before .before .before .before .before .before .before .before .before .pre, went-has (c .before .before .before .before .resize-asked .ensures) (c .before .before .if1 .left))
@@ -34,7 +34,7 @@ same-length-4 c = search needs
 returns-2 : tie.Need-returns-2
 returns-2 c =
     let s = c .before .before .before .before .before .before .before .before .before .before .before .before .before .before .args in
-    resized (s .arena .now) _ (s .mem .now) _ (s .h) (s .n) _ (went-is (c .before .before .before .before .before .before .before .before .before .resize-asked .ensures) (c .before .before .before .before .before .before .before .if1 .left)) (c .before .before .before .before .set-size .ensures)
+    resized (s .arena .now) _ (s .mem .now) _ (s .who) (s .h) (s .n) _ (went-is (c .before .before .before .before .before .before .before .before .before .resize-asked .ensures) (c .before .before .before .before .before .before .before .if1 .left)) (c .before .before .before .before .set-size .ensures)
 
 pub resize-on-spec : {M : Type 1} → statement M
 resize-on-spec =

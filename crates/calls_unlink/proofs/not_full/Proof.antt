@@ -13,31 +13,31 @@ kind-at-requires c κs = search needs
 
 returns : tie.Need-returns
 returns c =
-    let s : tie.Start = search needs in
-    full-type (rowAt (tableIn (s .args .mem .now)) (s .args .i) .rec) (omega (arith, (let p : tie.After-kind-at = search needs in p .kind-at .ensures), (let p : tie.Then1 = search needs in p .if1 .taken)))
+    let s = c .before .before .before in
+    full-type (rowAt (tableIn (s .args .mem .now)) (s .args .i) .rec) (omega (arith, (c .before .kind-at .ensures), (c .if1 .taken)))
 
 returns-2 : tie.Need-returns-2
 returns-2 c =
-    let s : tie.Start = search needs in
-    full-other (rowAt (tableIn (s .args .mem .now)) (s .args .i) .rec) (omega (arith, (let p : tie.After-kind-at = search needs in p .kind-at .ensures), (let p : tie.Else1 = search needs in p .if1 .left))) (λ q. (let p : tie.Then2 = search needs in p .if2 .taken) ((let p : tie.After-kind-at = search needs in p .kind-at .ensures) ∙ q))
+    let s = c .before .before .before .before in
+    full-other (rowAt (tableIn (s .args .mem .now)) (s .args .i) .rec) (omega (arith, (c .before .before .kind-at .ensures), (c .before .if1 .left))) (λ q. (c .if2 .taken) ((c .before .before .kind-at .ensures) ∙ q))
 
 blocks-at-requires : tie.Need-blocks-at-requires
 blocks-at-requires c κs = search needs
 
 returns-3 : tie.Need-returns-3
 returns-3 c =
-    let s : tie.Start = search needs in
-    full-few (rowAt (tableIn (s .args .mem .now)) (s .args .i) .rec) (sym (let p : tie.After-kind-at = search needs in p .kind-at .ensures) ∙ (let p : tie.Else2 = search needs in p .if2 .left)) (omega (arith, (let p : tie.After-blocks-at = search needs in p .blocks-at .ensures), (let p : tie.Then3 = search needs in p .if3 .taken)))
+    let s = c .before .before .before .before .before .before in
+    full-few (rowAt (tableIn (s .args .mem .now)) (s .args .i) .rec) (sym (c .before .before .before .before .kind-at .ensures) ∙ (c .before .before .if2 .left)) (omega (arith, (c .before .blocks-at .ensures), (c .if3 .taken)))
 
 returns-4 : tie.Need-returns-4
 returns-4 c =
-    let s : tie.Start = search needs in
-    full-more (rowAt (tableIn (s .args .mem .now)) (s .args .i) .rec) (sym (let p : tie.After-kind-at = search needs in p .kind-at .ensures) ∙ (let p : tie.Else2 = search needs in p .if2 .left)) (omega (arith, (let p : tie.After-blocks-at = search needs in p .blocks-at .ensures), (let p : tie.Then4 = search needs in p .if4 .taken)))
+    let s = c .before .before .before .before .before .before .before in
+    full-more (rowAt (tableIn (s .args .mem .now)) (s .args .i) .rec) (sym (c .before .before .before .before .before .kind-at .ensures) ∙ (c .before .before .before .if2 .left)) (omega (arith, (c .before .before .blocks-at .ensures), (c .if4 .taken)))
 
 returns-5 : tie.Need-returns-5
 returns-5 c =
-    let s : tie.Start = search needs in
-    full-two (rowAt (tableIn (s .args .mem .now)) (s .args .i) .rec) (sym (let p : tie.After-kind-at = search needs in p .kind-at .ensures) ∙ (let p : tie.Else2 = search needs in p .if2 .left)) (omega (arith, (let p : tie.After-blocks-at = search needs in p .blocks-at .ensures), (let p : tie.Else3 = search needs in p .if3 .left), (let p : tie.Else4 = search needs in p .if4 .left)))
+    let s = c .before .before .before .before .before .before .before in
+    full-two (rowAt (tableIn (s .args .mem .now)) (s .args .i) .rec) (sym (c .before .before .before .before .before .kind-at .ensures) ∙ (c .before .before .before .if2 .left)) (omega (arith, (c .before .before .blocks-at .ensures), (c .before .if3 .left), (c .if4 .left)))
 
 pub not-full-spec : {M : Type 1} → statement M
 not-full-spec =

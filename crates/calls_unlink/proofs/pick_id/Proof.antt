@@ -14,41 +14,41 @@ same-length c = search needs
 
 returns : tie.Need-returns
 returns c =
-    let s : tie.Start = search needs in
-    let gn : tie.After-get-node = search needs in
-    let t1 : tie.Then1 = search needs in
-    id-stop (fsAt (s .args .arena .now) (s .args .mem .now)) (fsAt (s .args .arena .now) (gn .get-node .last .1 .1 .1 .0)) (s .args .i) (s .args .id) (s .args .k) _ _ (gn .get-node .ensures) (t1 .if1 .taken)
+    let s = c .before .before .before .before .before .before .before .before .before .before in
+    let getnode = c .before .before .before .before .get-node in
+    let yes1 = c .if1 in
+    id-stop (fsAt (s .args .arena .now) (s .args .mem .now)) (fsAt (s .args .arena .now) (getnode .last .1 .1 .1 .0)) (s .args .i) (s .args .id) (s .args .k) _ _ (getnode .ensures) (yes1 .taken)
 
 not-full-requires : tie.Need-not-full-requires
 not-full-requires c κs =
-    let gn : tie.After-get-node = search needs in
-    let e1 : tie.Else1 = search needs in
-    went-has (gn .get-node .ensures) (e1 .if1 .left)
+    let getnode = c .before .before .before .before .before .get-node in
+    let no1 = c .before .if1 in
+    went-has (getnode .ensures) (no1 .left)
 
 same-length-2 : tie.Need-same-length-2
 same-length-2 c = search needs
 
 returns-2 : tie.Need-returns-2
 returns-2 c =
-    let s : tie.Start = search needs in
-    let gn : tie.After-get-node = search needs in
-    let e1 : tie.Else1 = search needs in
-    let not : tie.After-not-full = search needs in
-    let t2 : tie.Then2 = search needs in
-    id-full (fsAt (s .args .arena .now) (s .args .mem .now)) (fsAt (s .args .arena .now) (gn .get-node .last .1 .1 .1 .0)) (s .args .i) (s .args .id) (s .args .k) _ _ (gn .get-node .ensures) (e1 .if1 .left) _ (not .not-full .ensures) (t2 .if2 .taken)
+    let s = c .before .before .before .before .before .before .before .before .before .before .before .before .before in
+    let getnode = c .before .before .before .before .before .before .before .get-node in
+    let no1 = c .before .before .before .if1 in
+    let notfull = c .before .not-full in
+    let yes2 = c .if2 in
+    id-full (fsAt (s .args .arena .now) (s .args .mem .now)) (fsAt (s .args .arena .now) (getnode .last .1 .1 .1 .0)) (s .args .i) (s .args .id) (s .args .k) _ _ (getnode .ensures) (no1 .left) _ (notfull .ensures) (yes2 .taken)
 
 same-length-3 : tie.Need-same-length-3
 same-length-3 c = search needs
 
 returns-3 : tie.Need-returns-3
 returns-3 c =
-    let gn : tie.After-get-node = search needs in
-    let e1 : tie.Else1 = search needs in
-    let s : tie.Start = search needs in
-    let not : tie.After-not-full = search needs in
-    let e2 : tie.Else2 = search needs in
-    let p = went-has (gn .get-node .ensures) (e1 .if1 .left) in
-    id-next (fsAt (s .args .arena .now) (s .args .mem .now)) (fsAt (s .args .arena .now) (gn .get-node .last .1 .1 .1 .0)) (s .args .i) (s .args .id) (s .args .k) _ _ (gn .get-node .ensures) (e1 .if1 .left) _ (not .not-full .ensures) (e2 .if2 .left) (p .0, (s .pre .1 .1, p .1))
+    let s = c .before .before .before .before .before .before .before .before .before .before .before .before .before in
+    let getnode = c .before .before .before .before .before .before .before .get-node in
+    let no1 = c .before .before .before .if1 in
+    let notfull = c .before .not-full in
+    let no2 = c .if2 in
+    let p = went-has (getnode .ensures) (no1 .left) in
+    id-next (fsAt (s .args .arena .now) (s .args .mem .now)) (fsAt (s .args .arena .now) (getnode .last .1 .1 .1 .0)) (s .args .i) (s .args .id) (s .args .k) _ _ (getnode .ensures) (no1 .left) _ (notfull .ensures) (no2 .left) (p .0, (s .pre .1 .1, p .1))
 
 pub pick-id-spec : {M : Type 1} → statement M
 pick-id-spec =

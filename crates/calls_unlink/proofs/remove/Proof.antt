@@ -19,8 +19,8 @@ slice-aggregate-remove-in-2 c = search needs
 
 remove-in-requires : tie.Need-remove-in-requires
 remove-in-requires c κs =
-    let s : tie.Start = search needs in
-    (started _ _ 31 (s .pre .0) (omega arith) (omega arith) (let p : tie.After-begin = search needs in p .begin .ensures), (s .pre .1 .0, (s .pre .1 .1 .0, (s .pre .1 .1 .1, search needs))))
+    let s = c .before .before .before .before .before .before .before .before .before in
+    (started _ _ 31 (s .pre .0) (omega arith) (omega arith) (c .before .before .before .before .before .begin .ensures), (s .pre .1 .0, (s .pre .1 .1 .0, (s .pre .1 .1 .1, search needs))))
 
 same-length : tie.Need-same-length
 same-length c = search needs

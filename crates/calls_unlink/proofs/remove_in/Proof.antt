@@ -24,16 +24,16 @@ same-length-4 c = search needs
 
 returns : tie.Need-returns
 returns c =
-    let s : tie.Start = search needs in
-    let remove : tie.After-remove-node = search needs in
-    let t1 : tie.Then1 = search needs in
-    ended-not (λ x. removeNode x (s .args .i) (s .args .c) (s .args .k)) _ _ _ (fs-begun _ _ _ 31 (s .pre .0)) (remove .remove-node .ensures) (t1 .if1 .taken) refl
+    let s = c .before .before .before .before .before .before .before .before .before .before .before .before .before .before .before .before in
+    let removenode = c .before .before .before .before .before .before .before .remove-node in
+    let yes1 = c .if1 in
+    ended-not (λ x. removeNode x (s .args .i) (s .args .c) (s .args .k)) _ _ _ (fs-begun _ _ _ 31 (s .pre .0)) (removenode .ensures) (yes1 .taken) refl
 
 commit-requires : tie.Need-commit-requires
 commit-requires c κs =
-    let remove : tie.After-remove-node = search needs in
-    let e1 : tie.Else1 = search needs in
-    went-has (remove .remove-node .ensures) (e1 .if1 .left) .fine
+    let removenode = c .before .before .before .before .before .before .before .before .before .remove-node in
+    let no1 = c .before .before .if1 in
+    went-has (removenode .ensures) (no1 .left) .fine
 
 same-length-5 : tie.Need-same-length-5
 same-length-5 c = search needs
@@ -49,11 +49,11 @@ same-length-8 c = search needs
 
 returns-2 : tie.Need-returns-2
 returns-2 c =
-    let s : tie.Start = search needs in
-    let remove : tie.After-remove-node = search needs in
-    let e1 : tie.Else1 = search needs in
-    let commit : tie.After-commit = search needs in
-    ended-done (λ x. removeNode x (s .args .i) (s .args .c) (s .args .k)) _ _ _ _ (fs-begun _ _ _ 31 (s .pre .0)) (remove .remove-node .ensures) (e1 .if1 .left) (commit .commit .ensures)
+    let s = c .before .before .before .before .before .before .before .before .before .before .before .before .before .before .before .before .before .before .before .before .before in
+    let removenode = c .before .before .before .before .before .before .before .before .before .before .before .before .remove-node in
+    let no1 = c .before .before .before .before .before .if1 in
+    let commit = c .before .before .commit in
+    ended-done (λ x. removeNode x (s .args .i) (s .args .c) (s .args .k)) _ _ _ _ (fs-begun _ _ _ 31 (s .pre .0)) (removenode .ensures) (no1 .left) (commit .ensures)
 
 pub remove-in-spec : {M : Type 1} → statement M
 remove-in-spec =

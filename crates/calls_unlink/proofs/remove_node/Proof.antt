@@ -8,7 +8,7 @@ use Rattle.calls_unlink.proofs.remove_node.Tie as tie
 
 dirent-node-remove-requires : tie.Need-dirent-node-remove-requires
 dirent-node-remove-requires c κs =
-    let s : tie.Start = search needs in
+    let s = c .before .before .before .before .before .before .before in
     (s .pre .0, (omega (arith, s .pre .1 .0), s .pre .1 .1))
 
 same-length : tie.Need-same-length
@@ -22,14 +22,14 @@ same-length-3 c = search needs
 
 returns : tie.Need-returns
 returns c =
-    let dirent : tie.After-dirent-node-remove = search needs in
-    let t1 : tie.Then1 = search needs in
-    node-stop _ _ _ _ _ _ _ _ _ (dirent .dirent-node-remove .ensures) (t1 .if1 .taken)
+    let direntnoderemove = c .before .before .before .before .before .before .before .dirent-node-remove in
+    let yes1 = c .if1 in
+    node-stop _ _ _ _ _ _ _ _ _ (direntnoderemove .ensures) (yes1 .taken)
 
 sync-row-requires : tie.Need-sync-row-requires
 sync-row-requires c κs =
-    let s : tie.Start = search needs in
-    let k = went-has (let p : tie.After-dirent-node-remove = search needs in p .dirent-node-remove .ensures) (let p : tie.Else1 = search needs in p .if1 .left) in
+    let s = c .before .before .before .before .before .before .before .before .before .before .before .before .before .before .before .before .before in
+    let k = went-has (c .before .before .before .before .before .before .before .before .before .dirent-node-remove .ensures) (c .before .before .if1 .left) in
     (record { fine = k .fine; whole = k .whole }, (omega (arith, k .room, s .pre .1 .0), s .pre .1 .1 .0))
 
 same-length-4 : tie.Need-same-length-4
@@ -43,10 +43,10 @@ same-length-6 c = search needs
 
 returns-2 : tie.Need-returns-2
 returns-2 c =
-    let dirent : tie.After-dirent-node-remove = search needs in
-    let e1 : tie.Else1 = search needs in
-    let sync : tie.After-sync-row = search needs in
-    node-next _ _ _ _ _ _ _ _ _ (dirent .dirent-node-remove .ensures) _ _ _ (e1 .if1 .left) (sync .sync-row .ensures)
+    let direntnoderemove = c .before .before .before .before .before .before .before .before .before .before .before .before .before .before .dirent-node-remove in
+    let no1 = c .before .before .before .before .before .before .before .if1 in
+    let syncrow = c .before .before .before .before .sync-row in
+    node-next _ _ _ _ _ _ _ _ _ (direntnoderemove .ensures) _ _ _ (no1 .left) (syncrow .ensures)
 
 pub remove-node-spec : {M : Type 1} → statement M
 remove-node-spec =

@@ -15,7 +15,7 @@ same-length c = search needs
 returns : tie.Need-returns
 returns c =
     let s = c .before .before .before .before .before .before .before .before .before .before .before in
-    unlink-not (s .args .arena .now) _ _ (s .args .mem .now) _ (s .args .h) (s .args .name .now) (admitted (s .pre)) (c .before .before .before .before .reach-read .ensures) (c .if1 .taken)
+    unlink-not (s .args .arena .now) _ _ (s .args .mem .now) _ (s .args .who) (s .args .h) (s .args .name .now) (admitted (s .pre)) (c .before .before .before .before .reach-read .ensures) (c .if1 .taken)
 
 pick-in-requires : tie.Need-pick-in-requires
 pick-in-requires c κs =
@@ -28,7 +28,7 @@ same-length-2 c = search needs
 returns-2 : tie.Need-returns-2
 returns-2 c =
     let s = c .before .before .before .before .before .before .before .before .before .before .before .before .before .before .before in
-    unlink-row (s .args .arena .now) _ _ (s .args .mem .now) _ (s .args .h) (s .args .name .now) (admitted (s .pre)) (c .before .before .before .before .before .before .before .before .reach-read .ensures) (c .before .before .before .before .if1 .left) (c .before .before .pick-in .ensures)
+    unlink-row (s .args .arena .now) _ _ (s .args .mem .now) _ (s .args .who) (s .args .h) (s .args .name .now) (admitted (s .pre)) (c .before .before .before .before .before .before .before .before .reach-read .ensures) (c .before .before .before .before .if1 .left) (c .before .before .pick-in .ensures)
 
 pub unlink-led-spec : {M : Type 1} → statement M
 unlink-led-spec =

@@ -21,7 +21,7 @@ not-sized-requires c κs = search needs
 returns : tie.Need-returns
 returns c =
     let s = c .before .before .before .before .before .before .before .before in
-    λ src size. rest-reason (c .not-sized .ensures) (write-unadmitted (s .args .arena .now) (tableIn (s .args .mem .now)) (s .args .h) (s .args .place) (s .args .n) (went-not (c .before .before .before .admit .ensures) (c .before .if1 .taken)) (c .before .if1 .taken) _ _ src)
+    λ src size. rest-reason (c .not-sized .ensures) (write-unadmitted (s .args .arena .now) (tableIn (s .args .mem .now)) (s .args .who) (s .args .h) (s .args .place) (s .args .n) (went-not (c .before .before .before .admit .ensures) (c .before .if1 .taken)) (c .before .if1 .taken) _ _ src)
 
 slice-aggregate-c : tie.Need-slice-aggregate-c
 slice-aggregate-c c = search needs

@@ -16,7 +16,7 @@ reach-file-requires c κs = search needs
 returns : tie.Need-returns
 returns c =
     let s = c .before .before .before .before .before .before .before .before in
-    λ src size. write-off (s .args .arena .now) (tableIn (s .args .mem .now)) (s .args .h) (s .args .place) (s .args .n) (c .before .before .reach-file .ensures) (c .if1 .taken) _ _ src size
+    λ src size. write-off (s .args .arena .now) (tableIn (s .args .mem .now)) (s .args .who) (s .args .h) (s .args .place) (s .args .n) (c .before .before .reach-file .ensures) (c .if1 .taken) _ _ src size
 
 rec-at-requires : tie.Need-rec-at-requires
 rec-at-requires c κs = (c .before .before .before .before .before .before .before .before .pre .0 .whole, went-has (c .before .before .reach-file .ensures) (c .if1 .left) .row)
@@ -36,7 +36,7 @@ same-length c = search needs
 returns-2 : tie.Need-returns-2
 returns-2 c =
     let s = c .before .before .before .before .before .before .before .before .before .before .before .before .before .before .before in
-    λ src size. rest-reason (c .not-sized .ensures) (write-full (s .args .arena .now) (tableIn (s .args .mem .now)) (s .args .h) (s .args .place) (s .args .n) (c .before .before .before .before .before .before .before .before .before .reach-file .ensures) _ (c .before .before .before .before .before .before .rec-at .ensures) (c .before .before .before .before .decide .ensures) (c .before .before .before .before .before .before .before .if1 .left) (c .before .if2 .taken) _ _ src size)
+    λ src size. rest-reason (c .not-sized .ensures) (write-full (s .args .arena .now) (tableIn (s .args .mem .now)) (s .args .who) (s .args .h) (s .args .place) (s .args .n) (c .before .before .before .before .before .before .before .before .before .reach-file .ensures) _ (c .before .before .before .before .before .before .rec-at .ensures) (c .before .before .before .before .decide .ensures) (c .before .before .before .before .before .before .before .if1 .left) (c .before .if2 .taken) _ _ src size)
 
 same-length-2 : tie.Need-same-length-2
 same-length-2 c = search needs
@@ -44,7 +44,7 @@ same-length-2 c = search needs
 returns-3 : tie.Need-returns-3
 returns-3 c =
     let s = c .before .before .before .before .before .before .before .before .before .before .before .before .before .before in
-    λ src size. rest-reason (c .before .before .before .before .before .before .if1 .left) (write-on (s .args .arena .now) (tableIn (s .args .mem .now)) (s .args .h) (s .args .place) (s .args .n) (c .before .before .before .before .before .before .before .before .reach-file .ensures) _ (c .before .before .before .before .before .rec-at .ensures) (c .before .before .before .decide .ensures) (c .before .before .before .before .before .before .if1 .left) (c .if2 .left) src size)
+    λ src size. rest-reason (c .before .before .before .before .before .before .if1 .left) (write-on (s .args .arena .now) (tableIn (s .args .mem .now)) (s .args .who) (s .args .h) (s .args .place) (s .args .n) (c .before .before .before .before .before .before .before .before .reach-file .ensures) _ (c .before .before .before .before .before .rec-at .ensures) (c .before .before .before .decide .ensures) (c .before .before .before .before .before .before .if1 .left) (c .if2 .left) src size)
 
 pub write-led-spec : {M : Type 1} → statement M
 write-led-spec =

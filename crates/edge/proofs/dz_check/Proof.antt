@@ -9,16 +9,16 @@ use Rattle.edge.proofs.dz_check.Tie as tie
 
 returns : tie.Need-returns
 returns c =
-    let s : tie.Start = search needs in
-    let t1 : tie.Then1 = search needs in
-    counts-not (sized-not 4370 (s .args .table .now) _ (t1 .if1 .taken))
+    let s = c .before .before .before .before in
+    let yes1 = c .if1 in
+    counts-not (sized-not 4402 (s .args .table .now) _ (yes1 .taken))
 
 returns-2 : tie.Need-returns-2
 returns-2 c =
-    let s : tie.Start = search needs in
-    let e1 : tie.Else1 = search needs in
-    let t2 : tie.Then2 = search needs in
-    counts-not (sized-is 4370 (s .args .table .now) _ (e1 .if1 .left) ∙ sized-not 3 (s .args .out .now) _ (t2 .if2 .taken))
+    let s = c .before .before .before .before .before in
+    let no1 = c .before .if1 in
+    let yes2 = c .if2 in
+    counts-not (sized-is 4402 (s .args .table .now) _ (no1 .left) ∙ sized-not 3 (s .args .out .now) _ (yes2 .taken))
 
 slice-aggregate-begin : tie.Need-slice-aggregate-begin
 slice-aggregate-begin c = search needs
@@ -31,8 +31,8 @@ slice-aggregate-check-on c = search needs
 
 check-on-requires : tie.Need-check-on-requires
 check-on-requires c κs =
-    let b : tie.After-begin = search needs in
-    b .begin .ensures .1
+    let bbegin = c .before .before .begin in
+    (bbegin .ensures .1)
 
 end-verdict-requires : tie.Need-end-verdict-requires
 end-verdict-requires c κs = search needs
@@ -42,13 +42,13 @@ same-length c = search needs
 
 returns-3 : tie.Need-returns-3
 returns-3 c =
-    let s : tie.Start = search needs in
-    let e1 : tie.Else1 = search needs in
-    let e2 : tie.Else2 = search needs in
-    let b : tie.After-begin = search needs in
-    let check : tie.After-check-on = search needs in
-    let end : tie.After-end-verdict = search needs in
-    counts (sized-is 4370 (s .args .table .now) _ (e1 .if1 .left) ∙ sized-is 3 (s .args .out .now) _ (e2 .if2 .left) ∙ (λ x. counted (((λ y. verdictOf (s .args .arena .now) (sym (b .begin .ensures .0) y)) ∙ sym (check .check-on .ensures)) x))) (end .end-verdict .ensures)
+    let s = c .before .before .before .before .before .before .before .before .before .before .before .before .before .before .before in
+    let no1 = c .before .before .before .before .before .before .before .before .before .before .before .if1 in
+    let no2 = c .before .before .before .before .before .before .before .before .before .before .if2 in
+    let bbegin = c .before .before .before .before .before .before .before .before .begin in
+    let check = c .before .before .before .before .before .check-on in
+    let endverdict = c .before .before .end-verdict in
+    counts (sized-is 4402 (s .args .table .now) _ (no1 .left) ∙ sized-is 3 (s .args .out .now) _ (no2 .left) ∙ (λ x. counted (((λ y. verdictOf (s .args .arena .now) (sym (bbegin .ensures .0) y)) ∙ sym (check .ensures)) x))) (endverdict .ensures)
 
 pub dz-check-spec : {M : Type 1} → statement M
 dz-check-spec =

@@ -8,24 +8,24 @@ use Rattle.edge.proofs.dz_create.Tie as tie
 
 returns : tie.Need-returns
 returns c =
-    let s : tie.Start = search needs in
-    let t1 : tie.Then1 = search needs in
-    makes-not (sized-not 4370 (s .args .table .now) _ (t1 .if1 .taken))
+    let s = c .before .before .before .before .before .before in
+    let yes1 = c .if1 in
+    makes-not (sized-not 4402 (s .args .table .now) _ (yes1 .taken))
 
 returns-2 : tie.Need-returns-2
 returns-2 c =
-    let s : tie.Start = search needs in
-    let e1 : tie.Else1 = search needs in
-    let t2 : tie.Then2 = search needs in
-    makes-not (sized-is 4370 (s .args .table .now) _ (e1 .if1 .left) ∙ sized-not 16 (s .args .file .now) _ (t2 .if2 .taken))
+    let s = c .before .before .before .before .before .before .before in
+    let no1 = c .before .if1 in
+    let yes2 = c .if2 in
+    makes-not (sized-is 4402 (s .args .table .now) _ (no1 .left) ∙ sized-not 16 (s .args .file .now) _ (yes2 .taken))
 
 returns-3 : tie.Need-returns-3
 returns-3 c =
-    let s : tie.Start = search needs in
-    let e1 : tie.Else1 = search needs in
-    let e2 : tie.Else2 = search needs in
-    let t3 : tie.Then3 = search needs in
-    makes-not (sized-is 4370 (s .args .table .now) _ (e1 .if1 .left) ∙ sized-is 16 (s .args .file .now) _ (e2 .if2 .left) ∙ sized-not 2 (s .args .out .now) _ (t3 .if3 .taken))
+    let s = c .before .before .before .before .before .before .before .before in
+    let no1 = c .before .before .if1 in
+    let no2 = c .before .if2 in
+    let yes3 = c .if3 in
+    makes-not (sized-is 4402 (s .args .table .now) _ (no1 .left) ∙ sized-is 16 (s .args .file .now) _ (no2 .left) ∙ sized-not 2 (s .args .out .now) _ (yes3 .taken))
 
 time-requires : tie.Need-time-requires
 time-requires c κs = search needs
@@ -50,19 +50,19 @@ handle-requires c κs = search needs
 
 create-on-requires : tie.Need-create-on-requires
 create-on-requires c κs =
-    let b : tie.After-begin = search needs in
-    b .begin .ensures .1
+    let bbegin = c .before .before .before .before .begin in
+    (bbegin .ensures .1)
 
 slice-aggregate-end-held : tie.Need-slice-aggregate-end-held
 slice-aggregate-end-held c = search needs
 
 end-held-requires : tie.Need-end-held-requires
 end-held-requires c κs =
-    let e1 : tie.Else1 = search needs in
-    let e3 : tie.Else3 = search needs in
-    let create : tie.After-create-on = search needs in
-    let b : tie.After-begin = search needs in
-    (e1 .if1 .left, (e3 .if3 .left, create .create-on .kept .1 .0 ∙ b .begin .ensures .1 .size))
+    let no1 = c .before .before .before .before .before .before .before .before .before .before .before .before .before .before .before .before .before .before .before .if1 in
+    let no3 = c .before .before .before .before .before .before .before .before .before .before .before .before .before .before .before .before .before .if3 in
+    let create = c .before .before .before .before .before .before .create-on in
+    let bbegin = c .before .before .before .before .before .before .before .before .before .before .before .begin in
+    ((no1 .left), ((no3 .left), (create .kept .1 .0) ∙ (bbegin .ensures .1 .size)))
 
 same-length : tie.Need-same-length
 same-length c = search needs
@@ -75,19 +75,19 @@ same-length-3 c = search needs
 
 returns-4 : tie.Need-returns-4
 returns-4 c =
-    let new : tie.After-new-node = search needs in
-    let s : tie.Start = search needs in
-    let time : tie.After-time = search needs in
-    let file : tie.After-file-of = search needs in
-    let e1 : tie.Else1 = search needs in
-    let e2 : tie.Else2 = search needs in
-    let e3 : tie.Else3 = search needs in
-    let b : tie.After-begin = search needs in
-    let handle : tie.After-handle = search needs in
-    let create : tie.After-create-on = search needs in
-    let end : tie.After-end-held = search needs in
-    let new = new-is (new .new-node .ensures) (time-is (s .fits .sec) (s .fits .nsec) (time .time .ensures)) (file .file-of .ensures) in
-    makes (sized-is 4370 (s .args .table .now) _ (e1 .if1 .left) ∙ sized-is 16 (s .args .file .now) _ (e2 .if2 .left) ∙ sized-is 2 (s .args .out .now) _ (e3 .if3 .left) ∙ (λ x. callCreate (s .args .arena .now) (sym (b .begin .ensures .0) x) (sym (handle .handle .ensures) x) (s .args .name .now) (sym new x .kind) (sym new x .mode) (sym new x .time) (sym new x .file))) (create .create-on .ensures) (end .end-held .ensures .0) (end .end-held .ensures .1)
+    let s = c .before .before .before .before .before .before .before .before .before .before .before .before .before .before .before .before .before .before .before .before .before .before .before .before .before .before .before .before .before .before in
+    let newnode = c .before .before .before .before .before .before .before .before .before .before .before .before .before .before .before .before .before .before .before .new-node in
+    let time = c .before .before .before .before .before .before .before .before .before .before .before .before .before .before .before .before .before .before .before .before .before .time in
+    let fileof = c .before .before .before .before .before .before .before .before .before .before .before .before .before .before .before .before .before .before .before .before .file-of in
+    let no1 = c .before .before .before .before .before .before .before .before .before .before .before .before .before .before .before .before .before .before .before .before .before .before .before .before .if1 in
+    let no2 = c .before .before .before .before .before .before .before .before .before .before .before .before .before .before .before .before .before .before .before .before .before .before .before .if2 in
+    let no3 = c .before .before .before .before .before .before .before .before .before .before .before .before .before .before .before .before .before .before .before .before .before .before .if3 in
+    let bbegin = c .before .before .before .before .before .before .before .before .before .before .before .before .before .before .before .before .begin in
+    let handle = c .before .before .before .before .before .before .before .before .before .before .before .before .handle in
+    let create = c .before .before .before .before .before .before .before .before .before .before .before .create-on in
+    let endheld = c .before .before .before .before .end-held in
+    let new = new-is (newnode .ensures) (time-is (s .fits .sec) (s .fits .nsec) (time .ensures)) (fileof .ensures) in
+    makes (sized-is 4402 (s .args .table .now) _ (no1 .left) ∙ sized-is 16 (s .args .file .now) _ (no2 .left) ∙ sized-is 2 (s .args .out .now) _ (no3 .left) ∙ (λ x. callCreate (s .args .arena .now) (sym (bbegin .ensures .0) x) (s .args .owner) (sym (handle .ensures) x) (s .args .name .now) (sym new x .kind) (sym new x .mode) (sym new x .time) (sym new x .file))) (create .ensures) (endheld .ensures .0) (endheld .ensures .1)
 
 pub dz-create-spec : {M : Type 1} → statement M
 dz-create-spec =

@@ -9,16 +9,16 @@ use Rattle.edge.proofs.dz_format.Tie as tie
 
 returns : tie.Need-returns
 returns c =
-    let s : tie.Start = search needs in
-    let t1 : tie.Then1 = search needs in
-    leaves-not (sized-not 4370 (s .args .table .now) _ (t1 .if1 .taken))
+    let s = c .before .before .before .before in
+    let yes1 = c .if1 in
+    leaves-not (sized-not 4402 (s .args .table .now) _ (yes1 .taken))
 
 returns-2 : tie.Need-returns-2
 returns-2 c =
-    let s : tie.Start = search needs in
-    let e1 : tie.Else1 = search needs in
-    let t2 : tie.Then2 = search needs in
-    leaves-not (sized-is 4370 (s .args .table .now) _ (e1 .if1 .left) ∙ sized-not 16 (s .args .file .now) _ (t2 .if2 .taken))
+    let s = c .before .before .before .before .before in
+    let no1 = c .before .if1 in
+    let yes2 = c .if2 in
+    leaves-not (sized-is 4402 (s .args .table .now) _ (no1 .left) ∙ sized-not 16 (s .args .file .now) _ (yes2 .taken))
 
 time-requires : tie.Need-time-requires
 time-requires c κs = search needs
@@ -40,14 +40,14 @@ same-length-2 c = search needs
 
 returns-3 : tie.Need-returns-3
 returns-3 c =
-    let s : tie.Start = search needs in
-    let e1 : tie.Else1 = search needs in
-    let e2 : tie.Else2 = search needs in
-    let time : tie.After-time = search needs in
-    let file : tie.After-file-of = search needs in
-    let format : tie.After-format-on = search needs in
-    let end : tie.After-end-fresh = search needs in
-    leaves (sized-is 4370 (s .args .table .now) _ (e1 .if1 .left) ∙ sized-is 16 (s .args .file .now) _ (e2 .if2 .left) ∙ (λ x. formatted (callFormat (s .args .arena .now) (sym (time-is (s .fits .sec) (s .fits .nsec) (time .time .ensures)) x) (sym (file .file-of .ensures) x)))) (format .format-on .ensures) (end .end-fresh .ensures)
+    let s = c .before .before .before .before .before .before .before .before .before .before .before .before .before .before .before in
+    let no1 = c .before .before .before .before .before .before .before .before .before .before .before .if1 in
+    let no2 = c .before .before .before .before .before .before .before .before .before .before .if2 in
+    let time = c .before .before .before .before .before .before .before .before .time in
+    let fileof = c .before .before .before .before .before .before .before .file-of in
+    let format = c .before .before .before .before .before .before .format-on in
+    let endfresh = c .before .before .end-fresh in
+    leaves (sized-is 4402 (s .args .table .now) _ (no1 .left) ∙ sized-is 16 (s .args .file .now) _ (no2 .left) ∙ (λ x. formatted (callFormat (s .args .arena .now) (sym (time-is (s .fits .sec) (s .fits .nsec) (time .ensures)) x) (sym (fileof .ensures) x)))) (format .ensures) (endfresh .ensures)
 
 pub dz-format-spec : {M : Type 1} → statement M
 dz-format-spec =

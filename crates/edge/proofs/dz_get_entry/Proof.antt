@@ -9,9 +9,9 @@ use Rattle.edge.proofs.dz_get_entry.Tie as tie
 
 returns : tie.Need-returns
 returns c =
-    let s : tie.Start = search needs in
-    let t1 : tie.Then1 = search needs in
-    shows-not (sized-not 4370 (s .args .table .now) _ (t1 .if1 .taken))
+    let s = c .before .before .before .before in
+    let yes1 = c .if1 in
+    shows-not (sized-not 4402 (s .args .table .now) _ (yes1 .taken))
 
 slice-aggregate-begin : tie.Need-slice-aggregate-begin
 slice-aggregate-begin c = search needs
@@ -27,8 +27,8 @@ handle-requires c κs = search needs
 
 entry-on-requires : tie.Need-entry-on-requires
 entry-on-requires c κs =
-    let b : tie.After-begin = search needs in
-    b .begin .ensures .1
+    let bbegin = c .before .before .before .before .begin in
+    (bbegin .ensures .1)
 
 number-requires : tie.Need-number-requires
 number-requires c κs = search needs
@@ -38,13 +38,13 @@ same-length c = search needs
 
 returns-2 : tie.Need-returns-2
 returns-2 c =
-    let s : tie.Start = search needs in
-    let e1 : tie.Else1 = search needs in
-    let b : tie.After-begin = search needs in
-    let handle : tie.After-handle = search needs in
-    let entry : tie.After-entry-on = search needs in
-    let number : tie.After-number = search needs in
-    shows (sized-is 4370 (s .args .table .now) _ (e1 .if1 .left) ∙ (λ x. callEntry (s .args .arena .now) (sym (b .begin .ensures .0) x) (sym (handle .handle .ensures) x) (s .args .slot) (length (s .args .out .now)))) (entry .entry-on .ensures) (number .number .ensures)
+    let s = c .before .before .before .before .before .before .before .before .before .before .before .before .before .before in
+    let no1 = c .before .before .before .before .before .before .before .before .before .before .if1 in
+    let bbegin = c .before .before .before .before .before .before .before .before .begin in
+    let handle = c .before .before .before .before .before .handle in
+    let entry = c .before .before .before .entry-on in
+    let number = c .number in
+    shows (sized-is 4402 (s .args .table .now) _ (no1 .left) ∙ (λ x. callEntry (s .args .arena .now) (sym (bbegin .ensures .0) x) (s .args .owner) (sym (handle .ensures) x) (s .args .slot) (length (s .args .out .now)))) (entry .ensures) (number .ensures)
 
 pub dz-get-entry-spec : {M : Type 1} → statement M
 dz-get-entry-spec =

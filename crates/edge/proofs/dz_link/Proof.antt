@@ -8,9 +8,9 @@ use Rattle.edge.proofs.dz_link.Tie as tie
 
 returns : tie.Need-returns
 returns c =
-    let s : tie.Start = search needs in
-    let t1 : tie.Then1 = search needs in
-    leaves-not (sized-not 4370 (s .args .table .now) _ (t1 .if1 .taken))
+    let s = c .before .before .before .before in
+    let yes1 = c .if1 in
+    leaves-not (sized-not 4402 (s .args .table .now) _ (yes1 .taken))
 
 handle-requires : tie.Need-handle-requires
 handle-requires c κs = search needs
@@ -29,8 +29,8 @@ handle-requires-2 c κs = search needs
 
 link-on-requires : tie.Need-link-on-requires
 link-on-requires c κs =
-    let b : tie.After-begin = search needs in
-    b .begin .ensures .1
+    let bbegin = c .before .before .before .before .begin in
+    (bbegin .ensures .1)
 
 slice-aggregate-end-after : tie.Need-slice-aggregate-end-after
 slice-aggregate-end-after c = search needs
@@ -46,14 +46,14 @@ same-length-2 c = search needs
 
 returns-2 : tie.Need-returns-2
 returns-2 c =
-    let s : tie.Start = search needs in
-    let e1 : tie.Else1 = search needs in
-    let b : tie.After-begin = search needs in
-    let handle2 : tie.After-handle2 = search needs in
-    let handle : tie.After-handle = search needs in
-    let link : tie.After-link-on = search needs in
-    let end : tie.After-end-after = search needs in
-    leaves (sized-is 4370 (s .args .table .now) _ (e1 .if1 .left) ∙ (λ x. callLink (s .args .arena .now) (sym (b .begin .ensures .0) x) (sym (handle2 .handle2 .ensures) x) (s .args .name .now) (sym (handle .handle .ensures) x))) (link .link-on .ensures) (end .end-after .ensures)
+    let s = c .before .before .before .before .before .before .before .before .before .before .before .before .before .before .before .before .before .before .before .before .before in
+    let no1 = c .before .before .before .before .before .before .before .before .before .before .before .before .before .before .before .before .before .if1 in
+    let bbegin = c .before .before .before .before .before .before .before .before .before .before .before .before .before .begin in
+    let handle2 = c .before .before .before .before .before .before .before .before .before .handle2 in
+    let handle = c .before .before .before .before .before .before .before .before .before .before .before .before .before .before .before .before .handle in
+    let link = c .before .before .before .before .before .before .before .before .link-on in
+    let endafter = c .before .before .end-after in
+    leaves (sized-is 4402 (s .args .table .now) _ (no1 .left) ∙ (λ x. callLink (s .args .arena .now) (sym (bbegin .ensures .0) x) (s .args .owner) (sym (handle2 .ensures) x) (s .args .name .now) (sym (handle .ensures) x))) (link .ensures) (endafter .ensures)
 
 pub dz-link-spec : {M : Type 1} → statement M
 dz-link-spec =

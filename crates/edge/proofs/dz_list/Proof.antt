@@ -9,16 +9,16 @@ use Rattle.edge.proofs.dz_list.Tie as tie
 
 returns : tie.Need-returns
 returns c =
-    let s : tie.Start = search needs in
-    let t1 : tie.Then1 = search needs in
-    lists-not (sized-not 4370 (s .args .table .now) _ (t1 .if1 .taken))
+    let s = c .before .before .before .before .before in
+    let yes1 = c .if1 in
+    lists-not (sized-not 4402 (s .args .table .now) _ (yes1 .taken))
 
 returns-2 : tie.Need-returns-2
 returns-2 c =
-    let s : tie.Start = search needs in
-    let e1 : tie.Else1 = search needs in
-    let t2 : tie.Then2 = search needs in
-    lists-not (sized-is 4370 (s .args .table .now) _ (e1 .if1 .left) ∙ sized-not 1 (s .args .next .now) _ (t2 .if2 .taken))
+    let s = c .before .before .before .before .before .before in
+    let no1 = c .before .if1 in
+    let yes2 = c .if2 in
+    lists-not (sized-is 4402 (s .args .table .now) _ (no1 .left) ∙ sized-not 1 (s .args .next .now) _ (yes2 .taken))
 
 slice-read-from : tie.Need-slice-read-from
 slice-read-from c = search needs
@@ -37,20 +37,20 @@ handle-requires c κs = search needs
 
 listing-on-requires : tie.Need-listing-on-requires
 listing-on-requires c κs =
-    let b : tie.After-begin = search needs in
-    b .begin .ensures .1
+    let bbegin = c .before .before .before .before .begin in
+    (bbegin .ensures .1)
 
 end-listed-requires : tie.Need-end-listed-requires
 end-listed-requires c κs =
-    let e2 : tie.Else2 = search needs in
-    let s : tie.Start = search needs in
-    let b : tie.After-begin = search needs in
-    let handle : tie.After-handle = search needs in
-    let listing : tie.After-listing-on = search needs in
-    let shared : tie.After-shared-slice-known2 = search needs in
-    let e1 : tie.Else1 = search needs in
-    let slice : tie.After-slice-known = search needs in
-    (e2 .if2 .left, listed-room (s .args .arena .now) (s .args .table .now) (b .begin .last .0) (handle .handle .result) (getD (s .args .next .now) 0 0) (length (s .args .out .now)) (listing .listing-on .result) (λ j. shared .shared-slice-known2 .given j .fits) (e1 .if1 .left) (b .begin .ensures .0) (slice .slice-known .given 0 .fits) (listing .listing-on .ensures .0))
+    let s = c .before .before .before .before .before .before .before .before .before .before .before .before .before .before .before .before .before in
+    let no2 = c .before .before .before .before .before .before .before .before .before .before .before .if2 in
+    let bbegin = c .before .before .before .before .before .before .before .before .begin in
+    let handle = c .before .before .before .before .before .handle in
+    let listing = c .before .before .before .listing-on in
+    let sharedsliceknown2 = c .before .before .before .before .before .before .before .before .before .before .before .before .before .before .before .shared-slice-known2 in
+    let no1 = c .before .before .before .before .before .before .before .before .before .before .before .before .if1 in
+    let sliceknown = c .before .before .before .before .before .before .before .before .before .before .before .before .before .before .slice-known in
+    ((no2 .left), listed-room (s .args .arena .now) (s .args .table .now) (bbegin .last .0) (s .args .owner) (handle .result) (getD (s .args .next .now) 0 0) (length (s .args .out .now)) (listing .result) (λ j. (sharedsliceknown2 .given) j .fits) (no1 .left) (bbegin .ensures .0) ((sliceknown .given) 0 .fits) (listing .ensures .0))
 
 same-length : tie.Need-same-length
 same-length c = search needs
@@ -60,14 +60,14 @@ same-length-2 c = search needs
 
 returns-3 : tie.Need-returns-3
 returns-3 c =
-    let s : tie.Start = search needs in
-    let e1 : tie.Else1 = search needs in
-    let e2 : tie.Else2 = search needs in
-    let b : tie.After-begin = search needs in
-    let handle : tie.After-handle = search needs in
-    let listing : tie.After-listing-on = search needs in
-    let end : tie.After-end-listed = search needs in
-    lists (sized-is 4370 (s .args .table .now) _ (e1 .if1 .left) ∙ sized-is 1 (s .args .next .now) _ (e2 .if2 .left) ∙ (λ x. callListing (s .args .arena .now) (sym (b .begin .ensures .0) x) (sym (handle .handle .ensures) x) (getD (s .args .next .now) 0 0) (length (s .args .out .now)))) (listing .listing-on .ensures) (end .end-listed .ensures)
+    let s = c .before .before .before .before .before .before .before .before .before .before .before .before .before .before .before .before .before .before .before .before in
+    let no1 = c .before .before .before .before .before .before .before .before .before .before .before .before .before .before .before .if1 in
+    let no2 = c .before .before .before .before .before .before .before .before .before .before .before .before .before .before .if2 in
+    let bbegin = c .before .before .before .before .before .before .before .before .before .before .before .begin in
+    let handle = c .before .before .before .before .before .before .before .before .handle in
+    let listing = c .before .before .before .before .before .before .listing-on in
+    let endlisted = c .before .before .end-listed in
+    lists (sized-is 4402 (s .args .table .now) _ (no1 .left) ∙ sized-is 1 (s .args .next .now) _ (no2 .left) ∙ (λ x. callListing (s .args .arena .now) (sym (bbegin .ensures .0) x) (s .args .owner) (sym (handle .ensures) x) (getD (s .args .next .now) 0 0) (length (s .args .out .now)))) (listing .ensures) (endlisted .ensures)
 
 pub dz-list-spec : {M : Type 1} → statement M
 dz-list-spec =

@@ -8,16 +8,16 @@ use Rattle.edge.proofs.dz_metadata.Tie as tie
 
 returns : tie.Need-returns
 returns c =
-    let s : tie.Start = search needs in
-    let t1 : tie.Then1 = search needs in
-    tells-not (sized-not 4370 (s .args .table .now) _ (t1 .if1 .taken))
+    let s = c .before .before .before .before in
+    let yes1 = c .if1 in
+    tells-not (sized-not 4402 (s .args .table .now) _ (yes1 .taken))
 
 returns-2 : tie.Need-returns-2
 returns-2 c =
-    let s : tie.Start = search needs in
-    let e1 : tie.Else1 = search needs in
-    let t2 : tie.Then2 = search needs in
-    tells-not (sized-is 4370 (s .args .table .now) _ (e1 .if1 .left) ∙ sized-not 14 (s .args .out .now) _ (t2 .if2 .taken))
+    let s = c .before .before .before .before .before in
+    let no1 = c .before .if1 in
+    let yes2 = c .if2 in
+    tells-not (sized-is 4402 (s .args .table .now) _ (no1 .left) ∙ sized-not 14 (s .args .out .now) _ (yes2 .taken))
 
 slice-aggregate-begin : tie.Need-slice-aggregate-begin
 slice-aggregate-begin c = search needs
@@ -33,8 +33,8 @@ handle-requires c κs = search needs
 
 metadata-on-requires : tie.Need-metadata-on-requires
 metadata-on-requires c κs =
-    let b : tie.After-begin = search needs in
-    b .begin .ensures .1
+    let bbegin = c .before .before .before .begin in
+    (bbegin .ensures .1)
 
 end-told-requires : tie.Need-end-told-requires
 end-told-requires c κs = search needs
@@ -44,14 +44,14 @@ same-length c = search needs
 
 returns-3 : tie.Need-returns-3
 returns-3 c =
-    let s : tie.Start = search needs in
-    let e1 : tie.Else1 = search needs in
-    let e2 : tie.Else2 = search needs in
-    let b : tie.After-begin = search needs in
-    let handle : tie.After-handle = search needs in
-    let metadata : tie.After-metadata-on = search needs in
-    let end : tie.After-end-told = search needs in
-    tells (sized-is 4370 (s .args .table .now) _ (e1 .if1 .left) ∙ sized-is 14 (s .args .out .now) _ (e2 .if2 .left) ∙ (λ x. callMetadata (s .args .arena .now) (sym (b .begin .ensures .0) x) (sym (handle .handle .ensures) x))) (metadata .metadata-on .ensures) (end .end-told .ensures)
+    let s = c .before .before .before .before .before .before .before .before .before .before .before .before .before .before .before in
+    let no1 = c .before .before .before .before .before .before .before .before .before .before .before .if1 in
+    let no2 = c .before .before .before .before .before .before .before .before .before .before .if2 in
+    let bbegin = c .before .before .before .before .before .before .before .before .begin in
+    let handle = c .before .before .before .before .before .handle in
+    let metadata = c .before .before .before .before .metadata-on in
+    let endtold = c .before .before .end-told in
+    tells (sized-is 4402 (s .args .table .now) _ (no1 .left) ∙ sized-is 14 (s .args .out .now) _ (no2 .left) ∙ (λ x. callMetadata (s .args .arena .now) (sym (bbegin .ensures .0) x) (s .args .owner) (sym (handle .ensures) x))) (metadata .ensures) (endtold .ensures)
 
 pub dz-metadata-spec : {M : Type 1} → statement M
 dz-metadata-spec =

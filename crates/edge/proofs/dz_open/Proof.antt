@@ -6,9 +6,9 @@ use Rattle.edge.proofs.dz_open.Tie as tie
 
 returns : tie.Need-returns
 returns c =
-    let s : tie.Start = search needs in
-    let t1 : tie.Then1 = search needs in
-    sets-not (sized-not 4370 (s .args .table .now) _ (t1 .if1 .taken))
+    let s = c .before .before .before in
+    let yes1 = c .if1 in
+    sets-not (sized-not 4402 (s .args .table .now) _ (yes1 .taken))
 
 open-on-requires : tie.Need-open-on-requires
 open-on-requires c κs = search needs
@@ -21,11 +21,11 @@ same-length c = search needs
 
 returns-2 : tie.Need-returns-2
 returns-2 c =
-    let s : tie.Start = search needs in
-    let e1 : tie.Else1 = search needs in
-    let oo : tie.After-open-on = search needs in
-    let end : tie.After-end-fresh = search needs in
-    sets (sized-is 4370 (s .args .table .now) _ (e1 .if1 .left)) (oo .open-on .ensures) (end .end-fresh .ensures)
+    let s = c .before .before .before .before .before .before .before .before in
+    let no1 = c .before .before .before .before .before .if1 in
+    let oopen = c .before .before .before .before .open-on in
+    let endfresh = c .before .before .end-fresh in
+    sets (sized-is 4402 (s .args .table .now) _ (no1 .left)) (oopen .ensures) (endfresh .ensures)
 
 pub dz-open-spec : {M : Type 1} → statement M
 dz-open-spec =

@@ -9,16 +9,16 @@ use Rattle.edge.proofs.dz_read.Tie as tie
 
 returns : tie.Need-returns
 returns c =
-    let s : tie.Start = search needs in
-    let t1 : tie.Then1 = search needs in
-    takes-not (sized-not 4370 (s .args .table .now) _ (t1 .if1 .taken))
+    let s = c .before .before .before .before .before in
+    let yes1 = c .if1 in
+    takes-not (sized-not 4402 (s .args .table .now) _ (yes1 .taken))
 
 returns-2 : tie.Need-returns-2
 returns-2 c =
-    let s : tie.Start = search needs in
-    let e1 : tie.Else1 = search needs in
-    let t2 : tie.Then2 = search needs in
-    takes-not (sized-is 4370 (s .args .table .now) _ (e1 .if1 .left) ∙ sized-not 1 (s .args .count .now) _ (t2 .if2 .taken))
+    let s = c .before .before .before .before .before .before in
+    let no1 = c .before .if1 in
+    let yes2 = c .if2 in
+    takes-not (sized-is 4402 (s .args .table .now) _ (no1 .left) ∙ sized-not 1 (s .args .count .now) _ (yes2 .taken))
 
 slice-aggregate-begin : tie.Need-slice-aggregate-begin
 slice-aggregate-begin c = search needs
@@ -34,8 +34,8 @@ handle-requires c κs = search needs
 
 read-on-requires : tie.Need-read-on-requires
 read-on-requires c κs =
-    let b : tie.After-begin = search needs in
-    b .begin .ensures .1
+    let bbegin = c .before .before .before .before .begin in
+    (bbegin .ensures .1)
 
 end-taken-requires : tie.Need-end-taken-requires
 end-taken-requires c κs = search needs
@@ -48,14 +48,14 @@ same-length-2 c = search needs
 
 returns-3 : tie.Need-returns-3
 returns-3 c =
-    let s : tie.Start = search needs in
-    let e1 : tie.Else1 = search needs in
-    let e2 : tie.Else2 = search needs in
-    let b : tie.After-begin = search needs in
-    let handle : tie.After-handle = search needs in
-    let read : tie.After-read-on = search needs in
-    let end : tie.After-end-taken = search needs in
-    takes (sized-is 4370 (s .args .table .now) _ (e1 .if1 .left) ∙ sized-is 1 (s .args .count .now) _ (e2 .if2 .left) ∙ (λ x. callRead (s .args .arena .now) (sym (b .begin .ensures .0) x) (sym (handle .handle .ensures) x) (s .args .place) (length (s .args .out .now)))) (read .read-on .ensures) (end .end-taken .ensures)
+    let s = c .before .before .before .before .before .before .before .before .before .before .before .before .before .before .before .before .before .before .before in
+    let no1 = c .before .before .before .before .before .before .before .before .before .before .before .before .before .before .if1 in
+    let no2 = c .before .before .before .before .before .before .before .before .before .before .before .before .before .if2 in
+    let bbegin = c .before .before .before .before .before .before .before .before .before .before .before .begin in
+    let handle = c .before .before .before .before .before .before .before .before .handle in
+    let read = c .before .before .before .before .before .before .read-on in
+    let endtaken = c .before .before .end-taken in
+    takes (sized-is 4402 (s .args .table .now) _ (no1 .left) ∙ sized-is 1 (s .args .count .now) _ (no2 .left) ∙ (λ x. callRead (s .args .arena .now) (sym (bbegin .ensures .0) x) (s .args .owner) (sym (handle .ensures) x) (s .args .place) (length (s .args .out .now)))) (read .ensures) (endtaken .ensures)
 
 pub dz-read-spec : {M : Type 1} → statement M
 dz-read-spec =

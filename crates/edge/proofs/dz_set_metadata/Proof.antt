@@ -8,9 +8,9 @@ use Rattle.edge.proofs.dz_set_metadata.Tie as tie
 
 returns : tie.Need-returns
 returns c =
-    let s : tie.Start = search needs in
-    let t1 : tie.Then1 = search needs in
-    sets-not (sized-not 4370 (s .args .table .now) _ (t1 .if1 .taken))
+    let s = c .before .before .before in
+    let yes1 = c .if1 in
+    sets-not (sized-not 4402 (s .args .table .now) _ (yes1 .taken))
 
 handle-requires : tie.Need-handle-requires
 handle-requires c κs = search needs
@@ -35,8 +35,8 @@ slice-aggregate-set-on c = search needs
 
 set-on-requires : tie.Need-set-on-requires
 set-on-requires c κs =
-    let b : tie.After-begin = search needs in
-    b .begin .ensures .1
+    let bbegin = c .before .before .begin in
+    (bbegin .ensures .1)
 
 slice-aggregate-end-after : tie.Need-slice-aggregate-end-after
 slice-aggregate-end-after c = search needs
@@ -49,16 +49,16 @@ same-length c = search needs
 
 returns-2 : tie.Need-returns-2
 returns-2 c =
-    let s : tie.Start = search needs in
-    let e1 : tie.Else1 = search needs in
-    let b : tie.After-begin = search needs in
-    let handle : tie.After-handle = search needs in
-    let time : tie.After-time = search needs in
-    let time2 : tie.After-time2 = search needs in
-    let time3 : tie.After-time3 = search needs in
-    let so : tie.After-set-on = search needs in
-    let end : tie.After-end-after = search needs in
-    sets (sized-is 4370 (s .args .table .now) _ (e1 .if1 .left) ∙ (λ x. callSet (s .args .arena .now) (sym (b .begin .ensures .0) x) (sym (handle .handle .ensures) x) (s .args .mode) (s .args .uid) (s .args .gid) (sym (time-is (s .fits .asec) (s .fits .ansec) (time .time .ensures)) x) (sym (time-is (s .fits .msec) (s .fits .mnsec) (time2 .time2 .ensures)) x) (sym (time-is (s .fits .csec) (s .fits .cnsec) (time3 .time3 .ensures)) x))) (so .set-on .ensures) (end .end-after .ensures)
+    let s = c .before .before .before .before .before .before .before .before .before .before .before .before .before .before .before .before .before .before .before in
+    let no1 = c .before .before .before .before .before .before .before .before .before .before .before .before .before .before .before .before .if1 in
+    let bbegin = c .before .before .before .before .before .before .before .before .before .begin in
+    let handle = c .before .before .before .before .before .before .before .before .before .before .before .before .before .before .before .handle in
+    let time = c .before .before .before .before .before .before .before .before .before .before .before .before .before .before .time in
+    let time2 = c .before .before .before .before .before .before .before .before .before .before .before .before .before .time2 in
+    let time3 = c .before .before .before .before .before .before .before .before .before .before .before .before .time3 in
+    let sset = c .before .before .before .before .before .before .set-on in
+    let endafter = c .before .before .end-after in
+    sets (sized-is 4402 (s .args .table .now) _ (no1 .left) ∙ (λ x. callSet (s .args .arena .now) (sym (bbegin .ensures .0) x) (s .args .owner) (sym (handle .ensures) x) (s .args .mode) (s .args .uid) (s .args .gid) (sym (time-is (s .fits .asec) (s .fits .ansec) (time .ensures)) x) (sym (time-is (s .fits .msec) (s .fits .mnsec) (time2 .ensures)) x) (sym (time-is (s .fits .csec) (s .fits .cnsec) (time3 .ensures)) x))) (sset .ensures) (endafter .ensures)
 
 pub dz-set-metadata-spec : {M : Type 1} → statement M
 dz-set-metadata-spec =

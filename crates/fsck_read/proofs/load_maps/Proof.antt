@@ -57,7 +57,7 @@ loop-again : tie.Need-loop-again Inv-loop μ-loop
 loop-again c =
     let s = c .before .before .before .before .before .before .before .before .before .before in
     let l = c .before .before .before .before .before .loop in
-    (omega arith, mapped-more (s .args .arena .now) (s .args .mem .now) (l .mem) _ (l .g) (4387 + 128 * l .g) refl (omega (arith, s .pre .1 .1)) (l .inv .1) (c .before .before .read-meta .ensures))
+    (omega arith, mapped-more (s .args .arena .now) (s .args .mem .now) (l .mem) _ (l .g) (4419 + 128 * l .g) refl (omega (arith, s .pre .1 .1)) (l .inv .1) (c .before .before .read-meta .ensures))
 
 same-length : tie.Need-same-length Inv-loop μ-loop
 same-length c = c .before .loop .inv .1 .size ∙ sym (c .before .before .before .before .before .before .pre .1 .0)

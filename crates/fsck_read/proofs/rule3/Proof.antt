@@ -67,7 +67,7 @@ count-set-requires c κs =
     let p = c .before .before .before .before .before in
     let m = p .put-super .last .0 in
     let o = super-says _ _ (sym (c .before .before .before .before .before .before .before .before .before .before .before .before .before .super-ok .ensures) ∙ not-false _ (c .before .before .before .before .before .before .before .before .before .before .before .before .if2 .left)) in
-    (omega (arith, o .1 .0, c .index2 .ensures), omega (arith, o .1 .0, c .index2 .ensures, length-part m 4387 memorySize (omega arith) (omega (arith, p .put-super .ensures .loaded .whole .size))))
+    (omega (arith, o .1 .0, c .index2 .ensures), omega (arith, o .1 .0, c .index2 .ensures, length-part m 4419 memorySize (omega arith) (omega (arith, p .put-super .ensures .loaded .whole .size))))
 
 same-length : tie.Need-same-length
 same-length c = search needs

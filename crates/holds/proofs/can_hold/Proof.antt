@@ -4,15 +4,15 @@ use borrow.Author.Needs.{needs}
 use Rattle.holds.proofs.can_hold.Statement.{statement}
 use Rattle.holds.proofs.can_hold.Tie as tie
 
-live-holds-requires : tie.Need-live-holds-requires
-live-holds-requires c κs = search needs
+own-holds-requires : tie.Need-own-holds-requires
+own-holds-requires c κs = search needs
 
 next-stamp-requires : tie.Need-next-stamp-requires
 next-stamp-requires c κs = search needs
 
 returns : tie.Need-returns
 unfolding canHold
-returns c = rw (c .before .live-holds .ensures, c .next-stamp .ensures)
+returns c = rw (c .before .own-holds .ensures, c .next-stamp .ensures)
 
 pub can-hold-spec : {M : Type 1} → statement M
-can-hold-spec = tie.close (tie.spec live-holds-requires next-stamp-requires returns)
+can-hold-spec = tie.close (tie.spec own-holds-requires next-stamp-requires returns)

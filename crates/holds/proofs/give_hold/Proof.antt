@@ -16,8 +16,8 @@ add-put-next c = search needs
 put-next-requires : tie.Need-put-next-requires
 put-next-requires c κs = search needs
 
-cast-t14 : tie.Need-cast-t14
-cast-t14 c = search needs
+cast-t15 : tie.Need-cast-t15
+cast-t15 c = search needs
 
 same-length : tie.Need-same-length
 same-length c = search needs
@@ -28,7 +28,7 @@ returns c =
     let p = q .before .before .before .before in
     let k = p .before .before in
     let s = k .before .before .before in
-    given (s .args .mem .now) _ _ (s .args .row) (s .args .n) _ (k .next-stamp .ensures) (p .put-hold .ensures .table) (q .put-next .ensures .table)
+    given (s .args .mem .now) _ _ (s .args .who) (s .args .row) (s .args .n) _ (k .next-stamp .ensures) (p .put-hold .ensures .table) (q .put-next .ensures .table)
 
 pub give-hold-spec : {M : Type 1} → statement M
 give-hold-spec =
@@ -38,6 +38,6 @@ give-hold-spec =
     put-hold-requires
     add-put-next
     put-next-requires
-    cast-t14
+    cast-t15
     same-length
     returns)

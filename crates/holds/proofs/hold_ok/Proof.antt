@@ -10,7 +10,7 @@ hold-at-requires c κs = search needs
 
 returns : tie.Need-returns
 returns c =
-    let b = c .before in
+    let b = c .before .before in
     let k = b .before .before in
     let s = k .before .before in
     hold-free (tableIn (s .args .mem .now)) (s .args .n) _ (k .hold-at .ensures) (b .if1 .taken)

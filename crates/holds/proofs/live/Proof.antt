@@ -12,7 +12,7 @@ index-requires : tie.Need-index-requires
 index-requires c κs = search needs
 
 returns : tie.Need-returns
-returns c = live-past _ _ _ (c .before .index .ensures) (c .if1 .taken)
+returns c = live-past _ _ _ _ (c .before .index .ensures) (c .if1 .taken)
 
 hold-at-requires : tie.Need-hold-at-requires
 hold-at-requires c κs = search needs
@@ -25,20 +25,20 @@ found-below-requires c κs = search needs
 
 returns-2 : tie.Need-returns-2
 returns-2 c =
-    let h = c .before .before .before .before .before .before in
+    let h = c .before .before .before .before .before .before .before in
     let s = h .before .before .before .before in
     let e = h .hold-at .ensures in
     c .found-below .ensures
-    ∙ live-found _ (s .args .h) _ _ (h .before .before .index .ensures) (h .before .if1 .left)
-    (ap (λ (k : Hold). not (eqb (s .args .h .stamp) 0) && eqb (k .stamp) (s .args .h .stamp)) (sym e) ∙ c .before .before .if2 .taken)
+    ∙ live-found _ (s .args .who) (s .args .h) _ _ (h .before .before .index .ensures) (h .before .if1 .left)
+    (ap (λ (k : Hold). (not (eqb (s .args .h .stamp) 0) && eqb (k .stamp) (s .args .h .stamp)) && eqb (k .owner) (s .args .who)) (sym e) ∙ c .before .before .if2 .taken)
     (c .before .index2 .ensures ∙ ap (λ (k : Hold). k .row) e)
 
 returns-3 : tie.Need-returns-3
 returns-3 c =
-    let h = c .before .before .before .before in
+    let h = c .before .before .before .before .before in
     let s = h .before .before .before .before in
-    live-not _ (s .args .h) _ (h .before .before .index .ensures) (h .before .if1 .left)
-    (ap (λ (k : Hold). not (eqb (s .args .h .stamp) 0) && eqb (k .stamp) (s .args .h .stamp)) (sym (h .hold-at .ensures)) ∙ c .if2 .left)
+    live-not _ (s .args .who) (s .args .h) _ (h .before .before .index .ensures) (h .before .if1 .left)
+    (ap (λ (k : Hold). (not (eqb (s .args .h .stamp) 0) && eqb (k .stamp) (s .args .h .stamp)) && eqb (k .owner) (s .args .who)) (sym (h .hold-at .ensures)) ∙ c .if2 .left)
 
 pub live-spec : {M : Type 1} → statement M
 live-spec =

@@ -26,15 +26,19 @@ find-hold-requires c κs = search needs
 is-at-requires : tie.Need-is-at-requires
 is-at-requires c κs = search needs
 
+is-owner-requires : tie.Need-is-owner-requires
+is-owner-requires c κs = search needs
+
 returns-2 : tie.Need-returns-2
 returns-2 c =
-    let f = c .before in
+    let a = c .before in
+    let f = a .before in
     let n = f .before .before in
     let d = n .before in
     let b = d .before in
     let k = b .before in
     let s = k .before .before in
-    live-in (tableIn (s .args .mem .now)) (s .args .n) (s .args .h) (s .pre .1) _ _ _ _ _ (k .index .ensures) (b .if1 .left) (d .id-at .ensures) (n .next-stamp .ensures) (f .find-hold .ensures) (c .is-at .ensures)
+    live-in (tableIn (s .args .mem .now)) (s .args .n) (s .args .h) (s .pre .1) _ _ _ _ _ _ (k .index .ensures) (b .if1 .left) (d .id-at .ensures) (n .next-stamp .ensures) (f .find-hold .ensures) (a .is-at .ensures) (c .is-owner .ensures)
 
 pub live-ok-spec : {M : Type 1} → statement M
 live-ok-spec =
@@ -46,4 +50,5 @@ live-ok-spec =
     next-stamp-requires
     find-hold-requires
     is-at-requires
+    is-owner-requires
     returns-2)

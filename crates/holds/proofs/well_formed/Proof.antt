@@ -11,12 +11,15 @@ next-stamp-requires c κs = search needs
 holds-ok-requires : tie.Need-holds-ok-requires
 holds-ok-requires c κs = search needs
 
+owners-ok-requires : tie.Need-owners-ok-requires
+owners-ok-requires c κs = search needs
+
 rows-ok-requires : tie.Need-rows-ok-requires
 rows-ok-requires c κs = search needs
 
 returns : tie.Need-returns
 unfolding wellFormed
-returns c = rw (shaped-in (c .before .before .before .before .args .mem .now), c .before .before .next-stamp .ensures, c .before .holds-ok .ensures, c .rows-ok .ensures)
+returns c = rw (shaped-in (c .before .before .before .before .before .args .mem .now), c .before .before .before .next-stamp .ensures, c .before .before .holds-ok .ensures, c .before .owners-ok .ensures, c .rows-ok .ensures)
 
 pub well-formed-spec : {M : Type 1} → statement M
 well-formed-spec =
@@ -24,5 +27,6 @@ well-formed-spec =
     (tie.spec
     next-stamp-requires
     holds-ok-requires
+    owners-ok-requires
     rows-ok-requires
     returns)

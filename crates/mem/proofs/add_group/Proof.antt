@@ -63,7 +63,7 @@ returns c =
     let s = k .before .before .before in
     let m = s .args .mem .now in
     let e : i .index .result ≡ superIn m .groups = i .index .ensures ∙ ap (λ (b : SuperBlock). b .groups) (k .super-at .ensures) in
-    group-stored m _ _ _ _ _ (s .pre .0 .0) (λ j. k .before .before .slice-known .given j .fits) (s .pre .0 .1) (s .pre .1 .0) (s .pre .1 .1 .0) (s .pre .1 .1 .1) refl (k .super-at .ensures) (ap (λ (n : ℕ). 4387 + 128 * n) e) (p .put-map .ensures) (w .put-super-block .ensures)
+    group-stored m _ _ _ _ _ (s .pre .0 .0) (λ j. k .before .before .slice-known .given j .fits) (s .pre .0 .1) (s .pre .1 .0) (s .pre .1 .1 .0) (s .pre .1 .1 .1) refl (k .super-at .ensures) (ap (λ (n : ℕ). 4419 + 128 * n) e) (p .put-map .ensures) (w .put-super-block .ensures)
 
 pub add-group-spec : {M : Type 1} → statement M
 add-group-spec =

@@ -37,7 +37,7 @@ lowest-set-requires c κs =
     let W = s .pre .0 in
     let e : c .index .result ≡ superIn m .groups = c .index .ensures ∙ ap (λ (b : SuperBlock). b .groups) (k .super-at .ensures) in
     let few = W .few (s .pre .1) in
-    (omega (arith, e), omega (arith, e, W .size, length-part m 4387 memorySize (omega arith) (omega (arith, W .size))))
+    (omega (arith, e), omega (arith, e, W .size, length-part m 4419 memorySize (omega arith) (omega (arith, W .size))))
 
 returns : tie.Need-returns
 unfolding mapsIn
@@ -49,7 +49,7 @@ returns c =
     let g = superIn m .groups in
     let e : i .index .result ≡ g = i .index .ensures ∙ ap (λ (b : SuperBlock). b .groups) (k .super-at .ensures) in
     c .lowest-set .ensures
-    ∙ ap (λ (n : ℕ). foundBelow (lowest (bitAt (part m 4387 memorySize)) (1024 * n)) (1024 * n)) e
+    ∙ ap (λ (n : ℕ). foundBelow (lowest (bitAt (part m 4419 memorySize)) (1024 * n)) (1024 * n)) e
     ∙ ap (λ (n : ℕ). foundBelow n (1024 * g)) (lowest-cong _ _ (1024 * g) (λ j l. bit-in m g j (s .pre .0 .few (s .pre .1)) l))
 
 pub first-bit-spec : {M : Type 1} → statement M

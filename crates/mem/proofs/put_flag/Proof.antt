@@ -15,7 +15,7 @@ same-length : tie.Need-same-length
 same-length c = search needs
 
 returns : tie.Need-returns
-returns c = ap (set (c .before .before .args .mem .now) 4370) (c .mark-of .ensures)
+returns c = ap (set (c .before .before .args .mem .now) 4402) (c .mark-of .ensures)
 
 pub put-flag-spec : {M : Type 1} → statement M
 put-flag-spec = tie.close (tie.spec mark-of-requires slice-write-mem same-length returns)

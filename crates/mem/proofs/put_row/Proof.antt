@@ -32,7 +32,7 @@ returns c =
     let W = s .pre .0 in
     let e = w .put-row .ensures .0 in
     tabled m _ (W .size) (w .put-row .kept .0 ∙ W .size)
-    (ap (λ (l : List ℕ). part l 4370 memorySize) e ∙ row-put-rest m (s .args .i) (s .args .row) (omega arith) (s .pre .1) (fits s))
+    (ap (λ (l : List ℕ). part l 4402 memorySize) e ∙ row-put-rest m (s .args .i) (s .args .row) (omega arith) (s .pre .1) (fits s))
     _ W (ap tableIn e ∙ row-put m (s .args .i) (s .args .row) (omega arith) (s .pre .1) (fits s))
 
 pub put-row-spec : {M : Type 1} → statement M

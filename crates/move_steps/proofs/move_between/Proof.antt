@@ -12,7 +12,7 @@ u32-at-requires c κs = search needs
 
 dirent-append-requires : tie.Need-dirent-append-requires
 dirent-append-requires c κs =
-    let s : tie.Start = search needs in
+    let s = c .before .before .before .before .before .before .before .before .before in
     (s .pre .0, (omega (arith, s .pre .1 .0), (s .pre .1 .1 .1 .0, s .pre .1 .1 .1 .1 .0)))
 
 same-length : tie.Need-same-length
@@ -26,15 +26,15 @@ same-length-3 c = search needs
 
 returns : tie.Need-returns
 returns c =
-    let s : tie.Start = search needs in
-    let dirent : tie.After-dirent-append = search needs in
-    let t1 : tie.Then1 = search needs in
-    between-stop _ _ (s .args .i) (s .args .j) (s .args .k) (s .args .gone) (dirent .dirent-append .ensures) _ _ (t1 .if1 .taken)
+    let s = c .before .before .before .before .before .before .before .before .before .before .before .before .before .before .before in
+    let direntappend = c .before .before .before .before .before .dirent-append in
+    let yes1 = c .if1 in
+    between-stop _ _ (s .args .i) (s .args .j) (s .args .k) (s .args .gone) (direntappend .ensures) _ _ (yes1 .taken)
 
 dirent-remove-requires : tie.Need-dirent-remove-requires
 dirent-remove-requires c κs =
-    let s : tie.Start = search needs in
-    let k = went-has (let p : tie.After-dirent-append = search needs in p .dirent-append .ensures) (let p : tie.Else1 = search needs in p .if1 .left) in
+    let s = c .before .before .before .before .before .before .before .before .before .before .before .before .before .before .before .before .before .before in
+    let k = went-has (c .before .before .before .before .before .before .before .before .dirent-append .ensures) (c .before .before .before .if1 .left) in
     (record { fine = k .fine; whole = k .whole }, (omega (arith, k .room, s .pre .1 .0), (s .pre .1 .1 .0, s .pre .1 .1 .1 .1 .0)))
 
 same-length-4 : tie.Need-same-length-4
@@ -48,19 +48,19 @@ same-length-6 c = search needs
 
 returns-2 : tie.Need-returns-2
 returns-2 c =
-    let s : tie.Start = search needs in
-    let dirent : tie.After-dirent-append = search needs in
-    let e1 : tie.Else1 = search needs in
-    let dirent2 : tie.After-dirent-remove = search needs in
-    let t2 : tie.Then2 = search needs in
-    between-remove _ _ (s .args .i) (s .args .j) (s .args .k) (s .args .gone) (dirent .dirent-append .ensures) (e1 .if1 .left) (dirent2 .dirent-remove .ensures) _ _ (t2 .if2 .taken)
+    let s = c .before .before .before .before .before .before .before .before .before .before .before .before .before .before .before .before .before .before .before .before .before .before .before .before .before .before in
+    let direntappend = c .before .before .before .before .before .before .before .before .before .before .before .before .before .before .before .before .dirent-append in
+    let no1 = c .before .before .before .before .before .before .before .before .before .before .before .if1 in
+    let direntremove = c .before .before .before .before .before .before .before .dirent-remove in
+    let yes2 = c .if2 in
+    between-remove _ _ (s .args .i) (s .args .j) (s .args .k) (s .args .gone) (direntappend .ensures) (no1 .left) (direntremove .ensures) _ _ (yes2 .taken)
 
 move-rest-requires : tie.Need-move-rest-requires
 move-rest-requires c κs =
-    let s : tie.Start = search needs in
-    let k = went-has (let p : tie.After-dirent-append = search needs in p .dirent-append .ensures) (let p : tie.Else1 = search needs in p .if1 .left) in
-    let d = went-has (let p : tie.After-dirent-remove = search needs in p .dirent-remove .ensures) (let p : tie.Else2 = search needs in p .if2 .left) in
-    (record { fine = d .fine; whole = d .whole }, (omega (arith, k .room, d .room, s .pre .1 .0), (s .pre .1 .1 .0, (s .pre .1 .1 .1 .0, ((let p : tie.After-dirent-remove = search needs in p .dirent-remove .kept .1 .1 .1 .0) ∙ s .pre .1 .1 .1 .1 .0, s .pre .1 .1 .1 .1 .1)))))
+    let s = c .before .before .before .before .before .before .before .before .before .before .before .before .before .before .before .before .before .before .before .before .before .before .before .before .before .before .before .before .before in
+    let k = went-has (c .before .before .before .before .before .before .before .before .before .before .before .before .before .before .before .before .before .before .before .dirent-append .ensures) (c .before .before .before .before .before .before .before .before .before .before .before .before .before .before .if1 .left) in
+    let d = went-has (c .before .before .before .before .before .before .before .before .before .before .dirent-remove .ensures) (c .before .before .before .if2 .left) in
+    (record { fine = d .fine; whole = d .whole }, (omega (arith, k .room, d .room, s .pre .1 .0), (s .pre .1 .1 .0, (s .pre .1 .1 .1 .0, ((c .before .before .before .before .before .before .before .before .before .before .dirent-remove .kept .1 .1 .1 .0) ∙ s .pre .1 .1 .1 .1 .0, s .pre .1 .1 .1 .1 .1)))))
 
 same-length-7 : tie.Need-same-length-7
 same-length-7 c = search needs
@@ -73,14 +73,14 @@ same-length-9 c = search needs
 
 returns-3 : tie.Need-returns-3
 returns-3 c =
-    let s : tie.Start = search needs in
-    let dirent : tie.After-dirent-append = search needs in
-    let e1 : tie.Else1 = search needs in
-    let dirent2 : tie.After-dirent-remove = search needs in
-    let u32 : tie.After-u32-at = search needs in
-    let e2 : tie.Else2 = search needs in
-    let move : tie.After-move-rest = search needs in
-    between-next _ _ (s .args .i) (s .args .j) (s .args .k) (s .args .gone) (dirent .dirent-append .ensures) (e1 .if1 .left) (dirent2 .dirent-remove .ensures) _ (u32 .u32-at .ensures) (e2 .if2 .left) (move .move-rest .ensures)
+    let s = c .before .before .before .before .before .before .before .before .before .before .before .before .before .before .before .before .before .before .before .before .before .before .before .before .before .before .before .before .before .before .before .before .before .before .before .before in
+    let direntappend = c .before .before .before .before .before .before .before .before .before .before .before .before .before .before .before .before .before .before .before .before .before .before .before .before .before .before .dirent-append in
+    let no1 = c .before .before .before .before .before .before .before .before .before .before .before .before .before .before .before .before .before .before .before .before .before .if1 in
+    let direntremove = c .before .before .before .before .before .before .before .before .before .before .before .before .before .before .before .before .before .dirent-remove in
+    let u32at = c .before .before .before .before .before .before .before .before .before .before .before .before .before .before .before .before .before .before .before .before .before .before .before .before .before .before .before .before .before .before .u32-at in
+    let no2 = c .before .before .before .before .before .before .before .before .before .before .if2 in
+    let moverest = c .before .before .before .before .before .before .move-rest in
+    between-next _ _ (s .args .i) (s .args .j) (s .args .k) (s .args .gone) (direntappend .ensures) (no1 .left) (direntremove .ensures) _ (u32at .ensures) (no2 .left) (moverest .ensures)
 
 pub move-between-spec : {M : Type 1} → statement M
 move-between-spec =

@@ -8,7 +8,7 @@ use Rattle.move_steps.proofs.move_onto.Tie as tie
 
 release-requires : tie.Need-release-requires
 release-requires c κs =
-    let s : tie.Start = search needs in
+    let s = c .before .before .before .before .before .before .before .before in
     (s .pre .0, (omega (arith, s .pre .1 .0), s .pre .1 .1 .1 .1 .0))
 
 same-length : tie.Need-same-length
@@ -19,15 +19,15 @@ same-length-2 c = search needs
 
 returns : tie.Need-returns
 returns c =
-    let s : tie.Start = search needs in
-    let release : tie.After-release = search needs in
-    let t1 : tie.Then1 = search needs in
-    over-stop _ (s .args .i) (s .args .j) (s .args .old .now) (s .args .name .now) (s .args .c) (s .args .d) (s .args .k) (release .release .ensures) _ _ (t1 .if1 .taken)
+    let s = c .before .before .before .before .before .before .before .before .before .before .before .before .before .before in
+    let release = c .before .before .before .before .before .release in
+    let yes1 = c .if1 in
+    over-stop _ (s .args .i) (s .args .j) (s .args .old .now) (s .args .name .now) (s .args .c) (s .args .d) (s .args .k) (release .ensures) _ _ (yes1 .taken)
 
 move-steps-requires : tie.Need-move-steps-requires
 move-steps-requires c κs =
-    let s : tie.Start = search needs in
-    let k = went-has (let p : tie.After-release = search needs in p .release .ensures) (let p : tie.Else1 = search needs in p .if1 .left) in
+    let s = c .before .before .before .before .before .before .before .before .before .before .before .before .before .before .before .before .before in
+    let k = went-has (c .before .before .before .before .before .before .before .before .release .ensures) (c .before .before .before .if1 .left) in
     (record { fine = k .fine; whole = k .whole }, (omega (arith, k .room, s .pre .1 .0), (s .pre .1 .1 .0, (s .pre .1 .1 .1 .0, (s .pre .1 .1 .1 .1 .1 .1 .0, (s .pre .1 .1 .1 .1 .1 .1 .1, s .pre .1 .1 .1 .1 .1 .0))))))
 
 same-length-3 : tie.Need-same-length-3
@@ -41,11 +41,11 @@ same-length-5 c = search needs
 
 returns-2 : tie.Need-returns-2
 returns-2 c =
-    let s : tie.Start = search needs in
-    let release : tie.After-release = search needs in
-    let e1 : tie.Else1 = search needs in
-    let move : tie.After-move-steps = search needs in
-    over-next _ (s .args .i) (s .args .j) (s .args .old .now) (s .args .name .now) (s .args .c) (s .args .d) (s .args .k) (release .release .ensures) (e1 .if1 .left) (move .move-steps .ensures)
+    let s = c .before .before .before .before .before .before .before .before .before .before .before .before .before .before .before .before .before .before .before .before .before .before .before .before in
+    let release = c .before .before .before .before .before .before .before .before .before .before .before .before .before .before .before .release in
+    let no1 = c .before .before .before .before .before .before .before .before .before .before .if1 in
+    let movesteps = c .before .before .before .before .before .before .move-steps in
+    over-next _ (s .args .i) (s .args .j) (s .args .old .now) (s .args .name .now) (s .args .c) (s .args .d) (s .args .k) (release .ensures) (no1 .left) (movesteps .ensures)
 
 pub move-onto-spec : {M : Type 1} → statement M
 move-onto-spec =

@@ -8,7 +8,7 @@ use Rattle.move_steps.proofs.move_rest.Tie as tie
 
 remove-gone-requires : tie.Need-remove-gone-requires
 remove-gone-requires c κs =
-    let s : tie.Start = search needs in
+    let s = c .before .before .before .before .before .before .before in
     (s .pre .0, (omega (arith, s .pre .1 .0), (s .pre .1 .1 .1 .0, s .pre .1 .1 .1 .1)))
 
 same-length : tie.Need-same-length
@@ -22,15 +22,15 @@ same-length-3 c = search needs
 
 returns : tie.Need-returns
 returns c =
-    let s : tie.Start = search needs in
-    let remove : tie.After-remove-gone = search needs in
-    let t1 : tie.Then1 = search needs in
-    rest-stop _ (s .args .i) (s .args .j) (s .args .id) (s .args .gone) (remove .remove-gone .ensures) _ _ (t1 .if1 .taken)
+    let s = c .before .before .before .before .before .before .before .before .before .before .before .before .before .before .before in
+    let removegone = c .before .before .before .before .before .before .before .remove-gone in
+    let yes1 = c .if1 in
+    rest-stop _ (s .args .i) (s .args .j) (s .args .id) (s .args .gone) (removegone .ensures) _ _ (yes1 .taken)
 
 move-open-requires : tie.Need-move-open-requires
 move-open-requires c κs =
-    let s : tie.Start = search needs in
-    let k = went-has (let p : tie.After-remove-gone = search needs in p .remove-gone .ensures) (let p : tie.Else1 = search needs in p .if1 .left) in
+    let s = c .before .before .before .before .before .before .before .before .before .before .before .before .before .before .before .before .before in
+    let k = went-has (c .before .before .before .before .before .before .before .before .before .remove-gone .ensures) (c .before .before .if1 .left) in
     (record { fine = k .fine; whole = k .whole }, (omega (arith, k .room, s .pre .1 .0), (s .pre .1 .1 .0, s .pre .1 .1 .1 .0)))
 
 same-length-4 : tie.Need-same-length-4
@@ -44,11 +44,11 @@ same-length-6 c = search needs
 
 returns-2 : tie.Need-returns-2
 returns-2 c =
-    let s : tie.Start = search needs in
-    let remove : tie.After-remove-gone = search needs in
-    let e1 : tie.Else1 = search needs in
-    let move : tie.After-move-open = search needs in
-    rest-next _ (s .args .i) (s .args .j) (s .args .id) (s .args .gone) (remove .remove-gone .ensures) (e1 .if1 .left) (move .move-open .ensures)
+    let s = c .before .before .before .before .before .before .before .before .before .before .before .before .before .before .before .before .before .before .before .before .before .before in
+    let removegone = c .before .before .before .before .before .before .before .before .before .before .before .before .before .before .remove-gone in
+    let no1 = c .before .before .before .before .before .before .before .if1 in
+    let moveopen = c .before .before .before .before .move-open in
+    rest-next _ (s .args .i) (s .args .j) (s .args .id) (s .args .gone) (removegone .ensures) (no1 .left) (moveopen .ensures)
 
 pub move-rest-spec : {M : Type 1} → statement M
 move-rest-spec =

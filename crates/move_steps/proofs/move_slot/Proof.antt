@@ -13,7 +13,7 @@ id-at-requires-2 c κs = search needs
 
 move-within-requires : tie.Need-move-within-requires
 move-within-requires c κs =
-    let s : tie.Start = search needs in
+    let s = c .before .before .before .before .before .before .before .before .before .before .before .before in
     (s .pre .0, (omega (arith, s .pre .1 .0), (s .pre .1 .1 .0, (s .pre .1 .1 .1 .1 .0, s .pre .1 .1 .1 .1 .1))))
 
 same-length : tie.Need-same-length
@@ -27,16 +27,16 @@ same-length-3 c = search needs
 
 returns : tie.Need-returns
 returns c =
-    let s : tie.Start = search needs in
-    let id : tie.After-id-at = search needs in
-    let id2 : tie.After-id-at2 = search needs in
-    let t1 : tie.Then1 = search needs in
-    let move : tie.After-move-within = search needs in
-    slot-within _ _ _ (s .args .i) (s .args .j) (s .args .k) _ (s .args .gone) _ _ (id .id-at .ensures) (id2 .id-at2 .ensures) (t1 .if1 .taken) (move .move-within .ensures)
+    let s = c .before .before .before .before .before .before .before .before .before .before .before .before .before .before .before .before .before .before .before in
+    let idat = c .before .before .before .before .before .before .before .before .before .before .before .before .before .id-at in
+    let idat2 = c .before .before .before .before .before .before .before .before .before .before .before .id-at2 in
+    let yes1 = c .before .before .before .before .before .before .before .before .before .before .if1 in
+    let movewithin = c .before .before .before .before .before .before .move-within in
+    slot-within _ _ _ (s .args .i) (s .args .j) (s .args .k) _ (s .args .gone) _ _ (idat .ensures) (idat2 .ensures) (yes1 .taken) (movewithin .ensures)
 
 move-between-requires : tie.Need-move-between-requires
 move-between-requires c κs =
-    let s : tie.Start = search needs in
+    let s = c .before .before .before .before .before .before .before .before .before .before .before .before in
     s .pre
 
 same-length-4 : tie.Need-same-length-4
@@ -50,12 +50,12 @@ same-length-6 c = search needs
 
 returns-2 : tie.Need-returns-2
 returns-2 c =
-    let s : tie.Start = search needs in
-    let id : tie.After-id-at = search needs in
-    let id2 : tie.After-id-at2 = search needs in
-    let e1 : tie.Else1 = search needs in
-    let move : tie.After-move-between = search needs in
-    slot-between _ _ _ (s .args .i) (s .args .j) (s .args .k) _ (s .args .gone) _ _ (id .id-at .ensures) (id2 .id-at2 .ensures) (e1 .if1 .left) (move .move-between .ensures)
+    let s = c .before .before .before .before .before .before .before .before .before .before .before .before .before .before .before .before .before .before .before in
+    let idat = c .before .before .before .before .before .before .before .before .before .before .before .before .before .id-at in
+    let idat2 = c .before .before .before .before .before .before .before .before .before .before .before .id-at2 in
+    let no1 = c .before .before .before .before .before .before .before .before .before .before .if1 in
+    let movebetween = c .before .before .before .before .before .before .move-between in
+    slot-between _ _ _ (s .args .i) (s .args .j) (s .args .k) _ (s .args .gone) _ _ (idat .ensures) (idat2 .ensures) (no1 .left) (movebetween .ensures)
 
 pub move-slot-spec : {M : Type 1} → statement M
 move-slot-spec =

@@ -7,7 +7,7 @@ use Rattle.move_steps.proofs.move_steps.Tie as tie
 
 find-slot-requires : tie.Need-find-slot-requires
 find-slot-requires c κs =
-    let s : tie.Start = search needs in
+    let s = c .before .before .before .before .before .before .before .before .before in
     (s .pre .0, (s .pre .1 .1 .0, s .pre .1 .1 .1 .1 .1 .0))
 
 same-length : tie.Need-same-length
@@ -21,23 +21,23 @@ same-length-3 c = search needs
 
 returns : tie.Need-returns
 returns c =
-    let s : tie.Start = search needs in
-    let find : tie.After-find-slot = search needs in
-    let t1 : tie.Then1 = search needs in
-    named-stop _ _ _ (s .args .i) (s .args .j) (s .args .old .now) (s .args .name .now) _ _ _ (s .args .gone) (find .find-slot .ensures) _ (t1 .if1 .taken)
+    let s = c .before .before .before .before .before .before .before .before .before .before .before .before .before .before in
+    let findslot = c .before .before .before .before .find-slot in
+    let yes1 = c .if1 in
+    named-stop _ _ _ (s .args .i) (s .args .j) (s .args .old .now) (s .args .name .now) _ _ _ (s .args .gone) (findslot .ensures) _ (yes1 .taken)
 
 rename-requires : tie.Need-rename-requires
 rename-requires c κs =
-    let find : tie.After-find-slot = search needs in
-    let s : tie.Start = search needs in
-    (find .find-slot .kept .1 .1 .1 .1 .1 .0 ∙ s .pre .1 .1 .1 .1 .1 .0, s .pre .1 .1 .1 .1 .0)
+    let s = c .before .before .before .before .before .before .before .before .before .before .before .before .before .before .before in
+    let findslot = c .before .before .before .before .before .find-slot in
+    ((findslot .kept .1 .1 .1 .1 .1 .0) ∙ s .pre .1 .1 .1 .1 .1 .0, s .pre .1 .1 .1 .1 .0)
 
 move-slot-requires : tie.Need-move-slot-requires
 move-slot-requires c κs =
-    let s : tie.Start = search needs in
-    let rename : tie.After-rename = search needs in
-    let find : tie.After-find-slot = search needs in
-    (s .pre .0, (s .pre .1 .0, (s .pre .1 .1 .0, (s .pre .1 .1 .1 .0, (rename .rename .kept .0 ∙ find .find-slot .kept .1 .1 .1 .1 .1 .0 ∙ s .pre .1 .1 .1 .1 .1 .0, s .pre .1 .1 .1 .1 .1 .1)))))
+    let s = c .before .before .before .before .before .before .before .before .before .before .before .before .before .before .before .before .before .before .before .before .before in
+    let rename = c .before .before .before .before .before .rename in
+    let findslot = c .before .before .before .before .before .before .before .before .before .before .before .find-slot in
+    (s .pre .0, (s .pre .1 .0, (s .pre .1 .1 .0, (s .pre .1 .1 .1 .0, ((rename .kept .0) ∙ (findslot .kept .1 .1 .1 .1 .1 .0) ∙ s .pre .1 .1 .1 .1 .1 .0, s .pre .1 .1 .1 .1 .1 .1)))))
 
 same-length-4 : tie.Need-same-length-4
 same-length-4 c = search needs
@@ -50,12 +50,12 @@ same-length-6 c = search needs
 
 returns-2 : tie.Need-returns-2
 returns-2 c =
-    let s : tie.Start = search needs in
-    let find : tie.After-find-slot = search needs in
-    let rename : tie.After-rename = search needs in
-    let e1 : tie.Else1 = search needs in
-    let move : tie.After-move-slot = search needs in
-    named-next _ _ _ (s .args .i) (s .args .j) (s .args .old .now) (s .args .name .now) _ _ _ (s .args .gone) (find .find-slot .ensures) _ (rename .rename .ensures) (e1 .if1 .left) (move .move-slot .ensures)
+    let s = c .before .before .before .before .before .before .before .before .before .before .before .before .before .before .before .before .before .before .before .before .before .before .before .before .before .before .before .before in
+    let findslot = c .before .before .before .before .before .before .before .before .before .before .before .before .before .before .before .before .before .before .find-slot in
+    let rename = c .before .before .before .before .before .before .before .before .before .before .before .before .rename in
+    let no1 = c .before .before .before .before .before .before .before .before .before .before .before .before .before .before .if1 in
+    let moveslot = c .before .before .before .before .before .before .move-slot in
+    named-next _ _ _ (s .args .i) (s .args .j) (s .args .old .now) (s .args .name .now) _ _ _ (s .args .gone) (findslot .ensures) _ (rename .ensures) (no1 .left) (moveslot .ensures)
 
 pub move-steps-spec : {M : Type 1} → statement M
 move-steps-spec =

@@ -8,7 +8,7 @@ use Rattle.move_steps.proofs.move_within.Tie as tie
 
 put-slot-requires : tie.Need-put-slot-requires
 put-slot-requires c κs =
-    let s : tie.Start = search needs in
+    let s = c .before .before .before .before .before .before .before in
     (s .pre .0, (omega (arith, s .pre .1 .0), (s .pre .1 .1 .0, s .pre .1 .1 .1 .0)))
 
 same-length : tie.Need-same-length
@@ -22,16 +22,16 @@ same-length-3 c = search needs
 
 returns : tie.Need-returns
 returns c =
-    let s : tie.Start = search needs in
-    let slice : tie.After-slice-known3 = search needs in
-    let put : tie.After-put-slot = search needs in
-    let t1 : tie.Then1 = search needs in
-    within-stop _ _ (s .args .i) (s .args .k) (s .args .gone) (λ j. slice .slice-known3 .given j .fits) (s .pre .1 .1 .1 .0) (put .put-slot .ensures) _ _ (t1 .if1 .taken)
+    let s = c .before .before .before .before .before .before .before .before .before .before .before in
+    let sliceknown3 = c .before .before .before .before .before .before .before .slice-known3 in
+    let putslot = c .before .before .before .put-slot in
+    let yes1 = c .if1 in
+    within-stop _ _ (s .args .i) (s .args .k) (s .args .gone) (λ j. (sliceknown3 .given) j .fits) (s .pre .1 .1 .1 .0) (putslot .ensures) _ _ (yes1 .taken)
 
 remove-gone-requires : tie.Need-remove-gone-requires
 remove-gone-requires c κs =
-    let s : tie.Start = search needs in
-    let k = went-has (let p : tie.After-put-slot = search needs in p .put-slot .ensures) (let p : tie.Else1 = search needs in p .if1 .left) in
+    let s = c .before .before .before .before .before .before .before .before .before .before .before .before .before .before in
+    let k = went-has (c .before .before .before .before .before .before .put-slot .ensures) (c .before .before .before .if1 .left) in
     (record { fine = k .fine; whole = k .whole }, (omega (arith, k .room, s .pre .1 .0), (s .pre .1 .1 .0, (s .pre .1 .1 .1 .0, s .pre .1 .1 .1 .1))))
 
 same-length-4 : tie.Need-same-length-4
@@ -45,19 +45,19 @@ same-length-6 c = search needs
 
 returns-2 : tie.Need-returns-2
 returns-2 c =
-    let s : tie.Start = search needs in
-    let slice : tie.After-slice-known3 = search needs in
-    let put : tie.After-put-slot = search needs in
-    let e1 : tie.Else1 = search needs in
-    let remove : tie.After-remove-gone = search needs in
-    let t2 : tie.Then2 = search needs in
-    within-gone _ _ (s .args .i) (s .args .k) (s .args .gone) (λ j. slice .slice-known3 .given j .fits) (s .pre .1 .1 .1 .0) (put .put-slot .ensures) (e1 .if1 .left) (remove .remove-gone .ensures) _ _ (t2 .if2 .taken)
+    let s = c .before .before .before .before .before .before .before .before .before .before .before .before .before .before .before .before .before .before .before .before .before .before in
+    let sliceknown3 = c .before .before .before .before .before .before .before .before .before .before .before .before .before .before .before .before .before .before .slice-known3 in
+    let putslot = c .before .before .before .before .before .before .before .before .before .before .before .before .before .before .put-slot in
+    let no1 = c .before .before .before .before .before .before .before .before .before .before .before .if1 in
+    let removegone = c .before .before .before .before .before .before .before .remove-gone in
+    let yes2 = c .if2 in
+    within-gone _ _ (s .args .i) (s .args .k) (s .args .gone) (λ j. (sliceknown3 .given) j .fits) (s .pre .1 .1 .1 .0) (putslot .ensures) (no1 .left) (removegone .ensures) _ _ (yes2 .taken)
 
 sync-row-requires : tie.Need-sync-row-requires
 sync-row-requires c κs =
-    let s : tie.Start = search needs in
-    let k = went-has (let p : tie.After-put-slot = search needs in p .put-slot .ensures) (let p : tie.Else1 = search needs in p .if1 .left) in
-    let d = went-has (let p : tie.After-remove-gone = search needs in p .remove-gone .ensures) (let p : tie.Else2 = search needs in p .if2 .left) in
+    let s = c .before .before .before .before .before .before .before .before .before .before .before .before .before .before .before .before .before .before .before .before .before .before .before .before in
+    let k = went-has (c .before .before .before .before .before .before .before .before .before .before .before .before .before .before .before .before .put-slot .ensures) (c .before .before .before .before .before .before .before .before .before .before .before .before .before .if1 .left) in
+    let d = went-has (c .before .before .before .before .before .before .before .before .before .remove-gone .ensures) (c .before .before .if2 .left) in
     (record { fine = d .fine; whole = d .whole }, (omega (arith, k .room, d .room, s .pre .1 .0), s .pre .1 .1 .0))
 
 same-length-7 : tie.Need-same-length-7
@@ -71,14 +71,14 @@ same-length-9 c = search needs
 
 returns-3 : tie.Need-returns-3
 returns-3 c =
-    let s : tie.Start = search needs in
-    let slice : tie.After-slice-known3 = search needs in
-    let put : tie.After-put-slot = search needs in
-    let e1 : tie.Else1 = search needs in
-    let remove : tie.After-remove-gone = search needs in
-    let e2 : tie.Else2 = search needs in
-    let sync : tie.After-sync-row = search needs in
-    within-done _ _ (s .args .i) (s .args .k) (s .args .gone) (λ j. slice .slice-known3 .given j .fits) (s .pre .1 .1 .1 .0) (put .put-slot .ensures) (e1 .if1 .left) (remove .remove-gone .ensures) (e2 .if2 .left) (sync .sync-row .ensures)
+    let s = c .before .before .before .before .before .before .before .before .before .before .before .before .before .before .before .before .before .before .before .before .before .before .before .before .before .before .before .before .before in
+    let sliceknown3 = c .before .before .before .before .before .before .before .before .before .before .before .before .before .before .before .before .before .before .before .before .before .before .before .before .before .slice-known3 in
+    let putslot = c .before .before .before .before .before .before .before .before .before .before .before .before .before .before .before .before .before .before .before .before .before .put-slot in
+    let no1 = c .before .before .before .before .before .before .before .before .before .before .before .before .before .before .before .before .before .before .if1 in
+    let removegone = c .before .before .before .before .before .before .before .before .before .before .before .before .before .before .remove-gone in
+    let no2 = c .before .before .before .before .before .before .before .if2 in
+    let syncrow = c .before .before .before .before .sync-row in
+    within-done _ _ (s .args .i) (s .args .k) (s .args .gone) (λ j. (sliceknown3 .given) j .fits) (s .pre .1 .1 .1 .0) (putslot .ensures) (no1 .left) (removegone .ensures) (no2 .left) (syncrow .ensures)
 
 pub move-within-spec : {M : Type 1} → statement M
 move-within-spec =

@@ -22,7 +22,7 @@ returns c = ill {r = 19} (omega arith) (get-none (c .before .before .before .bef
 is-used-requires : tie.Need-is-used-requires
 is-used-requires c κs =
     let m = c .before .before .before .before .before .before .before .before .args .mem .now in
-    (c .before .before .before .before .before .before .before .before .pre .1, (eqb-true (getD m 4370 0) 1 (sym (c .before .before .has-meta .ensures) ∙ not-false _ (c .before .if1 .left))))
+    (c .before .before .before .before .before .before .before .before .pre .1, (eqb-true (getD m 4402 0) 1 (sym (c .before .before .has-meta .ensures) ∙ not-false _ (c .before .if1 .left))))
 
 same-length-2 : tie.Need-same-length-2
 same-length-2 c = search needs
@@ -31,7 +31,7 @@ returns-2 : tie.Need-returns-2
 returns-2 c =
     let s = c .before .before .before .before .before .before .before .before .before .before in
     let m = s .args .mem .now in
-    ill {r = 19} (omega arith) (get-unused (s .args .arena .now) m (s .args .id) (eqb-true (getD m 4370 0) 1 (sym (c .before .before .before .before .has-meta .ensures) ∙ not-false _ (c .before .before .before .if1 .left))) (sym (c .before .is-used .ensures) ∙ not-true _ (c .if2 .taken)))
+    ill {r = 19} (omega arith) (get-unused (s .args .arena .now) m (s .args .id) (eqb-true (getD m 4402 0) 1 (sym (c .before .before .before .before .has-meta .ensures) ∙ not-false _ (c .before .before .before .if1 .left))) (sym (c .before .is-used .ensures) ∙ not-true _ (c .if2 .taken)))
 
 find-row-requires : tie.Need-find-row-requires
 find-row-requires c κs = search needs
@@ -53,7 +53,7 @@ returns-3 c =
     let s = c .before .before .before .before .before .before .before .before .before .before .before .before .before .before .before in
     let m = s .args .mem .now in
     let e = sym (c .before .before .before .find-row .ensures) ∙ c .before .f .given .1 in
-    rw (get-used (s .args .arena .now) m (s .args .id) (eqb-true (getD m 4370 0) 1 (sym (c .before .before .before .before .before .before .before .before .before .has-meta .ensures) ∙ not-false _ (c .before .before .before .before .before .before .before .before .if1 .left))) (sym (c .before .before .before .before .before .before .is-used .ensures) ∙ not-false _ (c .before .before .before .before .before .if2 .left)), e)
+    rw (get-used (s .args .arena .now) m (s .args .id) (eqb-true (getD m 4402 0) 1 (sym (c .before .before .before .before .before .before .before .before .before .has-meta .ensures) ∙ not-false _ (c .before .before .before .before .before .before .before .before .if1 .left))) (sym (c .before .before .before .before .before .before .is-used .ensures) ∙ not-false _ (c .before .before .before .before .before .if2 .left)), e)
     (well refl (s .pre .1, row-below (tableIn m) (s .args .id) (c .before .f .given .0 .0) e))
 
 same-length-4 : tie.Need-same-length-4
@@ -63,7 +63,7 @@ returns-4 : tie.Need-returns-4
 returns-4 c =
     let s = c .before .before .before .before .before .before .before .before .before .before .before .before .before .before .before .before .before .before in
     let m = s .args .mem .now in
-    rw (get-used (s .args .arena .now) m (s .args .id) (eqb-true (getD m 4370 0) 1 (sym (c .before .before .before .before .before .before .before .before .before .before .before .before .has-meta .ensures) ∙ not-false _ (c .before .before .before .before .before .before .before .before .before .before .before .if1 .left))) (sym (c .before .before .before .before .before .before .before .before .before .is-used .ensures) ∙ not-false _ (c .before .before .before .before .before .before .before .before .if2 .left)), sym (c .before .before .before .before .before .before .find-row .ensures) ∙ c .before .before .before .before .enum-told .given .1) (c .before .before .load-node .ensures)
+    rw (get-used (s .args .arena .now) m (s .args .id) (eqb-true (getD m 4402 0) 1 (sym (c .before .before .before .before .before .before .before .before .before .before .before .before .has-meta .ensures) ∙ not-false _ (c .before .before .before .before .before .before .before .before .before .before .before .if1 .left))) (sym (c .before .before .before .before .before .before .before .before .before .is-used .ensures) ∙ not-false _ (c .before .before .before .before .before .before .before .before .if2 .left)), sym (c .before .before .before .before .before .before .find-row .ensures) ∙ c .before .before .before .before .enum-told .given .1) (c .before .before .load-node .ensures)
 
 pub get-node-spec : {M : Type 1} → statement M
 get-node-spec =

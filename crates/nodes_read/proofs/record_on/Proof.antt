@@ -25,7 +25,7 @@ returns c =
 is-used-requires : tie.Need-is-used-requires
 is-used-requires c κs =
     let s = c .before .before .before .before .before .before in
-    (s .pre .1, eqb-true (getD (s .args .mem .now) 4370 0) 1 (sym (c .before .has-meta .ensures) ∙ not-false _ (c .if1 .left)))
+    (s .pre .1, eqb-true (getD (s .args .mem .now) 4402 0) 1 (sym (c .before .has-meta .ensures) ∙ not-false _ (c .if1 .left)))
 
 not-noted-requires-2 : tie.Need-not-noted-requires-2
 not-noted-requires-2 c κs = search needs
@@ -34,7 +34,7 @@ returns-2 : tie.Need-returns-2
 returns-2 c =
     let s = c .before .before .before .before .before .before .before .before .before in
     let m = s .args .mem .now in
-    rw (c .not-noted2 .ensures) (ill {r = 19} (omega arith) (record-unused (s .args .arena .now) m (s .args .id) (eqb-true (getD m 4370 0) 1 (sym (c .before .before .before .before .has-meta .ensures) ∙ not-false _ (c .before .before .before .if1 .left))) (sym (c .before .before .is-used .ensures) ∙ not-true _ (c .before .if2 .taken))))
+    rw (c .not-noted2 .ensures) (ill {r = 19} (omega arith) (record-unused (s .args .arena .now) m (s .args .id) (eqb-true (getD m 4402 0) 1 (sym (c .before .before .before .before .has-meta .ensures) ∙ not-false _ (c .before .before .before .if1 .left))) (sym (c .before .before .is-used .ensures) ∙ not-true _ (c .before .if2 .taken))))
 
 find-row-requires : tie.Need-find-row-requires
 find-row-requires c κs = search needs
@@ -57,13 +57,13 @@ returns-3 : tie.Need-returns-3
 returns-3 c =
     let s = c .before .before .before .before .before .before .before .before .before .before .before .before .before in
     let m = s .args .mem .now in
-    rw (record-used (s .args .arena .now) m (s .args .id) (eqb-true (getD m 4370 0) 1 (sym (c .before .before .before .before .before .before .before .before .has-meta .ensures) ∙ not-false _ (c .before .before .before .before .before .before .before .if1 .left))) (sym (c .before .before .before .before .before .before .is-used .ensures) ∙ not-false _ (c .before .before .before .before .before .if2 .left)), sym (c .before .before .before .before .find-row .ensures) ∙ c .before .before .f .given .1, c .rec-at .ensures) (well refl tt)
+    rw (record-used (s .args .arena .now) m (s .args .id) (eqb-true (getD m 4402 0) 1 (sym (c .before .before .before .before .before .before .before .before .has-meta .ensures) ∙ not-false _ (c .before .before .before .before .before .before .before .if1 .left))) (sym (c .before .before .before .before .before .before .is-used .ensures) ∙ not-false _ (c .before .before .before .before .before .if2 .left)), sym (c .before .before .before .before .find-row .ensures) ∙ c .before .before .f .given .1, c .rec-at .ensures) (well refl tt)
 
 returns-4 : tie.Need-returns-4
 returns-4 c =
     let s = c .before .before .before .before .before .before .before .before .before .before .before .before in
     let m = s .args .mem .now in
-    rw (record-used (s .args .arena .now) m (s .args .id) (eqb-true (getD m 4370 0) 1 (sym (c .before .before .before .before .before .before .before .has-meta .ensures) ∙ not-false _ (c .before .before .before .before .before .before .if1 .left))) (sym (c .before .before .before .before .before .is-used .ensures) ∙ not-false _ (c .before .before .before .before .if2 .left)), sym (c .before .before .before .find-row .ensures) ∙ c .before .enum-told .given .1) (c .record-of .ensures)
+    rw (record-used (s .args .arena .now) m (s .args .id) (eqb-true (getD m 4402 0) 1 (sym (c .before .before .before .before .before .before .before .has-meta .ensures) ∙ not-false _ (c .before .before .before .before .before .before .if1 .left))) (sym (c .before .before .before .before .before .is-used .ensures) ∙ not-false _ (c .before .before .before .before .if2 .left)), sym (c .before .before .before .find-row .ensures) ∙ c .before .enum-told .given .1) (c .record-of .ensures)
 
 pub record-on-spec : {M : Type 1} → statement M
 record-on-spec =

@@ -46,7 +46,7 @@ returns c =
     let r = c .before .before in
     let b = r .before .before .before .before .before .before .before in
     let s = b .before .before .before .before .before .before in
-    own-shows (λ x. callEntry (s .args .arena .now) (sym (b .begin .ensures .0) x) (sym (r .before .before .handle .ensures) x) (s .args .slot) (length (s .args .out .now))) (r .entry-led .ensures)
+    own-shows (λ x. callEntry (s .args .arena .now) (sym (b .begin .ensures .0) x) (s .args .owner) (sym (r .before .before .handle .ensures) x) (s .args .slot) (length (s .args .out .now))) (r .entry-led .ensures)
 
 pub dz-own-get-entry-spec : {M : Type 1} → statement M
 dz-own-get-entry-spec =

@@ -46,7 +46,7 @@ returns c =
     let o = e .before .before .before .before .before .before .before .before in
     let b = o .before .before .before .before .before .before in
     let s = b .before .before .before .before .before .before .before .before in
-    (leaves (λ x. callLink (s .args .arena .now) (sym (b .begin .ensures .0) x) (sym (o .before .handle2 .ensures) x) (s .args .name .now) (sym (b .before .before .before .handle .ensures) x)) (o .link-on .ensures .0) (e .end-after .ensures), o .link-on .ensures .1)
+    (leaves (λ x. callLink (s .args .arena .now) (sym (b .begin .ensures .0) x) (s .args .owner) (sym (o .before .handle2 .ensures) x) (s .args .name .now) (sym (b .before .before .before .handle .ensures) x)) (o .link-on .ensures .0) (e .end-after .ensures), o .link-on .ensures .1)
 
 pub dz-own-link-spec : {M : Type 1} → statement M
 dz-own-link-spec =

@@ -62,7 +62,7 @@ returns-2 c =
     let l = e .before .before .before .before in
     let b = l .before .before .before .before .before .before .before in
     let s = b .before .before .before .before .before .before .before .before .before in
-    lists (sized-is 1 (s .args .next .now) _ (b .before .before .before .if1 .left) ∙ (λ x. callListing (s .args .arena .now) (sym (b .begin .ensures .0) x) (sym (l .before .before .handle .ensures) x) (getD (s .args .next .now) 0 0) (length (s .args .out .now)))) (l .list-led .ensures) (e .end-listed .ensures)
+    lists (sized-is 1 (s .args .next .now) _ (b .before .before .before .if1 .left) ∙ (λ x. callListing (s .args .arena .now) (sym (b .begin .ensures .0) x) (s .args .owner) (sym (l .before .before .handle .ensures) x) (getD (s .args .next .now) 0 0) (length (s .args .out .now)))) (l .list-led .ensures) (e .end-listed .ensures)
 
 pub dz-own-list-spec : {M : Type 1} → statement M
 dz-own-list-spec =

@@ -43,7 +43,7 @@ returns c =
     let o = e .before .before .before .before .before .before .before .before in
     let b = o .before .before .before .before .before .before in
     let s = b .before .before .before .before .before .before .before in
-    (leaves (λ x. callUnlink (s .args .arena .now) (sym (b .begin .ensures .0) x) (sym (o .before .handle .ensures) x) (s .args .name .now)) (o .unlink-on .ensures .0) (e .end-after .ensures), o .unlink-on .ensures .1)
+    (leaves (λ x. callUnlink (s .args .arena .now) (sym (b .begin .ensures .0) x) (s .args .owner) (sym (o .before .handle .ensures) x) (s .args .name .now)) (o .unlink-on .ensures .0) (e .end-after .ensures), o .unlink-on .ensures .1)
 
 pub dz-own-unlink-spec : {M : Type 1} → statement M
 dz-own-unlink-spec =

@@ -43,7 +43,7 @@ returns c =
     let o = e .before .before .before .before .before .before .before .before in
     let b = o .before .before .before .before .before .before in
     let s = b .before .before .before .before .before .before in
-    (leaves (λ x. callResize (s .args .arena .now) (sym (b .begin .ensures .0) x) (sym (o .before .handle .ensures) x) (s .args .size)) (o .resize-on .ensures .0) (e .end-after .ensures), o .resize-on .ensures .1)
+    (leaves (λ x. callResize (s .args .arena .now) (sym (b .begin .ensures .0) x) (s .args .owner) (sym (o .before .handle .ensures) x) (s .args .size)) (o .resize-on .ensures .0) (e .end-after .ensures), o .resize-on .ensures .1)
 
 pub dz-own-resize-spec : {M : Type 1} → statement M
 dz-own-resize-spec =

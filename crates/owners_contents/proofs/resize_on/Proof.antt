@@ -4,7 +4,7 @@ use Rattle.base.proofs.Outs.{went-is, went-has, went-not}
 use Rattle.mem.specs.Mem.{tableIn}
 use Rattle.steps.proofs.Ends.{ended-refused}
 use Rattle.calls_resize.proofs.Sizes.{resize-not, resized}
-use Rattle.owners.proofs.Laws.{rechained}
+use Rattle.owners.proofs.Laws.{as-many, rechained}
 use borrow.Author.Needs.{needs}
 use Rattle.owners_contents.proofs.resize_on.Statement.{statement}
 use Rattle.owners_contents.proofs.resize_on.Tie as tie
@@ -37,13 +37,16 @@ returns : tie.Need-returns
 returns c =
     let l = c .before .before in
     let s = l .before .before .before .before .before .before .before .before .before in
-    (ended-refused (c .if1 .taken) (resize-not (s .args .arena .now) (tableIn (s .args .mem .now)) (s .args .h) (s .args .n) (went-not (l .resize-led .ensures) (c .if1 .taken))) refl, s .pre .chained)
+    (ended-refused (c .if1 .taken) (resize-not (s .args .arena .now) (tableIn (s .args .mem .now)) (s .args .who) (s .args .h) (s .args .n) (went-not (l .resize-led .ensures) (c .if1 .taken))) refl, s .pre .chained)
 
 set-size-requires : tie.Need-set-size-requires
 set-size-requires c κs = (c .before .before .before .before .before .before .before .before .before .before .before .before .before .pre .admitted .whole, went-has (c .before .before .before .before .resize-led .ensures) (c .before .before .if1 .left))
 
 chain-all-requires : tie.Need-chain-all-requires
-chain-all-requires c κs = search needs
+chain-all-requires c κs =
+    let z = c .before .before .before .before .before .before in
+    let s = z .before .before .before .before .before .before .before .before .before .before .before .before .before .before in
+    (as-many (s .args .arena .now) (z .set-size .last .0) (s .pre .admitted .led .whole) (z .set-size .kept .0), s .pre .chained .size)
 
 same-length-4 : tie.Need-same-length-4
 same-length-4 c = search needs
@@ -61,7 +64,7 @@ returns-2 c =
     let i = z .before .before .before in
     let l = i .before .before in
     let s = l .before .before .before .before .before .before .before .before .before in
-    (resized (s .args .arena .now) _ (s .args .mem .now) _ (s .args .h) (s .args .n) _ (went-is (l .resize-led .ensures) (i .if1 .left)) (z .set-size .ensures), rechained (s .pre .chained) (k .chain-all .kept .1 .0) (k .chain-all .ensures))
+    (resized (s .args .arena .now) _ (s .args .mem .now) _ (s .args .who) (s .args .h) (s .args .n) _ (went-is (l .resize-led .ensures) (i .if1 .left)) (z .set-size .ensures), rechained (s .pre .chained) (k .chain-all .kept .1 .0) (k .chain-all .ensures))
 
 pub resize-on-spec : {M : Type 1} → statement M
 resize-on-spec =

@@ -12,7 +12,10 @@ call-open-requires : tie.Need-call-open-requires
 call-open-requires c κs = search needs
 
 call-root-requires : tie.Need-call-root-requires
-call-root-requires c κs = search needs
+unfolding sizeBy
+call-root-requires c κs =
+    let s = c .before .before .before .before .before .before .before .before in
+    (bytes-there 18 (s .args .script .now) (s .args .at) (c .before .before .match .keys2) (s .pre .0), s .pre .1)
 
 call-find-requires : tie.Need-call-find-requires
 unfolding sizeBy

@@ -49,7 +49,7 @@ loop-again : tie.Need-loop-again Inv-loop μ-loop
 loop-again c =
     let w = c .before .before in
     let l = w .before .before .before .before .loop in
-    (omega arith, w .put-hold .kept .0 ∙ l .inv .1, run-lay 12 _ _ _ _ 3978 _ _ (λ j k. length-holdBytes _) refl (omega arith) (l .inv .2) (w .put-hold .ensures))
+    (omega arith, w .put-hold .kept .0 ∙ l .inv .1, run-lay 13 _ _ _ _ 3978 _ _ (λ j k. length-holdBytes _) refl (omega arith) (l .inv .2) (w .put-hold .ensures))
 
 same-length : tie.Need-same-length Inv-loop μ-loop
 same-length c = c .before .loop .inv .1

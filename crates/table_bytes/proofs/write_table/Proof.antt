@@ -30,8 +30,8 @@ returns c =
     let w1 = w2 .before .before .before .before in
     let s = w1 .before .before .before .before .before in
     (laid-first 3978 _ _ _ 0 _ _ (length-run 117 _ 34 (w1 .put-rows .ensures .1)) (w1 .put-rows .kept .0) (w1 .put-rows .ensures .0)
-    (laid-next 3978 384 _ _ _ 0 _ _ (length-run 12 _ 32 (λ i k. length-holdBytes _)) (w2 .put-holds .kept .0) (w2 .put-holds .ensures)
-    (laid-last _ _ 4362 _ (omega (arith, length-leBytes 8 (s .args .t .next))) (w3 .put-u64 .ensures)))) .is
+    (laid-next 3978 416 _ _ _ 0 _ _ (length-run 13 _ 32 (λ i k. length-holdBytes _)) (w2 .put-holds .kept .0) (w2 .put-holds .ensures)
+    (laid-last _ _ 4394 _ (omega (arith, length-leBytes 8 (s .args .t .next))) (w3 .put-u64 .ensures)))) .is
 
 pub write-table-spec : {M : Type 1} → statement M
 write-table-spec =

@@ -23,7 +23,7 @@ returns : tie.Need-returns
 returns c = ill {r = 19} (omega arith) (alloc-none (c .before .before .before .before .before .before .args .arena .now) (c .before .before .before .before .before .before .args .work .now) (c .before .before .before .before .before .before .args .mem .now) (sym (c .before .has-meta .ensures) ∙ not-true _ (c .if1 .taken)))
 
 ensure-bit-requires : tie.Need-ensure-bit-requires
-ensure-bit-requires c κs = (c .before .before .before .before .before .before .before .before .pre, eqb-true (getD (c .before .before .before .before .before .before .before .before .args .mem .now) 4370 0) 1 (sym (c .before .before .before .has-meta .ensures) ∙ not-false _ (c .before .before .if1 .left)))
+ensure-bit-requires c κs = (c .before .before .before .before .before .before .before .before .pre, eqb-true (getD (c .before .before .before .before .before .before .before .before .args .mem .now) 4402 0) 1 (sym (c .before .before .before .has-meta .ensures) ∙ not-false _ (c .before .before .if1 .left)))
 
 same-length-2 : tie.Need-same-length-2
 same-length-2 c = search needs
@@ -35,14 +35,14 @@ returns-2 : tie.Need-returns-2
 returns-2 c =
     let s = c .before .before .before .before .before .before .before .before .before .before .before .before .before .before in
     let m = s .args .mem .now in
-    rw (alloc-is (s .args .arena .now) (s .args .work .now) m (eqb-true (getD m 4370 0) 1 (sym (c .before .before .before .before .before .before .before .before .before .has-meta .ensures) ∙ not-false _ (c .before .before .before .before .before .before .before .before .if1 .left))))
+    rw (alloc-is (s .args .arena .now) (s .args .work .now) m (eqb-true (getD m 4402 0) 1 (sym (c .before .before .before .before .before .before .before .before .before .has-meta .ensures) ∙ not-false _ (c .before .before .before .before .before .before .before .before .if1 .left))))
     (went-stop (λ (s : Fs). bind (s .meta) (takeBit s)) _ (c .if2 .taken) (c .before .before .before .before .before .ensure-bit .ensures))
 
 take-bit-requires : tie.Need-take-bit-requires
 take-bit-requires c κs =
     let s = c .before .before .before .before .before .before .before .before .before .before .before .before .before .before .before in
     let m = s .args .mem .now in
-    let k = eqb-true (getD m 4370 0) 1 (sym (c .before .before .before .before .before .before .before .before .before .before .has-meta .ensures) ∙ not-false _ (c .before .before .before .before .before .before .before .before .before .if1 .left)) in
+    let k = eqb-true (getD m 4402 0) 1 (sym (c .before .before .before .before .before .before .before .before .before .before .has-meta .ensures) ∙ not-false _ (c .before .before .before .before .before .before .before .before .before .if1 .left)) in
     let h = spare-room (s .args .arena .now) (s .args .work .now) (c .before .before .before .before .before .before .ensure-bit .last .1 .0) m (c .before .before .before .before .before .before .ensure-bit .last .1 .1 .0) (length-maps m (s .pre .0 .whole) k) k (went-is (c .before .before .before .before .before .before .ensure-bit .ensures) (c .before .if2 .left)) in
     ((went-has (c .before .before .before .before .before .before .ensure-bit .ensures) (c .before .if2 .left) .whole, h .mark), h .below)
 
@@ -59,7 +59,7 @@ returns-3 c =
     let m = s .args .mem .now in
     let u = c .before .before .before .before .before .before .before .before .before .ensure-bit .last .1 .0 in
     let n = c .before .before .before .before .before .before .before .before .before .ensure-bit .last .1 .1 .0 in
-    let k = eqb-true (getD m 4370 0) 1 (sym (c .before .before .before .before .before .before .before .before .before .before .before .before .before .has-meta .ensures) ∙ not-false _ (c .before .before .before .before .before .before .before .before .before .before .before .before .if1 .left)) in
+    let k = eqb-true (getD m 4402 0) 1 (sym (c .before .before .before .before .before .before .before .before .before .before .before .before .before .has-meta .ensures) ∙ not-false _ (c .before .before .before .before .before .before .before .before .before .before .before .before .if1 .left)) in
     let e = went-is (c .before .before .before .before .before .before .before .before .before .ensure-bit .ensures) (c .before .before .before .before .if2 .left) in
     let h = spare-room a (s .args .work .now) u m n (length-maps m (s .pre .0 .whole) k) k e in
     let q = went-has (c .before .before .before .before .before .before .before .before .before .ensure-bit .ensures) (c .before .before .before .before .if2 .left) in

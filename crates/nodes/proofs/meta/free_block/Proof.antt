@@ -19,7 +19,7 @@ returns : tie.Need-returns
 returns c = λ a w. ill {r = 19} (omega arith) (free-none (c .before .before .before .before .args .mem .now) (c .before .before .before .before .args .id) (sym (c .before .has-meta .ensures) ∙ not-true _ (c .if1 .taken)) a w)
 
 is-used-requires : tie.Need-is-used-requires
-is-used-requires c κs = (c .before .before .before .before .before .pre, eqb-true (getD (c .before .before .before .before .before .args .mem .now) 4370 0) 1 (sym (c .before .before .has-meta .ensures) ∙ not-false _ (c .before .if1 .left)))
+is-used-requires c κs = (c .before .before .before .before .before .pre, eqb-true (getD (c .before .before .before .before .before .args .mem .now) 4402 0) 1 (sym (c .before .before .has-meta .ensures) ∙ not-false _ (c .before .if1 .left)))
 
 same-length-2 : tie.Need-same-length-2
 same-length-2 c = search needs
@@ -27,12 +27,12 @@ same-length-2 c = search needs
 returns-2 : tie.Need-returns-2
 returns-2 c =
     let m = c .before .before .before .before .before .before .before .args .mem .now in
-    λ a w. ill {r = 19} (omega arith) (free-unused m (c .before .before .before .before .before .before .before .args .id) (eqb-true (getD m 4370 0) 1 (sym (c .before .before .before .before .has-meta .ensures) ∙ not-false _ (c .before .before .before .if1 .left))) (sym (c .before .is-used .ensures) ∙ not-true _ (c .if2 .taken)) a w)
+    λ a w. ill {r = 19} (omega arith) (free-unused m (c .before .before .before .before .before .before .before .args .id) (eqb-true (getD m 4402 0) 1 (sym (c .before .before .before .before .has-meta .ensures) ∙ not-false _ (c .before .before .before .if1 .left))) (sym (c .before .is-used .ensures) ∙ not-true _ (c .if2 .taken)) a w)
 
 set-free-requires : tie.Need-set-free-requires
 set-free-requires c κs =
     let m = c .before .before .before .before .before .before .before .before .args .mem .now in
-    ((c .before .before .before .before .before .before .before .before .pre, eqb-true (getD m 4370 0) 1 (sym (c .before .before .before .before .before .has-meta .ensures) ∙ not-false _ (c .before .before .before .before .if1 .left))), sym (c .before .before .is-used .ensures) ∙ not-false _ (c .before .if2 .left))
+    ((c .before .before .before .before .before .before .before .before .pre, eqb-true (getD m 4402 0) 1 (sym (c .before .before .before .before .before .has-meta .ensures) ∙ not-false _ (c .before .before .before .before .if1 .left))), sym (c .before .before .is-used .ensures) ∙ not-false _ (c .before .if2 .left))
 
 same-length-3 : tie.Need-same-length-3
 same-length-3 c = search needs

@@ -25,7 +25,7 @@ put-requires c κs =
     let s = c .before .before .before .before .before .before .before in
     let m = s .args .mem .now in
     let l : s .args .g < 4 = omega (arith, s .pre .0 .0 .whole .few (s .pre .1 .0)) in
-    let n = ap length (c .map-bytes .ensures) ∙ length-part m (4387 + 128 * s .args .g) (4387 + 128 * s .args .g + 128) (omega arith) (omega (arith, s .pre .0 .0 .whole .size)) in
+    let n = ap length (c .map-bytes .ensures) ∙ length-part m (4419 + 128 * s .args .g) (4419 + 128 * s .args .g + 128) (omega arith) (omega (arith, s .pre .0 .0 .whole .size)) in
     let k = map-touches (s .args .g) (c .before .map-at .result) (length (c .map-bytes .result .now)) l (c .before .map-at .ensures) (n ∙ omega arith) in
     ((s .pre .0 .0 .fine, omega (arith, k)), (refl, omega arith))
 
@@ -37,7 +37,7 @@ returns c =
     let s = c .before .before .before .before .before .before .before .before .before .before in
     let m = s .args .mem .now in
     let l : s .args .g < 4 = omega (arith, s .pre .0 .0 .whole .few (s .pre .1 .0)) in
-    let n = ap length (c .before .before .before .map-bytes .ensures) ∙ length-part m (4387 + 128 * s .args .g) (4387 + 128 * s .args .g + 128) (omega arith) (omega (arith, s .pre .0 .0 .whole .size)) in
+    let n = ap length (c .before .before .before .map-bytes .ensures) ∙ length-part m (4419 + 128 * s .args .g) (4419 + 128 * s .args .g + 128) (omega arith) (omega (arith, s .pre .0 .0 .whole .size)) in
     let k = map-touches (s .args .g) (c .before .before .before .before .map-at .result) (length (c .before .before .before .map-bytes .result .now)) l (c .before .before .before .before .map-at .ensures) (n ∙ omega arith) in
     rw (map-part (s .args .mem .now) (s .args .g) (s .pre .1 .1), ← (c .before .before .before .map-bytes .ensures), ← (c .before .before .before .before .map-at .ensures)) (did-more 2 (omega (arith, k)) (c .before .before .put .ensures))
 

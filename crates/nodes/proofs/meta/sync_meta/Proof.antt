@@ -29,7 +29,7 @@ super-bytes-requires c κs = search needs
 put-requires : tie.Need-put-requires
 put-requires c κs =
     let s = c .before .before .before .before .before .before .before .before in
-    let n = ap length (c .super-bytes .ensures) ∙ length-part (s .args .mem .now) 4371 4387 (omega arith) (omega (arith, s .pre .0 .whole .size)) in
+    let n = ap length (c .super-bytes .ensures) ∙ length-part (s .args .mem .now) 4403 4419 (omega arith) (omega (arith, s .pre .0 .whole .size)) in
     let k = touched-within 0 (length (c .super-bytes .result .now)) (omega arith) in
     ((s .pre .0 .fine, omega (arith, s .pre .1, k)), (refl, omega arith))
 
@@ -40,7 +40,7 @@ returns-2 : tie.Need-returns-2
 returns-2 c =
     let s = c .before .before .before .before .before .before .before .before .before .before .before .before in
     let m = s .args .mem .now in
-    sync-stop (s .args .arena .now) (s .args .work .now) (c .before .before .before .put .last .1 .0) m (c .before .before .before .put .result) (λ j. c .before .before .before .before .before .before .before .before .before .shared-slice-known2 .given j .fits) (s .pre .0 .whole) (eqb-true (getD m 4370 0) 1 (sym (c .before .before .before .before .before .before .before .before .has-meta .ensures) ∙ not-false _ (c .before .before .before .before .before .before .before .if1 .left))) (rw (c .before .before .before .before .super-bytes .ensures) at (c .before .before .before .put .ensures)) (c .if2 .taken)
+    sync-stop (s .args .arena .now) (s .args .work .now) (c .before .before .before .put .last .1 .0) m (c .before .before .before .put .result) (λ j. c .before .before .before .before .before .before .before .before .before .shared-slice-known2 .given j .fits) (s .pre .0 .whole) (eqb-true (getD m 4402 0) 1 (sym (c .before .before .before .before .before .before .before .before .has-meta .ensures) ∙ not-false _ (c .before .before .before .before .before .before .before .if1 .left))) (rw (c .before .before .before .before .super-bytes .ensures) at (c .before .before .before .put .ensures)) (c .if2 .taken)
 
 super-at-requires : tie.Need-super-at-requires
 super-at-requires c κs = search needs
@@ -52,10 +52,10 @@ store-maps-requires : tie.Need-store-maps-requires
 store-maps-requires c κs =
     let s = c .before .before .before .before .before .before .before .before .before .before .before .before .before .before .before in
     let m = s .args .mem .now in
-    let k = eqb-true (getD m 4370 0) 1 (sym (c .before .before .before .before .before .before .before .before .before .before .before .has-meta .ensures) ∙ not-false _ (c .before .before .before .before .before .before .before .before .before .before .if1 .left)) in
+    let k = eqb-true (getD m 4402 0) 1 (sym (c .before .before .before .before .before .before .before .before .before .before .before .has-meta .ensures) ∙ not-false _ (c .before .before .before .before .before .before .before .before .before .before .if1 .left)) in
     let e = did-well (c .before .before .before .before .before .before .put .ensures) (c .before .before .before .if2 .left) in
     let n : c .index .result ≡ superIn m .groups = c .index .ensures ∙ ap (λ (b : SuperBlock). b .groups) (c .before .before .super-at .ensures) in
-    let b = ap length (c .before .before .before .before .before .before .before .super-bytes .ensures) ∙ length-part m 4371 4387 (omega arith) (omega (arith, s .pre .0 .whole .size)) in
+    let b = ap length (c .before .before .before .before .before .before .before .super-bytes .ensures) ∙ length-part m 4403 4419 (omega arith) (omega (arith, s .pre .0 .whole .size)) in
     let l = touched-within 0 (length (c .before .before .before .before .before .before .before .super-bytes .result .now)) (omega (arith, b)) in
     ((record { fine = e .fine; whole = s .pre .0 .whole }, omega (arith, e .room, s .pre .1, s .pre .0 .whole .few k, l)), (k, omega arith))
 
@@ -67,7 +67,7 @@ returns-3 c =
     let s = c .before .before .before .before .before .before .before .before .before .before .before .before .before .before .before .before .before .before in
     let m = s .args .mem .now in
     let n : c .before .before .before .index .result ≡ superIn m .groups = c .before .before .before .index .ensures ∙ ap (λ (b : SuperBlock). b .groups) (c .before .before .before .before .before .super-at .ensures) in
-    sync-done (s .args .arena .now) (s .args .work .now) (c .before .before .before .before .before .before .before .before .before .put .last .1 .0) m (c .before .before .before .before .before .before .before .before .before .put .result) (λ j. c .before .before .before .before .before .before .before .before .before .before .before .before .before .before .before .shared-slice-known2 .given j .fits) (s .pre .0 .whole) (eqb-true (getD m 4370 0) 1 (sym (c .before .before .before .before .before .before .before .before .before .before .before .before .before .before .has-meta .ensures) ∙ not-false _ (c .before .before .before .before .before .before .before .before .before .before .before .before .before .if1 .left))) (rw (c .before .before .before .before .before .before .before .before .before .before .super-bytes .ensures) at (c .before .before .before .before .before .before .before .before .before .put .ensures)) (c .before .before .store-maps .last .1 .0) _ (c .before .before .before .before .before .before .if2 .left) (rw n at (c .before .before .store-maps .ensures))
+    sync-done (s .args .arena .now) (s .args .work .now) (c .before .before .before .before .before .before .before .before .before .put .last .1 .0) m (c .before .before .before .before .before .before .before .before .before .put .result) (λ j. c .before .before .before .before .before .before .before .before .before .before .before .before .before .before .before .shared-slice-known2 .given j .fits) (s .pre .0 .whole) (eqb-true (getD m 4402 0) 1 (sym (c .before .before .before .before .before .before .before .before .before .before .before .before .before .before .has-meta .ensures) ∙ not-false _ (c .before .before .before .before .before .before .before .before .before .before .before .before .before .if1 .left))) (rw (c .before .before .before .before .before .before .before .before .before .before .super-bytes .ensures) at (c .before .before .before .before .before .before .before .before .before .put .ensures)) (c .before .before .store-maps .last .1 .0) _ (c .before .before .before .before .before .before .if2 .left) (rw n at (c .before .before .store-maps .ensures))
 
 pub sync-meta-spec : {M : Type 1} → statement M
 sync-meta-spec =

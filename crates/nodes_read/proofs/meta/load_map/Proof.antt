@@ -42,7 +42,7 @@ same-length c = search needs
 returns : tie.Need-returns
 returns c =
     let s = c .before .before .before .before .before .before .before .before .before in
-    let o = 4387 + 128 * s .args .g in
+    let o = 4419 + 128 * s .args .g in
     let d = c .before .before .read-meta .last .1 .1 .1 .1 .0 in
     let h : o + 128 ≤ length (s .args .mem .now) = omega arith in
     let n : length (part (s .args .mem .now) o (o + 128)) ≡ 128 = length-part (s .args .mem .now) o (o + 128) (omega arith) h ∙ omega arith in

@@ -13,7 +13,7 @@ use Rattle.nodes_read.proofs.meta.load_maps.Tie as tie
 use Rattle.mem.specs.Mem.{memorySize}
 
 abbrev Inv-loop : tie.InvT-loop
-Inv-loop arena first next mem₀ n g₀ mem g = (g ≤ n) × ((length mem ≡ memorySize) × ((loadMaps arena g ≡ done (part mem 4387 (4387 + 128 * g))) × (part mem 0 4387 ≡ part mem₀ 0 4387)))
+Inv-loop arena first next mem₀ n g₀ mem g = (g ≤ n) × ((length mem ≡ memorySize) × ((loadMaps arena g ≡ done (part mem 4419 (4419 + 128 * g))) × (part mem 0 4419 ≡ part mem₀ 0 4419)))
 
 abbrev μ-loop : tie.MeasureT-loop
 μ-loop arena first next mem₀ n g₀ mem g = n - g
@@ -32,7 +32,7 @@ returns c =
     let l = c .before .before .before .before .before .before .loop in
     let s = c .before .before .before .before .before .before .before .before .before .before .before in (
       maps-stop (s .args .arena .now) (l .mem) (c .before .before .before .load-map .last .1 .1 .1 .0) (l .g) _ (l .inv .1 .1 .0) (c .before .before .before .load-map .ensures .0) (s .args .n) (c .before .before .before .before .before .loop-test .taken) (c .if1 .taken) _,
-      part-agree (c .before .before .before .load-map .last .1 .1 .1 .0) (l .mem) (4387 + 128 * l .g) 0 4387 (omega arith) (c .before .before .before .load-map .ensures .1) ∙ l .inv .1 .1 .1,
+      part-agree (c .before .before .before .load-map .last .1 .1 .1 .0) (l .mem) (4419 + 128 * l .g) 0 4419 (omega arith) (c .before .before .before .load-map .ensures .1) ∙ l .inv .1 .1 .1,
     )
 
 add-g : tie.Need-add-g Inv-loop μ-loop
@@ -50,7 +50,7 @@ loop-again c =
         omega (arith, c .before .before .before .load-map .kept .1 .1 .1 .0),
         (
           maps-turn (s .args .arena .now) (l .mem) (c .before .before .before .load-map .last .1 .1 .1 .0) (l .g) _ (l .inv .1 .1 .0) (c .before .before .before .load-map .ensures .0) (c .if1 .left) (c .before .before .before .load-map .ensures .1),
-          part-agree (c .before .before .before .load-map .last .1 .1 .1 .0) (l .mem) (4387 + 128 * l .g) 0 4387 (omega arith) (c .before .before .before .load-map .ensures .1) ∙ l .inv .1 .1 .1,
+          part-agree (c .before .before .before .load-map .last .1 .1 .1 .0) (l .mem) (4419 + 128 * l .g) 0 4419 (omega arith) (c .before .before .before .load-map .ensures .1) ∙ l .inv .1 .1 .1,
         ),
       ),
     )

@@ -31,10 +31,10 @@ returns : tie.Need-returns
 returns c =
     let s = c .before .before .before .before .before .before .before .before in
     let d = c .before .before .read-meta .last .1 .1 .1 .1 .0 in
-    let h : 4387 ≤ length (s .args .mem .now) = omega arith in
-    let n : length (part (s .args .mem .now) 4371 4387) ≡ 16 = length-part (s .args .mem .now) 4371 4387 (omega arith) h in
+    let h : 4419 ≤ length (s .args .mem .now) = omega arith in
+    let n : length (part (s .args .mem .now) 4403 4419) ≡ 16 = length-part (s .args .mem .now) 4403 4419 (omega arith) h in
     let l : length d ≡ 16 = c .before .before .read-meta .kept .1 .1 .1 .1 .0 ∙ n in
-    (read-in (s .args .arena .now) metaFile 0 16 4371 4387 _ (s .args .mem .now) d (omega arith) h l (rw n at (c .before .before .read-meta .ensures)), part-back-below (s .args .mem .now) 4371 4387 d (omega arith) h)
+    (read-in (s .args .arena .now) metaFile 0 16 4403 4419 _ (s .args .mem .now) d (omega arith) h l (rw n at (c .before .before .read-meta .ensures)), part-back-below (s .args .mem .now) 4403 4419 d (omega arith) h)
 
 pub load-super-spec : {M : Type 1} → statement M
 load-super-spec =

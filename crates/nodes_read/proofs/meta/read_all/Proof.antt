@@ -54,7 +54,7 @@ returns-4 c =
     let m = c .before .before .before .before .before .before .before .before .before .before .before .before .load-super .last .1 .1 .1 .0 in
     let e = ap (λ (b : SuperBlock). b .groups) (c .before .before .before .before .before .before .before .super-block-at .ensures ∙ super-is m) in (
       meta-read (c .before .before .before .before .before .before .before .before .before .before .before .before .before .before .before .before .before .before .args .arena .now) m (went-is (c .before .before .before .before .before .before .before .before .before .before .before .before .load-super .ensures .0) (c .before .before .before .before .before .before .before .before .before .if1 .left)) n (λ z. c .before .before .before .before .before .before .if2 .left (e ∙ z)) (omega (arith, c .before .before .before .before .before .if3 .left)) (c .before .before .load-maps .ensures .1) (rw (c .before .before .before .index .ensures ∙ e) at (c .before .before .load-maps .ensures .0)),
-      part-agree n m 4387 0 4371 (omega arith) (c .before .before .load-maps .ensures .1) ∙ c .before .before .before .before .before .before .before .before .before .before .before .before .load-super .ensures .1,
+      part-agree n m 4419 0 4403 (omega arith) (c .before .before .load-maps .ensures .1) ∙ c .before .before .before .before .before .before .before .before .before .before .before .before .load-super .ensures .1,
     )
 
 pub read-all-spec : {M : Type 1} → statement M

@@ -36,17 +36,14 @@ same-length-4 c = search needs
 
 returns : tie.Need-returns
 returns c =
-    let t1 : tie.Then1 = search needs in
-    let plan : tie.After-plan-led = search needs in
-    let s : tie.Start = search needs in
-    (ended-refused (t1 .if1 .taken) (rest-not (plan .plan-led .ensures) (t1 .if1 .taken)) refl, s .pre .0 .chained)
+    let l = c .before .before .before .before .before .before in
+    (ended-refused (c .if1 .taken) (rest-not (l .plan-led .ensures) (c .if1 .taken)) refl, l .before .before .before .before .before .before .before .before .before .before .before .before .before .before .pre .0 .chained)
 
 begin-requires : tie.Need-begin-requires
 begin-requires c κs =
-    let plan : tie.After-plan-led = search needs in
-    let e1 : tie.Else1 = search needs in
-    let s : tie.Start = search needs in
-    (rest-has (plan .plan-led .ensures) (e1 .if1 .left) .plan .whole .size, s .pre .1 .1 .0)
+    let i = c .before .before .before in
+    let l = i .before .before .before .before .before .before in
+    (rest-has (l .plan-led .ensures) (i .if1 .left) .plan .whole .size, l .before .before .before .before .before .before .before .before .before .before .before .before .before .before .pre .1 .1 .0)
 
 same-length-5 : tie.Need-same-length-5
 same-length-5 c = search needs
@@ -62,24 +59,19 @@ same-length-8 c = search needs
 
 returns-2 : tie.Need-returns-2
 returns-2 c =
-    let plan : tie.After-plan-led = search needs in
-    let e1 : tie.Else1 = search needs in
-    let t2 : tie.Then2 = search needs in
-    let b : tie.After-begin = search needs in
-    let s : tie.Start = search needs in
-    (own-same (rest-is (plan .plan-led .ensures) (e1 .if1 .left) ∙ plan-same _ _ _ _ _ _ _ _ _ _ (plan .plan-led .result .way) (t2 .if2 .taken)) (b .begin .ensures .0 ∙ sym (s .pre .1 .1 .1)), s .pre .0 .chained)
+    let b = c .before .before in
+    let k = b .before .before in
+    let i = k .before .before in
+    let l = i .before .before .before .before .before .before in
+    let s = l .before .before .before .before .before .before .before .before .before .before .before .before .before .before in
+    (own-same (rest-is (l .plan-led .ensures) (i .if1 .left) ∙ plan-same _ _ _ _ _ _ _ _ _ _ (l .plan-led .result .way) (k .if2 .taken)) (b .begin .ensures .0 ∙ sym (s .pre .1 .1 .1)), s .pre .0 .chained)
 
 move-rows-requires : tie.Need-move-rows-requires
-move-rows-requires c κs =
-    let plan : tie.After-plan-led = search needs in
-    let e1 : tie.Else1 = search needs in
-    rest-has (plan .plan-led .ensures) (e1 .if1 .left)
+move-rows-requires c κs = let i = c .before .before .before .before .before in rest-has (i .before .before .before .before .before .before .plan-led .ensures) (i .if1 .left)
 
 chain-all-requires : tie.Need-chain-all-requires
 chain-all-requires c κs =
-    let s : tie.Start = search needs in
-    let move : tie.After-move-rows = search needs in
-    (as-many (s .args .arena .now) (move .move-rows .last .0) (s .pre .0 .admitted .led .whole) (move .move-rows .kept .0), s .pre .0 .chained .size)
+    (as-many (c .before .before .before .before .before .before .before .before .before .before .before .before .before .before .before .before .before .before .before .before .before .before .before .before .before .before .before .before .before .before .before .before .before .before .args .arena .now) (c .before .before .before .before .before .before .before .before .move-rows .last .0) (c .before .before .before .before .before .before .before .before .before .before .before .before .before .before .before .before .before .before .before .before .before .before .before .before .before .before .before .before .before .before .before .before .before .before .pre .0 .admitted .led .whole) (c .before .before .before .before .before .before .before .before .move-rows .kept .0), c .before .before .before .before .before .before .before .before .before .before .before .before .before .before .before .before .before .before .before .before .before .before .before .before .before .before .before .before .before .before .before .before .before .before .pre .0 .chained .size)
 
 same-length-9 : tie.Need-same-length-9
 same-length-9 c = search needs
@@ -95,13 +87,7 @@ same-length-12 c = search needs
 
 returns-3 : tie.Need-returns-3
 returns-3 c =
-    let plan : tie.After-plan-led = search needs in
-    let e1 : tie.Else1 = search needs in
-    let e2 : tie.Else2 = search needs in
-    let move : tie.After-move-rows = search needs in
-    let s : tie.Start = search needs in
-    let chain : tie.After-chain-all = search needs in
-    (ended-is (rest-is (plan .plan-led .ensures) (e1 .if1 .left) ∙ plan-goes _ _ _ _ _ _ _ _ _ _ (plan .plan-led .result .way) (e2 .if2 .left)) (move .move-rows .ensures), rechained (s .pre .0 .chained) (chain .chain-all .kept .1 .0) (chain .chain-all .ensures))
+    (ended-is (rest-is (c .before .before .before .before .before .before .before .before .before .before .before .before .before .before .before .before .before .before .before .before .before .before .before .plan-led .ensures) (c .before .before .before .before .before .before .before .before .before .before .before .before .before .before .before .before .before .if1 .left) ∙ plan-goes _ _ _ _ _ _ _ _ _ _ (c .before .before .before .before .before .before .before .before .before .before .before .before .before .before .before .before .before .before .before .before .before .before .before .plan-led .result .way) (c .before .before .before .before .before .before .before .before .before .before .before .before .before .before .before .if2 .left)) (c .before .before .before .before .before .before .before .before .before .before .before .move-rows .ensures), rechained (c .before .before .before .before .before .before .before .before .before .before .before .before .before .before .before .before .before .before .before .before .before .before .before .before .before .before .before .before .before .before .before .before .before .before .before .before .before .pre .0 .chained) (c .before .before .chain-all .kept .1 .0) (c .before .before .chain-all .ensures))
 
 pub move-slot-spec : {M : Type 1} → statement M
 move-slot-spec =

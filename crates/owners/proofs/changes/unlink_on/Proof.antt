@@ -1,7 +1,7 @@
 -- `owners::changes::unlink_on`: what is asked by the chains, then the steps, then the chains.
 use mathlib.Core.Path.{refl}
 use Rattle.steps.proofs.Ends.{rest-is, rest-has, rest-not, ended-is, ended-refused}
-use Rattle.owners.proofs.Laws.{rechained}
+use Rattle.owners.proofs.Laws.{as-many, rechained}
 use borrow.Author.Needs.{needs}
 use Rattle.owners.proofs.changes.unlink_on.Statement.{statement}
 use Rattle.owners.proofs.changes.unlink_on.Tie as tie
@@ -39,7 +39,10 @@ remove-requires : tie.Need-remove-requires
 remove-requires c κs = let i = c .before .before in rest-has (i .before .before .before .before .unlink-led .ensures) (i .if1 .left)
 
 chain-all-requires : tie.Need-chain-all-requires
-chain-all-requires c κs = search needs
+chain-all-requires c κs =
+    let r = c .before .before .before .before .before .before in
+    let s = r .before .before .before .before .before .before .before .before .before .before .before .before .before .before .before .before .before in
+    (as-many (s .args .arena .now) (r .remove .last .0) (s .pre .admitted .led .whole) (r .remove .kept .0), s .pre .chained .size)
 
 same-length-4 : tie.Need-same-length-4
 same-length-4 c = search needs

@@ -35,11 +35,17 @@ name-end-requires-2 : tie.Need-name-end-requires-2
 name-end-requires-2 c κs =
     let s = c .before .before .before .before .before .before .before .args in
     let e = c .before .name-end in
-    let h : e .result + 12 ≡ s .at + (13 + (2 + leAt (s .script .now) (s .at + 13) 2) + 12) = omega (arith, e .ensures) in
+    let h : e .result + 12 ≡ s .at + (14 + (2 + leAt (s .script .now) (s .at + 14) 2) + 12) = omega (arith, e .ensures) in
     omega (arith, ap (λ (x : ℕ). leAt (s .script .now) x 2) h, e .ensures, c .before .before .before .before .before .before .before .pre .0)
 
 read-table-requires : tie.Need-read-table-requires
 read-table-requires c κs = search needs
+
+add-move- : tie.Need-add-move-
+add-move- c = search needs
+
+shared-slice-read-move- : tie.Need-shared-slice-read-move-
+shared-slice-read-move- c = search needs
 
 sub-move- : tie.Need-sub-move-
 sub-move- c = search needs
@@ -58,16 +64,16 @@ part-move--start-2 c = search needs
 
 part-move--end-2 : tie.Need-part-move--end-2
 part-move--end-2 c =
-    let s = c .before .before .before .before .before .before .before .before .before .before .before .before .args in
-    let e = c .before .before .before .before .before .before .name-end in
-    let h : e .result + 12 ≡ s .at + (13 + (2 + leAt (s .script .now) (s .at + 13) 2) + 12) = omega (arith, e .ensures) in
-    omega (arith, ap (λ (x : ℕ). leAt (s .script .now) x 2) h, c .before .before .before .before .before .before .before .before .before .before .before .before .pre .0, e .ensures, c .before .before .before .before .name-end2 .ensures)
+    let s = c .before .before .before .before .before .before .before .before .before .before .before .before .before .args in
+    let e = c .before .before .before .before .before .before .before .name-end in
+    let h : e .result + 12 ≡ s .at + (14 + (2 + leAt (s .script .now) (s .at + 14) 2) + 12) = omega (arith, e .ensures) in
+    omega (arith, ap (λ (x : ℕ). leAt (s .script .now) x 2) h, c .before .before .before .before .before .before .before .before .before .before .before .before .before .pre .0, e .ensures, c .before .before .before .before .before .name-end2 .ensures)
 
 move--requires : tie.Need-move--requires
 move--requires c κs = search needs
 
 put-after-requires : tie.Need-put-after-requires
-put-after-requires c κs = (c .before .before .before .before .before .before .before .before .before .before .before .before .before .before .before .before .before .before .pre .1 .0, omega (arith, c .before .before .before .before .before .before .before .before .before .before .before .before .before .before .before .before .before .before .pre .1 .1))
+put-after-requires c κs = (c .before .before .before .before .before .before .before .before .before .before .before .before .before .before .before .before .before .before .before .pre .1 .0, omega (arith, c .before .before .before .before .before .before .before .before .before .before .before .before .before .before .before .before .before .before .before .pre .1 .1))
 
 same-length : tie.Need-same-length
 same-length c = search needs
@@ -95,6 +101,8 @@ call-move-spec =
     add-name-end-2
     name-end-requires-2
     read-table-requires
+    add-move-
+    shared-slice-read-move-
     sub-move-
     part-move--start
     part-move--end

@@ -25,7 +25,7 @@ put-word-requires-2 : tie.Need-put-word-requires-2
 put-word-requires-2 c κs = search needs
 
 slice-aggregate-sum : tie.Need-slice-aggregate-sum
-slice-aggregate-sum c = sym (length-take-le 4370 (c .before .before .before .before .before .before .before .before .before .before .before .before .before .before .before .before .before .before .before .before .args .desk .now) (omega arith))
+slice-aggregate-sum c = sym (length-take-le 4402 (c .before .before .before .before .before .before .before .before .before .before .before .before .before .before .before .before .before .before .before .before .args .desk .now) (omega arith))
 
 sum-requires-2 : tie.Need-sum-requires-2
 sum-requires-2 c κs = search needs

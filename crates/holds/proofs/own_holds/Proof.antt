@@ -1,25 +1,24 @@
--- `holds::live_holds`: `live` counts the live holds that the loop passed.
+-- `holds::own_holds`: `own` counts the live holds of who's that the loop passed.
 use Prim.Native.Nat.{_≤_, _-_}
 use mathlib.Core.Path.{_≡_, sym, ap, _∙_}
-use mathlib.Core.Bool.{not}
+use mathlib.Core.Bool.{not, _&&_}
 use mathlib.Core.Logic.{⊎-elim}
 use native.Mathlib.Omega.{arith}
 use lib.Dec.{eqb}
-use borrow.Author.Tests.{eq-eqb, ne-eqb}
 use Rattle.base.proofs.Finds.{count-yes, count-no}
 use Rattle.base.specs.Count.{countTo}
 use Rattle.base.proofs.Counts.{countTo-none, countTo-le}
 use Rattle.table.specs.declared.Hold.{Hold}
-use Rattle.table.specs.Table.{liveAt, liveHolds}
+use Rattle.table.specs.Table.{ownAt, ownHolds}
 use Rattle.mem.specs.Mem.{tableIn}
-use Rattle.holds.proofs.live_holds.Statement.{statement}
-use Rattle.holds.proofs.live_holds.Tie as tie
+use Rattle.holds.proofs.own_holds.Statement.{statement}
+use Rattle.holds.proofs.own_holds.Tie as tie
 
 abbrev Inv-loop : tie.InvT-loop
-Inv-loop mem live₀ n₀ live n = (n ≤ 32) × (live ≡ countTo (liveAt (tableIn mem)) n)
+Inv-loop mem who own₀ n₀ own n = (n ≤ 32) × (own ≡ countTo (ownAt (tableIn mem) who) n)
 
 abbrev μ-loop : tie.MeasureT-loop
-μ-loop mem live₀ n₀ live n = 32 - n
+μ-loop mem who own₀ n₀ own n = 32 - n
 
 loop-holds : tie.Need-loop-holds Inv-loop μ-loop
 loop-holds c = (omega arith, sym (countTo-none _ 0 (λ j l. absurd (omega arith))))
@@ -27,8 +26,8 @@ loop-holds c = (omega arith, sym (countTo-none _ 0 (λ j l. absurd (omega arith)
 hold-at-requires : tie.Need-hold-at-requires Inv-loop μ-loop
 hold-at-requires c κs = (c .before .before .before .pre, c .loop-test .taken)
 
-add-live : tie.Need-add-live Inv-loop μ-loop
-add-live c = omega (arith, countTo-le (liveAt (tableIn (c .before .before .before .before .before .before .args .mem .now))) (c .before .before .before .before .loop .n))
+add-own : tie.Need-add-own Inv-loop μ-loop
+add-own c = omega (arith, countTo-le (ownAt (tableIn (c .before .before .before .before .before .before .before .args .mem .now)) (c .before .before .before .before .before .before .before .args .who)) (c .before .before .before .before .before .loop .n))
 
 add-n : tie.Need-add-n Inv-loop μ-loop
 add-n c = omega arith
@@ -38,24 +37,24 @@ loop-less c = omega arith
 
 loop-again : tie.Need-loop-again Inv-loop μ-loop
 loop-again c =
-    let k = c .before .before in
+    let k = c .before .before .before in
     let i = k .before .before .loop .inv .1 in
-    let e = ap (λ (h : Hold). not (eqb (h .stamp) 0)) (sym (k .hold-at .ensures)) in
-    (omega arith, ⊎-elim (λ w. count-yes _ _ _ _ i (e ∙ ap not (ne-eqb _ _ (w .0 .taken))) (w .1)) (λ w. count-no _ _ _ _ i (e ∙ ap not (eq-eqb _ _ (w .0 .left))) (w .1)) (c .if1 .came))
+    let e = ap (λ (h : Hold). not (eqb (h .stamp) 0) && eqb (h .owner) (k .before .before .before .before .args .who)) (sym (k .hold-at .ensures)) in
+    (omega arith, ⊎-elim (λ w. count-yes _ _ _ _ i (e ∙ w .0 .taken) (w .1)) (λ w. count-no _ _ _ _ i (e ∙ w .0 .left) (w .1)) (c .if1 .came))
 
 returns : tie.Need-returns Inv-loop μ-loop
-unfolding liveHolds
+unfolding ownHolds
 returns c = let e : c .before .loop .n ≡ 32 = omega arith in rw e at (c .before .loop .inv .1)
 
-pub live-holds-spec : {M : Type 1} → statement M
-live-holds-spec =
+pub own-holds-spec : {M : Type 1} → statement M
+own-holds-spec =
     tie.close
     (tie.spec
     Inv-loop
     μ-loop
     loop-holds
     hold-at-requires
-    add-live
+    add-own
     add-n
     loop-less
     loop-again

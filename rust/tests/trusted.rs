@@ -2,21 +2,21 @@
 mod common;
 
 use common::{create, file, fresh, Numbers, ROOT_FILE, TIME};
-use dzomrelig::{Attributes, FailedRule, Handle, Image, Kind, Place, Reason, HOLDS};
+use dzomrelig::{Attributes, Editor, FailedRule, Handle, Image, Kind, Place, Reason, OWN_HOLDS};
 
 #[test]
 fn formatted_and_checked() {
     let (mut image, root) = fresh(32);
-    assert!(image.is_owned() && image.clone().is_owned());
+    assert!(image.is_trusted() && image.clone().is_trusted());
     create(&mut image, root, "a", Kind::File).unwrap();
     image.sync().unwrap();
-    assert!(Image::checked(image.bytes()).unwrap().is_owned());
+    assert!(Image::checked(image.bytes()).unwrap().is_trusted());
     let mut other = Image::untrusted(image.bytes()).unwrap();
-    assert!(!other.is_owned());
+    assert!(!other.is_trusted());
     assert_eq!(other.trust(), other.check());
-    assert!(other.is_owned());
+    assert!(other.is_trusted());
     let mut parts = Image::from_parts(image.bytes(), *image.table());
-    assert!(!parts.is_owned() && parts.trust().is_ok() && parts.is_owned());
+    assert!(!parts.is_trusted() && parts.trust().is_ok() && parts.is_trusted());
 }
 
 #[test]
@@ -26,12 +26,12 @@ fn reopened_and_reformatted() {
     image.unlink(root, "a").unwrap();
     image.reopen().unwrap();
     // the open node is lost: rule 7
-    assert!(!image.is_owned());
+    assert!(!image.is_trusted());
     assert_eq!(image.trust(), Err(FailedRule::Links));
-    assert!(!image.is_owned());
+    assert!(!image.is_trusted());
     assert_eq!(image.metadata(a), Err(Reason::BadHandle));
     image.reformat(TIME, ROOT_FILE).unwrap();
-    assert!(image.is_owned());
+    assert!(image.is_trusted());
 }
 
 #[test]
@@ -39,7 +39,7 @@ fn a_refused_open_or_format_changes_nothing() {
     let mut wrong = Image::from_parts([0; 100], [0; dzomrelig::TABLE]);
     assert_eq!(wrong.reformat(TIME, ROOT_FILE), Err(Reason::BadArena));
     assert_eq!(wrong.reopen(), Err(Reason::BadArena));
-    assert!(!wrong.is_owned() && wrong.trust().is_err() && !wrong.is_owned());
+    assert!(!wrong.is_trusted() && wrong.trust().is_err() && !wrong.is_trusted());
 }
 
 #[test]
@@ -56,23 +56,25 @@ fn folders_that_are_moved() {
     image.rename(a, "d", again, "c").unwrap();
     assert_eq!(image.rename(a, "c", b, "f"), Err(Reason::NotDir));
     assert_eq!(image.rename(a, "x", b, "x"), Err(Reason::EntryNotFound));
-    assert!(image.is_owned());
+    assert!(image.is_trusted());
     // a folder to another folder keeps the trust, and rightly
     image.rename(a, "c", b, "c").unwrap();
-    assert!(image.is_owned() && image.check().is_ok());
+    assert!(image.is_trusted() && image.check().is_ok());
     assert_eq!(image.rename(root, "b", b, "b"), Err(Reason::InvalidParam));
-    assert!(image.is_owned() && image.check().is_ok());
+    assert!(image.is_trusted() && image.check().is_ok());
 }
 
-/// One call by chance on both images; both answer the same.
-fn both(owned: &mut Image, tested: &mut Image, n: &mut Numbers, known: &mut Vec<Handle>) {
-    let (h, g) = (known[n.below(known.len() as u64) as usize], known[n.below(known.len() as u64) as usize]);
+/// One call by chance on both images, mostly of the owner who has the handle; both answer the same.
+fn both(trusted: &mut Image, tested: &mut Image, n: &mut Numbers, known: &mut Vec<(u8, Handle)>) {
+    let ((owner, h), (_, g)) = (known[n.below(known.len() as u64) as usize], known[n.below(known.len() as u64) as usize]);
+    let who = if n.below(10) == 0 { n.below(6) as u8 } else { owner };
     let names = ["a", "b", "c", "folder", "sub", "", ".", "..", "\u{e4}"].map(str::as_bytes);
     let (x, y) = (names[n.below(9) as usize], names[n.below(9) as usize]);
     let (kind, number, slot) = (n.below(6) as u32, n.below(60), n.below(6));
     let (what, mode, room) = (n.below(18), n.next() as u16, n.below(4) as usize * 300);
     let (place_in, long) = (n.below(3_000), n.below(2_000));
     let call = |image: &mut Image| -> (Result<Option<Handle>, Reason>, Vec<u8>) {
+        let mut image = Editor::numbered(image, who);
         let (mut out, mut place) = (vec![7; room], Place { folder: h, next: slot });
         let answer = match what {
             0 => image.root().map(Some),
@@ -93,11 +95,11 @@ fn both(owned: &mut Image, tested: &mut Image, n: &mut Numbers, known: &mut Vec<
         };
         (answer, out)
     };
-    let answer = call(owned);
+    let answer = call(trusted);
     assert_eq!(answer, call(tested));
-    assert!(owned.bytes() == tested.bytes() && owned.table() == tested.table());
+    assert!(trusted.bytes() == tested.bytes() && trusted.table() == tested.table());
     if let (0..=4, Ok(Some(handle))) = (what, answer.0) {
-        known.push(handle);
+        known.push((who, handle));
     }
 }
 
@@ -105,18 +107,18 @@ fn both(owned: &mut Image, tested: &mut Image, n: &mut Numbers, known: &mut Vec<
 fn both_ways_answer_the_same() {
     let n = &mut Numbers(0x0DDB_1A5E_5BAD_5EED);
     for round in 0..60 {
-        let (mut owned, root) = fresh(16 + 8 * round);
-        let mut tested = Image::from_parts(owned.bytes(), *owned.table());
-        let mut known = vec![root];
+        let (mut trusted, root) = fresh(16 + 8 * round);
+        let mut tested = Image::from_parts(trusted.bytes(), *trusted.table());
+        let mut known = vec![(1, root)];
         for _ in 0..200 {
-            both(&mut owned, &mut tested, n, &mut known);
-            if known.len() > HOLDS {
+            both(&mut trusted, &mut tested, n, &mut known);
+            if known.len() > 4 * OWN_HOLDS {
                 known.remove(1);
             }
-            if !owned.is_owned() && owned.trust().is_err() {
+            if !trusted.is_trusted() && trusted.trust().is_err() {
                 break;
             }
-            assert!(!tested.is_owned());
+            assert!(!tested.is_trusted());
         }
     }
 }

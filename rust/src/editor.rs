@@ -1,0 +1,285 @@
+//! Who asks, and the calls that take or make a handle.
+use alloc::vec::Vec;
+use core::fmt;
+use core::ops::{Deref, DerefMut};
+
+use crate::{Attributes, Entries, Entry, FileName, Handle, Image, Kind, Metadata, Owner, Place, Reason, Time, FILE_LONGEST, SLOT};
+
+/// One of the four who share an image, at work on it: every call that takes or makes a handle says who asks.
+///
+/// A handle works only for the owner who got it, and each owner may have [`OWN_HOLDS`](crate::OWN_HOLDS) of them, whatever the others have. The nodes
+/// behind them are shared: two owners may hold one node, and it stays until the last of them is closed.
+///
+/// An editor works through anything that leads to an [`Image`]: `&mut Image`, as [`Image::editor`] gives it; a guard, as of `std::sync::Mutex`; a
+/// `Box`. Through `&Image`, as [`Image::reader`] gives it, it makes the calls that change nothing. It leads to the image itself, too: `editor.sync()`.
+///
+/// # Reasons
+///
+/// As for the calls of an [`Image`]: a call that is refused has changed nothing, and says one [`Reason`]. Where `BadHandle` is among them, it comes for
+/// another owner's handle as well. `TableFull` depends on this owner's own handles, and on the stamps, alone.
+#[derive(Clone, Copy)]
+pub struct Editor<I> {
+    image: I,
+    who: u8,
+}
+
+impl<I> Editor<I> {
+    /// An editor who works through this.
+    pub fn new(image: I, owner: Owner) -> Editor<I> {
+        Editor { image, who: owner.number() }
+    }
+
+    /// [`new`](Editor::new) with the owner's number, as it comes from elsewhere.
+    ///
+    /// Where it is not 1 to 4, each of its calls says `InvalidParam`, right after `BadArena`, `Damaged` and `BadTable`.
+    pub fn numbered(image: I, owner: u8) -> Editor<I> {
+        Editor { image, who: owner }
+    }
+
+    /// What the editor worked through. Its handles stay open.
+    pub fn into_inner(self) -> I {
+        self.image
+    }
+
+    /// The owner's number.
+    pub fn who(&self) -> u8 {
+        self.who
+    }
+}
+
+impl<I: Deref<Target = Image>> Deref for Editor<I> {
+    type Target = Image;
+
+    fn deref(&self) -> &Image {
+        &self.image
+    }
+}
+
+impl<I: DerefMut<Target = Image>> DerefMut for Editor<I> {
+    fn deref_mut(&mut self) -> &mut Image {
+        &mut self.image
+    }
+}
+
+// ---- holds
+
+impl<I: DerefMut<Target = Image>> Editor<I> {
+    /// A hold on the root folder.
+    ///
+    /// Reasons: `TableFull`; `Stuck`.
+    pub fn root(&mut self) -> Result<Handle, Reason> {
+        self.image.pair.root(self.who)
+    }
+
+    /// A hold on the node that `name` names in the folder. The empty name and `.` are the folder itself.
+    ///
+    /// Reasons: `BadHandle`, `BadName`, `NotDir`, `NameTooLong`, `DirRemoved` (only for `..`), `EntryNotFound`, `TableFull`; `Stuck`.
+    pub fn find(&mut self, folder: Handle, name: impl AsRef<[u8]>) -> Result<Handle, Reason> {
+        self.image.pair.find(self.who, folder, name.as_ref())
+    }
+
+    /// Gives a hold up. The last one of a node stores its record if that changed, and frees a node that no folder names any more.
+    ///
+    /// Reasons: `BadHandle`; `NoDeviceSpace`, `Stuck`.
+    pub fn close(&mut self, handle: Handle) -> Result<(), Reason> {
+        self.image.pair.close(self.who, handle)
+    }
+}
+
+// ---- names
+
+impl<I: DerefMut<Target = Image>> Editor<I> {
+    /// A new node in the folder, and a hold on it. `file` is the name of its own file, which no other node has.
+    ///
+    /// Reasons: `BadHandle`, `BadName` (a slash too), `NotDir`, `DirRemoved`, `NameTooLong`, `EntryExist`, `FileTaken`, `TooManyLinks`, `TableFull`;
+    /// `NoDeviceSpace`, `Stuck`.
+    pub fn create(
+        &mut self,
+        folder: Handle,
+        name: impl AsRef<[u8]>,
+        kind: Kind,
+        mode: u16,
+        time: Time,
+        file: FileName,
+    ) -> Result<Handle, Reason> {
+        self.create_numbered(folder, name, kind.number(), mode, time, file)
+    }
+
+    /// [`create`](Editor::create) with the type's number, as it comes from elsewhere.
+    ///
+    /// Reasons: as `create`, and `InvalidParam` (not 1 to 4) right after `BadName`.
+    pub fn create_numbered(
+        &mut self,
+        folder: Handle,
+        name: impl AsRef<[u8]>,
+        kind: u32,
+        mode: u16,
+        time: Time,
+        file: FileName,
+    ) -> Result<Handle, Reason> {
+        self.image.pair.create(self.who, folder, name.as_ref(), kind, mode, time, file)
+    }
+
+    /// Another name for a node that is no folder.
+    ///
+    /// Reasons: `BadHandle` (folder, then node), `BadName` (a slash too), `NotDir`, `DirRemoved`, `NameTooLong`, `EntryExist`, `IsDir`,
+    /// `TooManyLinks`; `NoDeviceSpace`, `Stuck`.
+    pub fn link(&mut self, folder: Handle, name: impl AsRef<[u8]>, node: Handle) -> Result<(), Reason> {
+        self.image.pair.link(self.who, folder, name.as_ref(), node)
+    }
+
+    /// Takes a name away; an empty folder can be unlinked too. The folder's last slot drops into the hole, so slot numbers change.
+    ///
+    /// A node that is open stays, and so does its number, until its last handle is closed.
+    ///
+    /// Reasons: `BadHandle`, `BadName`, `NotDir`, `DirRemoved`, `IsDir` (`.`, `..`, empty), `NameTooLong`, `EntryNotFound`, `DirNotEmpty`;
+    /// `NoDeviceSpace`, `Stuck`.
+    pub fn unlink(&mut self, folder: Handle, name: impl AsRef<[u8]>) -> Result<(), Reason> {
+        self.image.pair.unlink(self.who, folder, name.as_ref())
+    }
+
+    /// The node `old` of a folder becomes `new` of the folder `to`, which may be the same. A node of that name is replaced; where it is the same node,
+    /// nothing changes.
+    ///
+    /// The `..` of a folder that goes to another folder leads there from then on. A folder can't go into itself or below.
+    ///
+    /// Reasons: `BadHandle` (source, then target), `BadName` (old, then new; a slash in the new one too), `NotDir`, `DirRemoved` (source), `IsDir`
+    /// (either name `.`, `..`, empty), `NameTooLong`, `NotDir`, `DirRemoved` (target), `EntryNotFound`; where the new name is there, `NotDir` (a folder
+    /// onto another kind), `IsDir` (another kind onto a folder), `DirNotEmpty`; `InvalidParam` (a folder into itself or below); `TooManyLinks`;
+    /// `NoDeviceSpace`, `Stuck`.
+    pub fn rename(&mut self, folder: Handle, old: impl AsRef<[u8]>, to: Handle, new: impl AsRef<[u8]>) -> Result<(), Reason> {
+        self.image.pair.rename(self.who, folder, old.as_ref(), to, new.as_ref())
+    }
+}
+
+// ---- metadata
+
+impl<I: Deref<Target = Image>> Editor<I> {
+    /// What is known of a node.
+    ///
+    /// Reasons: `BadHandle`; `Stuck`.
+    pub fn metadata(&self, handle: Handle) -> Result<Metadata, Reason> {
+        self.image.pair.metadata(self.who, handle)
+    }
+}
+
+impl<I: DerefMut<Target = Image>> Editor<I> {
+    /// Sets mode, uid, gid and times of a node in the table; [`close`](Editor::close) and [`sync`](Image::sync) store them.
+    ///
+    /// Reasons: `BadHandle`.
+    pub fn set_metadata(&mut self, handle: Handle, attributes: &Attributes) -> Result<(), Reason> {
+        self.image.pair.set_metadata(self.who, handle, attributes)
+    }
+}
+
+// ---- contents
+
+impl<I: Deref<Target = Image>> Editor<I> {
+    /// Reads the bytes of a file, symlink or socket from a place on: as many as there are below its size and the output has room for. How many were
+    /// read; the output's bytes after them stay. At the size and beyond there are none.
+    ///
+    /// Bytes that were never written are zeros. A node that was unlinked can be read while it is open.
+    ///
+    /// Reasons: `BadHandle`, `NotFile`; `Stuck`.
+    pub fn read_at(&self, handle: Handle, place: u64, out: &mut [u8]) -> Result<usize, Reason> {
+        Ok(usize::try_from(self.image.pair.read(self.who, handle, place, out)?).unwrap_or(0))
+    }
+
+    /// All bytes of a file, symlink or socket.
+    ///
+    /// A file takes no block for bytes that were never written, so it may have up to [`FILE_LONGEST`] of them, and all are given.
+    ///
+    /// Reasons: as [`read_at`](Editor::read_at); `FileTooBig` (a damaged size beyond the longest file), `OutFull` (no memory for so many bytes).
+    pub fn read_to_vec(&self, handle: Handle) -> Result<Vec<u8>, Reason> {
+        self.read_at(handle, 0, &mut [])?;
+        let size = self.metadata(handle)?.size;
+        if size > FILE_LONGEST {
+            return Err(Reason::FileTooBig);
+        }
+        let (size, mut out) = (usize::try_from(size).map_err(|_| Reason::OutFull)?, Vec::new());
+        out.try_reserve_exact(size).map_err(|_| Reason::OutFull)?;
+        out.resize(size, 0);
+        let count = self.read_at(handle, 0, &mut out)?;
+        out.truncate(count);
+        Ok(out)
+    }
+}
+
+impl<I: DerefMut<Target = Image>> Editor<I> {
+    /// Writes bytes into a file, symlink or socket from a place on: all of them, or none where it is refused. Past the size, file and size grow, and
+    /// what lies between reads as zeros. No bytes at a place past the size make it grow as well, unlike in POSIX.
+    ///
+    /// The size stands in the table; [`close`](Editor::close) and [`sync`](Image::sync) store it. No time changes.
+    ///
+    /// Reasons: `BadHandle`, `NotFile`, `FileTooBig` (the end is past [`FILE_LONGEST`]); `Stuck`, `NoDeviceSpace`.
+    pub fn write_at(&mut self, handle: Handle, place: u64, data: impl AsRef<[u8]>) -> Result<(), Reason> {
+        self.image.pair.write(self.who, handle, place, data.as_ref())
+    }
+
+    /// Makes a file, symlink or socket shorter or longer. What is cut off is gone: where it grows again there are zeros. A longer file takes no block.
+    ///
+    /// The size stands in the table; [`close`](Editor::close) and [`sync`](Image::sync) store it. No time changes.
+    ///
+    /// Reasons: `BadHandle`, `NotFile`, `FileTooBig` (past [`FILE_LONGEST`]); `Stuck`.
+    pub fn resize(&mut self, handle: Handle, length: u64) -> Result<(), Reason> {
+        self.image.pair.resize(self.who, handle, length)
+    }
+}
+
+// ---- slots
+
+impl<I: Deref<Target = Image>> Editor<I> {
+    /// One slot of a folder. Slots 0 and 1 are `.` and `..`. A number does not stay with its name: see [`unlink`](Editor::unlink).
+    ///
+    /// Reasons: `BadHandle`, `NotDir`, `EntryNotFound` (no such slot); `Stuck`.
+    pub fn entry(&self, folder: Handle, slot: u64) -> Result<Entry, Reason> {
+        let mut out = [0; SLOT];
+        self.entry_into(folder, slot, &mut out)?;
+        Entry::of_slot(&out).ok_or(Reason::OutFull)
+    }
+
+    /// One slot of a folder as it is stored, at the output's start: [`SLOT`] bytes, which [`Entry::of_slot`] reads.
+    ///
+    /// Reasons: `BadHandle`, `NotDir`, `EntryNotFound` (no such slot), `OutFull`; `Stuck`.
+    pub fn entry_into(&self, folder: Handle, slot: u64, out: &mut [u8]) -> Result<(), Reason> {
+        self.image.pair.entry(self.who, folder, slot, out)
+    }
+
+    /// A folder's slots from a place on, as they are stored: as many as are left and the output has room for. How many were written; the place moves on
+    /// by as many. None: the folder has no more.
+    ///
+    /// Reasons: `BadHandle`, `NotDir`, `OutFull`; `Stuck`.
+    pub fn list(&self, place: &mut Place, out: &mut [u8]) -> Result<usize, Reason> {
+        let after = self.image.pair.list(self.who, place.folder, place.next, out)?;
+        let written = after.saturating_sub(place.next);
+        place.next = after;
+        Ok(usize::try_from(written).unwrap_or(0))
+    }
+
+    /// The entries of a folder, `.` and `..` first. What an unlink does to a folder's slots is told at [`Entries`].
+    ///
+    /// Reasons, as the last item: `BadHandle`, `NotDir`; `Stuck`.
+    pub fn entries(&self, folder: Handle) -> Entries<'_> {
+        self.entries_from(Place::new(folder))
+    }
+
+    /// The entries of a folder from a place on.
+    ///
+    /// Reasons: as [`entries`](Editor::entries).
+    pub fn entries_from(&self, place: Place) -> Entries<'_> {
+        Entries::new(Editor::numbered(self, self.who), place)
+    }
+
+    /// All entries of a folder as they are now, `.` and `..` first. It stays as it is, whatever is unlinked after it.
+    ///
+    /// Reasons: as [`entries`](Editor::entries).
+    pub fn snapshot(&self, folder: Handle) -> Result<Vec<Entry>, Reason> {
+        self.entries(folder).collect()
+    }
+}
+
+impl<I: Deref<Target = Image>> fmt::Debug for Editor<I> {
+    fn fmt(&self, f: &mut fmt::Formatter<'_>) -> fmt::Result {
+        f.debug_struct("Editor").field("image", &**self).field("who", &self.who).finish()
+    }
+}
