@@ -236,11 +236,12 @@ uint32_t dz_resize(uint8_t *arena, size_t arena_len, uint8_t *table, size_t tabl
 uint32_t dz_get_entry(const uint8_t *arena, size_t arena_len, const uint8_t *table, size_t table_len,
                       uint8_t owner, uint32_t hold, uint64_t stamp, uint64_t slot, uint8_t *out, size_t out_len);
 
-/* A folder's slots from *next on, as many as are left and the output has room for; *next moves on by as many. One word. An unlink between two
- * listings moves slots: begin again after one.
+/* A folder's slots from *next on, as many as are left and the output has room for; *next, one word, becomes the slot to go on with. `dots` asks for
+ * slots 0 and 1, `.` and `..`, by any value but 0. Without it a listing begins at slot 2: a *next below is read as 2, and becomes 2 plus the slots
+ * written. An unlink between two listings moves slots: begin again after one.
  * Changes: *next, out. Reasons: BadArena, Damaged, BadTable, InvalidParam (owner), BadHandle, NotDir, OutFull; Stuck. */
 uint32_t dz_list(const uint8_t *arena, size_t arena_len, const uint8_t *table, size_t table_len,
-                 uint8_t owner, uint32_t hold, uint64_t stamp, uint64_t *next, size_t words, uint8_t *out, size_t out_len);
+                 uint8_t owner, uint32_t hold, uint64_t stamp, uint64_t *next, size_t words, uint8_t dots, uint8_t *out, size_t out_len);
 
 /* ---- for owners of an image
  *
@@ -286,7 +287,7 @@ uint32_t dz_own_set_metadata(const uint8_t *arena, size_t arena_len, const uint1
 uint32_t dz_own_get_entry(const uint8_t *arena, size_t arena_len, const uint16_t *chains, size_t chains_len, const uint8_t *table, size_t table_len,
                           uint8_t owner, uint32_t hold, uint64_t stamp, uint64_t slot, uint8_t *out, size_t out_len);
 uint32_t dz_own_list(const uint8_t *arena, size_t arena_len, const uint16_t *chains, size_t chains_len, const uint8_t *table, size_t table_len,
-                     uint8_t owner, uint32_t hold, uint64_t stamp, uint64_t *next, size_t words, uint8_t *out, size_t out_len);
+                     uint8_t owner, uint32_t hold, uint64_t stamp, uint64_t *next, size_t words, uint8_t dots, uint8_t *out, size_t out_len);
 uint32_t dz_own_read(const uint8_t *arena, size_t arena_len, const uint16_t *chains, size_t chains_len, const uint8_t *table, size_t table_len,
                      uint8_t owner, uint32_t hold, uint64_t stamp, uint64_t place, uint8_t *out, size_t out_len, uint64_t *count, size_t words);
 uint32_t dz_own_write(uint8_t *arena, size_t arena_len, uint16_t *chains, size_t chains_len, uint8_t *table, size_t table_len, uint8_t owner,

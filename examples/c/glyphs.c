@@ -58,9 +58,9 @@ int main(int n, char **words)
     close_node(a);
 
     uint8_t slots[8 * DZ_SLOT];
-    uint64_t next = 0;
-    must("list", dz_list(arena, sizeof arena, table, DZ_TABLE, ANNA, (uint32_t)folder.hold, folder.stamp, &next, DZ_NEXT_WORDS, slots, sizeof slots));
-    for (uint64_t i = 0; i < next; i++)
+    uint64_t next = 2; // no dots are asked for, so the first slot is 2
+    must("list", dz_list(arena, sizeof arena, table, DZ_TABLE, ANNA, (uint32_t)folder.hold, folder.stamp, &next, DZ_NEXT_WORDS, 0, slots, sizeof slots));
+    for (uint64_t i = 0; i < next - 2; i++)
         printf("%u %s\n", (unsigned)dz_slot_id(slots + i * DZ_SLOT), dz_slot_name(slots + i * DZ_SLOT));
 
     // a name that is taken: the call says so, and nothing has changed

@@ -26,7 +26,7 @@ type Known = (Entry, Result<Metadata, Reason>);
 /// What is in a folder. A folder is read to its end before anything is found in it, since finding changes the image.
 fn read(anyone: &mut Anyone, path: &[Vec<u8>]) -> Result<Vec<Result<Known, Reason>>, Reason> {
     let folder = open(anyone, path)?;
-    let entries: Vec<_> = anyone.entries(folder).filter(|entry| !entry.as_ref().is_ok_and(Entry::is_dots)).collect();
+    let entries: Vec<_> = anyone.entries(folder).collect();
     let mut known = |entry: Entry| {
         let node = anyone.find(folder, &entry.name);
         let told = node.and_then(|node| {

@@ -39,7 +39,7 @@ extern "C" {
     fn dz_write(a: *mut u8, al: usize, t: *mut u8, tl: usize, who: u8, hold: u32, stamp: u64, place: u64, data: *const u8, dl: usize) -> u32;
     fn dz_resize(a: *mut u8, al: usize, t: *mut u8, tl: usize, who: u8, hold: u32, stamp: u64, length: u64) -> u32;
     fn dz_get_entry(a: *const u8, al: usize, t: *const u8, tl: usize, who: u8, hold: u32, stamp: u64, slot: u64, out: *mut u8, ol: usize) -> u32;
-    fn dz_list(a: *const u8, al: usize, t: *const u8, tl: usize, who: u8, hold: u32, stamp: u64, next: *mut u64, words: usize, out: *mut u8, ol: usize) -> u32;
+    fn dz_list(a: *const u8, al: usize, t: *const u8, tl: usize, who: u8, hold: u32, stamp: u64, next: *mut u64, words: usize, dots: u8, out: *mut u8, ol: usize) -> u32;
 }
 
 // The same for owners.
@@ -64,7 +64,7 @@ extern "C" {
                            asec: i64, ansec: i64, msec: i64, mnsec: i64, csec: i64, cnsec: i64) -> u32;
     fn dz_own_get_entry(a: *const u8, al: usize, c: *const u16, cl: usize, t: *const u8, tl: usize, who: u8, hold: u32, stamp: u64, slot: u64,
                         out: *mut u8, ol: usize) -> u32;
-    fn dz_own_list(a: *const u8, al: usize, c: *const u16, cl: usize, t: *const u8, tl: usize, who: u8, hold: u32, stamp: u64, next: *mut u64, words: usize,
+    fn dz_own_list(a: *const u8, al: usize, c: *const u16, cl: usize, t: *const u8, tl: usize, who: u8, hold: u32, stamp: u64, next: *mut u64, words: usize, dots: u8,
                    out: *mut u8, ol: usize) -> u32;
     fn dz_own_read(a: *const u8, al: usize, c: *const u16, cl: usize, t: *const u8, tl: usize, who: u8, hold: u32, stamp: u64, place: u64,
                    out: *mut u8, ol: usize, count: *mut u64, words: usize) -> u32;
@@ -339,13 +339,13 @@ impl Pair {
     }
 
     /// The slot to go on with.
-    pub(crate) fn list(&self, who: u8, h: Handle, next: u64, out: &mut [u8]) -> Result<u64, Reason> {
-        let (a, t, mut w) = (&self.arena, &self.table, [next; 1]);
+    pub(crate) fn list(&self, who: u8, h: Handle, next: u64, dots: bool, out: &mut [u8]) -> Result<u64, Reason> {
+        let (a, t, mut w, dots) = (&self.arena, &self.table, [next; 1], u8::from(dots));
         let n = unsafe {
             match &self.chains {
                 Some(c) => dz_own_list(a.as_ptr(), a.len(), c.as_ptr(), c.len(), t.as_ptr(), t.len(), who, h.hold, h.stamp, w.as_mut_ptr(), w.len(),
-                                       out.as_mut_ptr(), out.len()),
-                None => dz_list(a.as_ptr(), a.len(), t.as_ptr(), t.len(), who, h.hold, h.stamp, w.as_mut_ptr(), w.len(), out.as_mut_ptr(), out.len()),
+                                       dots, out.as_mut_ptr(), out.len()),
+                None => dz_list(a.as_ptr(), a.len(), t.as_ptr(), t.len(), who, h.hold, h.stamp, w.as_mut_ptr(), w.len(), dots, out.as_mut_ptr(), out.len()),
             }
         };
         let [next] = w;

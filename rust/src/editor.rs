@@ -246,31 +246,32 @@ impl<I: Deref<Target = Image>> Editor<I> {
     }
 
     /// A folder's slots from a place on, as they are stored: as many as are left and the output has room for. How many were written; the place moves on
-    /// by as many. None: the folder has no more.
+    /// behind them. None: the folder has no more. Without the dots asked for, slots 0 and 1 are left out.
     ///
     /// Reasons: `BadHandle`, `NotDir`, `OutFull`; `Stuck`.
     pub fn list(&self, place: &mut Place, out: &mut [u8]) -> Result<usize, Reason> {
-        let after = self.image.pair.list(self.who, place.folder, place.next, out)?;
-        let written = after.saturating_sub(place.next);
+        let after = self.image.pair.list(self.who, place.folder, place.next, place.dots, out)?;
+        let written = after.saturating_sub(place.start());
         place.next = after;
         Ok(usize::try_from(written).unwrap_or(0))
     }
 
-    /// The entries of a folder, `.` and `..` first. What an unlink does to a folder's slots is told at [`Entries`].
+    /// The entries of a folder, without `.` and `..`: [`entries_from`](Editor::entries_from) a [`Place::with_dots`] has them too. What an unlink does to
+    /// a folder's slots is told at [`Entries`].
     ///
     /// Reasons, as the last item: `BadHandle`, `NotDir`; `Stuck`.
     pub fn entries(&self, folder: Handle) -> Entries<'_> {
         self.entries_from(Place::new(folder))
     }
 
-    /// The entries of a folder from a place on.
+    /// The entries of a folder from a place on, with the dots where it asks for them.
     ///
     /// Reasons: as [`entries`](Editor::entries).
     pub fn entries_from(&self, place: Place) -> Entries<'_> {
         Entries::new(Editor::numbered(self, self.who), place)
     }
 
-    /// All entries of a folder as they are now, `.` and `..` first. It stays as it is, whatever is unlinked after it.
+    /// All entries of a folder as they are now, without `.` and `..`. It stays as it is, whatever is unlinked after it.
     ///
     /// Reasons: as [`entries`](Editor::entries).
     pub fn snapshot(&self, folder: Handle) -> Result<Vec<Entry>, Reason> {

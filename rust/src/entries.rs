@@ -41,7 +41,9 @@ impl Entry {
     }
 }
 
-/// Where a listing stands: a folder and the slot to go on with. [`Editor::list`] moves it on.
+/// Where a listing stands: a folder, the slot to go on with, and whether `.` and `..` are asked for. [`Editor::list`] moves it on.
+///
+/// Without the dots a listing begins at slot 2: a place below is read as that.
 ///
 /// A place says where to go on, not which name comes next: an unlink in the folder moves its last slot into the hole, so begin again after one.
 #[derive(Clone, Copy, PartialEq, Eq, Hash, Debug)]
@@ -50,12 +52,28 @@ pub struct Place {
     pub folder: Handle,
     /// The slot to go on with.
     pub next: u64,
+    /// Whether slots 0 and 1, `.` and `..`, are asked for.
+    pub dots: bool,
 }
 
 impl Place {
-    /// The beginning of a folder.
+    /// The beginning of a folder, without the dots.
     pub const fn new(folder: Handle) -> Place {
-        Place { folder, next: 0 }
+        Place { folder, next: 0, dots: false }
+    }
+
+    /// The beginning of a folder, `.` and `..` first.
+    pub const fn with_dots(folder: Handle) -> Place {
+        Place { folder, next: 0, dots: true }
+    }
+
+    /// The slot that a listing starts with from here.
+    pub(crate) fn start(&self) -> u64 {
+        if self.dots {
+            self.next
+        } else {
+            self.next.max(2)
+        }
     }
 }
 

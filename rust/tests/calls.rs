@@ -414,12 +414,13 @@ fn slots() {
     assert_eq!(image.entry(root, 0).unwrap(), Entry { id: 2, name: b".".into(), kind: Some(Kind::Folder) });
     assert!(image.entry(root, 1).unwrap().is_dots() && !image.entry(root, 2).unwrap().is_dots());
     assert_eq!(image.entry(root, 42), Err(Reason::EntryNotFound));
-    let all = image.snapshot(root).unwrap();
+    let all: Vec<_> = image.entries_from(Place::with_dots(root)).map(Result::unwrap).collect();
     assert_eq!(all.len(), 42);
-    assert_eq!(all.iter().skip(2).map(|e| e.name_str().unwrap()).collect::<Vec<_>>(), wanted);
+    assert_eq!(image.snapshot(root).unwrap(), all[2..]);
+    assert_eq!(names(&image, root), wanted);
     assert!((0..42).all(|k| image.entry(root, k).unwrap() == all[k as usize]));
-    for room in [SLOT, 3 * SLOT + 5, 100 * SLOT] {
-        let (mut place, mut out, mut found) = (Place::new(root), vec![0; room], Vec::new());
+    for (room, start) in [SLOT, 3 * SLOT + 5, 100 * SLOT].into_iter().flat_map(|room| [(room, 0), (room, 2)]) {
+        let (mut place, mut out, mut found) = (Place { dots: start == 0, ..Place::new(root) }, vec![0; room], Vec::new());
         loop {
             let n = image.list(&mut place, &mut out).unwrap();
             found.extend(out.chunks_exact(SLOT).take(n).map(|slot| Entry::of_slot(slot).unwrap()));
@@ -427,16 +428,47 @@ fn slots() {
                 break;
             }
         }
-        assert_eq!((found, place.next), (all.clone(), 42));
+        assert_eq!((found, place.next), (all[start..].to_vec(), 42));
     }
-    let from: Vec<_> = image.entries_from(Place { folder: root, next: 40 }).map(Result::unwrap).collect();
-    assert_eq!(from, all[40..]);
-    assert_eq!(image.entries_from(Place { folder: root, next: u64::MAX }).count(), 0);
+    for dots in [false, true] {
+        let from: Vec<_> = image.entries_from(Place { folder: root, next: 40, dots }).map(Result::unwrap).collect();
+        assert_eq!(from, all[40..]);
+        assert_eq!(image.entries_from(Place { folder: root, next: u64::MAX, dots }).count(), 0);
+    }
     assert_eq!(Entry::of_slot(&[0; SLOT - 1]), None);
     let mut entries = image.entries(root);
-    assert_eq!(entries.by_ref().count(), 42);
+    assert_eq!(entries.by_ref().count(), 40);
     assert!(entries.next().is_none());
     assert!(format!("{entries:?}").starts_with("Entries { editor: Editor { image: Image { blocks: 128, .. }, who: 1 }, place: Place"));
+}
+
+#[test]
+fn dots_are_asked_for() {
+    let (mut image, root) = fresh(32);
+    let empty = create(&mut image, root, "e", Kind::Folder).unwrap();
+    let mut out = [238; 4 * SLOT];
+    // next, asked, room; slots written, next
+    for (next, dots, room, count, after) in [
+        (0, false, 4 * SLOT, 0, 2),
+        (1, false, 0, 0, 2),
+        (3, false, 0, 0, 3),
+        (0, true, 4 * SLOT, 2, 2),
+        (1, true, SLOT, 1, 2),
+        (2, true, 0, 0, 2),
+    ] {
+        let mut place = Place { folder: empty, next, dots };
+        assert_eq!(image.list(&mut place, &mut out[..room]), Ok(count));
+        assert_eq!(place, Place { folder: empty, next: after, dots });
+    }
+    // a refusal keeps the place
+    let mut place = Place::new(root);
+    assert_eq!(image.list(&mut place, &mut out[..SLOT - 1]), Err(Reason::OutFull));
+    assert_eq!(place, Place::new(root));
+    assert_eq!(image.list(&mut place, &mut out), Ok(1));
+    assert_eq!((place.next, Entry::of_slot(&out).unwrap().name), (3, b"e".into()));
+    let all: Vec<_> = image.entries_from(Place::with_dots(empty)).map(|entry| entry.unwrap().name).collect();
+    assert_eq!(all, [b".".to_vec(), b"..".to_vec()]);
+    assert_eq!(image.entries(empty).count(), 0);
 }
 
 #[test]
@@ -448,12 +480,12 @@ fn unlink_drops_the_last_slot_into_the_hole() {
     let before = image.snapshot(root).unwrap();
     image.unlink(root, "a").unwrap();
     assert_eq!(names(&image, root), ["c", "b"]);
-    assert_eq!(before.len(), 5);
+    assert_eq!(before.len(), 3);
     // by the names of a snapshot, all can be unlinked while walking
-    for entry in image.snapshot(root).unwrap().iter().filter(|e| !e.is_dots()) {
+    for entry in image.snapshot(root).unwrap() {
         image.unlink(root, &entry.name).unwrap();
     }
-    assert_eq!(image.snapshot(root).unwrap().len(), 2);
+    assert_eq!(image.snapshot(root), Ok(vec![]));
 }
 
 #[test]
@@ -470,9 +502,10 @@ fn entries_end_at_a_refusal() {
     let mut image = mine(Image::untrusted(bytes).unwrap());
     let root = image.root().unwrap();
     let all: Vec<_> = image.entries(root).collect();
-    assert_eq!(all.len(), 4);
-    assert_eq!(all[2].as_ref().unwrap().name, b"a");
-    assert_eq!(all[3], Err(Reason::Stuck));
+    assert_eq!(all.len(), 2);
+    assert_eq!(all[0].as_ref().unwrap().name, b"a");
+    assert_eq!(all[1], Err(Reason::Stuck));
+    assert_eq!(image.entries_from(Place::with_dots(root)).count(), 4);
     assert_eq!(image.snapshot(root), Err(Reason::Stuck));
     assert_eq!(image.check(), Err(FailedRule::Folders));
 }

@@ -120,7 +120,7 @@ fn readers_side_by_side() {
         for _ in 0..4 {
             scope.spawn(move || {
                 for _ in 0..50 {
-                    assert_eq!(image.snapshot(root).unwrap().len(), 12);
+                    assert_eq!(image.snapshot(root).unwrap().len(), 10);
                     assert_eq!(image.metadata(root).unwrap().size, 12);
                     assert_eq!(image.check().unwrap().nodes, 11);
                 }

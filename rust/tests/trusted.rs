@@ -75,7 +75,7 @@ fn both(trusted: &mut Image, tested: &mut Image, n: &mut Numbers, known: &mut Ve
     let (place_in, long) = (n.below(3_000), n.below(2_000));
     let call = |image: &mut Image| -> (Result<Option<Handle>, Reason>, Vec<u8>) {
         let mut image = Editor::numbered(image, who);
-        let (mut out, mut place) = (vec![7; room], Place { folder: h, next: slot });
+        let (mut out, mut place) = (vec![7; room], Place { folder: h, next: slot, dots: mode % 2 == 0 });
         let answer = match what {
             0 => image.root().map(Some),
             1 | 2 => image.find(h, x).map(Some),

@@ -89,7 +89,7 @@ static uint32_t call(int kind)
     case 8: return CALL(metadata, who, hold, stamp, words, DZ_METADATA_WORDS);
     case 9: k = number(2), tos = number(8), o = number(8), time_of(t), time_of(t + 2), time_of(t + 4); return CALL(set_metadata, who, hold, stamp, (uint16_t)k, tos, o, t[0], t[1], t[2], t[3], t[4], t[5]);
     case 10: k = number(8), o = number(2); return CALL(get_entry, who, hold, stamp, k, out, o);
-    case 11: words[0] = number(8), o = number(2); return CALL(list, who, hold, stamp, words, DZ_NEXT_WORDS, out, o);
+    case 11: words[0] = number(8), k = number(1), o = number(2); return CALL(list, who, hold, stamp, words, DZ_NEXT_WORDS, (uint8_t)k, out, o);
     case 12: return own ? dz_own_sync(ARENA, CHAINS, TABLE) : dz_sync(ARENA, TABLE);
     case 13: return CALL(close, who, hold, stamp);
     case 15: k = number(8), o = number(2); return CALL(read, who, hold, stamp, k, out, o, words, DZ_READ_WORDS);

@@ -71,7 +71,7 @@ def script(blocks, rounds):
         s.put(22, root, s.name(b"new"))
         s.close(h)
         s.put(26, root, struct.pack("<QH", 2, 264))
-        s.put(27, root, struct.pack("<QH", 0, 8192))
+        s.put(27, root, struct.pack("<QBH", 0, 1, 8192))
         s.put(18)
         s.close(s.held(2))
     s.put(17)

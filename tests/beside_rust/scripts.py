@@ -69,8 +69,8 @@ class Builder:
     def metadata(self, h):
         self.call("metadata", h, words=shown(h))
 
-    def list(self, h, at=0, room=8192):
-        self.call("list", h, at, room, words=f"{shown(h)} from {at} output {room}")
+    def list(self, h, at=0, room=8192, dots=0):
+        self.call("list", h, at, dots, room, words=f"{shown(h)} from {at}{' with the dots' if dots else ''} output {room}")
 
     def read(self, h, at=0, room=8192):
         self.call("read", h, at, room, words=f"{shown(h)} from {at} output {room}")
@@ -147,7 +147,7 @@ def raw(name):
 def pack(shape, arg):
     if shape in "248":
         return arg.to_bytes(int(shape), "little")
-    if shape == "p":
+    if shape in "pd":
         return bytes([arg])
     if shape == "o":
         return arg.to_bytes(2, "little")
@@ -240,6 +240,8 @@ def told(name, args):
             words.append(shown(arg))
         elif shape == "p":
             words.append(f"for {arg}")
+        elif shape == "d":
+            words.append("with the dots" if arg else "without the dots")
         elif shape == "n":
             words.append(quoted(arg))
         elif shape == "t":

@@ -16,7 +16,7 @@ TOP = pathlib.Path(__file__).resolve().parent.parent.parent
 GATE = TOP / "crates" / "replay"
 SAMPLE = TOP / "tests" / "beside_rust" / "sample"
 # The course examples stand in stdin alone, in front.
-COURSE = 2_895
+COURSE = 2_897
 # The longest script that crates/replay takes.
 MOST = 262_144
 

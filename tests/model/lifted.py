@@ -1,6 +1,7 @@
 #!/usr/bin/env python3
 """lifted.py: the scripts of earlier levels (../shared/vectors, and ../shared/vectors-02 below the newest level) as scripts of the newest one, in
-target/lifted/LEVEL, for tests/vectors: owner 1 asks each call and has each live hold of a table. Where the format was broken it is broken again.
+target/lifted/LEVEL, for tests/vectors: owner 1 asks each call and has each live hold of a table, and listings ask for the dots. Where the format was
+broken it is broken again.
 
 The lines are the model's (replay_model.py; the port is not asked), held against the NAME.expected of the script's own level: they are the same, but
 for the sum of a table that had no owners, for calls that a later order names (`named`), and for what follows such a call until format or open have
@@ -15,7 +16,7 @@ sys.path.insert(0, str(TOP / "tests" / "beside_rust"))
 from scripts import model, packed, takes_owner
 
 SHARED = TOP.parent / "shared"
-LEVEL = 5
+LEVEL = 6
 # A table's bytes without owners, and where its holds stand.
 OLD_TABLE, HOLDS = 4370, 117 * model.ROWS
 UNKNOWN = b"\5"
@@ -45,8 +46,10 @@ def named(level, name, args, line):
 
 
 def shapes_of(level):
-    """What follows a command's byte, at that level."""
-    return {name: shape if level >= 5 else shape.replace("p", "") for name, shape in model.SHAPES.items() if level >= 1 or model.BYTES[name] < 32}
+    """What follows a command's byte, at that level: owners from 5 on, the mark for the dots from 6 on."""
+    late = "pd" if level < 5 else "d" if level < 6 else ""
+    without = str.maketrans("", "", late)
+    return {name: shape.translate(without) for name, shape in model.SHAPES.items() if level >= 1 or model.BYTES[name] < 32}
 
 
 def with_owners(table):
@@ -64,6 +67,7 @@ def lifted(level, data):
                 args = with_owners(*args),
             if name in model.NAMES:
                 args = (1, *args) if level < 5 and takes_owner(name) else args
+                args = (*args[:3], 1, *args[3:]) if level < 6 and name == "list" else args
                 calls.append((name, args))
             made.append(packed(name, args))
     except model.BadScript:

@@ -53,6 +53,15 @@ class Script(Builder):
         output = sum_of(want.ljust(model.OUTPUT, bytes([238])))
         assert self.line == f"read ok {len(want)} o {output} {before}", (self.line, want)
 
+    def lists(self, h, at, dots, room, count, after):
+        """A listing writes so many slots, as they are stored from there on, and leaves that place."""
+        before = self.at.sums()
+        self.list(h, at, room, dots)
+        row = self.at.table.rows[self.at.table.holds[h[0]][0]]
+        start = at if dots else max(at, 2)
+        slots = self.at.files.span((1, row.rec.file), 264 * start, 264 * count) if count else b""
+        assert self.line == f"list ok {count} o {sum_of(slots.ljust(model.OUTPUT, bytes([238])))} p {after} {before}", (self.line, at, dots, room)
+
     def stores(self, name, *args):
         """A write or resize is done, and the pair passes after it."""
         self.call(name, *args)
@@ -113,7 +122,7 @@ def create(h, name, kind=FILE, file=b"f" * 16):
 def looks(h, name=b"a"):
     """Every call that takes a table and leaves the arena."""
     return (("root",), ("find", h, name), ("metadata", h), ("set", h, 420, 1, 2, TIME, TIME, TIME), ("entry", h, 0, 264),
-            ("list", h, 0, 8192), ("read", h, 0, 8))
+            ("list", h, 0, 0, 8192), ("read", h, 0, 8))
 
 
 def changes(h, name=b"a"):
@@ -179,7 +188,7 @@ def bad_owners(b):
     nine = [(0, 1 + k, 1) for k in range(9)]
     for bad in ([(0, 1, 0)], [(0, 1, 9)], [(0, 1, 1), (0, 0, 1)], nine):
         b.table(table_bytes([root], bad, 99))
-        b.no(3, ("root",), ("metadata", (0, 1)), ("sync",), ("list", (0, 1), 0, 264))
+        b.no(3, ("root",), ("metadata", (0, 1)), ("sync",), ("list", (0, 1), 0, 0, 264))
         b.who = 5
         b.no(3, ("root",), ("close", (0, 1)))
         b.who = 1
@@ -285,7 +294,7 @@ def by_call(b):
     b.unlink(root, "gone")
     b.ok()
     b.no(6, create(root, b"a", 0), create(root, b"a", 5), create(file, b"a", 5))
-    b.no(7, *takes_name(file, b"a"), ("entry", file, 0, 0), ("list", file, 0, 0), ("move", root, b"file", file, b"a"))
+    b.no(7, *takes_name(file, b"a"), ("entry", file, 0, 0), ("list", file, 0, 0, 0), ("move", root, b"file", file, b"a"))
     b.no(7, ("move", root, b"full", root, b"file"))
     b.no(8, *(call for call in takes_name(gone, b"a") if call[0] != "find"), ("find", gone, b".."), ("move", root, b"file", gone, b"a"))
     for name in (b".", b"..", b""):
@@ -297,11 +306,42 @@ def by_call(b):
     b.no(13, ("unlink", root, b"full"))
     b.ok(b.create(root, "other", FOLDER))
     b.no(13, ("move", root, b"other", root, b"full"))
-    b.no(20, ("entry", root, 0, 263), ("list", root, 0, 263), ("entry", root, 3, 0), ("list", root, 3, 0))
+    b.no(20, ("entry", root, 0, 263), ("list", root, 0, 0, 263), ("list", root, 0, 1, 263), ("entry", root, 3, 0), ("list", root, 3, 0, 0))
     for field, value in (("magic", 1), ("groups", 0), ("groups", 5)):
         b.fresh()
         b.superblock(field, value)
         b.no(18, ("open",))
+
+
+def dots(b):
+    """Order 6: a listing begins at slot 2 unless the dots are asked for; a place below is read as 2, and the next is 2 and the slots written."""
+    root = b.fresh()
+    empty = b.ok(b.create(root, "e", FOLDER))
+    for at, asked, count, after in ((0, 0, 0, 2), (1, 0, 0, 2), (2, 0, 0, 2), (3, 0, 0, 3), (0, 1, 2, 2), (1, 255, 1, 2), (2, 1, 0, 2),
+                                    (2 ** 64 - 1, 0, 0, 2 ** 64 - 1), (2 ** 64 - 1, 1, 0, 2 ** 64 - 1)):
+        b.lists(empty, at, asked, 8192, count, after)
+        b.lists(empty, at, asked, 264 * count, count, after)
+    for name in "ab":
+        b.close(b.ok(b.create(root, name)))
+    for at, asked, room, count, after in ((0, 0, 8192, 3, 5), (0, 0, 264, 1, 3), (1, 0, 800, 3, 5), (1, 0, 791, 2, 4), (2, 0, 8192, 3, 5), (3, 0, 8192, 2, 5),
+                                          (5, 0, 0, 0, 5), (0, 1, 8192, 5, 5), (1, 1, 264, 1, 2), (2, 7, 264, 1, 3), (4, 1, 8192, 1, 5)):
+        b.lists(root, at, asked, room, count, after)
+    b.no(20, *(("list", root, at, asked, 263) for at in (0, 1, 2, 4) for asked in (0, 1)))
+    b.no(20, *(("list", empty, at, 1, 263) for at in (0, 1)))
+    # a bad `..` is not read, nor a folder's end below slot 2
+    b.dots(3, "type", 5)
+    b.no(19, ("list", empty, 0, 1, 8192), ("list", empty, 1, 1, 264), ("entry", empty, 1, 264))
+    b.lists(empty, 0, 0, 8192, 0, 2)
+    b.lists(empty, 0, 1, 264, 1, 1)
+    b.fresh()
+    b.record(2, "blocks", 1)
+    root = b.again()
+    b.lists(root, 0, 0, 8192, 0, 2)
+    b.lists(root, 0, 1, 8192, 1, 1)
+    b.record(2, "blocks", 0)
+    root = b.again()
+    b.lists(root, 1, 0, 0, 0, 2)
+    b.lists(root, 1, 1, 0, 0, 1)
 
 
 def taken(b):
@@ -410,11 +450,11 @@ def stuck(b):
     b.superblock("groups", 5)
     b.no(19, ("root",), ("find", root, b"a"), ("unlink", root, b"a"), create(root, b"b"))
     b.change((1, ROOT_FILE), 264 * 2 + 4, b"\xff", "set the first byte of slot 2's name to 255")
-    b.no(19, *takes_name(root, b"b"), ("entry", root, 2, 264), ("list", root, 0, 8192))
+    b.no(19, *takes_name(root, b"b"), ("entry", root, 2, 264), ("list", root, 0, 0, 8192), ("list", root, 0, 1, 8192))
     b.fresh()
     b.record(2, "blocks", 3)
     root = b.again()
-    b.no(19, *takes_name(root, b"b"), ("entry", root, 2, 264), ("list", root, 0, 8192))
+    b.no(19, *takes_name(root, b"b"), ("entry", root, 2, 264), ("list", root, 0, 0, 8192), ("list", root, 0, 1, 8192))
     b.call("set", root, 493, 0, 0, TIME, TIME, TIME)
     b.ok()
     b.arena(512 * 16)
@@ -674,7 +714,7 @@ def no_way_up(b):
 
 def made():
     b = Script()
-    for part in (bad_arena, damaged, bad_table, bad_owners, bad_handle, owners, bad_name, slashes, by_call, taken, links, table_full, last_stamp, no_space, stuck,
+    for part in (bad_arena, damaged, bad_table, bad_owners, bad_handle, owners, bad_name, slashes, by_call, dots, taken, links, table_full, last_stamp, no_space, stuck,
                  contents, held_on, limits, device_full, torn, no_contents, carried, no_way_up):
         part(b)
     b.fresh()

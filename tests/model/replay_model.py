@@ -1,5 +1,5 @@
 #!/usr/bin/env python3
-"""An independent model of document 01's calls and of document 02's orders up to 5, for tests: a call script in, the lines a right port
+"""An independent model of document 01's calls and of document 02's orders up to 6, for tests: a call script in, the lines a right port
 prints out.
 
 Written from the documents and the readings of them in docs/DECISIONS.md, on top of arena_model.py; it shares nothing with crates/. A call
@@ -632,13 +632,19 @@ def entry_slots(s, h, at, room):
     return s.named_slot(row, at)[0]
 
 
-def list_slots(s, h, at, room):
+def first_slot(at, dots):
+    """Order 6: where a listing starts. Without the dots asked that is slot 2 at least."""
+    return at if dots else max(at, 2)
+
+
+def list_slots(s, h, at, dots, room):
     row = s.handle(h)
     need(is_folder(row.rec), 7)
-    left = max(0, row.rec.blocks - at)
+    start = first_slot(at, dots)
+    left = max(0, row.rec.blocks - start)
     need(left == 0 or room >= SLOT, 20)
     out = b""
-    for k in range(at, at + min(left, room // SLOT)):
+    for k in range(start, start + min(left, room // SLOT)):
         data = s.named_slot(row, k)[0]
         need(u32(data, 260) != 0, 19)
         out += data
@@ -802,9 +808,9 @@ NAMED = {byte: name for name, byte in BYTES.items()}
 DOES = {"root": do_root, "find": do_find, "create": do_create, "link": do_link, "unlink": do_unlink, "move": do_move,
         "metadata": do_metadata, "set": do_set, "sync": do_sync, "close": do_close, "write": do_write, "resize": do_resize}
 OUTPUTS = {"entry": entry_slots, "list": list_slots, "read": read_bytes}
-# What follows a command's byte; p, the owner who asks, stands first where there is one.
+# What follows a command's byte; p, the owner who asks, stands first where there is one, and d says whether the dots are asked for.
 SHAPES = {"format": "tf", "open": "", "root": "p", "find": "phn", "create": "phn42tf", "link": "phnh", "unlink": "phn", "move": "phnhn",
-          "metadata": "ph", "set": "ph288ttt", "entry": "ph8o", "list": "ph8o", "sync": "", "close": "ph", "check": "",
+          "metadata": "ph", "set": "ph288ttt", "entry": "ph8o", "list": "ph8do", "sync": "", "close": "ph", "check": "",
           "read": "ph8o", "write": "ph8w", "resize": "ph8"}
 
 
@@ -831,7 +837,7 @@ class Script:
     def item(self, shape):
         if shape in "248":
             return self.number(int(shape))
-        if shape == "p":
+        if shape in "pd":
             return self.number(1)
         if shape == "o":
             return self.number(2, OUTPUT)
@@ -953,7 +959,7 @@ class Model:
         return values
 
     def output(self, name, args):
-        at = args[2]
+        at, dots = args[2:4]
         try:
             step, args = self.enter(name, args)
             out = written = OUTPUTS[name](step, *args)
@@ -962,8 +968,10 @@ class Model:
         middle = f" o {sum_of(written.ljust(OUTPUT, bytes([238])))}"
         if name == "entry":
             return out, (), middle
-        count = len(written) // (SLOT if name == "list" else 1)
-        return out, (count,), f"{middle} p {at + count}" if name == "list" else middle
+        if name == "read":
+            return out, (len(written),), middle
+        count = len(written) // SLOT
+        return out, (count,), f"{middle} p {at if isinstance(out, int) else first_slot(at, dots) + count}"
 
     def format(self, time, file):
         size = len(self.arena_bytes())

@@ -320,7 +320,14 @@ pub fn create_rows(
 }
 
 // The call on the table in memory.
-pub fn create_on(arena: &mut [u8], mem: &mut [u8], who: u8, h: Handle, name: &[u8], new: New) -> Handed
+pub fn create_on(
+    arena: &mut [u8],
+    mem: &mut [u8],
+    who: u8,
+    h: Handle,
+    name: &[u8],
+    new: New,
+) -> Handed
     requires { ⌜ Whole (now mem) ⌝ }
     ensures { λ r. ⌜ EndedHeld (callCreate (now (arena .entry)) (tableIn (now (mem .entry))) who h (now (name .entry)) (new .kind) (new .mode) (new .time) (new .file)) (now (arena .entry)) (now (arena .exit)) (addedAs (r .handle) (tableIn (now (mem .exit)))) (r .reason) ⌝ }
 {

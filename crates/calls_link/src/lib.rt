@@ -174,7 +174,14 @@ pub fn link_rows(arena: &mut [u8], mem: &mut [u8], i: usize, name: &[u8], c: usi
 }
 
 // The call on the table in memory.
-pub fn link_on(arena: &mut [u8], mem: &mut [u8], who: u8, h: Handle, name: &[u8], child: Handle) -> u8
+pub fn link_on(
+    arena: &mut [u8],
+    mem: &mut [u8],
+    who: u8,
+    h: Handle,
+    name: &[u8],
+    child: Handle,
+) -> u8
     requires { ⌜ Whole (now mem) ⌝ }
     ensures { λ r. ⌜ Ended (callLink (now (arena .entry)) (tableIn (now (mem .entry))) who h (now (name .entry)) child) (now (arena .entry)) (now (arena .exit)) (tableIn (now (mem .exit))) r ⌝ }
 {

@@ -1,5 +1,6 @@
 -- What the listings' contracts say of the result, of the place and of the output has one solution.
 use mathlib.Core.Path.{_≡_, sym, _∙_}
+use mathlib.Core.Bool.{Bool}
 use mathlib.Core.List.{List}
 use Prim.Native.Nat.{ℕ}
 use lib.ListN.{length}
@@ -9,7 +10,7 @@ use Rattle.sefs.specs.Read.{callListing}
 use Rattle.calls.specs.Answers.{listedOf, Lays}
 use Rattle.calls.specs.declared.Listed.{Listed}
 use Rattle.calls.proofs.Answers.{lays-one}
-use Rattle.calls_list.specs.Place.{listAt, movedAs, ListsAt}
+use Rattle.calls_list.specs.Place.{startOf, listAt, movedAs, ListsAt}
 use Rattle.calls_list.specs.declared.Place.{Place}
 use Rattle.calls_list.specs.declared.Moved.{Moved}
 
@@ -22,5 +23,5 @@ module _ (a : List ℕ) (t : Table) (who : ℕ) (h : Handle) (k : ℕ) (out : Li
   pub list-from-one : (r s : Listed) (o w : List ℕ) → Lays listedOf (callListing a t who h k (length out)) out o r → Lays listedOf (callListing a t who h k (length out)) out w s → (r ≡ s) × (o ≡ w)
   list-from-one r s o w p q = lays-one listedOf (callListing a t who h k (length out)) out o w r s p q
 
-  pub list-on-one : (r s : Moved) (o w : List ℕ) → Lays (movedAs k) (callListing a t who h k (length out)) out o r → Lays (movedAs k) (callListing a t who h k (length out)) out w s → (r ≡ s) × (o ≡ w)
-  list-on-one r s o w p q = lays-one (movedAs k) (callListing a t who h k (length out)) out o w r s p q
+  pub list-on-one : (dots : Bool) (r s : Moved) (o w : List ℕ) → Lays (movedAs dots k) (callListing a t who h (startOf dots k) (length out)) out o r → Lays (movedAs dots k) (callListing a t who h (startOf dots k) (length out)) out w s → (r ≡ s) × (o ≡ w)
+  list-on-one dots r s o w p q = lays-one (movedAs dots k) (callListing a t who h (startOf dots k) (length out)) out o w r s p q

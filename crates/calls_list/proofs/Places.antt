@@ -27,7 +27,7 @@ use Rattle.calls.specs.declared.Listed.the-variants as listeds
 use Rattle.calls.proofs.Asks.{handle-below}
 use Rattle.calls_list.proofs.Turns.{list-bytes}
 use Rattle.calls_list.specs.declared.Moved.{Moved}
-use Rattle.calls_list.specs.Place.{movedAs}
+use Rattle.calls_list.specs.Place.{startOf, movedAs}
 
 -- ---- the bytes of slots
 
@@ -78,11 +78,11 @@ pub listed-slots : (n : ℕ) (o : Out (List ℕ)) (r : Listed) → r ≡ listedO
 listed-slots n (done l) r p q = (l, refl, let e : length l / 264 ≡ n = cc in e)
 listed-slots n (refused m) r p q = absurd (let z : _≡_ {A = ℕ} 0 1 = cc in omega arith)
 
-pub slots-moved : (next n : ℕ) (o : Out (List ℕ)) (r : Listed) → r ≡ listedOf o → r ≡ listeds.Slots n → _≡_ {A = Moved} (record { answer = listeds.Slots n; next = next + n }) (movedAs next o)
-slots-moved next n o r p q =
+pub slots-moved : (dots : Bool) (next from n : ℕ) (o : Out (List ℕ)) (r : Listed) → from ≡ startOf dots next → r ≡ listedOf o → r ≡ listeds.Slots n → _≡_ {A = Moved} (record { answer = listeds.Slots n; next = from + n }) (movedAs dots next o)
+slots-moved dots next from n o r f p q =
     let m = listed-slots n o r p q in
-    ap (λ (k : ℕ). record { answer = listeds.Slots k; next = next + k }) (sym (m .2)) ∙ sym (ap (movedAs next) (m .1))
+    ap (λ (k : ℕ). record { answer = listeds.Slots k; next = from + k }) (sym (m .2)) ∙ ap (λ (k : ℕ). record { answer = listeds.Slots (length (m .0) / 264); next = k + length (m .0) / 264 }) f ∙ sym (ap (movedAs dots next) (m .1))
 
-pub refused-moved : (next n : ℕ) (o : Out (List ℕ)) (r : Listed) → r ≡ listedOf o → r ≡ listeds.Refused n → _≡_ {A = Moved} (record { answer = listeds.Refused n; next = next }) (movedAs next o)
-refused-moved next n (done l) r p q = absurd (let z : _≡_ {A = ℕ} 0 1 = cc in omega arith)
-refused-moved next n (refused m) r p q = ap (λ (k : ℕ). record { answer = listeds.Refused k; next = next }) (let e : n ≡ m = cc in e)
+pub refused-moved : (dots : Bool) (next n : ℕ) (o : Out (List ℕ)) (r : Listed) → r ≡ listedOf o → r ≡ listeds.Refused n → _≡_ {A = Moved} (record { answer = listeds.Refused n; next = next }) (movedAs dots next o)
+refused-moved dots next n (done l) r p q = absurd (let z : _≡_ {A = ℕ} 0 1 = cc in omega arith)
+refused-moved dots next n (refused m) r p q = ap (λ (k : ℕ). record { answer = listeds.Refused k; next = next }) (let e : n ≡ m = cc in e)

@@ -1,8 +1,11 @@
 -- The listing by a place: "the call moves it on by the slots written", and a refusal leaves it.
 use mathlib.Core.Path.{_≡_}
+use mathlib.Core.Bool.{Bool, not, _&&_}
 use mathlib.Core.List.{List}
 use Prim.Native.Nat.{ℕ, _+_, _/_}
 use lib.ListN.{length}
+use lib.Dec.{ltb}
+use Rattle.base.specs.Search.{pick}
 use Rattle.base.specs.Out.{Out, done, refused}
 use Rattle.table.specs.declared.Table.{Table}
 use Rattle.sefs.specs.Read.{callListing}
@@ -11,21 +14,25 @@ use Rattle.calls.specs.declared.Listed.{Listed}
 use Rattle.calls_list.specs.declared.Place.{Place}
 use Rattle.calls_list.specs.declared.Moved.{Moved}
 
+-- order 6: "A listing now starts at slot 2 unless the lent place asks for the dots"; "A place below slot 2 without that request is read as slot 2"
+abbrev pub startOf : Bool → ℕ → ℕ
+startOf dots next = pick (not dots && ltb next 2) 2 next
+
 -- what is written for a place at the start of an output of `room` bytes
 abbrev pub listAt : List ℕ → Table → ℕ → Place → ℕ → Out (List ℕ)
-listAt a t w p room = callListing a t w (p .handle) (p .next) room
+listAt a t w p room = callListing a t w (p .handle) (startOf (p .dots) (p .next)) room
 
--- a slot is 264 bytes
-abbrev pub nextAfter : ℕ → Out (List ℕ) → ℕ
-nextAfter next (done l) = next + length l / 264
-nextAfter next (refused n) = next
+-- a slot is 264 bytes. Order 6: "unless refused, set to 2 plus the slots written", where it was below 2 and the dots were not asked for
+abbrev pub nextAfter : Bool → ℕ → Out (List ℕ) → ℕ
+nextAfter dots next (done l) = startOf dots next + length l / 264
+nextAfter dots next (refused n) = next
 
 abbrev pub placeAfter : Place → Out (List ℕ) → Place
-placeAfter p o = record { handle = p .handle; next = nextAfter (p .next) o }
+placeAfter p o = record { handle = p .handle; next = nextAfter (p .dots) (p .next) o; dots = p .dots }
 
 -- the same by value: the answer, and the slot that comes next
-abbrev pub movedAs : ℕ → Out (List ℕ) → Moved
-movedAs next o = record { answer = listedOf o; next = nextAfter next o }
+abbrev pub movedAs : Bool → ℕ → Out (List ℕ) → Moved
+movedAs dots next o = record { answer = listedOf o; next = nextAfter dots next o }
 
 -- the listing from the place p: its answer r, and place and output afterwards
 abbrev pub ListsAt : List ℕ → Table → ℕ → Place → List ℕ → Place → List ℕ → Listed → Type 0

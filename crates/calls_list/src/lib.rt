@@ -1,4 +1,5 @@
-// The listing: from a slot on by its number, and by a place that the caller lends, which the call moves on by the slots written. It changes no byte
+// The listing: from a slot on by its number, and by a place that the caller lends, which the call moves on by the slots written; it tells the dots
+// where the place asks for them. It changes no byte
 // of the arena, and reads it by the chains of `sound`.
 mod slots;
 
@@ -12,7 +13,7 @@ ghost use Rattle.mem.specs.Mem.{tableIn, Whole};
 ghost use Rattle.calls.specs.Answers.{listedOf, Laid, Lays};
 ghost use Rattle.calls.specs.Asked.{Admitted};
 ghost use Rattle.calls_list.specs.List.{listAsk, listIn, listedAs};
-ghost use Rattle.calls_list.specs.Place.{movedAs, ListsAt};
+ghost use Rattle.calls_list.specs.Place.{startOf, movedAs, ListsAt};
 use base::least;
 use calls::Listed;
 use calls::by_handle;
@@ -191,11 +192,12 @@ pub fn list_from(arena: &[u8], t: Table, who: u8, h: Handle, next: u64, out: &mu
 
 // ---- by a place
 
-// Where a listing goes on: the folder's handle, and the slot that comes next.
+// Where a listing goes on: the folder's handle, the slot that comes next, and whether the dots are asked for.
 #[repr(C)]
 pub struct Place {
     pub handle: Handle,
     pub next: u64,
+    pub dots: bool,
 }
 
 // What a listing answers, and the slot that comes next then.
@@ -204,15 +206,34 @@ pub struct Moved {
     pub next: u64,
 }
 
-// The listing, with the place's fields by value.
-pub fn list_on(arena: &[u8], t: Table, who: u8, h: Handle, next: u64, out: &mut [u8]) -> Moved
-    ensures { λ r. ⌜ Lays (movedAs next) (callListing (now (arena .entry)) t who h next (length (now (out .entry)))) (now (out .entry)) (now (out .exit)) r ⌝ }
+// Below slot 2 a listing starts only where the dots are asked for.
+pub fn start_of(dots: bool, next: u64) -> u64
+    ensures { λ r. ⌜ r ≡ startOf dots next ⌝ }
 {
-    let l = list_from(arena, t, who, h, next, out);
+    if !dots & (next < 2) {
+        return 2;
+    }
+    next
+}
+
+// The listing, with the place's fields by value.
+pub fn list_on(
+    arena: &[u8],
+    t: Table,
+    who: u8,
+    h: Handle,
+    dots: bool,
+    next: u64,
+    out: &mut [u8],
+) -> Moved
+    ensures { λ r. ⌜ Lays (movedAs dots next) (callListing (now (arena .entry)) t who h (startOf dots next) (length (now (out .entry)))) (now (out .entry)) (now (out .exit)) r ⌝ }
+{
+    let from = start_of(dots, next);
+    let l = list_from(arena, t, who, h, from, out);
     match l {
         Listed::Slots(n) => Moved {
             answer: Listed::Slots(n),
-            next: next + n as u64,
+            next: from + n as u64,
         },
         Listed::Refused(r) => Moved {
             answer: Listed::Refused(r),
@@ -221,12 +242,12 @@ pub fn list_on(arena: &[u8], t: Table, who: u8, h: Handle, next: u64, out: &mut 
     }
 }
 
-// The slots from the place on, as stored. The place is taken apart, and only its next slot changes.
+// The slots from the place on, as stored; the dots where it asks for them. The place is taken apart, and only its next slot changes.
 pub fn list(arena: &[u8], t: Table, who: u8, place: &mut Place, out: &mut [u8]) -> Listed
     ensures { λ r. ⌜ ListsAt (now (arena .entry)) t who (now (place .entry)) (now (out .entry)) (now (place .exit)) (now (out .exit)) r ⌝ }
 {
     let h = place.handle;
-    let m = list_on(arena, t, who, h, place.next, out);
+    let m = list_on(arena, t, who, h, place.dots, place.next, out);
     place.next = m.next;
     m.answer
 }

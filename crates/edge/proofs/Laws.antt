@@ -118,7 +118,7 @@ tells-not e = record { number = rw e; words = rw e }
 pub shows-not : {o : Out (List ℕ)} {n : ℕ} {p : List ℕ} → o ≡ refused n → Shows o p p n
 shows-not e = record { number = rw e; output = rw e }
 
-pub lists-not : {o : Out (List ℕ)} {n : ℕ} {p w : List ℕ} → o ≡ refused n → Lists o p p w w n
+pub lists-not : {o : Out (List ℕ)} {n from : ℕ} {p w : List ℕ} → o ≡ refused n → Lists o from p p w w n
 lists-not e = record { number = rw e; output = rw e; words = rw e }
 
 pub takes-not : {o : Out (List ℕ)} {n : ℕ} {p w : List ℕ} → o ≡ refused n → Takes o p p w w n
@@ -172,10 +172,10 @@ tells {o = refused m} e G E = rw e (record { number = E .0 ∙ rw G; words = E .
 pub shows : {o p : Out (List ℕ)} {x y : List ℕ} {n : ℕ} {r : Answer} → p ≡ o → (r ≡ answerOf o) × (y ≡ laid x o) → n ≡ answerNumber r → Shows p x y n
 shows e G E = rw e (record { number = E ∙ rw (G .0); output = G .1 })
 
-pub lists : {o p : Out (List ℕ)} {x y w v : List ℕ} {n : ℕ} {l : Listed} → p ≡ o → Lays listedOf o x y l
-    → (n ≡ listedNumber l) × (v ≡ listedWordsBy w (getD w 0 0) l) → Lists p x y w v n
-lists {o = done z} e G E = rw e (record { number = E .0 ∙ rw (G .0); output = G .1; words = E .1 ∙ rw (G .0) })
-lists {o = refused m} e G E = rw e (record { number = E .0 ∙ rw (G .0); output = G .1; words = E .1 ∙ rw (G .0) })
+pub lists : {o p : Out (List ℕ)} {x y w v : List ℕ} {n : ℕ} {l : Listed} (f from : ℕ) → f ≡ from → p ≡ o → Lays listedOf o x y l
+    → (n ≡ listedNumber l) × (v ≡ listedWordsBy w f l) → Lists p from x y w v n
+lists {o = done z} {w = w} {l = l} f from q e G E = rw e (record { number = E .0 ∙ rw (G .0); output = G .1; words = E .1 ∙ ap (λ (k : ℕ). listedWordsBy w k l) q ∙ rw (G .0) })
+lists {o = refused m} {w = w} {l = l} f from q e G E = rw e (record { number = E .0 ∙ rw (G .0); output = G .1; words = E .1 ∙ ap (λ (k : ℕ). listedWordsBy w k l) q ∙ rw (G .0) })
 
 pub takes : {o p : Out (List ℕ)} {x y w v : List ℕ} {n : ℕ} {r : Taken} → p ≡ o → Lays takenOf o x y r → (n ≡ takenNumber r) × (v ≡ takenWordsBy w r) → Takes p x y w v n
 takes {o = done l} e G E = rw e (record { number = E .0 ∙ rw (G .0); output = G .1; words = E .1 ∙ rw (G .0) })

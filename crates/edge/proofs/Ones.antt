@@ -28,7 +28,7 @@ module _ {n m : ℕ} where
   pub shows-one : {o : Out (List ℕ)} {w x y : List ℕ} → Shows o w x n → Shows o w y m → (n ≡ m) × (x ≡ y)
   shows-one p q = (p .number ∙ sym (q .number), p .output ∙ sym (q .output))
 
-  pub lists-one : {o : Out (List ℕ)} {t u v w x y : List ℕ} → Lists o t u w x n → Lists o t v w y m → (n ≡ m) × ((u ≡ v) × (x ≡ y))
+  pub lists-one : {o : Out (List ℕ)} {from : ℕ} {t u v w x y : List ℕ} → Lists o from t u w x n → Lists o from t v w y m → (n ≡ m) × ((u ≡ v) × (x ≡ y))
   lists-one p q = (p .number ∙ sym (q .number), (p .output ∙ sym (q .output), p .words ∙ sym (q .words)))
 
   pub takes-one : {o : Out (List ℕ)} {t u v w x y : List ℕ} → Takes o t u w x n → Takes o t v w y m → (n ≡ m) × ((u ≡ v) × (x ≡ y))

@@ -1,5 +1,6 @@
 -- The calls at the C edge: what a call returns, and what it leaves in the slices that it was lent, by the outcome that its definition gives.
 use mathlib.Core.Path.{_≡_}
+use mathlib.Core.Bool.{not}
 use mathlib.Core.List.{List, [], _∷_}
 use Prim.Native.Nat.{ℕ, _+_, _/_}
 use lib.ListN.{length, getD}
@@ -21,6 +22,7 @@ use Rattle.steps.specs.Ends.{arenaAfter}
 use Rattle.calls_create.specs.Held.{arenaHeld}
 use Rattle.calls_move.specs.declared.Course.{Course}
 use Rattle.calls_move.specs.declared.Course.the-variants.{Made, Same, Refused}
+use Rattle.calls_list.specs.Place.{startOf}
 use Rattle.edge.specs.Words.{handleWords, metadataWords}
 
 -- "a slice of a wrong fixed size gets 255, and then nothing is called and nothing changes": as if the call were refused with that number
@@ -69,11 +71,15 @@ pub record Shows (o : Out (List ℕ)) (p q : List ℕ) (n : ℕ) : Type 0 where
   pub number : n ≡ answerNumber (answerOf o)
   pub output : q ≡ laid p o
 
--- listing: the output likewise; the word is the next slot, moved on by the slots of 264 bytes that were written
-pub record Lists (o : Out (List ℕ)) (p q w v : List ℕ) (n : ℕ) : Type 0 where
+-- where a listing starts: the word is the place's next slot, and a mark that is not 0 asks for the dots
+abbrev pub startIn : ℕ → List ℕ → ℕ
+startIn dots w = startOf (not (eqb dots 0)) (getD w 0 0)
+
+-- listing: the output likewise; the word is the slot where it started, moved on by the slots of 264 bytes that were written
+pub record Lists (o : Out (List ℕ)) (from : ℕ) (p q w v : List ℕ) (n : ℕ) : Type 0 where
   pub number : n ≡ listedNumber (listedOf o)
   pub output : q ≡ laid p o
-  pub words : v ≡ lent (λ l. (getD w 0 0 + length l / 264) ∷ []) w o
+  pub words : v ≡ lent (λ l. (from + length l / 264) ∷ []) w o
 
 -- read: the output likewise; the word is how many bytes were written
 pub record Takes (o : Out (List ℕ)) (p q w v : List ℕ) (n : ℕ) : Type 0 where

@@ -5,7 +5,7 @@ pub mod args;
 pub mod ends;
 pub mod results;
 
-ghost use lib.ListN.{length, getD};
+ghost use lib.ListN.{length};
 ghost use Rattle.table_bytes.specs.Layout.{tableOf};
 ghost use Rattle.sefs.specs.Close.{callSync, callClose};
 ghost use Rattle.sefs.specs.Contents.{callRead, callWrite, callResize};
@@ -17,7 +17,7 @@ ghost use Rattle.sefs.specs.Unlink.{callUnlink};
 ghost use Rattle.calls_format.specs.Format.{formatted};
 ghost use Rattle.fsck.specs.Verdicts.{verdictOf};
 ghost use Rattle.edge.specs.Words.{handleOf, timeOf, counted};
-ghost use Rattle.edge.specs.Edge.{sized, Leaves, Makes, Holds, Sets, Tells, Shows, Lists, Takes, Counts};
+ghost use Rattle.edge.specs.Edge.{sized, startIn, Leaves, Makes, Holds, Sets, Tells, Shows, Lists, Takes, Counts};
 use args::file_of;
 use args::handle;
 use args::new_node;
@@ -30,6 +30,7 @@ use calls_find::root_on;
 use calls_format::format_on;
 use calls_link::link_on;
 use calls_list::listing_on;
+use calls_list::start_of;
 use calls_metadata::metadata_on;
 use calls_metadata::set_on;
 use calls_move::move_on;
@@ -175,7 +176,13 @@ pub extern "C" fn dz_find(
 }
 
 #[no_mangle]
-pub extern "C" fn dz_close(arena: &mut [u8], table: &mut [u8], owner: u8, hold: u32, stamp: u64) -> u32
+pub extern "C" fn dz_close(
+    arena: &mut [u8],
+    table: &mut [u8],
+    owner: u8,
+    hold: u32,
+    stamp: u64,
+) -> u32
     ensures { λ r. ⌜ Leaves (sized 4402 (now (table .entry)) (callClose (now (arena .entry)) (tableOf (now (table .entry))) owner (handleOf hold stamp))) (now (arena .entry)) (now (arena .exit)) (now (table .entry)) (now (table .exit)) r ⌝ }
 {
     if table.len() != TABLE {
@@ -342,7 +349,18 @@ pub extern "C" fn dz_set_metadata(
     let ctime = time(csec, cnsec);
     let mut mem = [0u8; MEMORY];
     begin(&mut mem, &table[..]);
-    let r = set_on(arena, &mut mem, owner, h, mode, uid, gid, atime, mtime, ctime);
+    let r = set_on(
+        arena,
+        &mut mem,
+        owner,
+        h,
+        mode,
+        uid,
+        gid,
+        atime,
+        mtime,
+        ctime,
+    );
     end_after(table, &mem, r)
 }
 
@@ -438,7 +456,7 @@ pub extern "C" fn dz_get_entry(
     number(a)
 }
 
-// The word is the slot to begin with, and then the one to go on with.
+// The word is the place's next slot, and then the one to go on with. `dots` is not 0 where the dots are asked for.
 #[no_mangle]
 pub extern "C" fn dz_list(
     arena: &[u8],
@@ -447,9 +465,10 @@ pub extern "C" fn dz_list(
     hold: u32,
     stamp: u64,
     next: &mut [u64],
+    dots: u8,
     out: &mut [u8],
 ) -> u32
-    ensures { λ r. ⌜ Lists (sized 4402 (now (table .entry)) (sized 1 (now (next .entry)) (callListing (now (arena .entry)) (tableOf (now (table .entry))) owner (handleOf hold stamp) (getD (now (next .entry)) 0 0) (length (now (out .entry)))))) (now (out .entry)) (now (out .exit)) (now (next .entry)) (now (next .exit)) r ⌝ }
+    ensures { λ r. ⌜ Lists (sized 4402 (now (table .entry)) (sized 1 (now (next .entry)) (callListing (now (arena .entry)) (tableOf (now (table .entry))) owner (handleOf hold stamp) (startIn dots (now (next .entry))) (length (now (out .entry)))))) (startIn dots (now (next .entry))) (now (out .entry)) (now (out .exit)) (now (next .entry)) (now (next .exit)) r ⌝ }
 {
     if table.len() != TABLE {
         return WRONG_SIZE;
@@ -457,7 +476,8 @@ pub extern "C" fn dz_list(
     if next.len() != NEXT_WORDS {
         return WRONG_SIZE;
     }
-    let from = next[0];
+    let at = next[0];
+    let from = start_of(dots != 0, at);
     let mut mem = [0u8; MEMORY];
     begin(&mut mem, table);
     let l = listing_on(arena, &mem, owner, handle(hold, stamp), from, out);

@@ -104,7 +104,16 @@ pub fn create_on(
     ensures { λ _. ⌜ Chained (now (arena .exit)) (now (chains .exit)) ⌝ }
 {
     let c = &chains[..];
-    let b = create_led(&arena[..], &c[..4096], &c[4096..8192], mem, who, h, name, new);
+    let b = create_led(
+        &arena[..],
+        &c[..4096],
+        &c[4096..8192],
+        mem,
+        who,
+        h,
+        name,
+        new,
+    );
     if b.reason != 0 {
         return not_handed(b.reason);
     }
@@ -127,7 +136,16 @@ pub fn link_on(
     ensures { λ _. ⌜ Chained (now (arena .exit)) (now (chains .exit)) ⌝ }
 {
     let c = &chains[..];
-    let b = link_led(&arena[..], &c[..4096], &c[4096..8192], mem, who, h, name, child);
+    let b = link_led(
+        &arena[..],
+        &c[..4096],
+        &c[4096..8192],
+        mem,
+        who,
+        h,
+        name,
+        child,
+    );
     if b.reason != 0 {
         return b.reason;
     }
@@ -136,7 +154,14 @@ pub fn link_on(
     r
 }
 
-pub fn unlink_on(arena: &mut [u8], chains: &mut [u16], mem: &mut [u8], who: u8, h: Handle, name: &[u8]) -> u8
+pub fn unlink_on(
+    arena: &mut [u8],
+    chains: &mut [u16],
+    mem: &mut [u8],
+    who: u8,
+    h: Handle,
+    name: &[u8],
+) -> u8
     requires { ⌜ Kept (now arena) (now chains) (now mem) ⌝ }
     ensures { λ r. ⌜ Ended (callUnlink (now (arena .entry)) (tableIn (now (mem .entry))) who h (now (name .entry))) (now (arena .entry)) (now (arena .exit)) (tableIn (now (mem .exit))) r ⌝ }
     ensures { λ _. ⌜ Chained (now (arena .exit)) (now (chains .exit)) ⌝ }
@@ -211,5 +236,16 @@ pub fn move_on(
     ensures { λ _. ⌜ Chained (now (arena .exit)) (now (chains .exit)) ⌝ }
 {
     let mut slot = [0u8; 264];
-    move_slot(arena, chains, mem, &mut slot, table, who, h, old, target, name)
+    move_slot(
+        arena,
+        chains,
+        mem,
+        &mut slot,
+        table,
+        who,
+        h,
+        old,
+        target,
+        name,
+    )
 }

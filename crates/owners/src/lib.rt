@@ -3,7 +3,7 @@
 // call that changes the arena makes them again.
 mod changes;
 
-ghost use lib.ListN.{length, getD};
+ghost use lib.ListN.{length};
 ghost use Rattle.table_bytes.specs.Layout.{tableOf};
 ghost use Rattle.sefs.specs.Close.{callSync, callClose};
 ghost use Rattle.sefs.specs.Create.{callCreate, callLink};
@@ -12,12 +12,13 @@ ghost use Rattle.sefs.specs.Open.{callRoot, callFind};
 ghost use Rattle.sefs.specs.Read.{callMetadata, callSet, callEntry, callListing};
 ghost use Rattle.sefs.specs.Unlink.{callUnlink};
 ghost use Rattle.edge.specs.Words.{handleOf, timeOf};
-ghost use Rattle.edge.specs.Edge.{sized, Leaves, Makes, Holds, Sets, Tells, Shows, Lists};
+ghost use Rattle.edge.specs.Edge.{sized, startIn, Leaves, Makes, Holds, Sets, Tells, Shows, Lists};
 ghost use Rattle.owners.specs.Owned.{Chained, Owned, Builds};
 use calls_entry::entry_led;
 use calls_find::find_led;
 use calls_find::root_led;
 use calls_list::list_led;
+use calls_list::start_of;
 use calls_metadata::metadata_in;
 use calls_metadata::set_in;
 use changes::close_on;
@@ -98,13 +99,7 @@ pub extern "C" fn dz_own_root(
     }
     let mut mem = [0u8; MEMORY];
     begin(&mut mem, &table[..]);
-    let h = root_led(
-        arena,
-        &chains[..4096],
-        &chains[4096..8192],
-        &mut mem,
-        owner,
-    );
+    let h = root_led(arena, &chains[..4096], &chains[4096..8192], &mut mem, owner);
     end_held(table, out, &mem, h)
 }
 
@@ -189,7 +184,15 @@ pub extern "C" fn dz_own_create(
     let new = new_node(kind, mode, time(sec, nsec), file_of(file));
     let mut mem = [0u8; MEMORY];
     begin(&mut mem, &table[..]);
-    let h = create_on(arena, chains, &mut mem, owner, handle(hold, stamp), name, new);
+    let h = create_on(
+        arena,
+        chains,
+        &mut mem,
+        owner,
+        handle(hold, stamp),
+        name,
+        new,
+    );
     end_held(table, out, &mem, h)
 }
 
@@ -212,7 +215,15 @@ pub extern "C" fn dz_own_link(
     let child = handle(child_hold, child_stamp);
     let mut mem = [0u8; MEMORY];
     begin(&mut mem, &table[..]);
-    let r = link_on(arena, chains, &mut mem, owner, handle(hold, stamp), name, child);
+    let r = link_on(
+        arena,
+        chains,
+        &mut mem,
+        owner,
+        handle(hold, stamp),
+        name,
+        child,
+    );
     end_after(table, &mem, r)
 }
 
@@ -348,7 +359,7 @@ pub extern "C" fn dz_own_get_entry(
     r as u32
 }
 
-// The word is the slot to begin with, and then the one to go on with.
+// The word is the place's next slot, and then the one to go on with. `dots` is not 0 where the dots are asked for.
 #[no_mangle]
 pub extern "C" fn dz_own_list(
     arena: &[u8],
@@ -358,15 +369,17 @@ pub extern "C" fn dz_own_list(
     hold: u32,
     stamp: u64,
     next: &mut [u64],
+    dots: u8,
     out: &mut [u8],
 ) -> u32
     requires { ⌜ Owned (now arena) (now chains) (now table) ⌝ }
-    ensures { λ r. ⌜ Lists (sized 1 (now (next .entry)) (callListing (now (arena .entry)) (tableOf (now (table .entry))) owner (handleOf hold stamp) (getD (now (next .entry)) 0 0) (length (now (out .entry))))) (now (out .entry)) (now (out .exit)) (now (next .entry)) (now (next .exit)) r ⌝ }
+    ensures { λ r. ⌜ Lists (sized 1 (now (next .entry)) (callListing (now (arena .entry)) (tableOf (now (table .entry))) owner (handleOf hold stamp) (startIn dots (now (next .entry))) (length (now (out .entry))))) (startIn dots (now (next .entry))) (now (out .entry)) (now (out .exit)) (now (next .entry)) (now (next .exit)) r ⌝ }
 {
     if next.len() != NEXT_WORDS {
         return WRONG_SIZE;
     }
-    let from = next[0];
+    let at = next[0];
+    let from = start_of(dots != 0, at);
     let mut mem = [0u8; MEMORY];
     begin(&mut mem, table);
     let l = list_led(

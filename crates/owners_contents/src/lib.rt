@@ -132,7 +132,15 @@ pub extern "C" fn dz_own_write(
 {
     let mut mem = [0u8; MEMORY];
     begin(&mut mem, &table[..]);
-    let r = write_on(arena, chains, &mut mem, owner, handle(hold, stamp), place, src);
+    let r = write_on(
+        arena,
+        chains,
+        &mut mem,
+        owner,
+        handle(hold, stamp),
+        place,
+        src,
+    );
     end_after(table, &mem, r)
 }
 

@@ -94,7 +94,13 @@ fn call_find(
     let h = handle_at(script, at + 2);
     let s = at + 16;
     let e = name_end(script, at + 14);
-    let g = calls_find::find(arena, read_table(&desk[..]), script[at + 1], h, &script[s..e]);
+    let g = calls_find::find(
+        arena,
+        read_table(&desk[..]),
+        script[at + 1],
+        h,
+        &script[s..e],
+    );
     put_given(desk, text, w, g)
 }
 
@@ -266,11 +272,12 @@ fn put_list(text: &mut [u8], w: usize, m: Moved, out: &[u8]) -> usize
 }
 
 fn list(script: &[u8], at: usize, desk: &[u8], arena: &[u8], out: &mut [u8]) -> Moved
-    requires { ⌜ (at + 24 ≤ length (now script)) × (length (now desk) ≡ 4419) ⌝ }
+    requires { ⌜ (at + 25 ≤ length (now script)) × (length (now desk) ≡ 4419) ⌝ }
 {
     let h = handle_at(script, at + 2);
     let next = u64_at(script, at + 14);
-    list_on(arena, read_table(desk), script[at + 1], h, next, out)
+    let dots = script[at + 22] != 0;
+    list_on(arena, read_table(desk), script[at + 1], h, dots, next, out)
 }
 
 fn list_words(
@@ -282,12 +289,12 @@ fn list_words(
     text: &mut [u8],
     w: usize,
 ) -> usize
-    requires { ⌜ (at + 24 ≤ length (now script)) × (leAt (now script) (at + 22) 2 ≤ length (now out)) ⌝ }
+    requires { ⌜ (at + 25 ≤ length (now script)) × (leAt (now script) (at + 23) 2 ≤ length (now out)) ⌝ }
     requires { ⌜ (length (now desk) ≡ 4419) × (w + 400 ≤ length (now text)) ⌝ }
     ensures { λ r. ⌜ r ≤ w + 400 ⌝ }
 {
     put_238(out);
-    let n = index16(u16_at(script, at + 22));
+    let n = index16(u16_at(script, at + 23));
     let m = list(script, at, desk, arena, &mut out[..n]);
     put_list(text, w, m, &out[..])
 }
@@ -300,7 +307,7 @@ fn call_list(
     text: &mut [u8],
     w: usize,
 ) -> usize
-    requires { ⌜ (at + 24 ≤ length (now script)) × (leAt (now script) (at + 22) 2 ≤ 8192) ⌝ }
+    requires { ⌜ (at + 25 ≤ length (now script)) × (leAt (now script) (at + 23) 2 ≤ 8192) ⌝ }
     requires { ⌜ (length (now desk) ≡ 4419) × (w + 400 ≤ length (now text)) ⌝ }
     ensures { λ r. ⌜ r ≤ w + 400 ⌝ }
 {

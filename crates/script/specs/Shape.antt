@@ -39,7 +39,7 @@ sizeBy c s at =
     (cond (eqb c 24) 14
     (cond (eqb c 25) 80
     (cond (eqb c 26) 24
-    (cond (eqb c 27) 24
+    (cond (eqb c 27) 25
     (cond (eqb c 28) 1
     (cond (eqb c 29) 14
     (cond (eqb c 30) 1
@@ -55,7 +55,7 @@ unfoldable pub arenaBy : ℕ → List ℕ → ℕ → ℕ
 arenaBy c s at = cond (eqb c 1) (leAt s (at + 1) 4) (cond (eqb c 2) (leAt s (at + 1) 4) 0)
 
 unfoldable pub outputBy : ℕ → List ℕ → ℕ → ℕ
-outputBy c s at = cond (eqb c 26) (leAt s (at + 22) 2) (cond (eqb c 27) (leAt s (at + 22) 2) (cond (eqb c 32) (leAt s (at + 22) 2) 0))
+outputBy c s at = cond (eqb c 26) (leAt s (at + 22) 2) (cond (eqb c 27) (leAt s (at + 23) 2) (cond (eqb c 32) (leAt s (at + 22) 2) 0))
 
 abbrev pub arenaOf : List ℕ → ℕ → ℕ
 arenaOf s at = arenaBy (getD s at 0) s at

@@ -96,19 +96,19 @@ fn arena_bytes(script: &[u8], at: usize, limit: usize) -> usize
     whole(script, at, 5 + index(u32_at(script, at + 1)))
 }
 
-// An output of at most 8,192 bytes.
-fn with_output(script: &[u8], at: usize) -> usize
-    requires { ⌜ at ≤ length (now script) ⌝ }
-    ensures { λ r. ⌜ Sized (now (script .entry)) at r 24 ⌝ }
-    ensures { λ r. ⌜ (0 < r → leAt (now (script .entry)) (at + 22) 2 ≤ 8192) ⌝ }
+// With an output's length, at most 8,192, after the first n bytes.
+fn with_output(script: &[u8], at: usize, n: usize) -> usize
+    requires { ⌜ (at ≤ length (now script)) × (n ≤ 65536) ⌝ }
+    ensures { λ r. ⌜ Sized (now (script .entry)) at r (n + 2) ⌝ }
+    ensures { λ r. ⌜ (0 < r → leAt (now (script .entry)) (at + n) 2 ≤ 8192) ⌝ }
 {
-    if whole(script, at, 24) == 0 {
+    if whole(script, at, n + 2) == 0 {
         return 0;
     }
-    if u16_at(script, at + 22) > 8192 {
+    if u16_at(script, at + n) > 8192 {
         return 0;
     }
-    24
+    n + 2
 }
 
 // The command at `at`, by its first byte: all sizes of docs/REPLAY.md. An arena may have `limit` bytes.
@@ -132,12 +132,12 @@ pub fn size_at(script: &[u8], at: usize, limit: usize) -> usize
         23 => named_twice(script, at),
         24 => whole(script, at, 14),
         25 => whole(script, at, 80),
-        26 => with_output(script, at),
-        27 => with_output(script, at),
+        26 => with_output(script, at, 22),
+        27 => with_output(script, at, 23),
         28 => whole(script, at, 1),
         29 => whole(script, at, 14),
         30 => whole(script, at, 1),
-        32 => with_output(script, at),
+        32 => with_output(script, at, 22),
         33 => lengthy(script, at, 22, 8192),
         34 => whole(script, at, 22),
         _ => 0,

@@ -42,9 +42,9 @@ pub fn create<I: DerefMut<Target = Image>>(editor: &mut Editor<I>, folder: Handl
     editor.create(folder, name, kind, 0o644, TIME, file(NEXT.fetch_add(1, Ordering::Relaxed)))
 }
 
-/// The names of a folder after `.` and `..`.
+/// The names of a folder.
 pub fn names<I: Deref<Target = Image>>(editor: &Editor<I>, folder: Handle) -> Vec<String> {
-    editor.entries(folder).skip(2).map(|entry| entry.unwrap().name_str().unwrap().to_owned()).collect()
+    editor.entries(folder).map(|entry| entry.unwrap().name_str().unwrap().to_owned()).collect()
 }
 
 /// A row of numbers that is the same in every run.

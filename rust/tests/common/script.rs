@@ -251,8 +251,8 @@ impl Replay {
                 self.line("entry", format!("{answer} o {}", sum(&out)));
             }
             27 => {
-                let (h, next, room) = (s.handle()?, s.u64()?, s.room()?);
-                let (mut place, mut out) = (Place { folder: h, next }, [238; OUT]);
+                let (h, next, dots, room) = (s.handle()?, s.u64()?, s.u8()? != 0, s.room()?);
+                let (mut place, mut out) = (Place { folder: h, next, dots }, [238; OUT]);
                 let answer = said(self.by(who).list(&mut place, &mut out[..room]), |n| n.to_string());
                 self.line("list", format!("{answer} o {} p {}", sum(&out), place.next));
             }

@@ -531,7 +531,8 @@ impl Sequence {
     fn list(&mut self) -> Call {
         let h = self.folder();
         let (at, room) = self.place(h);
-        Call::List(h, at, room)
+        let at = if self.dice.once(4) { self.dice.below(3) as u64 } else { at };
+        Call::List(h, at, self.dice.of(&[0, 0, 1, 255]), room)
     }
 
     /// A place in a node's contents: in and around what it has, at the border of a block, and now and then far off.

@@ -32,7 +32,8 @@ pub enum Call {
     Metadata(Handle),
     Set(Handle, u16, u64, u64, [Timespec; 3]),
     Entry(Handle, u64, u16),
-    List(Handle, u64, u16),
+    /// Next slot, whether the dots are asked for, room.
+    List(Handle, u64, u8, u16),
     Sync,
     Close(Handle),
     Check,
@@ -113,6 +114,15 @@ impl Call {
         }
     }
 
+    /// The slot that a listing starts with: order 6 leaves slots 0 and 1 out where the dots are not asked for.
+    pub fn start(next: u64, dots: u8) -> u64 {
+        if dots == 0 {
+            next.max(2)
+        } else {
+            next
+        }
+    }
+
     pub fn write(&self, who: u8, out: &mut Vec<u8>) {
         out.push(self.byte());
         if self.asks() {
@@ -154,9 +164,15 @@ impl Call {
                 out.extend(gid.to_le_bytes());
                 times.iter().for_each(|t| put_time(out, t));
             }
-            Call::Entry(h, at, room) | Call::List(h, at, room) | Call::Read(h, at, room) => {
+            Call::Entry(h, at, room) | Call::Read(h, at, room) => {
                 put_handle(out, h);
                 out.extend(at.to_le_bytes());
+                out.extend(room.to_le_bytes());
+            }
+            Call::List(h, next, dots, room) => {
+                put_handle(out, h);
+                out.extend(next.to_le_bytes());
+                out.push(*dots);
                 out.extend(room.to_le_bytes());
             }
             Call::Write(h, at, data) => {
@@ -262,7 +278,7 @@ impl Script<'_> {
             24 => Call::Metadata(self.handle()?),
             25 => Call::Set(self.handle()?, self.u16()?, self.u64()?, self.u64()?, [self.time()?, self.time()?, self.time()?]),
             26 => Call::Entry(self.handle()?, self.u64()?, self.room()?),
-            27 => Call::List(self.handle()?, self.u64()?, self.room()?),
+            27 => Call::List(self.handle()?, self.u64()?, self.bytes(1)?[0], self.room()?),
             28 => Call::Sync,
             29 => Call::Close(self.handle()?),
             30 => Call::Check,

@@ -118,7 +118,10 @@ impl Image {
             Call::Metadata(h) => self.node(h).metadata().map(|_| ()),
             Call::Set(h, mode, uid, gid, times) => self.node(h).set_metadata(&metadata_of(*mode, *uid, *gid, times)),
             Call::Entry(h, at, _) => self.node(h).get_entry(*at as usize).map(|_| ()),
-            Call::List(h, next, room) => self.node(h).iterate_entries(*next as usize, &mut Lister::new(*room as usize)).map(|_| ()),
+            Call::List(h, next, dots, room) => {
+                let start = Call::start(*next, *dots) as usize;
+                self.node(h).iterate_entries(start, &mut Lister::new(*room as usize)).map(|_| ())
+            }
             Call::Sync => self.fs.as_ref().unwrap().sync(),
             Call::Close(h) => Ok(self.holds[h.hold as usize] = None),
             Call::Read(h, at, room) => self.node(h).read_at(*at as usize, &mut vec![0; *room as usize]).map(|_| ()),

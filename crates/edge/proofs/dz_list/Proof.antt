@@ -1,27 +1,48 @@
 -- `edge::dz_list`: 255 where a size is wrong; else the call on the table in memory, and how it ends.
 use mathlib.Core.Path.{sym, _∙_}
-use lib.ListN.{length, getD}
+use native.Mathlib.Omega.{arith}
+use lib.ListN.{length}
+use Rattle.edge.specs.Edge.{startIn}
 use Rattle.sefs.specs.Read.{callListing}
 use Rattle.edge.proofs.Laws.{sized-is, sized-not, lists-not, lists, listed-room}
 use borrow.Author.Needs.{needs}
 use Rattle.edge.proofs.dz_list.Statement.{statement}
 use Rattle.edge.proofs.dz_list.Tie as tie
 
+-- what was known before memory was begun: named, since a search from the end would meet too many records
+abbrev to-start : tie.After-begin → tie.After-start-of
+to-start c = c .before .before
+
+abbrev to-one : tie.After-start-of → tie.Else1
+to-one c = c .before .before .before
+
+abbrev to-first : tie.After-start-of → tie.Start
+to-first c = c .before .before .before .before .before .before .before .before
+
+abbrev to-bytes : tie.After-start-of → tie.After-shared-slice-known2
+to-bytes c = c .before .before .before .before .before .before
+
+abbrev to-two : tie.After-start-of → tie.Else2
+to-two c = c .before .before
+
 returns : tie.Need-returns
 returns c =
-    let s = c .before .before .before .before .before in
-    let yes1 = c .if1 in
-    lists-not (sized-not 4402 (s .args .table .now) _ (yes1 .taken))
+    let s : tie.Start = search needs in
+    let t1 : tie.Then1 = search needs in
+    lists-not (sized-not 4402 (s .args .table .now) _ (t1 .if1 .taken))
 
 returns-2 : tie.Need-returns-2
 returns-2 c =
-    let s = c .before .before .before .before .before .before in
-    let no1 = c .before .if1 in
-    let yes2 = c .if2 in
-    lists-not (sized-is 4402 (s .args .table .now) _ (no1 .left) ∙ sized-not 1 (s .args .next .now) _ (yes2 .taken))
+    let s : tie.Start = search needs in
+    let e1 : tie.Else1 = search needs in
+    let t2 : tie.Then2 = search needs in
+    lists-not (sized-is 4402 (s .args .table .now) _ (e1 .if1 .left) ∙ sized-not 1 (s .args .next .now) _ (t2 .if2 .taken))
 
-slice-read-from : tie.Need-slice-read-from
-slice-read-from c = search needs
+slice-read-at : tie.Need-slice-read-at
+slice-read-at c = search needs
+
+start-of-requires : tie.Need-start-of-requires
+start-of-requires c κs = search needs
 
 slice-aggregate-begin : tie.Need-slice-aggregate-begin
 slice-aggregate-begin c = search needs
@@ -36,21 +57,16 @@ handle-requires : tie.Need-handle-requires
 handle-requires c κs = search needs
 
 listing-on-requires : tie.Need-listing-on-requires
-listing-on-requires c κs =
-    let bbegin = c .before .before .before .before .begin in
-    (bbegin .ensures .1)
+listing-on-requires c κs = c .before .before .before .before .begin .ensures .1
 
 end-listed-requires : tie.Need-end-listed-requires
 end-listed-requires c κs =
-    let s = c .before .before .before .before .before .before .before .before .before .before .before .before .before .before .before .before .before in
-    let no2 = c .before .before .before .before .before .before .before .before .before .before .before .if2 in
-    let bbegin = c .before .before .before .before .before .before .before .before .begin in
+    let b = c .before .before .before .before .before .before .before .before in
+    let start = to-start b in
+    let s = to-first start in
     let handle = c .before .before .before .before .before .handle in
     let listing = c .before .before .before .listing-on in
-    let sharedsliceknown2 = c .before .before .before .before .before .before .before .before .before .before .before .before .before .before .before .shared-slice-known2 in
-    let no1 = c .before .before .before .before .before .before .before .before .before .before .before .before .if1 in
-    let sliceknown = c .before .before .before .before .before .before .before .before .before .before .before .before .before .before .slice-known in
-    ((no2 .left), listed-room (s .args .arena .now) (s .args .table .now) (bbegin .last .0) (s .args .owner) (handle .result) (getD (s .args .next .now) 0 0) (length (s .args .out .now)) (listing .result) (λ j. (sharedsliceknown2 .given) j .fits) (no1 .left) (bbegin .ensures .0) ((sliceknown .given) 0 .fits) (listing .ensures .0))
+    (to-two start .if2 .left, listed-room (s .args .arena .now) (s .args .table .now) (b .begin .last .0) (s .args .owner) (handle .result) (start .start-of .result) (length (s .args .out .now)) (listing .result) (λ j. to-bytes start .shared-slice-known2 .given j .fits) (to-one start .if1 .left) (b .begin .ensures .0) (omega arith) (listing .ensures .0))
 
 same-length : tie.Need-same-length
 same-length c = search needs
@@ -60,14 +76,13 @@ same-length-2 c = search needs
 
 returns-3 : tie.Need-returns-3
 returns-3 c =
-    let s = c .before .before .before .before .before .before .before .before .before .before .before .before .before .before .before .before .before .before .before .before in
-    let no1 = c .before .before .before .before .before .before .before .before .before .before .before .before .before .before .before .if1 in
-    let no2 = c .before .before .before .before .before .before .before .before .before .before .before .before .before .before .if2 in
-    let bbegin = c .before .before .before .before .before .before .before .before .before .before .before .begin in
+    let b = c .before .before .before .before .before .before .before .before .before .before .before in
+    let start = to-start b in
+    let s = to-first start in
     let handle = c .before .before .before .before .before .before .before .before .handle in
     let listing = c .before .before .before .before .before .before .listing-on in
-    let endlisted = c .before .before .end-listed in
-    lists (sized-is 4402 (s .args .table .now) _ (no1 .left) ∙ sized-is 1 (s .args .next .now) _ (no2 .left) ∙ (λ x. callListing (s .args .arena .now) (sym (bbegin .ensures .0) x) (s .args .owner) (sym (handle .ensures) x) (getD (s .args .next .now) 0 0) (length (s .args .out .now)))) (listing .ensures) (endlisted .ensures)
+    let end = c .before .before .end-listed in
+    lists (start .start-of .result) (startIn (s .args .dots) (s .args .next .now)) (start .start-of .ensures) (sized-is 4402 (s .args .table .now) _ (to-one start .if1 .left) ∙ sized-is 1 (s .args .next .now) _ (to-two start .if2 .left) ∙ (λ x. callListing (s .args .arena .now) (sym (b .begin .ensures .0) x) (s .args .owner) (sym (handle .ensures) x) (sym (start .start-of .ensures) x) (length (s .args .out .now)))) (listing .ensures) (end .ensures)
 
 pub dz-list-spec : {M : Type 1} → statement M
 dz-list-spec =
@@ -75,7 +90,8 @@ dz-list-spec =
     (tie.spec
     returns
     returns-2
-    slice-read-from
+    slice-read-at
+    start-of-requires
     slice-aggregate-begin
     begin-requires
     slice-aggregate-listing-on
