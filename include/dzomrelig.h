@@ -1,4 +1,4 @@
-/* Dzomrelig at the C edge: the fifteen calls of document 01 and the three of order 1, proved (crates/edge), and those for owners (crates/owners). Plain C11, usable from C++.
+/* Dzomrelig at the C edge: the fifteen calls of document 01, the three of order 1 and the walk of order 7, proved (crates/edge), and those for owners (crates/owners). Plain C11, usable from C++.
  *
  * How the calls take and give things:
  * - Arena, table, names and output are a pointer and a length. No pointer is null, and a slice that a call may change overlaps no other.
@@ -7,7 +7,8 @@
  * - A handle goes in as its two numbers and comes out as two words (dz_handle_t). Other results come out as words too: dz_metadata_t, dz_counts_t.
  * - Every call that takes or makes a handle says who asks: `owner`, 1 to DZ_OWNERS. A hold belongs to who made it, and works for no other; each owner
  *   has up to DZ_OWN_HOLDS of them, whatever the others have. Holds of several owners share a node.
- * - A call returns 0, or a reason. With a reason it has changed nothing: no byte of arena, table or output, no word.
+ * - A call returns 0, or a reason. With a reason it has changed nothing: no byte of arena, table or output, no word. (One exception: dz_walk leaves the
+ *   targets that it has read in the link buffer.)
  * - DZ_WRONG_SIZE: the table is not DZ_TABLE bytes, a file's name not DZ_FILE_NAME, or the words not as many as the result has. Nothing was called.
  * - Nothing is kept between calls, and nothing is allocated. Calls on different images may run at the same time.
  *
@@ -34,6 +35,7 @@ extern "C" {
 #define DZ_SLOT 264           /* a slot of a folder, as get entry and listing write it */
 #define DZ_FILE_NAME 16       /* the name of a node's own file, new for every node */
 #define DZ_NAME_LONGEST 255   /* a name in a folder: UTF-8, with no zero byte; a new one with no slash */
+#define DZ_LINKS_MOST 8       /* symlinks that one walk follows */
 #define DZ_FILE_LONGEST 4294967295 /* the contents of a file, symlink or socket */
 
 /* ---- types */
@@ -50,7 +52,7 @@ extern "C" {
 #define DZ_DAMAGED 2          /* the arena is not sound */
 #define DZ_BAD_TABLE 3        /* the table is not well formed */
 #define DZ_BAD_HANDLE 4       /* not a live hold with that stamp, or another owner's */
-#define DZ_BAD_NAME 5         /* a zero byte inside, or not UTF-8; in create, link and move's new name also a slash */
+#define DZ_BAD_NAME 5         /* a zero byte inside, or not UTF-8; in create, link and move's new name also a slash; a path or target: also an empty part */
 #define DZ_INVALID_PARAM 6    /* an owner or a type that is not 1 to 4, or a folder into itself or below */
 #define DZ_NOT_DIR 7
 #define DZ_DIR_REMOVED 8      /* the folder has no links left */
@@ -65,9 +67,10 @@ extern "C" {
 #define DZ_NO_DEVICE_SPACE 17 /* no free id, or no free block */
 #define DZ_WRONG_FS 18        /* no image of this file system */
 #define DZ_STUCK 19           /* the Rust would fail an assertion here */
-#define DZ_OUT_FULL 20        /* a slot remains, and the output has no room for one */
+#define DZ_OUT_FULL 20        /* a slot remains, and the output has no room for one; or a target does not fit the link buffer */
 #define DZ_NOT_FILE 21        /* a folder, where contents are asked for */
 #define DZ_FILE_TOO_BIG 22    /* a write or resize would end past DZ_FILE_LONGEST */
+#define DZ_SYM_LOOP 23        /* a walk meets its ninth symlink */
 #define DZ_WRONG_SIZE 255     /* a slice of a fixed size has another */
 
 static inline const char *dz_reason_name(uint32_t reason)
@@ -96,6 +99,7 @@ static inline const char *dz_reason_name(uint32_t reason)
     case DZ_OUT_FULL: return "OutFull";
     case DZ_NOT_FILE: return "NotFile";
     case DZ_FILE_TOO_BIG: return "FileTooBig";
+    case DZ_SYM_LOOP: return "SymLoop";
     case DZ_WRONG_SIZE: return "WrongSize";
     default: return "unknown";
     }
@@ -163,6 +167,17 @@ uint32_t dz_root(const uint8_t *arena, size_t arena_len, uint8_t *table, size_t 
  * `..`), EntryNotFound, TableFull; Stuck. */
 uint32_t dz_find(const uint8_t *arena, size_t arena_len, uint8_t *table, size_t table_len,
                  uint8_t owner, uint32_t hold, uint64_t stamp, const uint8_t *name, size_t name_len, uint64_t *handle, size_t words);
+
+/* A hold on the node that a path leads to, from the folder: parts split by single slashes, each looked up as dz_find does; a leading slash starts at
+ * root, and a lone one is root. Symlinks are followed, the last part's too, up to DZ_LINKS_MOST in all: what is written in one is its target, a path
+ * from its own folder or from root, and the rest of the text in which it was met goes on after it. `links` takes the targets, one after another as
+ * they are met; its other bytes stay. With a reason, too, the targets that were read stand there.
+ * Changes: table, handle, links. Reasons: BadArena, Damaged, BadTable, InvalidParam (owner), BadHandle; BadName (the path, or a target: bad UTF-8, a
+ * zero byte, empty, or an empty part) before its first part; at a part NotDir, NameTooLong, DirRemoved (only `..`), EntryNotFound; at a symlink
+ * SymLoop, OutFull; at the end TableFull; Stuck. */
+uint32_t dz_walk(const uint8_t *arena, size_t arena_len, uint8_t *table, size_t table_len,
+                 uint8_t owner, uint32_t hold, uint64_t stamp, const uint8_t *path, size_t path_len, uint8_t *links, size_t links_len,
+                 uint64_t *handle, size_t words);
 
 /* Gives a hold up. The last one of a node stores its record if that changed, and frees a node that no folder names any more.
  * Changes: arena, table. Reasons: BadArena, Damaged, BadTable, InvalidParam (owner), BadHandle; NoDeviceSpace, Stuck. */
@@ -267,6 +282,9 @@ uint32_t dz_own_root(const uint8_t *arena, size_t arena_len, const uint16_t *cha
                      uint8_t owner, uint64_t *handle, size_t words);
 uint32_t dz_own_find(const uint8_t *arena, size_t arena_len, const uint16_t *chains, size_t chains_len, uint8_t *table, size_t table_len,
                      uint8_t owner, uint32_t hold, uint64_t stamp, const uint8_t *name, size_t name_len, uint64_t *handle, size_t words);
+uint32_t dz_own_walk(const uint8_t *arena, size_t arena_len, const uint16_t *chains, size_t chains_len, uint8_t *table, size_t table_len,
+                     uint8_t owner, uint32_t hold, uint64_t stamp, const uint8_t *path, size_t path_len, uint8_t *links, size_t links_len,
+                     uint64_t *handle, size_t words);
 uint32_t dz_own_close(uint8_t *arena, size_t arena_len, uint16_t *chains, size_t chains_len, uint8_t *table, size_t table_len, uint8_t owner,
                       uint32_t hold, uint64_t stamp);
 uint32_t dz_own_create(uint8_t *arena, size_t arena_len, uint16_t *chains, size_t chains_len, uint8_t *table, size_t table_len, uint8_t owner,

@@ -25,6 +25,8 @@ extern "C" {
     fn dz_check(a: *const u8, al: usize, t: *const u8, tl: usize, counts: *mut u64, words: usize) -> u32;
     fn dz_root(a: *const u8, al: usize, t: *mut u8, tl: usize, who: u8, handle: *mut u64, words: usize) -> u32;
     fn dz_find(a: *const u8, al: usize, t: *mut u8, tl: usize, who: u8, hold: u32, stamp: u64, name: *const u8, nl: usize, handle: *mut u64, words: usize) -> u32;
+    fn dz_walk(a: *const u8, al: usize, t: *mut u8, tl: usize, who: u8, hold: u32, stamp: u64, path: *const u8, pl: usize, links: *mut u8, ll: usize,
+               handle: *mut u64, words: usize) -> u32;
     fn dz_close(a: *mut u8, al: usize, t: *mut u8, tl: usize, who: u8, hold: u32, stamp: u64) -> u32;
     fn dz_create(a: *mut u8, al: usize, t: *mut u8, tl: usize, who: u8, hold: u32, stamp: u64, name: *const u8, nl: usize, kind: u32, mode: u16,
                  sec: i64, nsec: i64, file: *const u8, fl: usize, handle: *mut u64, words: usize) -> u32;
@@ -50,6 +52,8 @@ extern "C" {
     fn dz_own_root(a: *const u8, al: usize, c: *const u16, cl: usize, t: *mut u8, tl: usize, who: u8, handle: *mut u64, words: usize) -> u32;
     fn dz_own_find(a: *const u8, al: usize, c: *const u16, cl: usize, t: *mut u8, tl: usize, who: u8, hold: u32, stamp: u64, name: *const u8, nl: usize,
                    handle: *mut u64, words: usize) -> u32;
+    fn dz_own_walk(a: *const u8, al: usize, c: *const u16, cl: usize, t: *mut u8, tl: usize, who: u8, hold: u32, stamp: u64, path: *const u8, pl: usize,
+                   links: *mut u8, ll: usize, handle: *mut u64, words: usize) -> u32;
     fn dz_own_close(a: *mut u8, al: usize, c: *mut u16, cl: usize, t: *mut u8, tl: usize, who: u8, hold: u32, stamp: u64) -> u32;
     fn dz_own_create(a: *mut u8, al: usize, c: *mut u16, cl: usize, t: *mut u8, tl: usize, who: u8, hold: u32, stamp: u64, name: *const u8, nl: usize,
                      kind: u32, mode: u16, sec: i64, nsec: i64, file: *const u8, fl: usize, handle: *mut u64, words: usize) -> u32;
@@ -208,6 +212,20 @@ impl Pair {
                 Some(c) => dz_own_find(a.as_ptr(), a.len(), c.as_ptr(), c.len(), t.as_mut_ptr(), t.len(), who, h.hold, h.stamp, name.as_ptr(), name.len(),
                                        w.as_mut_ptr(), w.len()),
                 None => dz_find(a.as_ptr(), a.len(), t.as_mut_ptr(), t.len(), who, h.hold, h.stamp, name.as_ptr(), name.len(), w.as_mut_ptr(), w.len()),
+            }
+        };
+        held(n, w)
+    }
+
+    /// The targets that were read stand in `links`, also where it is refused.
+    pub(crate) fn walk(&mut self, who: u8, h: Handle, path: &[u8], links: &mut [u8]) -> Result<Handle, Reason> {
+        let (a, t, mut w) = (&self.arena, &mut self.table, [0; 2]);
+        let n = unsafe {
+            match &self.chains {
+                Some(c) => dz_own_walk(a.as_ptr(), a.len(), c.as_ptr(), c.len(), t.as_mut_ptr(), t.len(), who, h.hold, h.stamp, path.as_ptr(), path.len(),
+                                       links.as_mut_ptr(), links.len(), w.as_mut_ptr(), w.len()),
+                None => dz_walk(a.as_ptr(), a.len(), t.as_mut_ptr(), t.len(), who, h.hold, h.stamp, path.as_ptr(), path.len(),
+                                links.as_mut_ptr(), links.len(), w.as_mut_ptr(), w.len()),
             }
         };
         held(n, w)

@@ -15,7 +15,7 @@ use crate::{Attributes, Entries, Entry, FileName, Handle, Image, Kind, Metadata,
 ///
 /// # Reasons
 ///
-/// As for the calls of an [`Image`]: a call that is refused has changed nothing, and says one [`Reason`]. Where `BadHandle` is among them, it comes for
+/// As for the calls of an [`Image`]: a call that is refused has changed nothing (but for the link buffer of [`walk`](Editor::walk)), and says one [`Reason`]. Where `BadHandle` is among them, it comes for
 /// another owner's handle as well. `TableFull` depends on this owner's own handles, and on the stamps, alone.
 #[derive(Clone, Copy)]
 pub struct Editor<I> {
@@ -76,6 +76,22 @@ impl<I: DerefMut<Target = Image>> Editor<I> {
     /// Reasons: `BadHandle`, `BadName`, `NotDir`, `NameTooLong`, `DirRemoved` (only for `..`), `EntryNotFound`, `TableFull`; `Stuck`.
     pub fn find(&mut self, folder: Handle, name: impl AsRef<[u8]>) -> Result<Handle, Reason> {
         self.image.pair.find(self.who, folder, name.as_ref())
+    }
+
+    /// A hold on the node that a path leads to, from the folder: parts split by single slashes, each looked up as [`find`](Editor::find) does. A leading
+    /// slash starts at root, and a lone one is root.
+    ///
+    /// Symlinks are followed, the last part's too, up to [`LINKS_MOST`](crate::LINKS_MOST) in all. What is written in one is its target: a path from the
+    /// folder that the symlink was met in, or from root. After it the rest of the text in which it was met goes on.
+    ///
+    /// `links` takes the targets, one after another as they are met; its other bytes stay. It is the one thing that a refused call has changed: the
+    /// targets that were read before stand there.
+    ///
+    /// Reasons: `BadHandle`; `BadName` (the path, or a target: also one that is empty or has an empty part) before its first part; at a part `NotDir`,
+    /// `NameTooLong`, `DirRemoved` (only for `..`), `EntryNotFound`; at a symlink `SymLoop` (the ninth), `OutFull` (the target does not fit what is left of
+    /// `links`); at the end `TableFull`; `Stuck`.
+    pub fn walk(&mut self, folder: Handle, path: impl AsRef<[u8]>, links: &mut [u8]) -> Result<Handle, Reason> {
+        self.image.pair.walk(self.who, folder, path.as_ref(), links)
     }
 
     /// Gives a hold up. The last one of a node stores its record if that changed, and frees a node that no folder names any more.

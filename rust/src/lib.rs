@@ -34,5 +34,7 @@ pub const SLOT: usize = 264;
 pub const NAME_LONGEST: usize = 255;
 /// The longest contents of a file, symlink or socket, in bytes.
 pub const FILE_LONGEST: u64 = 4_294_967_295;
+/// How many symlinks [`Editor::walk`] follows.
+pub const LINKS_MOST: usize = 8;
 /// How many handles of one owner can be live at once.
 pub const OWN_HOLDS: usize = 8;

@@ -2,9 +2,9 @@
 use core::error::Error;
 use core::fmt;
 
-/// Why a call was refused. A call that is refused has changed nothing.
+/// Why a call was refused. A call that is refused has changed nothing, but for the link buffer of [`Editor::walk`](crate::Editor::walk).
 ///
-/// Where more than one reason holds, each call says in which order it gives them. The number, 1 to 22, is the same at every edge of the library.
+/// Where more than one reason holds, each call says in which order it gives them. The number, 1 to 23, is the same at every edge of the library.
 #[derive(Clone, Copy, PartialEq, Eq, Hash, Debug)]
 #[non_exhaustive]
 pub enum Reason {
@@ -16,7 +16,7 @@ pub enum Reason {
     BadTable,
     /// 4: not a live hold with that stamp, or another owner's.
     BadHandle,
-    /// 5: a name has a zero byte inside, or is not UTF-8; or a new one, of a create, link or rename, has a slash.
+    /// 5: a name has a zero byte inside, or is not UTF-8; or a new one, of a create, link or rename, has a slash; or a path or target has an empty part.
     BadName,
     /// 6: an owner or a type that is not 1 to 4, or a folder that would go into itself or below.
     InvalidParam,
@@ -46,23 +46,25 @@ pub enum Reason {
     WrongFs,
     /// 19: what is stored does not fit together, and the call can't go on.
     Stuck,
-    /// 20: a slot remains, and the output has no room for one.
+    /// 20: a slot remains, and the output has no room for one; or a target does not fit the link buffer.
     OutFull,
     /// 21: a folder, where contents are asked for.
     NotFile,
     /// 22: a write or resize would end past 4,294,967,295 bytes.
     FileTooBig,
+    /// 23: a walk meets its ninth symlink.
+    SymLoop,
     /// A number that no call gives.
     Unknown(u32),
 }
 
 /// The reasons in the order of their numbers, with name and meaning.
-const REASONS: [(Reason, &str, &str); 22] = [
+const REASONS: [(Reason, &str, &str); 23] = [
     (Reason::BadArena, "BadArena", "the image's length is not 16 to 4,096 whole blocks"),
     (Reason::Damaged, "Damaged", "the image is not sound"),
     (Reason::BadTable, "BadTable", "the table of open nodes is not well formed"),
     (Reason::BadHandle, "BadHandle", "not a live hold with that stamp, or another owner's"),
-    (Reason::BadName, "BadName", "a name has a zero byte inside, is not UTF-8, or is new and has a slash"),
+    (Reason::BadName, "BadName", "a name has a zero byte inside, is not UTF-8, or is new and has a slash; or a path has an empty part"),
     (Reason::InvalidParam, "InvalidParam", "an owner or a type that is not 1 to 4, or a folder into itself or below"),
     (Reason::NotDir, "NotDir", "not a folder"),
     (Reason::DirRemoved, "DirRemoved", "the folder has no links left"),
@@ -77,9 +79,10 @@ const REASONS: [(Reason, &str, &str); 22] = [
     (Reason::NoDeviceSpace, "NoDeviceSpace", "no free node number, or no free block"),
     (Reason::WrongFs, "WrongFs", "no image of this file system"),
     (Reason::Stuck, "Stuck", "what is stored does not fit together, and the call can't go on"),
-    (Reason::OutFull, "OutFull", "a slot remains, and the output has no room for one"),
+    (Reason::OutFull, "OutFull", "a slot remains, and the output has no room for one; or a target does not fit"),
     (Reason::NotFile, "NotFile", "a folder, where contents are asked for"),
     (Reason::FileTooBig, "FileTooBig", "a write or resize would end past 4,294,967,295 bytes"),
+    (Reason::SymLoop, "SymLoop", "a walk meets its ninth symlink"),
 ];
 
 impl Reason {
@@ -88,7 +91,7 @@ impl Reason {
         REASONS.iter().map(|&(reason, ..)| reason)
     }
 
-    /// The reason's number: 1 to 22, or the number that no call gives.
+    /// The reason's number: 1 to 23, or the number that no call gives.
     pub fn number(self) -> u32 {
         match self {
             Reason::Unknown(number) => number,

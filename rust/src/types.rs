@@ -34,8 +34,8 @@ impl TryFrom<u8> for Owner {
     }
 }
 
-/// A hold on a node: what [`Editor::root`](crate::Editor::root), [`find`](crate::Editor::find) and [`create`](crate::Editor::create) give, and what
-/// [`close`](crate::Editor::close) gives up.
+/// A hold on a node: what [`Editor::root`](crate::Editor::root), [`find`](crate::Editor::find), [`walk`](crate::Editor::walk) and
+/// [`create`](crate::Editor::create) give, and what [`close`](crate::Editor::close) gives up.
 ///
 /// It is a plain value, and no node number: two finds of one name give two handles, and closing one leaves the other. A handle that was closed, that
 /// never was, or that is another owner's, is refused with [`Reason::BadHandle`]. No stamp is given twice until the image is opened or formatted again.

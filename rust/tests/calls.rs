@@ -106,6 +106,38 @@ fn root_and_find() {
     assert_eq!(image.metadata(named), image.metadata(bytes));
 }
 
+/// A master glyph that is linked into two folders, opened by path.
+#[test]
+fn walk_by_path() {
+    let (mut image, root) = fresh(64);
+    let masters = create(&mut image, root, "masters", Kind::Folder).unwrap();
+    let glyph = create(&mut image, masters, "a", Kind::File).unwrap();
+    for (n, (name, target)) in (1..).zip([("regular", "../masters/a"), ("bold", "/masters/a")]) {
+        let folder = create(&mut image, root, name, Kind::Folder).unwrap();
+        let link = image.create(folder, "a", Kind::Symlink, 0o777, TIME, file(n)).unwrap();
+        image.write_at(link, 0, target).unwrap();
+        let mut links = [238; 16];
+        let found = image.walk(root, format!("{name}/a"), &mut links).unwrap();
+        assert_eq!(image.metadata(found), image.metadata(glyph));
+        assert_eq!(&links[..target.len()], target.as_bytes());
+        assert!(links[target.len()..].iter().all(|&byte| byte == 238));
+        for h in [folder, link, found] {
+            image.close(h).unwrap();
+        }
+    }
+    // a path alone needs no link buffer; from root the folder is not asked
+    for (from, path, node) in [(root, "masters/a", glyph), (glyph, "/masters", masters), (masters, "..", root), (glyph, "/", root)] {
+        let found = image.walk(from, path, &mut []).unwrap();
+        assert_eq!(image.metadata(found), image.metadata(node));
+        image.close(found).unwrap();
+    }
+    // the rest of a path goes on where a target runs out
+    image.create(root, "m", Kind::Symlink, 0o777, TIME, file(9)).and_then(|m| image.write_at(m, 0, "./masters")).unwrap();
+    let found = image.walk(root, "m/../m/a", &mut [0; 18]).unwrap();
+    assert_eq!(image.metadata(found), image.metadata(glyph));
+    assert!(image.check().is_ok());
+}
+
 #[test]
 fn create_each_kind() {
     let (mut image, root) = fresh(64);

@@ -1,7 +1,7 @@
 //! What the crate declares is what the header says: sizes, types, reasons, and every function's parameters.
 use std::collections::BTreeMap;
 
-use dzomrelig::{Kind, Reason, BLOCK, BLOCKS_LEAST, BLOCKS_MOST, FILE_LONGEST, NAME_LONGEST, SLOT, TABLE};
+use dzomrelig::{Kind, Reason, BLOCK, BLOCKS_LEAST, BLOCKS_MOST, FILE_LONGEST, LINKS_MOST, NAME_LONGEST, SLOT, TABLE};
 
 const HEADER: &str = include_str!("../../include/dzomrelig.h");
 const EDGE: &str = include_str!("../src/edge.rs");
@@ -24,6 +24,7 @@ fn sizes_and_types() {
         ("DZ_FILE_NAME", 16),
         ("DZ_NAME_LONGEST", NAME_LONGEST),
         ("DZ_FILE_LONGEST", FILE_LONGEST as usize),
+        ("DZ_LINKS_MOST", LINKS_MOST),
         ("DZ_FILE", Kind::File.number() as usize),
         ("DZ_FOLDER", Kind::Folder.number() as usize),
         ("DZ_SYMLINK", Kind::Symlink.number() as usize),
@@ -82,7 +83,7 @@ fn as_rust(parameter: &str) -> &'static str {
 #[test]
 fn functions() {
     let declared: Vec<_> = HEADER.lines().filter_map(|l| l.strip_prefix("uint32_t dz_")).map(|l| l.split('(').next().unwrap()).collect();
-    assert_eq!(declared.len(), 18 + 16);
+    assert_eq!(declared.len(), 19 + 17);
     for name in declared {
         let theirs: Vec<_> = parameters(HEADER, &format!("\nuint32_t dz_{name}(")).into_iter().map(as_rust).collect();
         let ours: Vec<_> = parameters(EDGE, &format!("fn dz_{name}(")).into_iter().map(|p| p.split_once(": ").unwrap().1).collect();

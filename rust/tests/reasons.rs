@@ -4,14 +4,14 @@ mod common;
 use common::damage::{self, record, superblock, table};
 use common::{create, file, fresh, mine, names, Mine, ROOT_FILE, TIME};
 use dzomrelig::{
-    Attributes, Editor, FailedRule, Handle, Image, Kind, NoReason, Place, Reason, Unfit, BLOCK, FILE_LONGEST, NAME_LONGEST, OWN_HOLDS,
-    SLOT, TABLE,
+    Attributes, Editor, FailedRule, Handle, Image, Kind, NoReason, Place, Reason, Unfit, BLOCK, FILE_LONGEST, LINKS_MOST, NAME_LONGEST,
+    OWN_HOLDS, SLOT, TABLE,
 };
 
 type Call = fn(&mut Mine, Handle, &[u8]) -> Option<Reason>;
 
 /// The calls that take a table: those with no handle, those with one (of any node, with contents, of a folder), and those with a name beside it.
-const CALLS: [Call; 19] = [
+const CALLS: [Call; 20] = [
     |i, _, _| i.root().err(),
     |i, _, _| i.sync().err(),
     |i, h, _| i.metadata(h).err(),
@@ -26,6 +26,7 @@ const CALLS: [Call; 19] = [
     |i, h, _| i.list(&mut Place::new(h), &mut [0; SLOT]).err(),
     |i, h, _| i.snapshot(h).err(),
     |i, h, name| i.find(h, name).err(),
+    |i, h, name| i.walk(h, name, &mut [0; 8]).err(),
     |i, h, name| i.create(h, name, Kind::File, 0, TIME, file(1)).err(),
     |i, h, name| i.link(h, name, h).err(),
     |i, h, name| i.unlink(h, name).err(),
@@ -255,7 +256,7 @@ fn by_call() {
     no(i, Reason::NotDir, |i| i.rename(root, "leaf", leaf, "a"));
     no(i, Reason::NotDir, |i| i.rename(root, "full", root, "leaf"));
 
-    all_no(i, Reason::DirRemoved, gone, b"a", NAMES + 1);
+    all_no(i, Reason::DirRemoved, gone, b"a", NAMES + 2);
     no(i, Reason::DirRemoved, |i| i.find(gone, ".."));
     no(i, Reason::DirRemoved, |i| i.rename(root, "leaf", gone, "a"));
 
@@ -350,6 +351,51 @@ fn contents() {
     let root = image.root().unwrap();
     let a = image.find(root, "a").unwrap();
     each_no(&mut image, Reason::NotFile, a, b"", &CALLS[CONTENTS..FOLDERS]);
+}
+
+/// What refuses a walk, and which targets stand in the link buffer then.
+#[test]
+fn walks() {
+    let (mut image, root) = fresh(64);
+    let i = &mut image;
+    for (n, (name, target)) in (1..).zip([("a", "b/none"), ("here", "."), ("round", "round"), ("bad", "x//y"), ("empty", "")]) {
+        let link = i.create(root, name, Kind::Symlink, 0o777, TIME, file(n)).unwrap();
+        i.write_at(link, 0, target).unwrap();
+        i.close(link).unwrap();
+    }
+    let b = create(i, root, "b", Kind::Folder).unwrap();
+    let leaf = create(i, b, "leaf", Kind::File).unwrap();
+    let mut stops = |reason, h, path: &str, room, targets: &str| {
+        let mut links = vec![238; room];
+        no(i, reason, |i| i.walk(h, path, &mut links));
+        assert_eq!(&links[..targets.len()], targets.as_bytes(), "{path}");
+        assert!(links[targets.len()..].iter().all(|&byte| byte == 238), "{path}");
+    };
+    for path in ["", "//", "b/", "/b/", "b//leaf", "//b", "none//"] {
+        stops(Reason::BadName, root, path, 9, "");
+    }
+    stops(Reason::BadName, root, "here/bad/x", 9, ".x//y");
+    stops(Reason::BadName, root, "here/empty", 9, ".");
+    stops(Reason::NotDir, root, "b/leaf/x", 9, "");
+    stops(Reason::NotDir, leaf, "x", 9, "");
+    stops(Reason::NameTooLong, root, &format!("b/{}/x", "n".repeat(NAME_LONGEST + 1)), 9, "");
+    stops(Reason::EntryNotFound, root, "b/none/x", 9, "");
+    stops(Reason::EntryNotFound, root, "here/a", 9, ".b/none");
+    stops(Reason::OutFull, root, "a", 5, "");
+    stops(Reason::OutFull, root, "here/a", 6, ".");
+    stops(Reason::SymLoop, root, &["here"; LINKS_MOST + 1].join("/"), 8, "........");
+    stops(Reason::SymLoop, root, "round", 40, &"round".repeat(LINKS_MOST));
+    let folders: Vec<_> = (3..OWN_HOLDS).map(|_| i.root().unwrap()).collect();
+    assert_eq!(folders.len(), 5);
+    let mut links = [238; 8];
+    no(i, Reason::TableFull, |i| i.walk(root, "here/b/leaf", &mut links));
+    assert_eq!(links[0], b'.');
+    no(i, Reason::EntryNotFound, |i| i.walk(root, "a", &mut links));
+    i.unlink(b, "leaf").unwrap();
+    i.unlink(root, "b").unwrap();
+    no(i, Reason::DirRemoved, |i| i.walk(b, "..", &mut []));
+    i.close(folders[0]).unwrap();
+    i.walk(b, "/here", &mut links).unwrap();
 }
 
 #[test]
@@ -519,6 +565,7 @@ fn numbers_names_and_texts() {
         "OutFull",
         "NotFile",
         "FileTooBig",
+        "SymLoop",
     ];
     assert_eq!(Reason::all().map(Reason::name).collect::<Vec<_>>(), names);
     for (number, reason) in (1..).zip(Reason::all()) {
@@ -526,7 +573,7 @@ fn numbers_names_and_texts() {
         assert!(reason.to_string().starts_with(&format!("{} ({number}): ", reason.name())));
         assert_eq!(format!("{reason:?}"), reason.name());
     }
-    for number in [0, 23, 255, u32::MAX] {
+    for number in [0, 24, 255, u32::MAX] {
         assert_eq!(Reason::try_from(number), Err(NoReason(number)));
     }
     let unknown = Reason::Unknown(255);
@@ -534,7 +581,7 @@ fn numbers_names_and_texts() {
         (unknown.number(), unknown.name(), unknown.to_string().as_str()),
         (255, "Unknown", "Unknown (255): a number that no call gives")
     );
-    assert_eq!(NoReason(23).to_string(), "23 is no reason's number");
+    assert_eq!(NoReason(24).to_string(), "24 is no reason's number");
     let errors: [Box<dyn std::error::Error>; 4] = [
         Box::new(Reason::NotDir),
         Box::new(FailedRule::Links),

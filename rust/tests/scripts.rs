@@ -48,11 +48,11 @@ fn folder(path: &Path) -> Option<(usize, usize)> {
 
 #[test]
 fn acceptance() {
-    if let Some((scripts, lines)) = folder(&top().join("../shared/vectors-02/level-6")) {
-        assert!(scripts >= 19 && lines >= 3_750);
+    if let Some((scripts, lines)) = folder(&top().join("../shared/vectors-02/level-7")) {
+        assert!(scripts >= 14 && lines >= 3_394);
     }
     // scripts of earlier levels, made scripts of this one by tests/model/lifted.py
-    for (level, least) in [31_347, 3_578, 3_611, 3_606, 3_365, 3_548].into_iter().enumerate() {
+    for (level, least) in [31_347, 3_578, 3_611, 3_606, 3_365, 3_548, 3_750].into_iter().enumerate() {
         if let Some((_, lines)) = folder(&top().join(format!("target/lifted/level-{level}"))) {
             assert!(lines >= least);
         }
@@ -80,8 +80,11 @@ fn broken_scripts() {
     assert_eq!(replay(b"\x05"), "bad script\n");
     assert_eq!(replay(b"\x03\0"), "bad script\n");
     assert_eq!(replay(b"\x1f"), "bad script\n");
-    assert_eq!(replay(b"\x23"), "bad script\n");
+    assert_eq!(replay(b"\x24"), "bad script\n");
     // a write of 8,193 bytes
     assert_eq!(replay(&[b"\x21".as_slice(), &[0; 21], &[1, 32], &[0; 8193]].concat()), "bad script\n");
+    // a walk along 8,193 bytes, and one with a link buffer of as many
+    assert_eq!(replay(&[b"\x23".as_slice(), &[0; 13], &[1, 32], &[97; 8193], &[0; 2]].concat()), "bad script\n");
+    assert_eq!(replay(&[b"\x23".as_slice(), &[0; 13], &[1, 0, 97], &[1, 32]].concat()), "bad script\n");
     assert_eq!(replay(&[0; (1 << 20) + 1]), "bad script\n");
 }

@@ -71,7 +71,7 @@ fn both(trusted: &mut Image, tested: &mut Image, n: &mut Numbers, known: &mut Ve
     let names = ["a", "b", "c", "folder", "sub", "", ".", "..", "\u{e4}"].map(str::as_bytes);
     let (x, y) = (names[n.below(9) as usize], names[n.below(9) as usize]);
     let (kind, number, slot) = (n.below(6) as u32, n.below(60), n.below(6));
-    let (what, mode, room) = (n.below(18), n.next() as u16, n.below(4) as usize * 300);
+    let (what, mode, room) = (n.below(19), n.next() as u16, n.below(4) as usize * 300);
     let (place_in, long) = (n.below(3_000), n.below(2_000));
     let call = |image: &mut Image| -> (Result<Option<Handle>, Reason>, Vec<u8>) {
         let mut image = Editor::numbered(image, who);
@@ -91,6 +91,7 @@ fn both(trusted: &mut Image, tested: &mut Image, n: &mut Numbers, known: &mut Ve
             13 | 14 => image.write_at(h, place_in, vec![mode as u8; long as usize]).map(|()| None),
             15 => image.read_at(h, place_in, &mut out).map(|n| Some(Handle { hold: n as u32, stamp: 0 })),
             16 => image.resize(h, place_in).map(|()| None),
+            17 => image.walk(h, [x, y].join(&b'/'), &mut out).map(Some),
             _ => image.close(h).map(|()| None),
         };
         (answer, out)
@@ -98,7 +99,7 @@ fn both(trusted: &mut Image, tested: &mut Image, n: &mut Numbers, known: &mut Ve
     let answer = call(trusted);
     assert_eq!(answer, call(tested));
     assert!(trusted.bytes() == tested.bytes() && trusted.table() == tested.table());
-    if let (0..=4, Ok(Some(handle))) = (what, answer.0) {
+    if let (0..=4 | 17, Ok(Some(handle))) = (what, answer.0) {
         known.push((who, handle));
     }
 }

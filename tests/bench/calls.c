@@ -20,8 +20,8 @@ bool bench_sound(in arena, size_t len);
 void plain_read(in blocks, size_t place, uint8_t *out, size_t len);
 void plain_write(uint8_t *blocks, size_t place, in data, size_t len);
 
-enum { ALL = 18 };
-static const char *const KINDS[ALL] = {"format", "open", "root", "find", "create", "link", "unlink", "move", "metadata", "set", "entry", "list", "sync", "close", "check", "read", "write", "resize"};
+enum { ALL = 19 };
+static const char *const KINDS[ALL] = {"format", "open", "root", "find", "create", "link", "unlink", "move", "metadata", "set", "entry", "list", "sync", "close", "check", "read", "write", "resize", "walk"};
 static uint8_t arena[DZ_BLOCK * DZ_BLOCKS_MOST], table[DZ_TABLE], out[8192], *script, *at;
 static uint64_t words[DZ_METADATA_WORDS];
 static uint16_t chains[DZ_CHAINS];
@@ -76,7 +76,7 @@ static uint32_t call(int kind)
     in name = 0, new;
     if (kind > 1 && kind != 12) who = (uint8_t)number(1);
     if (kind > 2 && kind != 12) hold = (uint32_t)number(4), stamp = number(8);
-    if (kind >= 3 && kind <= 7) l = number(2), name = bytes(l);
+    if ((kind >= 3 && kind <= 7) || kind == 18) l = number(2), name = bytes(l);
     switch (kind) {
     case 0: time_of(t); return dz_format(ARENA, TABLE, t[0], t[1], bytes(16), 16);
     case 1: return dz_open(ARENA, TABLE);
@@ -95,6 +95,7 @@ static uint32_t call(int kind)
     case 15: k = number(8), o = number(2); return CALL(read, who, hold, stamp, k, out, o, words, DZ_READ_WORDS);
     case 16: k = number(8), o = number(2), new = bytes(o); return CALL(write, who, hold, stamp, k, new, o);
     case 17: k = number(8); return CALL(resize, who, hold, stamp, k);
+    case 18: o = number(2); return CALL(walk, who, hold, stamp, name, l, out, o, words, DZ_HANDLE_WORDS);
     default: fprintf(stderr, "calls: %s is not timed\n", KINDS[kind]); exit(2);
     }
 }

@@ -2,7 +2,8 @@
 """calls.py: every kind of call timed on the Rust and on the port, tested and by an owner, by the same call scripts (docs/REPLAY.md) in one run.
 
 An image of 16, 128, 1,024 and 4,096 blocks is filled with files, then every kind of call is made 20 times; no call is refused. Contents of 480,
-8,192 and 100,000 bytes are read, written over and written into an empty file, beside a plain copy through blocks (plain.c). Both sides are built
+8,192 and 100,000 bytes are read, written over and written into an empty file, beside a plain copy through blocks (plain.c). Walks along a path 50
+deep and through 8 symlinks are timed on the port alone. Both sides are built
 for release; the least of 5 rounds counts. Needs a C compiler (cc) and what tests/beside_rust needs.
 """
 import os
@@ -38,6 +39,32 @@ class Script:
 
     def close(self, handle):
         self.put(29, handle)
+
+
+def walked(blocks, path, links, rounds):
+    """Walks along a path of so many folders, through so many symlinks before it, in an image of files."""
+    s = Script()
+    s.put(2, struct.pack("<I", 512 * blocks))
+    s.put(16, bytes(16), b"r" * 16)
+    s.put(18)
+    root = at = s.held(0)
+    for i in range(blocks // 8):
+        s.close(s.create(root, b"glyph%d" % i, 1, 1))
+    for i in range(path):
+        # holds 1 and 2 in turn: a folder is closed when the one in it is made
+        folder = s.create(at, b"d", 2, 1 + i % 2)
+        if i:
+            s.close(at)
+        at = folder
+    s.close(at)
+    link = s.create(root, b"l", 3, 1)
+    s.put(33, link, struct.pack("<QH", 0, 1), b".")
+    s.close(link)
+    text = b"/".join([b"l"] * links + [b"d"] * path)
+    for _ in range(rounds):
+        s.put(35, root, s.name(text), struct.pack("<H", 64))
+        s.close(s.held(1))
+    return bytes(s.out)
 
 
 def script(blocks, rounds):
@@ -152,6 +179,10 @@ def main():
     print("a folder moved below 1,000 folders, and back to the root:")
     for who in ("tested", "owner"):
         print(f"    {who}: {way[who + '-down'] / 1000:.1f} and {way[who + '-up'] / 1000:.1f} µs")
+    print("walks, tested and by an owner:")
+    for path, links in ((50, 0), (1, 8), (50, 8)):
+        data = walked(4096, path, links, 20)
+        print(f"    {path} deep, {links} symlinks, 4,096 blocks: {port(data)['walk'] / 1000:.1f} and {port(data, 'own')['walk'] / 1000:.1f} µs")
     for blocks, files in ((128, 66), (4096, 2225)):
         print(f"check of {blocks:,} blocks with {files:,} files: {port(full(blocks, files))['check'] / 1000:.0f} µs")
 

@@ -15,8 +15,12 @@ FIELDS = {"size": (0, 8), "type": (8, 4), "mode": (12, 2), "links": (14, 2), "bl
 SUPERBLOCK = {"magic": 0, "blocks": 4, "unused": 8, "groups": 12}
 
 
+# The calls that make a handle.
+MAKERS = ("root", "find", "create", "walk")
+
+
 class Builder:
-    """A script as it grows; names are texts, handles what root, find and create answered, and `who` is the owner who asks."""
+    """A script as it grows; names are texts, handles what root, find, create and walk answered, and `who` is the owner who asks."""
 
     def __init__(self, blocks=16):
         self.data, self.at, self.words = bytearray(), model.Model(), []
@@ -35,7 +39,7 @@ class Builder:
         self.raw(packed(name, args), f"{name} {words}".strip())
         self.line = self.at.run(name, args)
         answer = self.line.split(" ")
-        if name in ("root", "find", "create") and answer[1] == "ok":
+        if name in MAKERS and answer[1] == "ok":
             return int(answer[2]), int(answer[3])
         return None
 
@@ -50,6 +54,9 @@ class Builder:
 
     def find(self, h, name):
         return self.call("find", h, raw(name), words=f"{shown(h)} {quoted(name)}")
+
+    def walk(self, h, path, room=8192):
+        return self.call("walk", h, raw(path), room, words=f"{shown(h)} {quoted(path)} links {room}")
 
     def create(self, h, name, kind=FILE):
         self.files += 1
@@ -153,7 +160,7 @@ def pack(shape, arg):
         return arg.to_bytes(2, "little")
     if shape == "h":
         return struct.pack("<IQ", *arg)
-    if shape in "nw":
+    if shape in "nwl":
         return struct.pack("<H", len(arg)) + arg
     if shape == "t":
         return struct.pack("<2q", *arg)
@@ -199,7 +206,7 @@ def followed(at, name, args):
         {"arena": at.set_arena, "poke": at.poke, "table": at.set_table}[name](*args)
         return None
     answer = at.run(name, args).split(" ")
-    return (int(answer[2]), int(answer[3])) if name in ("root", "find", "create") and answer[1] == "ok" else None
+    return (int(answer[2]), int(answer[3])) if name in MAKERS and answer[1] == "ok" else None
 
 
 def symbolic(data):
@@ -242,7 +249,7 @@ def told(name, args):
             words.append(f"for {arg}")
         elif shape == "d":
             words.append("with the dots" if arg else "without the dots")
-        elif shape == "n":
+        elif shape in "nl":
             words.append(quoted(arg))
         elif shape == "t":
             words.append(f"{arg[0]}s{arg[1]}ns")

@@ -16,7 +16,7 @@ sys.path.insert(0, str(TOP / "tests" / "beside_rust"))
 from scripts import model, packed, takes_owner
 
 SHARED = TOP.parent / "shared"
-LEVEL = 6
+LEVEL = 7
 # A table's bytes without owners, and where its holds stand.
 OLD_TABLE, HOLDS = 4370, 117 * model.ROWS
 UNKNOWN = b"\5"
@@ -45,11 +45,16 @@ def named(level, name, args, line):
     return None
 
 
+def since(byte):
+    """The level from which on this byte is a command."""
+    return 0 if byte < 32 else 1 if byte < 35 else 7
+
+
 def shapes_of(level):
     """What follows a command's byte, at that level: owners from 5 on, the mark for the dots from 6 on."""
     late = "pd" if level < 5 else "d" if level < 6 else ""
     without = str.maketrans("", "", late)
-    return {name: shape.translate(without) for name, shape in model.SHAPES.items() if level >= 1 or model.BYTES[name] < 32}
+    return {name: shape.translate(without) for name, shape in model.SHAPES.items() if level >= since(model.BYTES[name])}
 
 
 def with_owners(table):

@@ -1,5 +1,5 @@
 """The last part of the gate's script (gate.py), in which every reason of document 01 and of document 02's orders so far is answered, contents are
-written, read and resized, and folders are moved to other folders, and its lines.
+written, read and resized, folders are moved to other folders and paths are walked, and its lines.
 
 Each step below says the reason that the documents give, or the bytes that a read finds; the lines, sums and all, are the independent
 model's (replay_model.py), and the port is not asked.
@@ -94,6 +94,25 @@ class Script(Builder):
         self.change((1, file), 264 + place, value.to_bytes(4, "little"), f"set the {field} in slot 1 of node {id} to {value}")
         self.at.is_sound()
 
+    def symlink(self, h, name, target):
+        made = self.ok(self.create(h, name, SYMLINK))
+        self.stores("write", made, 0, target.encode())
+        self.close(made)
+
+    def walks(self, h, path, id, targets="", room=8192):
+        """A walk leads to that node, and the link buffer has these targets."""
+        made = self.ok(self.walk(h, path, room))
+        assert f" o {links_sum(targets)} " in self.line, (self.line, path)
+        self.metadata(made)
+        assert self.line.split(" ")[2] == str(id), (self.line, path)
+        self.close(made)
+
+    def stops(self, reason, h, path, targets="", room=8192):
+        """A walk is refused, and the targets that it has read stay in the link buffer."""
+        before = self.at.sums()
+        self.walk(h, path, room)
+        assert self.line == f"walk no {reason} o {links_sum(targets)} {before}", (self.line, path)
+
     def lost(self, file):
         """The file gets another name."""
         k = self.at.files.place(1, file)
@@ -115,6 +134,10 @@ class Script(Builder):
         return self.ok(self.root())
 
 
+def links_sum(targets):
+    return sum_of(targets.encode().ljust(model.OUTPUT, bytes([238])))
+
+
 def create(h, name, kind=FILE, file=b"f" * 16):
     return "create", h, name, kind, 420, TIME, file
 
@@ -122,7 +145,7 @@ def create(h, name, kind=FILE, file=b"f" * 16):
 def looks(h, name=b"a"):
     """Every call that takes a table and leaves the arena."""
     return (("root",), ("find", h, name), ("metadata", h), ("set", h, 420, 1, 2, TIME, TIME, TIME), ("entry", h, 0, 264),
-            ("list", h, 0, 0, 8192), ("read", h, 0, 8))
+            ("list", h, 0, 0, 8192), ("read", h, 0, 8), ("walk", h, name, 8))
 
 
 def changes(h, name=b"a"):
@@ -142,7 +165,7 @@ def takes_table(h):
 
 def takes_name(h, name):
     return (("find", h, name), create(h, name), ("link", h, name, h), ("unlink", h, name), ("move", h, name, h, b"b"),
-            ("move", h, b"b", h, name))
+            ("move", h, b"b", h, name), ("walk", h, name, 8))
 
 
 def record(kind, links, blocks, file):
@@ -296,7 +319,7 @@ def by_call(b):
     b.no(6, create(root, b"a", 0), create(root, b"a", 5), create(file, b"a", 5))
     b.no(7, *takes_name(file, b"a"), ("entry", file, 0, 0), ("list", file, 0, 0, 0), ("move", root, b"file", file, b"a"))
     b.no(7, ("move", root, b"full", root, b"file"))
-    b.no(8, *(call for call in takes_name(gone, b"a") if call[0] != "find"), ("find", gone, b".."), ("move", root, b"file", gone, b"a"))
+    b.no(8, *(call for call in takes_name(gone, b"a") if call[0] not in ("find", "walk")), ("find", gone, b".."), ("move", root, b"file", gone, b"a"))
     for name in (b".", b"..", b""):
         b.no(9, ("unlink", root, name), ("move", root, name, root, b"a"), ("move", root, b"file", root, name))
     b.no(9, ("link", root, b"a", full), ("move", root, b"file", root, b"full"))
@@ -712,10 +735,116 @@ def no_way_up(b):
     b.fails(6)
 
 
+def masters(b):
+    """The folders a/b with a file (5), and w; links from root and from w."""
+    root = b.fresh(96)
+    a = b.ok(b.create(root, "a", FOLDER))
+    low = b.ok(b.create(a, "b", FOLDER))
+    b.close(b.ok(b.create(low, "m")))
+    w = b.ok(b.create(root, "w", FOLDER))
+    for name, target in (("rel", "a/b/m"), ("l", "."), ("r", "/"), ("self", "self"), ("bad", "a//b"), ("lost", "a/none"), ("chain", "w/up/b")):
+        b.symlink(root, name, target)
+    for name, target in (("abs", "/a/b"), ("up", "../a")):
+        b.symlink(w, name, target)
+    b.close(b.ok(b.create(root, "empty", SYMLINK)))
+    for h in (a, low, w):
+        b.close(h)
+    return root
+
+
+def paths(b):
+    """Order 7: a walk by path, without links and through them."""
+    root = masters(b)
+    arrives(b, root)
+    stopped(b, root)
+    rests(b, b.again())
+
+
+def arrives(b, root):
+    """Each walk with the room that it needs, and with more."""
+    for path, id in (("a", 3), ("a/b/m", 5), ("/a/b/m", 5), ("./a/../a/b", 4), ("/", 2), ("..", 2), ("/..", 2), ("a/b/..", 3)):
+        b.walks(root, path, id, room=0)
+    for path, id, targets in (("rel", 5, "a/b/m"), ("w/abs", 4, "/a/b"), ("w/abs/m", 5, "/a/b"), ("w/up/b/m", 5, "../a"), ("/w/up", 3, "../a"),
+                              ("chain", 4, "w/up/b../a"), ("chain/m", 5, "w/up/b../a"), ("r/a/b", 4, "/"), ("l/r/l/rel", 5, "./.a/b/m")):
+        b.walks(root, path, id, targets)
+        b.walks(root, path, id, targets, len(targets))
+    file = b.ok(b.find(root, "rel"))
+    b.walks(file, "/", 2)
+    b.walks(file, "/rel", 5, "a/b/m")
+    b.close(file)
+    b.who = 2
+    b.walks(b.ok(b.root()), "chain/m", 5, "w/up/b../a")
+    b.who = 1
+    b.check()
+    b.ok()
+
+
+def stopped(b, root):
+    """What refuses a walk, and which targets stand in the link buffer then."""
+    for path in ("", "//", "/a/", "a/", "a//b", "//a", "none/", "self//"):
+        b.stops(5, root, path)
+    for path, targets in (("bad", "a//b"), ("l/bad/x", ".a//b"), ("empty", ""), ("l/empty", ".")):
+        b.stops(5, root, path, targets)
+    for path, targets in (("a/b/m/x", ""), ("rel/x", "a/b/m"), ("rel/..", "a/b/m")):
+        b.stops(7, root, path, targets)
+    for path, targets in (("none", ""), ("a/none/x", ""), ("lost", "a/none"), ("w/up/x", "../a"), ("a/m", "")):
+        b.stops(11, root, path, targets)
+    b.stops(10, root, "a/" + "n" * 256 + "/x")
+    b.stops(11, root, "l/" + "n" * 255, ".")
+    for path, targets, room in (("rel", "", 4), ("l/rel", ".", 5), ("chain", "w/up/b", 9), ("l", "", 0), ("l/l/l", "..", 2)):
+        b.stops(20, root, path, targets, room)
+    b.walks(root, "/".join("l" * 8), 2, "." * 8)
+    b.stops(23, root, "/".join("l" * 9), "." * 8)
+    b.stops(23, root, "/".join("l" * 9), "." * 8, 8)
+    b.stops(23, root, "self", "self" * 8)
+    b.stops(20, root, "self", "self" * 7, 31)
+    file = b.ok(b.walk(root, "rel"))
+    b.stops(7, file, "x")
+    gone = b.ok(b.create(root, "gone", FOLDER))
+    b.unlink(root, "gone")
+    b.ok()
+    b.stops(8, gone, "..")
+    b.walks(gone, ".", 17)
+    for _ in range(5):
+        b.ok(b.root())
+    for path, targets in (("/", ""), ("a/b", ""), ("rel", "a/b/m")):
+        b.stops(16, root, path, targets)
+    for reason, path, targets, room in ((5, "bad", "a//b", 9), (7, "rel/x", "a/b/m", 9), (11, "lost", "a/none", 9), (20, "rel", "", 4), (23, "self", "self" * 8, 32)):
+        b.stops(reason, root, path, targets, room)
+    b.close(gone)
+
+
+def rests(b, root):
+    """Eight links, each with a rest of its text to go on with; and what sticks on the way."""
+    for k in range(1, 9):
+        b.symlink(root, f"k{k}", f"k{k + 1}/a/.." if k < 8 else "a/..")
+    targets = "".join(f"k{k}/a/.." for k in range(2, 9)) + "a/.."
+    b.walks(root, "k1/a/b/m", 5, targets)
+    b.stops(23, root, "k1/l/a", targets)
+    b.stops(11, root, "k1/x", targets)
+    b.record(7, "size", 3)
+    b.walks(root, "rel", 4, "a/b")
+    b.record(7, "size", 7)
+    b.stops(5, root, "rel", "a/b/m\0\0")
+    b.record(5, "type", 5)
+    b.stops(19, root, "a/b/m")
+    b.record(5, "type", 0)
+    b.stops(19, root, "a/b/m/x")
+    b.no(19, ("metadata", b.ok(b.walk(root, "a/b/m"))))
+    # a link's file is missed by its opening; of an open link by the reading, also of no bytes
+    b.record(8, "file", b"m" * 16)
+    b.stops(19, root, "l")
+    h = b.ok(b.find(root, "empty"))
+    b.lost((1, b.at.table.row_of(16).rec.file))
+    b.stops(19, root, "r/empty", "/")
+    b.close(h)
+    b.stops(19, root, "empty")
+
+
 def made():
     b = Script()
     for part in (bad_arena, damaged, bad_table, bad_owners, bad_handle, owners, bad_name, slashes, by_call, dots, taken, links, table_full, last_stamp, no_space, stuck,
-                 contents, held_on, limits, device_full, torn, no_contents, carried, no_way_up):
+                 contents, held_on, limits, device_full, torn, no_contents, carried, no_way_up, paths):
         part(b)
     b.fresh()
     b.check()

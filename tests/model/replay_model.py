@@ -1,5 +1,5 @@
 #!/usr/bin/env python3
-"""An independent model of document 01's calls and of document 02's orders up to 6, for tests: a call script in, the lines a right port
+"""An independent model of document 01's calls and of document 02's orders up to 7, for tests: a call script in, the lines a right port
 prints out.
 
 Written from the documents and the readings of them in docs/DECISIONS.md, on top of arena_model.py; it shares nothing with crates/. A call
@@ -23,6 +23,8 @@ GROUP = 1024
 MAGIC = 0x2F8DBE2A
 PRIME = 4_294_967_291
 FOLDER = 2
+SYMLINK = 3
+MOST_LINKS = 8
 OUTPUT = 8192
 TABLE_BYTES = 4402
 
@@ -313,8 +315,8 @@ class Step:
         self.table.rows[self.table.rows.index(None)] = row
         return row
 
-    def open_node(self, id):
-        """The row of this id; a row without a hold where it had none."""
+    def look(self, id):
+        """What an opening of this id finds: its row, or one that the table does not have."""
         if not self.used(id) or id == 0:
             raise Refused(19)
         row = self.table.row_of(id)
@@ -323,7 +325,12 @@ class Step:
         rec = Record.read(self.files.read(META, 128 * id, RECORD))
         is_folder(rec)
         self.files.length((1, rec.file))
-        return self.add_row(Row(id, 0, rec))
+        return Row(id, 0, rec)
+
+    def open_node(self, id):
+        """The row of this id; a row without a hold where it had none."""
+        row = self.look(id)
+        return row if row in self.table.rows else self.add_row(row)
 
     def record(self, id):
         """The record of a used node, its row's or the stored one."""
@@ -449,16 +456,22 @@ def do_root(s):
     return s.hold(s.open_node(2))
 
 
-def do_find(s, h, name):
-    row = s.handle(h)
-    good_names(name)
+def named_in(s, row, name):
+    """The id that a name has in this folder."""
     need(kind_of(row.rec) == FOLDER, 7)
     need(len(name) <= 255, 10)
     need(not (name == b".." and row.rec.links == 0), 8)
     found = s.lookup(row, name)
     need(found, 11)
+    return u32(found[0], 0)
+
+
+def do_find(s, h, name):
+    row = s.handle(h)
+    good_names(name)
+    id = named_in(s, row, name)
     need(not s.full(), 16)
-    return s.hold(s.open_node(u32(found[0], 0)))
+    return s.hold(s.open_node(id))
 
 
 def do_create(s, h, name, kind, mode, time, file):
@@ -689,6 +702,43 @@ def do_resize(s, h, size):
     return ()
 
 
+# the walk: document 02's order 7
+
+def entered(s, text, row):
+    """Where a text starts, and its parts."""
+    good_names(text)
+    parts = text.removeprefix(b"/").split(b"/") if text != b"/" else []
+    need(all(parts), 5)
+    return (s.look(2) if text.startswith(b"/") else row), parts
+
+
+def target_of(s, node, room):
+    need(node.rec.size <= room, 20)
+    s.files.length((1, node.rec.file))
+    return s.files.span((1, node.rec.file), 0, node.rec.size)
+
+
+def do_walk(s, h, path, room, links):
+    """The targets that are read go into `links`, and stay there where the walk is refused."""
+    at, parts = entered(s, path, s.handle(h))
+    met = 0
+    while parts:
+        part, *parts = parts
+        node = s.look(named_in(s, at, part))
+        is_folder(node.rec)
+        if node.rec.type != SYMLINK:
+            at = node
+            continue
+        need(met < MOST_LINKS, 23)
+        met += 1
+        target = target_of(s, node, room - len(links))
+        links += target
+        at, first = entered(s, target, at)
+        parts = first + parts
+    need(not s.full(), 16)
+    return s.hold(s.open_node(at.id))
+
+
 # ---------------------------------------------------------------- the checker
 
 def verdict(model):
@@ -802,16 +852,17 @@ class Checker:
 # ---------------------------------------------------------------- scripts
 
 NAMES = ("format", "open", "root", "find", "create", "link", "unlink", "move", "metadata", "set", "entry", "list", "sync", "close", "check",
-         "read", "write", "resize")
-BYTES = dict(zip(NAMES, (*range(16, 31), *range(32, 35))))
+         "read", "write", "resize", "walk")
+BYTES = dict(zip(NAMES, (*range(16, 31), *range(32, 36))))
 NAMED = {byte: name for name, byte in BYTES.items()}
 DOES = {"root": do_root, "find": do_find, "create": do_create, "link": do_link, "unlink": do_unlink, "move": do_move,
-        "metadata": do_metadata, "set": do_set, "sync": do_sync, "close": do_close, "write": do_write, "resize": do_resize}
+        "metadata": do_metadata, "set": do_set, "sync": do_sync, "close": do_close, "write": do_write, "resize": do_resize,
+        "walk": do_walk}
 OUTPUTS = {"entry": entry_slots, "list": list_slots, "read": read_bytes}
-# What follows a command's byte; p, the owner who asks, stands first where there is one, and d says whether the dots are asked for.
+# What follows a command's byte; p, the owner who asks, stands first where there is one, d says whether the dots are asked for, and l is a path.
 SHAPES = {"format": "tf", "open": "", "root": "p", "find": "phn", "create": "phn42tf", "link": "phnh", "unlink": "phn", "move": "phnhn",
           "metadata": "ph", "set": "ph288ttt", "entry": "ph8o", "list": "ph8do", "sync": "", "close": "ph", "check": "",
-          "read": "ph8o", "write": "ph8w", "resize": "ph8"}
+          "read": "ph8o", "write": "ph8w", "resize": "ph8", "walk": "phlo"}
 
 
 class BadScript(Exception):
@@ -845,7 +896,7 @@ class Script:
             return self.number(4), self.number(8)
         if shape == "n":
             return self.bytes(self.number(2, 1024))
-        if shape == "w":
+        if shape in "wl":
             return self.bytes(self.number(2, OUTPUT))
         if shape == "t":
             return struct.unpack("<2q", self.bytes(16))
@@ -870,6 +921,10 @@ class Script:
                 yield name, tuple(self.item(shape) for shape in self.shapes[name])
             else:
                 raise BadScript
+
+
+def output_sum(written):
+    return f" o {sum_of(written.ljust(OUTPUT, bytes([238])))}"
 
 
 class Model:
@@ -934,7 +989,7 @@ class Model:
         """The line of one call."""
         if name == "check":
             return f"check {verdict(self)} {self.sums()}"
-        middle, values = "", ()
+        middle, values, links = "", (), bytearray()
         try:
             if name in ("format", "open"):
                 getattr(self, name)(*args)
@@ -943,10 +998,12 @@ class Model:
                 if isinstance(out, int):
                     raise Refused(out)
             else:
-                values = self.change(name, args)
+                values = self.change(name, (*args, links) if name == "walk" else args)
             answer = " ".join(["ok", *map(str, values)])
         except Refused as refusal:
             answer = f"no {refusal.reason}"
+        if name == "walk":
+            middle = output_sum(links)
         return f"{name} {answer}{middle} {self.sums()}"
 
     def change(self, name, args):
@@ -965,7 +1022,7 @@ class Model:
             out = written = OUTPUTS[name](step, *args)
         except Refused as refusal:
             out, written = refusal.reason, b""
-        middle = f" o {sum_of(written.ljust(OUTPUT, bytes([238])))}"
+        middle = output_sum(written)
         if name == "entry":
             return out, (), middle
         if name == "read":

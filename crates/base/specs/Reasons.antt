@@ -67,3 +67,7 @@ notFile = 21
 
 abbrev pub fileTooBig : ℕ
 fileTooBig = 22
+
+-- order 7
+abbrev pub symLoop : ℕ
+symLoop = 23

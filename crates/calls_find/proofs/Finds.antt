@@ -101,7 +101,7 @@ asks-name : (r : DiskINode) (name : List ℕ) → Asks (findName r name)
 unfolding findName
 asks-name r name = asks-then (asks-ensure (leb (length name) 255) 10 (omega arith)) (λ _. asks-ensure (not (isDots name && eqb (r .nlinks) 0)) 8 (omega arith))
 
-asks-folder : (r : DiskINode) (name : List ℕ) → Asks (findFolder r name)
+pub asks-folder : (r : DiskINode) (name : List ℕ) → Asks (findFolder r name)
 unfolding findFolder
 asks-folder r name =
     asks-then (asks-ensure (ltb 0 (r .kind) && leb (r .kind) 4) 19 (omega arith))

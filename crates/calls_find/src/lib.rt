@@ -60,7 +60,14 @@ fn hold_node(arena: &[u8], first: &[u16], next: &[u16], mem: &mut [u8], who: u8,
 }
 
 // 16 where no hold can be given.
-fn give_node(arena: &[u8], first: &[u16], next: &[u16], mem: &mut [u8], who: u8, id: u32) -> Handed
+pub fn give_node(
+    arena: &[u8],
+    first: &[u16],
+    next: &[u16],
+    mem: &mut [u8],
+    who: u8,
+    id: u32,
+) -> Handed
     requires { ⌜ Led (now arena) (now first) (now next) ⌝ }
     requires { ⌜ Whole (now mem) ⌝ }
     ensures { λ r. ⌜ Went (giveNode (now (arena .entry)) (tableIn (now (mem .entry))) who id) (addedAs (r .handle) (tableIn (now (mem .exit)))) Unit (r .reason) ⌝ }
@@ -130,7 +137,7 @@ fn find_name(rec: DiskINode, name: &[u8]) -> u8
     not_orphan(rec, name)
 }
 
-fn find_folder(rec: DiskINode, name: &[u8]) -> u8
+pub fn find_folder(rec: DiskINode, name: &[u8]) -> u8
     ensures { λ r. ⌜ r ≡ answer (findFolder rec (now (name .entry))) ⌝ }
 {
     let r = known(rec);
@@ -155,9 +162,9 @@ fn find_ask(rec: DiskINode, name: &[u8]) -> u8
 }
 
 // The id in the slot with that name, where the reason is 0.
-struct Named {
-    reason: u8,
-    id: u32,
+pub struct Named {
+    pub reason: u8,
+    pub id: u32,
 }
 
 fn id_in(
@@ -179,7 +186,7 @@ fn id_in(
     }
 }
 
-fn find_id(arena: &[u8], first: &[u16], next: &[u16], rec: DiskINode, name: &[u8]) -> Named
+pub fn find_id(arena: &[u8], first: &[u16], next: &[u16], rec: DiskINode, name: &[u8]) -> Named
     requires { ⌜ Led (now arena) (now first) (now next) ⌝ }
     ensures { λ r. ⌜ Went (findId (now (arena .entry)) rec (now (name .entry))) (r .id) Unit (r .reason) ⌝ }
 {

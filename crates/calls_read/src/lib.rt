@@ -64,7 +64,7 @@ fn fill(
 }
 
 // The n bytes from `place` on go to the output's start. 19 where the file is missing.
-fn read_bytes(
+pub fn read_bytes(
     arena: &[u8],
     first: &[u16],
     next: &[u16],

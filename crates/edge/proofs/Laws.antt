@@ -11,7 +11,7 @@ use mir.Val.{SFits, toZ, ofZ}
 use mir.ValLaws.{toZ-ofZ}
 use borrow.Author.Tests.{eq-eqb, ne-eqb}
 use Rattle.base.specs.Out.{Out, done, refused, Went, well, ill}
-use Rattle.base.specs.Parts.{part}
+use Rattle.base.specs.Parts.{part, paste}
 use Rattle.base.specs.Search.{pick}
 use Rattle.base.proofs.Lists.{length-part}
 use Rattle.base.proofs.Parts.{part-all}
@@ -46,10 +46,12 @@ use Rattle.calls_move.specs.declared.Course.{Course}
 use Rattle.calls_move.specs.declared.Course.the-variants.{Made, Same}
 use Rattle.calls_move.specs.Courses.{EndedMove}
 use Rattle.calls_move.specs.Courses as course
+use Rattle.walk.specs.Walk.{Walked, walked, mostLinks}
+use Rattle.calls_walk.proofs.Runs.{nothing-laid}
 use Rattle.fsck.specs.declared.Verdict.{Verdict}
 use Rattle.fsck.specs.declared.Verdict.the-variants.{Pass}
 use Rattle.edge.specs.Words.{timeOf, newOf, handleWords, metadataWords, counted}
-use Rattle.edge.specs.Edge.{sized, Leaves, Makes, Holds, Sets, Tells, Shows, Lists, Takes, Counts, toldWordsBy, listedWordsBy, takenWordsBy, courseNumber, courseTableBy}
+use Rattle.edge.specs.Edge.{sized, sizedWalk, Leaves, Makes, Holds, Walks, Sets, Tells, Shows, Lists, Takes, Counts, toldWordsBy, listedWordsBy, takenWordsBy, courseNumber, courseTableBy}
 
 -- ---- a slice of a fixed size
 
@@ -59,6 +61,13 @@ module _ {A : Type 0} (n : ℕ) (l : List ℕ) (o : Out A) where
 
   pub sized-not : (length l ≡ n → ⊥) → sized n l o ≡ refused 255
   sized-not z = rw (ne-eqb (length l) n z)
+
+module _ {A : Type 0} (n : ℕ) (l : List ℕ) (x : Walked A) where
+  pub walk-sized : length l ≡ n → sizedWalk n l x ≡ x
+  walk-sized e = rw (eq-eqb (length l) n e)
+
+  pub walk-not-sized : (length l ≡ n → ⊥) → sizedWalk n l x ≡ walked [] mostLinks (refused 255)
+  walk-not-sized z = rw (ne-eqb (length l) n z)
 
 -- ---- a time: a signed local holds bits, so what a callee is given is read back from them
 
@@ -109,6 +118,9 @@ makes-not e = record { number = rw e; arena = rw e; table = rw e; words = rw e }
 pub holds-not : {o : Out Added} {n : ℕ} {t w : List ℕ} → o ≡ refused n → Holds o t t w w n
 holds-not e = record { number = rw e; table = rw e; words = rw e }
 
+pub walks-not : {x : Walked Added} {n k : ℕ} {p t w : List ℕ} → x ≡ walked [] k (refused n) → Walks x p p t t w w n
+walks-not {p = p} e = rw e (record { held = holds-not refl; links = nothing-laid p })
+
 pub sets-not : {o : Out Table} {n : ℕ} {t : List ℕ} → o ≡ refused n → Sets o t t n
 sets-not e = record { number = rw e; table = rw e }
 
@@ -158,6 +170,11 @@ holds e (well f x) E k = rw (e, f) (record { number = E .0; table = E .1; words 
 holds {h = h} {u = u} {t = t} {w = w} e (ill {r = r} l f) E k =
     let z : r ≡ 0 → ⊥ = λ q. omega arith in
     rw (e, f) (record { number = E .0; table = E .1 ∙ sym (passed-over (tableBytes u) t r z); words = k ∙ sym (passed-over (handleWords h) w r z) })
+
+-- walk: the link buffer was l and is q
+pub walks : {x y : Walked Added} {h : Handle} {u : Table} {l q t b w v : List ℕ} {P : Type 0} {r n : ℕ} → y ≡ x → Went (x .end) (addedAs h u) P r → q ≡ paste l 0 (x .links)
+    → (n ≡ r) × (b ≡ pick (eqb r 0) (tableBytes u) t) → v ≡ pick (eqb r 0) (handleWords h) w → Walks y l q t b w v n
+walks e W L E k = rw e (record { held = holds refl W E k; links = L })
 
 -- set metadata, open
 pub sets : {o p : Out Table} {u : Table} {t b : List ℕ} {P : Type 0} {r n : ℕ} → p ≡ o → Went o u P r

@@ -7,7 +7,8 @@ use Rattle.table.specs.declared.Table.{Table}
 use Rattle.table.specs.declared.Added.{Added}
 use Rattle.sefs.specs.declared.Metadata.{Metadata}
 use Rattle.sefs.specs.Create.{After, Given}
-use Rattle.edge.specs.Edge.{Leaves, Makes, Holds, Sets, Tells, Shows, Lists, Takes, Counts}
+use Rattle.walk.specs.Walk.{Walked}
+use Rattle.edge.specs.Edge.{Leaves, Makes, Holds, Walks, Sets, Tells, Shows, Lists, Takes, Counts}
 
 module _ {n m : ℕ} where
   pub leaves-one : {o : Out After} {a b c t u v : List ℕ} → Leaves o a b t u n → Leaves o a c t v m → (n ≡ m) × ((b ≡ c) × (u ≡ v))
@@ -18,6 +19,9 @@ module _ {n m : ℕ} where
 
   pub holds-one : {o : Out Added} {t u v w x y : List ℕ} → Holds o t u w x n → Holds o t v w y m → (n ≡ m) × ((u ≡ v) × (x ≡ y))
   holds-one p q = (p .number ∙ sym (q .number), (p .table ∙ sym (q .table), p .words ∙ sym (q .words)))
+
+  pub walks-one : {z : Walked Added} {p q r t u v w x y : List ℕ} → Walks z p q t u w x n → Walks z p r t v w y m → (q ≡ r) × ((n ≡ m) × ((u ≡ v) × (x ≡ y)))
+  walks-one f g = (f .links ∙ sym (g .links), holds-one (f .held) (g .held))
 
   pub sets-one : {o : Out Table} {t u v : List ℕ} → Sets o t u n → Sets o t v m → (n ≡ m) × (u ≡ v)
   sets-one p q = (p .number ∙ sym (q .number), p .table ∙ sym (q .table))

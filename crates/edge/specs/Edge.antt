@@ -6,6 +6,8 @@ use Prim.Native.Nat.{ℕ, _+_, _/_}
 use lib.ListN.{length, getD}
 use lib.Dec.{eqb}
 use Rattle.base.specs.Out.{Out, done, refused, guard, answer, kept}
+use Rattle.base.specs.Parts.{paste}
+use Rattle.base.specs.Search.{pick}
 use Rattle.table.specs.declared.Table.{Table}
 use Rattle.table.specs.declared.Added.{Added}
 use Rattle.table_bytes.specs.Layout.{tableOf, tableBytes}
@@ -23,11 +25,16 @@ use Rattle.calls_create.specs.Held.{arenaHeld}
 use Rattle.calls_move.specs.declared.Course.{Course}
 use Rattle.calls_move.specs.declared.Course.the-variants.{Made, Same, Refused}
 use Rattle.calls_list.specs.Place.{startOf}
+use Rattle.walk.specs.Walk.{Walked, walked, mostLinks}
 use Rattle.edge.specs.Words.{handleWords, metadataWords}
 
 -- "a slice of a wrong fixed size gets 255, and then nothing is called and nothing changes": as if the call were refused with that number
 abbrev pub sized : {A : Type 0} → ℕ → List ℕ → Out A → Out A
 sized n l o = guard (eqb (length l) n) 255 o
+
+-- the same for a walk, which then has read no target
+abbrev pub sizedWalk : {A : Type 0} → ℕ → List ℕ → Walked A → Walked A
+sizedWalk n l x = pick (eqb (length l) n) x (walked [] mostLinks (refused 255))
 
 -- lent bytes or words afterwards: f of what the call gives; "A refusal returns its number only"
 abbrev pub lent : {A : Type 0} → (A → List ℕ) → List ℕ → Out A → List ℕ
@@ -55,6 +62,11 @@ pub record Holds (o : Out Added) (t u w v : List ℕ) (n : ℕ) : Type 0 where
   pub number : n ≡ gotNumber (gotOf o)
   pub table : u ≡ lent (λ x. tableBytes (x .table)) t o
   pub words : v ≡ lent (λ x. handleWords (x .handle)) w o
+
+-- walk: the link buffer was p and is q. "a refusal leaves those already read there and the bytes after them unchanged"
+pub record Walks (x : Walked Added) (p q t u w v : List ℕ) (n : ℕ) : Type 0 where
+  pub held : Holds (x .end) t u w v n
+  pub links : q ≡ paste p 0 (x .links)
 
 -- open, set metadata
 pub record Sets (o : Out Table) (t u : List ℕ) (n : ℕ) : Type 0 where

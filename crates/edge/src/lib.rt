@@ -14,10 +14,11 @@ ghost use Rattle.sefs.specs.Move.{callMove};
 ghost use Rattle.sefs.specs.Open.{callOpen, callRoot, callFind};
 ghost use Rattle.sefs.specs.Read.{callMetadata, callSet, callEntry, callListing};
 ghost use Rattle.sefs.specs.Unlink.{callUnlink};
+ghost use Rattle.walk.specs.Walk.{callWalk};
 ghost use Rattle.calls_format.specs.Format.{formatted};
 ghost use Rattle.fsck.specs.Verdicts.{verdictOf};
 ghost use Rattle.edge.specs.Words.{handleOf, timeOf, counted};
-ghost use Rattle.edge.specs.Edge.{sized, startIn, Leaves, Makes, Holds, Sets, Tells, Shows, Lists, Takes, Counts};
+ghost use Rattle.edge.specs.Edge.{sized, sizedWalk, startIn, Leaves, Makes, Holds, Walks, Sets, Tells, Shows, Lists, Takes, Counts};
 use args::file_of;
 use args::handle;
 use args::new_node;
@@ -39,6 +40,7 @@ use calls_read::read_on;
 use calls_resize::resize_on;
 use calls_sync::sync_on;
 use calls_unlink::unlink_on;
+use calls_walk::walk_on;
 use calls_write::write_on;
 use ends::end_after;
 use ends::end_course;
@@ -172,6 +174,32 @@ pub extern "C" fn dz_find(
     let mut mem = [0u8; MEMORY];
     begin(&mut mem, &table[..]);
     let h = find_on(arena, &mut mem, owner, handle(hold, stamp), name);
+    end_held(table, out, &mem, h)
+}
+
+// Targets that were read stand in `links` also where the walk is refused.
+#[no_mangle]
+pub extern "C" fn dz_walk(
+    arena: &[u8],
+    table: &mut [u8],
+    owner: u8,
+    hold: u32,
+    stamp: u64,
+    path: &[u8],
+    links: &mut [u8],
+    out: &mut [u64],
+) -> u32
+    ensures { λ r. ⌜ Walks (sizedWalk 4402 (now (table .entry)) (sizedWalk 2 (now (out .entry)) (callWalk (now (arena .entry)) (tableOf (now (table .entry))) owner (handleOf hold stamp) (now (path .entry)) (length (now (links .entry)))))) (now (links .entry)) (now (links .exit)) (now (table .entry)) (now (table .exit)) (now (out .entry)) (now (out .exit)) r ⌝ }
+{
+    if table.len() != TABLE {
+        return WRONG_SIZE;
+    }
+    if out.len() != HANDLE_WORDS {
+        return WRONG_SIZE;
+    }
+    let mut mem = [0u8; MEMORY];
+    begin(&mut mem, &table[..]);
+    let h = walk_on(arena, &mut mem, owner, handle(hold, stamp), path, links);
     end_held(table, out, &mem, h)
 }
 

@@ -1,6 +1,5 @@
 -- A node is opened for the call alone: it has a row, or takes a free one with its record as stored. Then the table is well formed but for that row.
 use mathlib.Core.Path.{refl, _≡_, sym, ap, _∙_, subst}
-use Rattle.sefs_laws.proofs.Clear.{Clear}
 use mathlib.Core.Bool.{true, false, not}
 use mathlib.Core.List.{List}
 use mathlib.Core.Logic.{_≢_, _⊎_, inl, inr, ⊎-elim}
@@ -162,11 +161,11 @@ module _ {way : Look} {own : ℕ → Type 0} (a : List ℕ) (t : Table) (M : Ami
     can = can-row t i row;
   }
 
--- a node of the image can be opened, also where the call has a row of its own
-pub get-more : {way : Look} {own : ℕ → Type 0} (a : List ℕ) (t : Table) → Amid way own a t → (k : ℕ) → ((j : ℕ) → own j → j ≡ k) → (id : ℕ) → isNode a id ≡ true → Ok (Gets way own a t id) Clear (getNode (start a t) id)
-get-more {way = way} {own = own} a t M k only id n = go (rowOf t id) refl
+-- a node of the image can always be opened, also where the call has a row of its own
+pub get-more : {way : Look} {own : ℕ → Type 0} {R : ℕ → Type 0} (a : List ℕ) (t : Table) → Amid way own a t → (k : ℕ) → ((j : ℕ) → own j → j ≡ k) → (id : ℕ) → isNode a id ≡ true → Ok (Gets way own a t id) R (getNode (start a t) id)
+get-more {way = way} {own = own} {R = R} a t M k only id n = go (rowOf t id) refl
   where
-    go : (f : Found) → rowOf t id ≡ f → Ok (Gets way own a t id) Clear (getNode (start a t) id)
+    go : (f : Found) → rowOf t id ≡ f → Ok (Gets way own a t id) R (getNode (start a t) id)
     go (At i) e =
         let s = row-found t id i e in
         rw (node-held a t (M .fair) id n i e)
@@ -186,5 +185,5 @@ get-more {way = way} {own = own} a t M k only id n = go (rowOf t id) refl
         let s = spare-row t k (M .formed) only in
         rw (node-read a t (M .fair) id n (s .0) e (s .1)) (went (taken a t M id n (s .0) e (s .1)))
 
-pub get-law : {way : Look} (a : List ℕ) (t : Table) → Amid way none a t → (id : ℕ) → isNode a id ≡ true → Ok (Gets way none a t id) Clear (getNode (start a t) id)
+pub get-law : {way : Look} {R : ℕ → Type 0} (a : List ℕ) (t : Table) → Amid way none a t → (id : ℕ) → isNode a id ≡ true → Ok (Gets way none a t id) R (getNode (start a t) id)
 get-law a t M id n = get-more a t M 0 (λ j o. absurd o) id n

@@ -84,7 +84,7 @@ pub fn create_line(
 }
 
 // A stored name, or what was read, up to its zero.
-fn stored(name: &[u8]) {
+pub fn stored(name: &[u8]) {
     let n = first_zero(name);
     text(&name[..n]);
 }

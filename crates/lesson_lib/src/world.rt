@@ -34,13 +34,13 @@ pub fn handle(a: Got) -> Handle {
 }
 
 // A fresh image, with its root open.
-pub fn fresh(arena: &mut [u8; 8192]) -> World {
+pub fn fresh(arena: &mut [u8]) -> World {
     calls_format::format(arena, epoch(), uuid(1));
-    begin(arena)
+    begin(&arena[..])
 }
 
 // Nothing is open but the root, by Ann.
-pub fn begin(arena: &[u8; 8192]) -> World {
+pub fn begin(arena: &[u8]) -> World {
     let g = calls_find::root(arena, table::empty(), ANN);
     let a = g.answer;
     let t = g.table;

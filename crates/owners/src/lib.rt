@@ -11,8 +11,9 @@ ghost use Rattle.sefs.specs.Move.{callMove};
 ghost use Rattle.sefs.specs.Open.{callRoot, callFind};
 ghost use Rattle.sefs.specs.Read.{callMetadata, callSet, callEntry, callListing};
 ghost use Rattle.sefs.specs.Unlink.{callUnlink};
+ghost use Rattle.walk.specs.Walk.{callWalk};
 ghost use Rattle.edge.specs.Words.{handleOf, timeOf};
-ghost use Rattle.edge.specs.Edge.{sized, startIn, Leaves, Makes, Holds, Sets, Tells, Shows, Lists};
+ghost use Rattle.edge.specs.Edge.{sized, sizedWalk, startIn, Leaves, Makes, Holds, Walks, Sets, Tells, Shows, Lists};
 ghost use Rattle.owners.specs.Owned.{Chained, Owned, Builds};
 use calls_entry::entry_led;
 use calls_find::find_led;
@@ -21,6 +22,7 @@ use calls_list::list_led;
 use calls_list::start_of;
 use calls_metadata::metadata_in;
 use calls_metadata::set_in;
+use calls_walk::walk_led;
 use changes::close_on;
 use changes::create_on;
 use changes::link_on;
@@ -130,6 +132,39 @@ pub extern "C" fn dz_own_find(
         owner,
         handle(hold, stamp),
         name,
+    );
+    end_held(table, out, &mem, h)
+}
+
+#[no_mangle]
+pub extern "C" fn dz_own_walk(
+    arena: &[u8],
+    chains: &[u16],
+    table: &mut [u8],
+    owner: u8,
+    hold: u32,
+    stamp: u64,
+    path: &[u8],
+    links: &mut [u8],
+    out: &mut [u64],
+) -> u32
+    requires { ⌜ Owned (now arena) (now chains) (now table) ⌝ }
+    ensures { λ r. ⌜ Walks (sizedWalk 2 (now (out .entry)) (callWalk (now (arena .entry)) (tableOf (now (table .entry))) owner (handleOf hold stamp) (now (path .entry)) (length (now (links .entry))))) (now (links .entry)) (now (links .exit)) (now (table .entry)) (now (table .exit)) (now (out .entry)) (now (out .exit)) r ⌝ }
+{
+    if out.len() != HANDLE_WORDS {
+        return WRONG_SIZE;
+    }
+    let mut mem = [0u8; MEMORY];
+    begin(&mut mem, &table[..]);
+    let h = walk_led(
+        arena,
+        &chains[..4096],
+        &chains[4096..8192],
+        &mut mem,
+        owner,
+        handle(hold, stamp),
+        path,
+        links,
     );
     end_held(table, out, &mem, h)
 }

@@ -19,6 +19,7 @@ use Rattle.sefs.specs.Move.{callMove}
 use Rattle.sefs.specs.Read.{callMetadata, callSet, callEntry, callListing}
 use Rattle.sefs.specs.Contents.{callRead, callWrite, callResize}
 use Rattle.sefs.specs.Close.{callSync, callClose}
+use Rattle.walk.specs.Walk.{callWalk}
 use Rattle.le.specs.Le.{Bytes}
 use Rattle.structs.specs.Fits.{TimeFits}
 use Rattle.calls.specs.Answers.{answerOf, answerNumber, gotNumber, toldOf, toldNumber, listedOf, listedNumber, takenOf, takenNumber, Lays, Replies}
@@ -34,7 +35,7 @@ use Rattle.calls_create.specs.Held.{ReturnedHeld}
 use Rattle.calls_format.specs.Format.{formatted}
 use Rattle.calls_find.specs.Finds.{Gives}
 use Rattle.sequences.specs.Pairs.{Pair, pair, Passed}
-use Rattle.sequences.specs.Calls.{Call, root, find, create, link, unlink, move, metadata, setMetadata, getEntry, listing, read, write, resize, sync, close, Fits, AskerFits, HandleFits, NewFits, SetFits, does, reasonOf, next}
+use Rattle.sequences.specs.Calls.{Call, root, find, walk, create, link, unlink, move, metadata, setMetadata, getEntry, listing, read, write, resize, sync, close, Fits, AskerFits, HandleFits, NewFits, SetFits, does, reasonOf, next}
 use Rattle.sequences.specs.Promises.{Keeps, Well, Fresh}
 use Rattle.sequences.proofs.Sequences.{keeps}
 use Rattle.sequences.proofs.Fresh.{fresh}
@@ -139,6 +140,11 @@ module _ (p : Pair) (y : Passed p) where
     pub find-keeps : (name : List ℕ) → Bytes name → (r : handed.HeldReply) → Gives (p .table) (callFind (p .arena) (p .table) who h name) r → Stays (p .arena) (r .table) (gotNumber (r .answer))
     unfolding does
     find-keeps name n = by-gift (find who h name) p (callFind (p .arena) (p .table) who h name) (held (find who h name) (Q, H, n)) refl
+
+    pub walk-keeps : (path : List ℕ) → Bytes path → (room : ℕ) → room < 2 ^ 64 → (r : handed.HeldReply)
+        → Gives (p .table) (callWalk (p .arena) (p .table) who h path room .end) r → Stays (p .arena) (r .table) (gotNumber (r .answer))
+    unfolding does
+    walk-keeps path n room m = by-gift (walk who h path room) p (callWalk (p .arena) (p .table) who h path room .end) (held (walk who h path room) (Q, H, n, m)) refl
 
     pub create-keeps : (name : List ℕ) → Bytes name → (kind mode : ℕ) (time : Timespec) (file : List ℕ) → NewFits kind mode time file → (b : List ℕ) (r : handed.HeldReply)
         → ReturnedHeld (p .table) (callCreate (p .arena) (p .table) who h name kind mode time file) (p .arena) b r → Stays b (r .table) (gotNumber (r .answer))

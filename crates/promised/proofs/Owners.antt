@@ -20,9 +20,10 @@ use Rattle.sefs.specs.Move.{callMove}
 use Rattle.sefs.specs.Read.{callSet}
 use Rattle.sefs.specs.Contents.{callWrite, callResize}
 use Rattle.sefs.specs.Close.{callSync, callClose}
+use Rattle.walk.specs.Walk.{callWalk}
 use Rattle.rules.proofs.Check.{check-pass}
 use Rattle.sequences.specs.Pairs.{Pair, pair, Passed}
-use Rattle.sequences.specs.Calls.{Call, root, find, create, link, unlink, move, setMetadata, write, resize, sync, close, Fits, AskerFits, HandleFits, NewFits, SetFits, does, next}
+use Rattle.sequences.specs.Calls.{Call, root, find, walk, create, link, unlink, move, setMetadata, write, resize, sync, close, Fits, AskerFits, HandleFits, NewFits, SetFits, does, next}
 use Rattle.sequences.specs.Promises.{Keeps}
 use Rattle.sequences.proofs.Sequences.{keeps}
 use Rattle.edge.specs.Edge.{sized, Leaves, Makes, Holds, Sets}
@@ -91,6 +92,10 @@ module _ (a t : List ℕ) (y : Trusted a t) where
       pub find-owned : (name w : List ℕ) {v : List ℕ} → Bytes name → Holds (sized 2 w (callFind a (tableOf t) who h name)) t u w v n → Trusted a u
       unfolding does
       find-owned name w N = holds-trusted (find who h name) (Q, H, N) (callFind a (tableOf t) who h name) refl (eqb (length w) 2)
+
+      pub walk-owned : (path w : List ℕ) {v : List ℕ} (room : ℕ) → Bytes path → room < 2 ^ 64 → Holds (sized 2 w (callWalk a (tableOf t) who h path room .end)) t u w v n → Trusted a u
+      unfolding does
+      walk-owned path w room N M = holds-trusted (walk who h path room) (Q, H, N, M) (callWalk a (tableOf t) who h path room .end) refl (eqb (length w) 2)
 
       pub close-owned : {b : List ℕ} → Leaves (callClose a (tableOf t) who h) a b t u n → Trusted b u
       unfolding does

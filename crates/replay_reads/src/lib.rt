@@ -6,6 +6,7 @@ ghost use lib.ListN.{length};
 ghost use Rattle.le.specs.Le.{leAt};
 ghost use Rattle.script.specs.Shape.{There, named1};
 use base::index16;
+use calls::HeldReply;
 use calls::Reply;
 use calls_list::Moved;
 use calls_list::list_on;
@@ -315,7 +316,71 @@ fn call_list(
     list_words(script, at, desk, arena, &mut out, text, w)
 }
 
-// ---- the command by its byte: 17 to 19, 24 to 27, 30, 32
+// ---- walk: the link buffer is set and summed as those outputs are
+
+// The path ends at `end`.
+fn walk(
+    script: &[u8],
+    at: usize,
+    end: usize,
+    desk: &[u8],
+    arena: &[u8],
+    links: &mut [u8],
+) -> HeldReply
+    requires { ⌜ (at + 16 ≤ end) × ((end ≤ length (now script)) × (length (now desk) ≡ 4419)) ⌝ }
+{
+    let h = handle_at(script, at + 2);
+    let s = at + 16;
+    calls_walk::walk(
+        arena,
+        read_table(desk),
+        script[at + 1],
+        h,
+        &script[s..end],
+        links,
+    )
+}
+
+fn walk_words(
+    script: &[u8],
+    at: usize,
+    desk: &mut [u8],
+    arena: &[u8],
+    out: &mut [u8],
+    text: &mut [u8],
+    w: usize,
+) -> usize
+    requires { ⌜ at + (named1 (now script) at 14 + 2) ≤ length (now script) ⌝ }
+    requires { ⌜ leAt (now script) (at + named1 (now script) at 14) 2 ≤ length (now out) ⌝ }
+    requires { ⌜ (length (now desk) ≡ 4419) × (w + 400 ≤ length (now text)) ⌝ }
+    ensures { λ r. ⌜ r ≤ w + 400 ⌝ }
+{
+    put_238(out);
+    let e = name_end(script, at + 14);
+    let n = index16(u16_at(script, e));
+    let g = walk(script, at, e, &desk[..], arena, &mut out[..n]);
+    let u = put_given(desk, text, w, g);
+    put_output(text, u, &out[..])
+}
+
+fn call_walk(
+    script: &[u8],
+    at: usize,
+    desk: &mut [u8],
+    arena: &[u8],
+    text: &mut [u8],
+    w: usize,
+) -> usize
+    requires { ⌜ at + (named1 (now script) at 14 + 2) ≤ length (now script) ⌝ }
+    requires { ⌜ leAt (now script) (at + named1 (now script) at 14) 2 ≤ 8192 ⌝ }
+    requires { ⌜ (length (now desk) ≡ 4419) × (w + 400 ≤ length (now text)) ⌝ }
+    ensures { λ r. ⌜ r ≤ w + 400 ⌝ }
+{
+    let mut out = [0u8; 8192];
+    walk_words(script, at, desk, arena, &mut out, text, w)
+}
+
+// ---- the command by its byte: 17 to 19, 24 to 27, 30, 32, 35
 
 pub fn do_read(
     script: &[u8],
@@ -338,6 +403,7 @@ pub fn do_read(
         26 => call_shown(script, at, &desk[..], arena, text, w),
         27 => call_list(script, at, &desk[..], arena, text, w),
         32 => call_shown(script, at, &desk[..], arena, text, w),
+        35 => call_walk(script, at, desk, arena, text, w),
         _ => call_check(&desk[..], arena, text, w),
     }
 }

@@ -13,7 +13,7 @@ pub record Sized (s : List ℕ) (at r n : ℕ) : Type 0 where
   pub most : r ≤ n
   pub full : 0 < r → r ≡ n
 
--- n bytes, and after them a name, or what is written: its length, and as many bytes
+-- n bytes, and after them a name, a path, or what is written: its length, and as many bytes
 abbrev pub named1 : List ℕ → ℕ → ℕ → ℕ
 named1 s at n = n + (2 + leAt s (at + n) 2)
 
@@ -45,7 +45,8 @@ sizeBy c s at =
     (cond (eqb c 30) 1
     (cond (eqb c 32) 24
     (cond (eqb c 33) (named1 s at 22)
-    (cond (eqb c 34) 22 0)))))))))))))))))))))
+    (cond (eqb c 34) 22
+    (cond (eqb c 35) (named1 s at 14 + 2) 0))))))))))))))))))))))
 
 abbrev pub sizeOf : List ℕ → ℕ → ℕ
 sizeOf s at = sizeBy (getD s at 0) s at
@@ -55,7 +56,9 @@ unfoldable pub arenaBy : ℕ → List ℕ → ℕ → ℕ
 arenaBy c s at = cond (eqb c 1) (leAt s (at + 1) 4) (cond (eqb c 2) (leAt s (at + 1) 4) 0)
 
 unfoldable pub outputBy : ℕ → List ℕ → ℕ → ℕ
-outputBy c s at = cond (eqb c 26) (leAt s (at + 22) 2) (cond (eqb c 27) (leAt s (at + 23) 2) (cond (eqb c 32) (leAt s (at + 22) 2) 0))
+outputBy c s at =
+    cond (eqb c 26) (leAt s (at + 22) 2) (cond (eqb c 27) (leAt s (at + 23) 2) (cond (eqb c 32) (leAt s (at + 22) 2)
+    (cond (eqb c 35) (leAt s (at + named1 s at 14) 2) 0)))
 
 abbrev pub arenaOf : List ℕ → ℕ → ℕ
 arenaOf s at = arenaBy (getD s at 0) s at

@@ -43,6 +43,7 @@ pub fn put_name(text: &mut [u8], w: usize, c: u8) -> usize
         32 => put_word(text, w, b"read"),
         33 => put_word(text, w, b"write"),
         34 => put_word(text, w, b"resize"),
+        35 => put_word(text, w, b"walk"),
         _ => put_word(text, w, b"check"),
     }
 }

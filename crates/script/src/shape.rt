@@ -111,6 +111,19 @@ fn with_output(script: &[u8], at: usize, n: usize) -> usize
     n + 2
 }
 
+// A path after who asks and a handle, and an output's length after it: walk.
+fn path_output(script: &[u8], at: usize) -> usize
+    requires { ⌜ at ≤ length (now script) ⌝ }
+    ensures { λ r. ⌜ Sized (now (script .entry)) at r (named1 (now (script .entry)) at 14 + 2) ⌝ }
+    ensures { λ r. ⌜ (0 < r → leAt (now (script .entry)) (at + named1 (now (script .entry)) at 14) 2 ≤ 8192) ⌝ }
+{
+    let m = lengthy(script, at, 14, 8192);
+    if m == 0 {
+        return 0;
+    }
+    with_output(script, at, m)
+}
+
 // The command at `at`, by its first byte: all sizes of docs/REPLAY.md. An arena may have `limit` bytes.
 pub fn size_at(script: &[u8], at: usize, limit: usize) -> usize
     requires { ⌜ at < length (now script) ⌝ }
@@ -140,6 +153,7 @@ pub fn size_at(script: &[u8], at: usize, limit: usize) -> usize
         32 => with_output(script, at, 22),
         33 => lengthy(script, at, 22, 8192),
         34 => whole(script, at, 22),
+        35 => path_output(script, at),
         _ => 0,
     }
 }

@@ -45,7 +45,8 @@ use Rattle.image.proofs.Handles.{formed, row-rec, row-node}
 use Rattle.image.proofs.Metas.{kept-same, kept-then}
 use Rattle.image.proofs.Appends.{file-apart}
 use Rattle.sequences.specs.Pairs.{Pair, Passed}
-use Rattle.sequences.specs.Calls.{Call, root, find, create, link, unlink, move, metadata, setMetadata, getEntry, listing, read, write, resize, sync, close, check, Fits, does, next}
+use Rattle.walk.specs.Walk.{callWalk}
+use Rattle.sequences.specs.Calls.{Call, root, find, walk, create, link, unlink, move, metadata, setMetadata, getEntry, listing, read, write, resize, sync, close, check, Fits, does, next}
 use Rattle.sequences.specs.Promises.{On, SameFile, Through, writes, resizes}
 use Rattle.sequences.proofs.Passing.{allowed, spelled-any}
 use Rattle.sequences.proofs.Tables.{FillsFolders, keeps-create, keeps-link, keeps-unlink, keeps-write, keeps-resize, keeps-sync, keeps-close}
@@ -269,6 +270,7 @@ module _ (p : Pair) (y : Passed p) (who : ℕ) (h : Handle) (n : ℕ) (f : List 
   unfolding does
   calls (root v) F z = ok-bind (any (callRoot a t v)) λ x _. went (λ e. kept-same a (file 1 f))
   calls (find v g name) F z = ok-bind (any (callFind a t v g name)) λ x _. went (λ e. kept-same a (file 1 f))
+  calls (walk v g path room) F z = ok-bind (any (callWalk a t v g path room .end)) λ x _. went (λ e. kept-same a (file 1 f))
   calls (create v g name kind mode time uuid) F z =
       ok-bind (keeps-create (λ b u. Stays a f b) a t v g name kind mode time uuid (λ i l dir none. create-steps v g i l dir name kind mode time uuid (named-node uuid (F .3 .file) (F .3 .bytes)) none)) λ x k. went k
   calls (link v g name child) F z =

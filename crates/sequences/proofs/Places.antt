@@ -38,15 +38,17 @@ use Rattle.sefs.specs.Close.{callClose}
 use Rattle.sefs_laws.proofs.Says.{Says, says-ensure, says-meta, says-lookup, says-find, says-admit, says-live, says-exists}
 use Rattle.sefs_laws.proofs.Rows.{Any}
 use Rattle.sefs_laws.proofs.Handles.{Owns, handle-asks, says-handle, handle-done, handle-not}
+use Rattle.walk.specs.Walk.{Spot, spot, walkIn, callWalk}
+use Rattle.walk.proofs.Ways.{walk-is}
 use Rattle.image.proofs.Handles.{admitted}
 use Rattle.sequences.specs.Pairs.{Pair, pair, Passed}
-use Rattle.sequences.specs.Calls.{Call, root, find, create, link, unlink, move, metadata, setMetadata, getEntry, listing, read, write, resize, sync, close, check, Fits, asker, does, reasonOf, next}
+use Rattle.sequences.specs.Calls.{Call, root, find, walk, create, link, unlink, move, metadata, setMetadata, getEntry, listing, read, write, resize, sync, close, check, Fits, asker, does, reasonOf, next}
 use Rattle.sequences.specs.Promises.{Along, ends, goes, Spares, Apart}
 use Rattle.sequences.specs.Reasons.{reasonsOf, has, Reasons}
 use Rattle.sequences.specs.Places
-use Rattle.sequences.specs.Places.{CountsOwn, Makes, by-root, by-find, by-create, Full, FullMeans, RootFull, SameFor, FullByOwn, Names, Refused, ApartByOwner}
+use Rattle.sequences.specs.Places.{CountsOwn, Makes, by-root, by-find, by-walk, by-create, Full, FullMeans, RootFull, SameFor, Arrives, FullByOwn, Names, Refused, ApartByOwner}
 use Rattle.sequences.proofs.Passing.{allowed}
-use Rattle.sequences.proofs.Reasons.{says-hold, says-create-steps, reasons}
+use Rattle.sequences.proofs.Reasons.{says-hold, says-way, says-create-steps, reasons}
 use Rattle.sequences.proofs.Sequences.{apart}
 
 pub counts-own : CountsOwn
@@ -94,6 +96,14 @@ module _ (a : List ℕ) (t : Table) (w : ℕ) where
       ok-bind (says-find (Fully (canHold t w)) (no 19 refl) (no 11 refl) a (rowAt t i .rec) name) λ s _.
       ok-bind (the-check (canHold t w)) λ _ e. past e (says-hold (no 19 refl) a t w (s .entry .id))
 
+  full-walk : (h : Handle) (path : List ℕ) (room : ℕ) → Ok (λ _. canHold t w ≡ true) (Fully (canHold t w)) (callWalk a t w h path room .end)
+  full-walk h path room =
+      subst (Ok (λ _. canHold t w ≡ true) (Fully (canHold t w))) (sym (walk-is a t w h path room))
+      (ok-bind (says-admit (no 1 refl) (no 2 refl) (no 3 refl) a t) λ _ _.
+      ok-bind (says-handle (no 6 refl) (no 4 refl) t w h) λ i _.
+      ok-bind (says-way (no 5 refl) (no 7 refl) (no 10 refl) (no 8 refl) (no 11 refl) (no 23 refl) (no 20 refl) (no 19 refl) a t _ path room) λ at _.
+      ok-bind (the-check (canHold t w)) λ _ e. past e (says-hold (no 19 refl) a t w (at .id)))
+
   full-create : (h : Handle) (name : List ℕ) (kind mode : ℕ) (time : Timespec) (uuid : List ℕ) → Ok (λ _. canHold t w ≡ true) (Fully (canHold t w)) (callCreate a t w h name kind mode time uuid)
   unfolding callCreate
   full-create h name kind mode time uuid =
@@ -125,6 +135,7 @@ full-makes : (c : Call) (p : Pair) → Makes c → (reasonOf c p ≡ 16 → canH
 unfolding does
 full-makes (root w) p by-root = full-by (ok-bind (full-root (p .arena) (p .table) w) λ x e. went e)
 full-makes (find w h name) p by-find = full-by (ok-bind (full-find (p .arena) (p .table) w h name) λ x e. went e)
+full-makes (walk w h path room) p by-walk = full-by (ok-bind (full-walk (p .arena) (p .table) w h path room) λ x e. went e)
 full-makes (create w h name kind mode time uuid) p by-create = full-by (ok-bind (full-create (p .arena) (p .table) w h name kind mode time uuid) λ x e. went e)
 
 -- each call makes a hold, or never gives 16
@@ -135,6 +146,7 @@ data Either (c : Call) : Type 0 where
 either : (c : Call) → Either c
 either (root w) = makes by-root
 either (find w h name) = makes by-find
+either (walk w h path room) = makes by-walk
 either (create w h name kind mode time uuid) = makes by-create
 either (link w h name child) = never-full refl
 either (unlink w h name) = never-full refl
@@ -184,6 +196,14 @@ also-not : {A B : Type 0} {o : Out A} {q : Out B} → Says (λ n. n ≢ 16) o �
 also-not (went _) = so (λ z. absurd (zero-16 z))
 also-not (said r) = so (λ z. absurd (r z))
 
+also-is : {A B : Type 0} {m o : Out A} {n q : Out B} → m ≡ o → n ≡ q → Also o q → Also m n
+also-is e f (so k) = so (λ z. ap answer f ∙ k (ap answer (sym e) ∙ z))
+
+-- a step that gives no 16, where the other's is done
+also-past : {A B C D : Type 0} {f : A → Out C} {g : B → Out D} {m : Out A} {n : Out B} {y : B} → Says (λ k. k ≢ 16) m → n ≡ done y → ((x : A) (z : B) → Also (f x) (g z)) → Also (bind m f) (bind n g)
+also-past {B = B} {f = f} {g = g} {y = y} (went {a = x} _) e k = subst (λ (o : Out B). Also (f x) (bind o g)) (sym e) (k x y)
+also-past (said r) e k = so (λ z. absurd (r z))
+
 module _ (a : List ℕ) (t u : Table) (w : ℕ) (ft : wellFormed t ≡ true) (fu : wellFormed u ≡ true) (S : SameFor w t u) where
   unlike : (n : ℕ) → eqb n 16 ≡ false → n ≢ 16
   unlike n e = eqb-false n 16 e
@@ -200,9 +220,12 @@ module _ (a : List ℕ) (t u : Table) (w : ℕ) (ft : wellFormed t ≡ true) (fu
   unfolding CountsOwn
   same-can = counts-own t u w (S .own) (S .supply)
 
+  live-by : (h : Handle) (i : ℕ) → byHandle t w h ≡ done i → liveRow t w h ≡ At i
+  live-by h i e = ok-done (subst (Ok (Owns t w h) Any) e (handle-asks {R = Any} tt tt t w h)) .live
+
   -- the row's record, of a handle that was taken
   same-rec : (h : Handle) (i : ℕ) → byHandle t w h ≡ done i → rowAt t i .rec ≡ rowAt u i .rec
-  same-rec h i e = S .records h i (ok-done (subst (Ok (Owns t w h) Any) e (handle-asks {R = Any} tt tt t w h)) .live)
+  same-rec h i e = S .records h i (live-by h i e)
 
   also-root : Also (callRoot a t w) (callRoot a u w)
   unfolding callRoot
@@ -224,6 +247,17 @@ module _ (a : List ℕ) (t u : Table) (w : ℕ) (ft : wellFormed t ≡ true) (fu
       also-then (ap (λ (r : DiskINode). ensure (not (isDots name && eqb (r .nlinks) 0)) 8) q) λ _ _.
       also-then (ap (λ (r : DiskINode). findSlot a r name) q) λ s _.
       also-then (ap (λ (b : Bool). ensure b 16) same-can) λ _ _. also-not (says-hold (unlike 19 refl) a t w (s .entry .id))
+
+  -- both come to the check, if on different ways
+  also-walk : (h : Handle) (path : List ℕ) (room : ℕ) → ((i : ℕ) → liveRow u w h ≡ At i → (at : Spot) × (walkIn (start a u) (spot (rowAt u i .id) (rowAt u i .rec)) path room .end ≡ done at))
+      → Also (callWalk a t w h path room .end) (callWalk a u w h path room .end)
+  also-walk h path room arrives =
+      also-is (walk-is a t w h path room) (walk-is a u w h path room)
+      (also-then same-admit λ _ _.
+      also-then (same-handle h) λ i l.
+      also-past (says-way (unlike 5 refl) (unlike 7 refl) (unlike 10 refl) (unlike 8 refl) (unlike 11 refl) (unlike 23 refl) (unlike 20 refl) (unlike 19 refl) a t _ path room)
+      (arrives i (sym (S .handles h) ∙ live-by h i l) .1) λ at _.
+      also-then (ap (λ (b : Bool). ensure b 16) same-can) λ _ _. also-not (says-hold (unlike 19 refl) a t w (at .id)))
 
   also-create : (h : Handle) (name : List ℕ) (kind mode : ℕ) (time : Timespec) (uuid : List ℕ) → Also (callCreate a t w h name kind mode time uuid) (callCreate a u w h name kind mode time uuid)
   unfolding callCreate
@@ -250,19 +284,21 @@ answer-after f (refused n) = refl
 also-does : {A : Type 0} (f g : A → Pair) {m n : Out A} → Also m n → answer (bind m (λ x. done (f x))) ≡ 16 → answer (bind n (λ x. done (g x))) ≡ 16
 also-does f g (so {m = m} {n = n} k) e = answer-after g n ∙ k (sym (answer-after f m) ∙ e)
 
-also-makes : (a : List ℕ) (t u : Table) (c : Call) → wellFormed t ≡ true → wellFormed u ≡ true → SameFor (asker c) t u → Makes c → reasonOf c (pair a t) ≡ 16 → reasonOf c (pair a u) ≡ 16
+also-makes : (a : List ℕ) (t u : Table) (c : Call) → wellFormed t ≡ true → wellFormed u ≡ true → SameFor (asker c) t u → Arrives a u c → Makes c → reasonOf c (pair a t) ≡ 16 → reasonOf c (pair a u) ≡ 16
 unfolding does
-also-makes a t u (root w) ft fu S by-root = also-does (λ x. pair a (x .table)) (λ x. pair a (x .table)) (also-root a t u w ft fu S)
-also-makes a t u (find w h name) ft fu S by-find = also-does (λ x. pair a (x .table)) (λ x. pair a (x .table)) (also-find a t u w ft fu S h name)
-also-makes a t u (create w h name kind mode time uuid) ft fu S by-create =
+also-makes a t u (root w) ft fu S arrives by-root = also-does (λ x. pair a (x .table)) (λ x. pair a (x .table)) (also-root a t u w ft fu S)
+also-makes a t u (find w h name) ft fu S arrives by-find = also-does (λ x. pair a (x .table)) (λ x. pair a (x .table)) (also-find a t u w ft fu S h name)
+also-makes a t u (walk w h path room) ft fu S arrives by-walk =
+    also-does (λ x. pair a (x .table)) (λ x. pair a (x .table)) (also-walk a t u w ft fu S h path room (λ i. arrives w h path room i refl))
+also-makes a t u (create w h name kind mode time uuid) ft fu S arrives by-create =
     also-does (λ x. pair (x .arena) (x .table)) (λ x. pair (x .arena) (x .table)) (also-create a t u w ft fu S h name kind mode time uuid)
 
 pub full-by-own : FullByOwn
 unfolding FullByOwn
-full-by-own a t u c ft fu S = by (either c)
+full-by-own a t u c ft fu S arrives = by (either c)
   where
     by : Either c → reasonOf c (pair a t) ≡ 16 → reasonOf c (pair a u) ≡ 16
-    by (makes m) = also-makes a t u c ft fu S m
+    by (makes m) = also-makes a t u c ft fu S arrives m
     by (never-full n) = λ e. absurd (never c (pair a t) n e)
 
 -- ---- a handle works for its owner alone
@@ -294,8 +330,9 @@ module _ (p : Pair) (v w : ℕ) (h : Handle) (i : ℕ) (live : liveRow (p .table
   move-refused g old name y Nothing e = rw (enter p y, handle-not (p .table) v g o e) refl
 
 names-refused : (p : Pair) (c : Call) (w : ℕ) (h : Handle) (i : ℕ) → Passed p → liveRow (p .table) w h ≡ At i → Owner (asker c) → asker c ≢ w → Names h c → reasonOf c p ≡ 4
-unfolding does callFind callCreate callLink callUnlink callMove callMetadata callSet callEntry callListing callRead callWrite callResize callClose
+unfolding does callFind callWalk callCreate callLink callUnlink callMove callMetadata callSet callEntry callListing callRead callWrite callResize callClose
 names-refused p c w h i y l o d (Places.finds {v = v}) = rw (enter p y, his p v w h i l o d) refl
+names-refused p c w h i y l o d (Places.walks {v = v}) = rw (enter p y, his p v w h i l o d) refl
 names-refused p c w h i y l o d (Places.creates {v = v}) = rw (enter p y, his p v w h i l o d) refl
 names-refused p c w h i y l o d (Places.links {v = v}) = rw (enter p y, his p v w h i l o d) refl
 names-refused p c w h i y l o d (Places.unlinks {v = v}) = rw (enter p y, his p v w h i l o d) refl

@@ -4,6 +4,7 @@ use mathlib.Core.Bool.{true, false}
 use mathlib.Core.List.{List}
 use mathlib.Core.Logic.{_≢_, _↔_}
 use Prim.Native.Nat.{ℕ}
+use Rattle.base.specs.Out.{done}
 use Rattle.base.specs.Reasons.{badHandle, tableFull}
 use Rattle.base.specs.declared.Found.the-variants.{At}
 use Rattle.structs.specs.declared.Timespec.{Timespec}
@@ -12,8 +13,10 @@ use Rattle.table.specs.declared.Handle.{Handle}
 use Rattle.table.specs.Table.{rowAt, liveRow, ownHolds, canHold}
 use Rattle.table.specs.Formed.{wellFormed}
 use Rattle.table_laws.specs.Rules.{Owner}
+use Rattle.sefs.specs.Ask.{start}
+use Rattle.walk.specs.Walk.{Spot, spot, walkIn}
 use Rattle.sequences.specs.Pairs.{Pair, pair, Passed}
-use Rattle.sequences.specs.Calls.{Call, root, find, create, link, unlink, move, metadata, setMetadata, getEntry, listing, read, write, resize, close, Fits, asker, reasonOf, next}
+use Rattle.sequences.specs.Calls.{Call, root, find, walk, create, link, unlink, move, metadata, setMetadata, getEntry, listing, read, write, resize, close, Fits, asker, reasonOf, next}
 use Rattle.sequences.specs.Promises.{Along, On, Safe}
 
 -- ---- "Whether a call that reaches that check meets TableFull depends on its owner's own live holds and the stamp supply alone."
@@ -26,6 +29,7 @@ CountsOwn = (t u : Table) (w : ℕ) → ownHolds t w ≡ ownHolds u w → t .nex
 pub data Makes : Call → Type 0 where
   by-root : {w : ℕ} → Makes (root w)
   by-find : {w : ℕ} {h : Handle} {name : List ℕ} → Makes (find w h name)
+  by-walk : {w : ℕ} {h : Handle} {path : List ℕ} {room : ℕ} → Makes (walk w h path room)
   by-create : {w : ℕ} {h : Handle} {name : List ℕ} {kind mode : ℕ} {time : Timespec} {file : List ℕ} → Makes (create w h name kind mode time file)
 
 -- on any pair: TableFull says that the asker has no place left, and where he has none no call makes him one: all stays as it is
@@ -41,16 +45,22 @@ unfoldable pub RootFull : Type 0
 RootFull = (p : Pair) (w : ℕ) → Passed p → Owner w → (reasonOf (root w) p ≡ tableFull) ↔ (canHold (p .table) w ≡ false)
 
 -- w has the same in tables t and u: as many live holds, and the next stamp; and the same handles, on rows with the same records, so that a call
--- of his reaches the check with both or with neither. What the other three hold may be anything
+-- of his but walk reaches the check with both or with neither. What the other three hold may be anything
 pub record SameFor (w : ℕ) (t u : Table) : Type 0 where
   pub own : ownHolds t w ≡ ownHolds u w
   pub supply : t .next ≡ u .next
   pub handles : (h : Handle) → liveRow t w h ≡ liveRow u w h
   pub records : (h : Handle) (i : ℕ) → liveRow t w h ≡ At i → rowAt t i .rec ≡ rowAt u i .rec
 
+-- walk reaches the check where the path comes to its end. It goes by the records of the nodes on its way, and of an open node that is the record
+-- in memory, which another may have changed
+abbrev pub Arrives : List ℕ → Table → Call → Type 0
+Arrives a u c = (w : ℕ) (h : Handle) (path : List ℕ) (room i : ℕ) → c ≡ walk w h path room → liveRow u w h ≡ At i
+    → (at : Spot) × (walkIn (start a u) (spot (rowAt u i .id) (rowAt u i .rec)) path room .end ≡ done at)
+
 -- then his call meets TableFull with both or with neither
 unfoldable pub FullByOwn : Type 0
-FullByOwn = (a : List ℕ) (t u : Table) (c : Call) → wellFormed t ≡ true → wellFormed u ≡ true → SameFor (asker c) t u
+FullByOwn = (a : List ℕ) (t u : Table) (c : Call) → wellFormed t ≡ true → wellFormed u ≡ true → SameFor (asker c) t u → Arrives a u c
     → reasonOf c (pair a t) ≡ tableFull → reasonOf c (pair a u) ≡ tableFull
 
 -- ---- "a handle works only for its owner"
@@ -58,6 +68,7 @@ FullByOwn = (a : List ℕ) (t u : Table) (c : Call) → wellFormed t ≡ true �
 -- the handle is one that the call names
 pub data Names (h : Handle) : Call → Type 0 where
   finds : {v : ℕ} {name : List ℕ} → Names h (find v h name)
+  walks : {v room : ℕ} {path : List ℕ} → Names h (walk v h path room)
   creates : {v : ℕ} {name : List ℕ} {kind mode : ℕ} {time : Timespec} {file : List ℕ} → Names h (create v h name kind mode time file)
   links : {v : ℕ} {name : List ℕ} {child : Handle} → Names h (link v h name child)
   is-linked : {v : ℕ} {g : Handle} {name : List ℕ} → Names h (link v g name h)

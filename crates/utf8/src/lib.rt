@@ -10,7 +10,7 @@ ghost use Rattle.utf8.specs.Utf8.{lead, step, tail, isWhole, utf8};
 pub const MAX_FNAME_LEN: usize = 255;
 
 // What splits a path, and so no new name may have.
-const SLASH: u8 = 47;
+pub const SLASH: u8 = 47;
 
 // Where a reader of UTF-8 stands.
 pub enum State {
@@ -106,7 +106,7 @@ pub fn valid(s: &[u8]) -> bool
 }
 
 // The place of the first byte b, or the length.
-fn first_of(s: &[u8], b: u8) -> usize
+pub fn first_of(s: &[u8], b: u8) -> usize
     ensures { λ r. ⌜ r ≡ firstAt b (now (s .entry)) ⌝ }
 {
     let n = s.len();

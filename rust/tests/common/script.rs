@@ -163,7 +163,7 @@ impl Replay {
     }
 
     fn command(&mut self, byte: u8, s: &mut Reader) -> Read<()> {
-        let who = if matches!(byte, 18..=27 | 29 | 32..=34) { s.u8()? } else { 0 };
+        let who = if matches!(byte, 18..=27 | 29 | 32..=35) { s.u8()? } else { 0 };
         match byte {
             1 => {
                 let length = s.length(ARENA_MOST)?;
@@ -286,6 +286,12 @@ impl Replay {
                 let (h, length) = (s.handle()?, s.u64()?);
                 let answer = self.by(who).resize(h, length);
                 self.line("resize", done(answer));
+            }
+            35 => {
+                let (h, length) = (s.handle()?, s.room()?);
+                let (path, room, mut links) = (s.bytes(length)?, s.room()?, [238; OUT]);
+                let answer = held(self.by(who).walk(h, path, &mut links[..room]));
+                self.line("walk", format!("{answer} o {}", sum(&links)));
             }
             _ => return Err(BadScript),
         }

@@ -53,6 +53,12 @@ call-shown-requires-2 c κs =
     let s = c .before .before .before .before .before .before .before .before in
     ((bytes-there 32 (s .args .script .now) (s .args .at) (c .before .before .match .keys8) (s .pre .0), output-there 32 (s .args .script .now) (s .args .at) (c .before .before .match .keys8) (s .pre .0)), s .pre .1)
 
+call-walk-requires : tie.Need-call-walk-requires
+unfolding sizeBy outputBy
+call-walk-requires c κs =
+    let s = c .before .before .before .before .before .before .before .before in
+    (bytes-there 35 (s .args .script .now) (s .args .at) (c .before .before .match .keys9) (s .pre .0), (output-there 35 (s .args .script .now) (s .args .at) (c .before .before .match .keys9) (s .pre .0), s .pre .1))
+
 call-check-requires : tie.Need-call-check-requires
 call-check-requires c κs = search needs
 
@@ -137,6 +143,15 @@ same-length-18 c = search needs
 returns-9 : tie.Need-returns-9
 returns-9 c = search needs
 
+same-length-19 : tie.Need-same-length-19
+same-length-19 c = search needs
+
+same-length-20 : tie.Need-same-length-20
+same-length-20 c = search needs
+
+returns-10 : tie.Need-returns-10
+returns-10 c = search needs
+
 pub do-read-spec : {M : Type 1} → statement M
 do-read-spec =
     tie.close
@@ -150,6 +165,7 @@ do-read-spec =
     call-shown-requires
     call-list-requires
     call-shown-requires-2
+    call-walk-requires
     call-check-requires
     same-length
     same-length-2
@@ -177,4 +193,7 @@ do-read-spec =
     returns-8
     same-length-17
     same-length-18
-    returns-9)
+    returns-9
+    same-length-19
+    same-length-20
+    returns-10)

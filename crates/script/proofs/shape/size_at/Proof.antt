@@ -76,6 +76,9 @@ lengthy-requires c κs = search needs
 whole-requires-11 : tie.Need-whole-requires-11
 whole-requires-11 c κs = search needs
 
+path-output-requires : tie.Need-path-output-requires
+path-output-requires c κs = search needs
+
 returns : tie.Need-returns
 unfolding sizeBy arenaBy outputBy
 returns c = answers 1 _ _ (c .before .match .keys1) _ _ (c .arena-bytes .ensures .0, λ h. (c .arena-bytes .ensures .1 h, omega arith))
@@ -165,7 +168,11 @@ unfolding sizeBy arenaBy outputBy
 returns-22 c = plain 34 _ _ (c .before .match .keys22) _ _ refl refl (c .whole11 .ensures)
 
 returns-23 : tie.Need-returns-23
-returns-23 c = search needs
+unfolding sizeBy arenaBy outputBy
+returns-23 c = answers 35 _ _ (c .before .match .keys23) _ _ (c .path-output .ensures .0, λ h. (omega arith, c .path-output .ensures .1 h))
+
+returns-24 : tie.Need-returns-24
+returns-24 c = search needs
 
 pub size-at-spec : {M : Type 1} → statement M
 size-at-spec =
@@ -194,6 +201,7 @@ size-at-spec =
     with-output-requires-3
     lengthy-requires
     whole-requires-11
+    path-output-requires
     returns
     returns-2
     returns-3
@@ -216,4 +224,5 @@ size-at-spec =
     returns-20
     returns-21
     returns-22
-    returns-23)
+    returns-23
+    returns-24)

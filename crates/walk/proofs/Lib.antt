@@ -1,0 +1,6 @@
+pub mod Looks
+pub mod Cuts
+pub mod Walks
+pub mod Ways
+pub mod Chains
+pub mod Joins

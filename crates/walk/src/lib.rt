@@ -1,0 +1,1 @@
+// No code: the walk along a path, and its laws.
