@@ -43,7 +43,7 @@ extern "C" {
 #define DZ_FILE 1
 #define DZ_FOLDER 2
 #define DZ_SYMLINK 3
-#define DZ_SOCKET 4
+#define DZ_SOCKET 4           /* stored ones are there and every call takes them; none is made any more */
 
 /* ---- reasons */
 
@@ -185,9 +185,9 @@ uint32_t dz_close(uint8_t *arena, size_t arena_len, uint8_t *table, size_t table
 
 /* ---- names */
 
-/* A new node of that type in the folder, and a hold on it. `file` is its own file's name, which no other node has.
- * Changes: arena, table, handle. Reasons: BadArena, Damaged, BadTable, InvalidParam (owner), BadHandle, BadName (a slash too), InvalidParam,
- * NotDir, DirRemoved, NameTooLong, EntryExist, FileTaken, TooManyLinks, TableFull; NoDeviceSpace, Stuck. */
+/* A new node in the folder: a file, folder or symlink, and a hold on it. `file` is its own file's name, which no other node has.
+ * Changes: arena, table, handle. Reasons: BadArena, Damaged, BadTable, InvalidParam (owner), BadHandle, BadName (a slash too), InvalidParam
+ * (the type is not DZ_FILE, DZ_FOLDER or DZ_SYMLINK), NotDir, DirRemoved, NameTooLong, EntryExist, FileTaken, TooManyLinks, TableFull; NoDeviceSpace, Stuck. */
 uint32_t dz_create(uint8_t *arena, size_t arena_len, uint8_t *table, size_t table_len,
                    uint8_t owner, uint32_t hold, uint64_t stamp, const uint8_t *name, size_t name_len, uint32_t type, uint16_t mode, int64_t sec,
                    int64_t nsec, const uint8_t *file, size_t file_len, uint64_t *handle, size_t words);

@@ -3,7 +3,7 @@ use alloc::vec::Vec;
 use core::fmt;
 use core::ops::{Deref, DerefMut};
 
-use crate::{Attributes, Entries, Entry, FileName, Handle, Image, Kind, Metadata, Owner, Place, Reason, Time, FILE_LONGEST, SLOT};
+use crate::{Attributes, Entries, Entry, FileName, Handle, Image, Kind, Metadata, NewKind, Owner, Place, Reason, Time, FILE_LONGEST, SLOT};
 
 /// One of the four who share an image, at work on it: every call that takes or makes a handle says who asks.
 ///
@@ -113,17 +113,17 @@ impl<I: DerefMut<Target = Image>> Editor<I> {
         &mut self,
         folder: Handle,
         name: impl AsRef<[u8]>,
-        kind: Kind,
+        kind: NewKind,
         mode: u16,
         time: Time,
         file: FileName,
     ) -> Result<Handle, Reason> {
-        self.create_numbered(folder, name, kind.number(), mode, time, file)
+        self.create_numbered(folder, name, Kind::from(kind).number(), mode, time, file)
     }
 
     /// [`create`](Editor::create) with the type's number, as it comes from elsewhere.
     ///
-    /// Reasons: as `create`, and `InvalidParam` (not 1 to 4) right after `BadName`.
+    /// Reasons: as `create`, and `InvalidParam` (not 1 to 3: 4, a socket, is not made any more) right after `BadName`.
     pub fn create_numbered(
         &mut self,
         folder: Handle,

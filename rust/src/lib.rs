@@ -18,7 +18,7 @@ pub use editor::Editor;
 pub use entries::{Entries, Entry, Place};
 pub use image::Image;
 pub use reason::{FailedRule, NoReason, Reason, Unfit};
-pub use types::{Attributes, Counts, FileName, Handle, Kind, Metadata, Owner, Time};
+pub use types::{Attributes, Counts, FileName, Handle, Kind, Metadata, NewKind, Owner, Time};
 
 /// The bytes of a block of the image.
 pub const BLOCK: usize = 512;

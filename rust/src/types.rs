@@ -57,7 +57,7 @@ pub enum Kind {
     Folder = 2,
     /// A symbolic link.
     Symlink = 3,
-    /// A socket.
+    /// A socket. Stored ones are there, and every call takes them; none is made any more ([`NewKind`]).
     Socket = 4,
 }
 
@@ -79,6 +79,27 @@ impl TryFrom<u32> for Kind {
             3 => Ok(Kind::Symlink),
             4 => Ok(Kind::Socket),
             _ => Err(Reason::InvalidParam),
+        }
+    }
+}
+
+/// What a node can be made as: no socket.
+#[derive(Clone, Copy, PartialEq, Eq, PartialOrd, Ord, Hash, Debug)]
+pub enum NewKind {
+    /// A file.
+    File,
+    /// A folder.
+    Folder,
+    /// A symbolic link.
+    Symlink,
+}
+
+impl From<NewKind> for Kind {
+    fn from(kind: NewKind) -> Kind {
+        match kind {
+            NewKind::File => Kind::File,
+            NewKind::Folder => Kind::Folder,
+            NewKind::Symlink => Kind::Symlink,
         }
     }
 }

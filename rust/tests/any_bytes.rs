@@ -4,7 +4,7 @@ mod common;
 
 use common::damage::seal;
 use common::{create, file, fresh, mine, Mine, Numbers, TIME};
-use dzomrelig::{Attributes, Editor, Handle, Image, Kind, Place, BLOCK, FILE_LONGEST, SLOT, TABLE};
+use dzomrelig::{Attributes, Editor, Handle, Image, NewKind, Place, BLOCK, FILE_LONGEST, SLOT, TABLE};
 
 fn name(n: &mut Numbers) -> Vec<u8> {
     let fixed: [&[u8]; 10] = [b"", b".", b"..", b"a", b"b", b"c", b"folder", b"sub", b"\xff", b"a\0"];
@@ -90,10 +90,10 @@ fn calls(mut image: Image, n: &mut Numbers, known: &[Handle]) -> usize {
 /// An image with something of everything, and handles on it.
 fn grown() -> (Mine, Vec<Handle>) {
     let (mut image, root) = fresh(40);
-    let folder = create(&mut image, root, "folder", Kind::Folder).unwrap();
-    let sub = create(&mut image, folder, "sub", Kind::Folder).unwrap();
-    let a = create(&mut image, root, "a", Kind::File).unwrap();
-    let b = create(&mut image, sub, "b", Kind::Symlink).unwrap();
+    let folder = create(&mut image, root, "folder", NewKind::Folder).unwrap();
+    let sub = create(&mut image, folder, "sub", NewKind::Folder).unwrap();
+    let a = create(&mut image, root, "a", NewKind::File).unwrap();
+    let b = create(&mut image, sub, "b", NewKind::Symlink).unwrap();
     image.link(folder, "c", a).unwrap();
     image.unlink(root, "a").unwrap();
     image.write_at(a, 470, "outline of a glyph").unwrap();
@@ -168,7 +168,7 @@ fn any_bytes_at_all() {
 #[test]
 fn endless_folder() {
     let (mut image, root) = fresh(16);
-    create(&mut image, root, "a", Kind::File).unwrap();
+    create(&mut image, root, "a", NewKind::File).unwrap();
     let mut bytes = image.into_inner().into_bytes();
     common::damage::record(&mut bytes, 2, common::damage::BLOCKS, &[255; 4]);
     common::damage::set_length(&mut bytes, Some(common::ROOT_FILE), u32::MAX);

@@ -3,7 +3,7 @@ mod common;
 
 use common::{create, damage, file, fresh, mine, names, Mine, ROOT_FILE, TIME};
 use dzomrelig::{
-    Attributes, Counts, Editor, Entry, FailedRule, Handle, Image, Kind, Owner, Place, Reason, Time, Unfit, BLOCK, BLOCKS_MOST,
+    Attributes, Counts, Editor, Entry, FailedRule, Handle, Image, Kind, NewKind, Owner, Place, Reason, Time, Unfit, BLOCK, BLOCKS_MOST,
     FILE_LONGEST, OWN_HOLDS, SLOT, TABLE,
 };
 
@@ -23,7 +23,7 @@ fn format() {
 #[test]
 fn bytes_go_out_and_come_in() {
     let (mut image, root) = fresh(16);
-    create(&mut image, root, "a", Kind::File).unwrap();
+    create(&mut image, root, "a", NewKind::File).unwrap();
     image.sync().unwrap();
     let bytes = image.bytes().to_vec();
     assert_eq!(image.clone().into_inner().into_bytes(), bytes);
@@ -39,7 +39,7 @@ fn bytes_go_out_and_come_in() {
 #[test]
 fn an_open_unlinked_node_is_closed_before_the_bytes_are_kept() {
     let (mut image, root) = fresh(16);
-    let a = create(&mut image, root, "a", Kind::File).unwrap();
+    let a = create(&mut image, root, "a", NewKind::File).unwrap();
     image.unlink(root, "a").unwrap();
     image.sync().unwrap();
     assert!(image.check().is_ok());
@@ -52,8 +52,8 @@ fn an_open_unlinked_node_is_closed_before_the_bytes_are_kept() {
 fn checked_says_what_is_wrong() {
     assert_eq!(Image::checked([0; 100]).unwrap_err(), Unfit::Refused(Reason::BadArena));
     let (mut image, root) = fresh(32);
-    image.create(root, "a", Kind::Folder, 0o755, TIME, file(1)).unwrap();
-    create(&mut image, root, "b", Kind::Folder).unwrap();
+    image.create(root, "a", NewKind::Folder, 0o755, TIME, file(1)).unwrap();
+    create(&mut image, root, "b", NewKind::Folder).unwrap();
     // slot 1 of folder a, node 3, names b, node 4
     let mut bytes = image.into_inner().into_bytes();
     damage::write(&mut bytes, Some(file(1)), SLOT, &[4]);
@@ -64,7 +64,7 @@ fn checked_says_what_is_wrong() {
 #[test]
 fn reformat_and_reopen() {
     let (mut image, root) = fresh(16);
-    let a = create(&mut image, root, "a", Kind::File).unwrap();
+    let a = create(&mut image, root, "a", NewKind::File).unwrap();
     // set metadata stands in the table until it is stored
     image.set_metadata(a, &Attributes { mode: 0o600, ..Attributes::default() }).unwrap();
     image.reopen().unwrap();
@@ -89,7 +89,7 @@ fn root_and_find() {
     let again = image.root().unwrap();
     assert_ne!(root, again);
     assert_eq!(image.metadata(root), image.metadata(again));
-    let a = create(&mut image, root, "a", Kind::Folder).unwrap();
+    let a = create(&mut image, root, "a", NewKind::Folder).unwrap();
     let found = image.find(root, "a").unwrap();
     assert_ne!(a, found);
     assert_eq!(image.metadata(a), image.metadata(found));
@@ -141,10 +141,12 @@ fn walk_by_path() {
 #[test]
 fn create_each_kind() {
     let (mut image, root) = fresh(64);
-    for (number, kind) in (1..).zip([Kind::File, Kind::Folder, Kind::Symlink, Kind::Socket]) {
+    assert_eq!((Kind::Socket.number(), Kind::try_from(4)), (4, Ok(Kind::Socket)));
+    for (number, new) in (1..).zip([NewKind::File, NewKind::Folder, NewKind::Symlink]) {
+        let kind = Kind::from(new);
         assert_eq!((kind.number(), Kind::try_from(number)), (number, Ok(kind)));
         let name = format!("{kind:?}");
-        let made = image.create(root, &name, kind, 0o755, Time::new(i64::MIN, i64::MAX), file(number.into())).unwrap();
+        let made = image.create(root, &name, new, 0o755, Time::new(i64::MIN, i64::MAX), file(number.into())).unwrap();
         let told = image.metadata(made).unwrap();
         let folder = kind == Kind::Folder;
         assert_eq!((told.inode, told.kind, told.mode, told.links), (2 + number, kind, 0o755, if folder { 2 } else { 1 }));
@@ -153,14 +155,14 @@ fn create_each_kind() {
         assert_eq!(image.entry(root, 1 + u64::from(number)), Ok(Entry { id: 2 + number, name: name.into(), kind: Some(kind) }));
     }
     assert_eq!(image.metadata(root).unwrap().links, 3);
-    assert_eq!(image.check(), Ok(Counts { nodes: 5, unused: 1017, free: 50 }));
+    assert_eq!(image.check(), Ok(Counts { nodes: 4, unused: 1018, free: 52 }));
 }
 
 #[test]
 fn link_unlink_rename() {
     let (mut image, root) = fresh(32);
-    let a = create(&mut image, root, "a", Kind::File).unwrap();
-    let d = create(&mut image, root, "d", Kind::Folder).unwrap();
+    let a = create(&mut image, root, "a", NewKind::File).unwrap();
+    let d = create(&mut image, root, "d", NewKind::Folder).unwrap();
     image.link(root, "b", a).unwrap();
     assert_eq!(image.metadata(a).unwrap().links, 2);
     // another name of the same node: nothing changes
@@ -196,10 +198,10 @@ fn parent(image: &mut Mine, folder: Handle) -> u32 {
 fn a_folder_goes_to_another_folder() {
     let (mut image, root) = fresh(64);
     let owned = image.is_trusted();
-    let sans = create(&mut image, root, "Sans", Kind::Folder).unwrap();
-    let serif = create(&mut image, root, "Serif", Kind::Folder).unwrap();
-    let bold = create(&mut image, sans, "Bold", Kind::Folder).unwrap();
-    let glyphs = create(&mut image, bold, "glyphs", Kind::Folder).unwrap();
+    let sans = create(&mut image, root, "Sans", NewKind::Folder).unwrap();
+    let serif = create(&mut image, root, "Serif", NewKind::Folder).unwrap();
+    let bold = create(&mut image, sans, "Bold", NewKind::Folder).unwrap();
+    let glyphs = create(&mut image, bold, "glyphs", NewKind::Folder).unwrap();
     assert_eq!(parent(&mut image, bold), 3);
     image.rename(sans, "Bold", serif, "Bold").unwrap();
     assert_eq!((parent(&mut image, bold), parent(&mut image, glyphs)), (4, 5));
@@ -218,7 +220,7 @@ fn a_folder_goes_to_another_folder() {
 #[test]
 fn metadata_is_set_and_read() {
     let (mut image, root) = fresh(16);
-    let a = create(&mut image, root, "a", Kind::File).unwrap();
+    let a = create(&mut image, root, "a", NewKind::File).unwrap();
     let set = Attributes {
         mode: u16::MAX,
         uid: (7 << 32) + 1,
@@ -268,7 +270,7 @@ fn has(image: &Mine, node: Handle, want: &[u8]) {
 #[test]
 fn what_is_written_is_read() {
     let (mut image, root) = fresh(128);
-    for (name, kind) in [("file", Kind::File), ("link", Kind::Symlink), ("socket", Kind::Socket)] {
+    for (name, kind) in [("file", NewKind::File), ("link", NewKind::Symlink)] {
         let node = create(&mut image, root, name, kind).unwrap();
         has(&image, node, b"");
         let mut want = outline(1000);
@@ -300,7 +302,7 @@ fn what_is_written_is_read() {
 #[test]
 fn holes_take_no_block() {
     let (mut image, root) = fresh(32);
-    let a = create(&mut image, root, "a", Kind::File).unwrap();
+    let a = create(&mut image, root, "a", NewKind::File).unwrap();
     let free = image.check().unwrap().free;
     image.write_at(a, 100_000, "far").unwrap();
     assert_eq!(image.check().unwrap().free, free - 1);
@@ -321,7 +323,7 @@ fn holes_take_no_block() {
 #[test]
 fn shrunk_and_grown() {
     let (mut image, root) = fresh(32);
-    let a = create(&mut image, root, "a", Kind::File).unwrap();
+    let a = create(&mut image, root, "a", NewKind::File).unwrap();
     image.write_at(a, 0, outline(2000)).unwrap();
     for length in [2000, 1500, 961, 960, 959, 481, 3] {
         image.resize(a, length).unwrap();
@@ -344,7 +346,7 @@ fn shrunk_and_grown() {
 #[test]
 fn contents_of_an_unlinked_node() {
     let (mut image, root) = fresh(32);
-    let a = create(&mut image, root, "a", Kind::File).unwrap();
+    let a = create(&mut image, root, "a", NewKind::File).unwrap();
     let free = image.check().unwrap().free;
     image.write_at(a, 0, outline(100)).unwrap();
     image.unlink(root, "a").unwrap();
@@ -360,7 +362,7 @@ fn contents_of_an_unlinked_node() {
 #[test]
 fn a_size_stands_in_the_table_until_it_is_stored() {
     let (mut image, root) = fresh(32);
-    let a = create(&mut image, root, "a", Kind::File).unwrap();
+    let a = create(&mut image, root, "a", NewKind::File).unwrap();
     image.write_at(a, 0, "outline").unwrap();
     // the host goes down: the file is longer than the stored size
     let lost = mine(Image::untrusted(image.bytes()).unwrap());
@@ -375,7 +377,7 @@ fn a_size_stands_in_the_table_until_it_is_stored() {
 #[test]
 fn close_gives_up_one_hold() {
     let (mut image, root) = fresh(16);
-    let mine = create(&mut image, root, "a", Kind::File).unwrap();
+    let mine = create(&mut image, root, "a", NewKind::File).unwrap();
     let hers = image.find(root, "a").unwrap();
     image.close(mine).unwrap();
     assert_eq!(image.close(mine), Err(Reason::BadHandle));
@@ -401,7 +403,7 @@ fn four_owners() {
     let mut anna = image.editor(Owner::One);
     assert_eq!(anna.who(), 1);
     let root = anna.root().unwrap();
-    let a = create(&mut anna, root, "a", Kind::File).unwrap();
+    let a = create(&mut anna, root, "a", NewKind::File).unwrap();
     anna.write_at(a, 0, "outline").unwrap();
     let tabs: Vec<_> = (2..OWN_HOLDS).map(|_| anna.find(root, "a").unwrap()).collect();
     assert_eq!(anna.root(), Err(Reason::TableFull));
@@ -439,7 +441,7 @@ fn slots() {
     let (mut image, root) = fresh(128);
     let wanted: Vec<_> = (0..40).map(|i| format!("glyph{i}")).collect();
     for name in &wanted {
-        let made = create(&mut image, root, name, Kind::File).unwrap();
+        let made = create(&mut image, root, name, NewKind::File).unwrap();
         image.close(made).unwrap();
     }
     // one at a time, all at once, and in pieces
@@ -477,7 +479,7 @@ fn slots() {
 #[test]
 fn dots_are_asked_for() {
     let (mut image, root) = fresh(32);
-    let empty = create(&mut image, root, "e", Kind::Folder).unwrap();
+    let empty = create(&mut image, root, "e", NewKind::Folder).unwrap();
     let mut out = [238; 4 * SLOT];
     // next, asked, room; slots written, next
     for (next, dots, room, count, after) in [
@@ -507,7 +509,7 @@ fn dots_are_asked_for() {
 fn unlink_drops_the_last_slot_into_the_hole() {
     let (mut image, root) = fresh(32);
     for name in ["a", "b", "c"] {
-        create(&mut image, root, name, Kind::File).unwrap();
+        create(&mut image, root, name, NewKind::File).unwrap();
     }
     let before = image.snapshot(root).unwrap();
     image.unlink(root, "a").unwrap();
@@ -523,7 +525,7 @@ fn unlink_drops_the_last_slot_into_the_hole() {
 #[test]
 fn entries_end_at_a_refusal() {
     let (mut image, root) = fresh(32);
-    let a = create(&mut image, root, "a", Kind::File).unwrap();
+    let a = create(&mut image, root, "a", NewKind::File).unwrap();
     let mut entries = image.entries(a);
     assert_eq!(entries.next(), Some(Err(Reason::NotDir)));
     assert_eq!(entries.next(), None);

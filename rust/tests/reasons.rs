@@ -4,7 +4,7 @@ mod common;
 use common::damage::{self, record, superblock, table};
 use common::{create, file, fresh, mine, names, Mine, ROOT_FILE, TIME};
 use dzomrelig::{
-    Attributes, Editor, FailedRule, Handle, Image, Kind, NoReason, Place, Reason, Unfit, BLOCK, FILE_LONGEST, LINKS_MOST, NAME_LONGEST,
+    Attributes, Editor, FailedRule, Handle, Image, Kind, NewKind, NoReason, Place, Reason, Unfit, BLOCK, FILE_LONGEST, LINKS_MOST, NAME_LONGEST,
     OWN_HOLDS, SLOT, TABLE,
 };
 
@@ -27,7 +27,7 @@ const CALLS: [Call; 20] = [
     |i, h, _| i.snapshot(h).err(),
     |i, h, name| i.find(h, name).err(),
     |i, h, name| i.walk(h, name, &mut [0; 8]).err(),
-    |i, h, name| i.create(h, name, Kind::File, 0, TIME, file(1)).err(),
+    |i, h, name| i.create(h, name, NewKind::File, 0, TIME, file(1)).err(),
     |i, h, name| i.link(h, name, h).err(),
     |i, h, name| i.unlink(h, name).err(),
     |i, h, name| i.rename(h, name, h, "b").err(),
@@ -121,7 +121,7 @@ fn bad_table() {
 #[test]
 fn bad_handle() {
     let (mut image, root) = fresh(16);
-    let closed = create(&mut image, root, "a", Kind::File).unwrap();
+    let closed = create(&mut image, root, "a", NewKind::File).unwrap();
     image.close(closed).unwrap();
     let made_up = [(0, 0), (0, 2), (7, 7), (32, 1), (u32::MAX, u64::MAX)].map(|(hold, stamp)| Handle { hold, stamp });
     for h in made_up.into_iter().chain([closed]) {
@@ -161,7 +161,7 @@ fn bad_name() {
     }
     // names of other scripts, and one of 255 bytes
     for name in ["é", "字", "𝒻", &"n".repeat(NAME_LONGEST)] {
-        let made = create(&mut image, root, name, Kind::File).unwrap();
+        let made = create(&mut image, root, name, NewKind::File).unwrap();
         image.unlink(root, name).unwrap();
         image.close(made).unwrap();
     }
@@ -172,9 +172,9 @@ fn bad_name() {
 fn slashes() {
     let (mut image, root) = fresh(32);
     let i = &mut image;
-    let a = create(i, root, "a", Kind::File).unwrap();
+    let a = create(i, root, "a", NewKind::File).unwrap();
     for name in ["/", "a/b", &"/".repeat(300)] {
-        no(i, Reason::BadName, |i| create(i, root, name, Kind::File));
+        no(i, Reason::BadName, |i| create(i, root, name, NewKind::File));
         no(i, Reason::BadName, |i| i.create_numbered(a, name, 5, 0, TIME, file(1)));
         no(i, Reason::BadName, |i| i.link(root, name, a));
         no(i, Reason::BadName, |i| i.rename(root, "none", a, name));
@@ -185,7 +185,7 @@ fn slashes() {
         no(i, Reason::EntryNotFound, |i| i.rename(root, name, root, "b"));
     }
     for name in ["c-d", "e-f"] {
-        let made = create(i, root, name, Kind::File).unwrap();
+        let made = create(i, root, name, NewKind::File).unwrap();
         i.close(made).unwrap();
     }
     // an older release stored these
@@ -213,7 +213,36 @@ fn invalid_param() {
         no(&mut image, Reason::InvalidParam, |i| i.create_numbered(root, "a", kind, 0, TIME, file(1)));
         no(&mut image, Reason::BadName, |i| i.create_numbered(root, "\0", kind, 0, TIME, file(1)));
     }
-    image.create_numbered(root, "a", 4, 0, TIME, file(1)).unwrap();
+    image.create_numbered(root, "a", 3, 0, TIME, file(1)).unwrap();
+}
+
+/// Type 4 in a create, in the place of a type that is none; stored sockets are found, read, written, linked, renamed and unlinked.
+#[test]
+fn sockets() {
+    let (mut image, root) = fresh(32);
+    let a = create(&mut image, root, "a", NewKind::File).unwrap();
+    for (folder, name) in [(root, "s"), (root, "a"), (a, "s")] {
+        no(&mut image, Reason::InvalidParam, |i| i.create_numbered(folder, name, Kind::Socket.number(), 0, TIME, file(1)));
+    }
+    no(&mut image, Reason::BadName, |i| i.create_numbered(root, "/", Kind::Socket.number(), 0, TIME, file(1)));
+    image.close(a).unwrap();
+    // an older release stored this
+    let mut bytes = image.bytes().to_vec();
+    damage::record(&mut bytes, 3, damage::TYPE, &[4]);
+    damage::write(&mut bytes, Some(ROOT_FILE), SLOT * 2 + 260, &[4]);
+    let i = &mut mine(Image::from_parts(bytes, *image.table()));
+    assert!(i.check().is_ok());
+    assert_eq!(i.entry(root, 2).unwrap().kind, Some(Kind::Socket));
+    let s = i.find(root, "a").unwrap();
+    assert_eq!(i.metadata(s).unwrap().kind, Kind::Socket);
+    i.write_at(s, 1, "bytes").unwrap();
+    assert_eq!(i.read_to_vec(s).unwrap(), b"\0bytes");
+    i.link(root, "b", s).unwrap();
+    i.rename(root, "a", root, "c").unwrap();
+    i.unlink(root, "b").unwrap();
+    assert_eq!(names(i, root), ["c"]);
+    i.close(s).unwrap();
+    assert!(i.check().is_ok());
 }
 
 /// A folder into itself or below, after the reasons that names and types give. Where `..` goes round the call is stuck.
@@ -221,16 +250,16 @@ fn invalid_param() {
 fn below_itself() {
     let (mut image, root) = fresh(32);
     let i = &mut image;
-    let a = i.create(root, "a", Kind::Folder, 0, TIME, file(1)).unwrap();
-    let b = i.create(a, "b", Kind::Folder, 0, TIME, file(2)).unwrap();
+    let a = i.create(root, "a", NewKind::Folder, 0, TIME, file(1)).unwrap();
+    let b = i.create(a, "b", NewKind::Folder, 0, TIME, file(2)).unwrap();
     for (to, name) in [(a, "x"), (b, "x"), (a, "b")] {
         no(i, Reason::InvalidParam, |i| i.rename(root, "a", to, name));
     }
-    create(i, b, "leaf", Kind::File).unwrap();
+    create(i, b, "leaf", NewKind::File).unwrap();
     no(i, Reason::EntryNotFound, |i| i.rename(root, "x", b, "y"));
     no(i, Reason::NotDir, |i| i.rename(root, "a", b, "leaf"));
     no(i, Reason::DirNotEmpty, |i| i.rename(root, "a", a, "b"));
-    create(i, root, "c", Kind::Folder).unwrap();
+    create(i, root, "c", NewKind::Folder).unwrap();
 
     // slot 1 of a, node 3, names b, node 4
     let mut bytes = i.bytes().to_vec();
@@ -246,10 +275,10 @@ fn below_itself() {
 fn by_call() {
     let (mut image, root) = fresh(32);
     let i = &mut image;
-    let leaf = create(i, root, "leaf", Kind::File).unwrap();
-    let gone = create(i, root, "gone", Kind::Folder).unwrap();
-    let full = create(i, root, "full", Kind::Folder).unwrap();
-    create(i, full, "x", Kind::File).unwrap();
+    let leaf = create(i, root, "leaf", NewKind::File).unwrap();
+    let gone = create(i, root, "gone", NewKind::Folder).unwrap();
+    let full = create(i, root, "full", NewKind::Folder).unwrap();
+    create(i, full, "x", NewKind::File).unwrap();
     i.unlink(root, "gone").unwrap();
 
     all_no(i, Reason::NotDir, leaf, b"a", FOLDERS);
@@ -277,15 +306,15 @@ fn by_call() {
     no(i, Reason::EntryNotFound, |i| i.entry(root, u64::MAX));
 
     for name in ["leaf", "full", "", ".", ".."] {
-        no(i, Reason::EntryExist, |i| create(i, root, name, Kind::File));
+        no(i, Reason::EntryExist, |i| create(i, root, name, NewKind::File));
         no(i, Reason::EntryExist, |i| i.link(root, name, leaf));
     }
 
     no(i, Reason::DirNotEmpty, |i| i.unlink(root, "full"));
-    create(i, root, "other", Kind::Folder).unwrap();
+    create(i, root, "other", NewKind::Folder).unwrap();
     no(i, Reason::DirNotEmpty, |i| i.rename(root, "other", root, "full"));
 
-    no(i, Reason::FileTaken, |i| i.create(root, "a", Kind::File, 0, TIME, ROOT_FILE));
+    no(i, Reason::FileTaken, |i| i.create(root, "a", NewKind::File, 0, TIME, ROOT_FILE));
 
     for room in [0, SLOT - 1] {
         no(i, Reason::OutFull, |i| i.entry_into(root, 0, &mut vec![0; room]));
@@ -301,7 +330,7 @@ fn by_call() {
 fn contents() {
     let (mut image, root) = fresh(16);
     let i = &mut image;
-    let a = create(i, root, "a", Kind::File).unwrap();
+    let a = create(i, root, "a", NewKind::File).unwrap();
     each_no(i, Reason::NotFile, root, b"", &CALLS[CONTENTS..FOLDERS]);
     no(i, Reason::NotFile, |i| i.write_at(root, u64::MAX, "a"));
     no(i, Reason::NotFile, |i| i.resize(root, u64::MAX));
@@ -401,9 +430,9 @@ fn walks() {
 #[test]
 fn too_many_links() {
     let (mut image, root) = fresh(32);
-    create(&mut image, root, "a", Kind::File).unwrap();
-    create(&mut image, root, "c", Kind::Folder).unwrap();
-    create(&mut image, root, "d", Kind::Folder).unwrap();
+    create(&mut image, root, "a", NewKind::File).unwrap();
+    create(&mut image, root, "c", NewKind::Folder).unwrap();
+    create(&mut image, root, "d", NewKind::Folder).unwrap();
     let mut bytes = image.into_inner().into_bytes();
     record(&mut bytes, 3, damage::LINKS, &[255; 2]);
     record(&mut bytes, 4, damage::LINKS, &[255; 2]);
@@ -413,21 +442,21 @@ fn too_many_links() {
     let (a, c) = (image.find(root, "a").unwrap(), image.find(root, "c").unwrap());
     assert_eq!(image.metadata(a).unwrap().links, u16::MAX);
     no(&mut image, Reason::TooManyLinks, |i| i.link(root, "b", a));
-    no(&mut image, Reason::TooManyLinks, |i| create(i, c, "e", Kind::Folder));
+    no(&mut image, Reason::TooManyLinks, |i| create(i, c, "e", NewKind::Folder));
     no(&mut image, Reason::TooManyLinks, |i| i.rename(root, "d", c, "e"));
-    create(&mut image, c, "e", Kind::File).unwrap();
+    create(&mut image, c, "e", NewKind::File).unwrap();
 }
 
 #[test]
 fn table_full() {
     let (mut image, root) = fresh(16);
-    create(&mut image, root, "a", Kind::File).unwrap();
+    create(&mut image, root, "a", NewKind::File).unwrap();
     for _ in 2..OWN_HOLDS {
         image.root().unwrap();
     }
     no(&mut image, Reason::TableFull, |i| i.root());
     no(&mut image, Reason::TableFull, |i| i.find(root, "a"));
-    no(&mut image, Reason::TableFull, |i| create(i, root, "b", Kind::File));
+    no(&mut image, Reason::TableFull, |i| create(i, root, "b", NewKind::File));
     // the others still get theirs, and these alone
     for who in 2..=4 {
         let mut other = Editor::numbered(&mut *image, who);
@@ -449,13 +478,13 @@ fn table_full() {
 #[test]
 fn no_device_space() {
     let (mut image, root) = fresh(16);
-    let a = create(&mut image, root, "a", Kind::File).unwrap();
-    create(&mut image, root, "b", Kind::File).unwrap();
-    let c = create(&mut image, root, "c", Kind::Folder).unwrap();
-    create(&mut image, root, "d", Kind::Folder).unwrap();
+    let a = create(&mut image, root, "a", NewKind::File).unwrap();
+    create(&mut image, root, "b", NewKind::File).unwrap();
+    let c = create(&mut image, root, "c", NewKind::Folder).unwrap();
+    create(&mut image, root, "d", NewKind::Folder).unwrap();
     image.link(root, "e", a).unwrap();
     no(&mut image, Reason::NoDeviceSpace, |i| i.link(root, "f", a));
-    no(&mut image, Reason::NoDeviceSpace, |i| create(i, root, "f", Kind::File));
+    no(&mut image, Reason::NoDeviceSpace, |i| create(i, root, "f", NewKind::File));
     image.rename(root, "a", c, "a").unwrap();
     no(&mut image, Reason::NoDeviceSpace, |i| i.rename(root, "b", c, "b"));
     assert!(image.check().is_ok());
@@ -479,7 +508,7 @@ fn wrong_fs() {
 #[test]
 fn stuck() {
     let (mut image, root) = fresh(16);
-    let a = create(&mut image, root, "a", Kind::File).unwrap();
+    let a = create(&mut image, root, "a", NewKind::File).unwrap();
     image.close(a).unwrap();
     let mut bytes = image.into_inner().into_bytes();
     record(&mut bytes, 3, damage::TYPE, &[5]);
@@ -533,7 +562,7 @@ fn failed_rules() {
     ];
     for (rule, wrong) in wrongs {
         let (mut image, root) = fresh(16);
-        create(&mut image, root, "a", Kind::File).unwrap();
+        create(&mut image, root, "a", NewKind::File).unwrap();
         let mut bytes = image.into_inner().into_bytes();
         wrong(&mut bytes);
         assert_eq!(Image::checked(bytes).unwrap_err(), Unfit::Fails(rule));

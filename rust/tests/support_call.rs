@@ -2,7 +2,7 @@
 mod common;
 
 use common::{create, fresh, names};
-use dzomrelig::{Kind, Owner, Reason};
+use dzomrelig::{NewKind, Owner, Reason};
 
 const ANN: Owner = Owner::One;
 const BEN: Owner = Owner::Two;
@@ -11,7 +11,7 @@ const BEN: Owner = Owner::Two;
 fn a_number_stays_taken_while_a_handle_is_open() {
     let (image, root) = fresh(32);
     let mut image = image.into_inner();
-    let ann = create(&mut image.editor(ANN), root, "a", Kind::File).unwrap();
+    let ann = create(&mut image.editor(ANN), root, "a", NewKind::File).unwrap();
     let outline = image.editor(ANN).metadata(ann).unwrap().inode;
 
     // Ben opens a too, and unlinks it
@@ -24,7 +24,7 @@ fn a_number_stays_taken_while_a_handle_is_open() {
     assert_eq!(image.editor(ANN).find(root, "a"), Err(Reason::EntryNotFound));
 
     // his new glyph is another node
-    let b = create(&mut image.editor(BEN), his_root, "b", Kind::File).unwrap();
+    let b = create(&mut image.editor(BEN), his_root, "b", NewKind::File).unwrap();
     assert_ne!(image.editor(BEN).metadata(b).unwrap().inode, outline);
 
     // he closes his a, and hers still works; his old handle doesn't, and hers never did for him
@@ -38,7 +38,7 @@ fn a_number_stays_taken_while_a_handle_is_open() {
     let mut image = image.editor(ANN);
     image.close(ann).unwrap();
     assert_eq!(image.close(ann), Err(Reason::BadHandle));
-    let c = create(&mut image, root, "c", Kind::File).unwrap();
+    let c = create(&mut image, root, "c", NewKind::File).unwrap();
     assert_eq!(image.metadata(c).unwrap().inode, outline);
     assert_ne!((c.hold, c.stamp), (ann.hold, ann.stamp));
     assert_eq!(image.metadata(ann), Err(Reason::BadHandle));
@@ -50,7 +50,7 @@ fn a_number_stays_taken_while_a_handle_is_open() {
 fn a_slot_number_does_not_stay_put() {
     let (mut image, root) = fresh(32);
     for name in ["a", "b", "c"] {
-        create(&mut image, root, name, Kind::File).unwrap();
+        create(&mut image, root, name, NewKind::File).unwrap();
     }
     assert_eq!(image.entry(root, 2).unwrap().name, b"a");
     image.unlink(root, "a").unwrap();

@@ -5,7 +5,7 @@ use std::sync::Mutex;
 use std::thread;
 
 use common::{create, fresh, names, TIME};
-use dzomrelig::{Editor, FileName, Handle, Image, Kind, Owner, Reason, OWN_HOLDS};
+use dzomrelig::{Editor, FileName, Handle, Image, NewKind, Owner, Reason, OWN_HOLDS};
 
 const ROUNDS: u64 = 60;
 
@@ -26,7 +26,7 @@ fn types() {
 fn edit(image: &Mutex<Image>, me: Owner) {
     let call = || Editor::new(image.lock().unwrap(), me);
     let root = call().root().unwrap();
-    let folder = create(&mut call(), root, &format!("team{}", me.number()), Kind::Folder).unwrap();
+    let folder = create(&mut call(), root, &format!("team{}", me.number()), NewKind::Folder).unwrap();
     call().close(root).unwrap();
     let mut kept = Vec::new();
     for round in 0..ROUNDS {
@@ -34,7 +34,7 @@ fn edit(image: &Mutex<Image>, me: Owner) {
         let mut file = [0; 16];
         file[0] = me.number();
         file[8..].copy_from_slice(&round.to_le_bytes());
-        let made = call().create(folder, &name, Kind::File, 0o644, TIME, FileName(file)).unwrap();
+        let made = call().create(folder, &name, NewKind::File, 0o644, TIME, FileName(file)).unwrap();
         let id = call().metadata(made).unwrap().inode;
         let found = call().find(folder, &name).unwrap();
         assert_eq!(call().metadata(found).unwrap().inode, id);
@@ -76,7 +76,7 @@ fn four_editors() {
 fn many_tabs() {
     let (mut image, root) = fresh(128);
     for n in 0..OWN_HOLDS {
-        let made = create(&mut image, root, &format!("glyph{n}"), Kind::File).unwrap();
+        let made = create(&mut image, root, &format!("glyph{n}"), NewKind::File).unwrap();
         image.close(made).unwrap();
     }
     image.close(root).unwrap();
@@ -112,7 +112,7 @@ fn many_tabs() {
 fn readers_side_by_side() {
     let (mut image, root) = fresh(64);
     for n in 0..10 {
-        let made = create(&mut image, root, &format!("glyph{n}"), Kind::File).unwrap();
+        let made = create(&mut image, root, &format!("glyph{n}"), NewKind::File).unwrap();
         image.close(made).unwrap();
     }
     let image = &image;
@@ -134,8 +134,8 @@ fn readers_side_by_side() {
 fn small_stack() {
     let run = || {
         let (mut image, root) = fresh(32);
-        let a = create(&mut image, root, "a", Kind::Folder).unwrap();
-        let b = create(&mut image, root, "b", Kind::File).unwrap();
+        let a = create(&mut image, root, "a", NewKind::Folder).unwrap();
+        let b = create(&mut image, root, "b", NewKind::File).unwrap();
         image.link(root, "c", b).unwrap();
         image.rename(root, "c", a, "d").unwrap();
         image.unlink(a, "d").unwrap();

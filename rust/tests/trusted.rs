@@ -2,13 +2,13 @@
 mod common;
 
 use common::{create, file, fresh, Numbers, ROOT_FILE, TIME};
-use dzomrelig::{Attributes, Editor, FailedRule, Handle, Image, Kind, Place, Reason, OWN_HOLDS};
+use dzomrelig::{Attributes, Editor, FailedRule, Handle, Image, NewKind, Place, Reason, OWN_HOLDS};
 
 #[test]
 fn formatted_and_checked() {
     let (mut image, root) = fresh(32);
     assert!(image.is_trusted() && image.clone().is_trusted());
-    create(&mut image, root, "a", Kind::File).unwrap();
+    create(&mut image, root, "a", NewKind::File).unwrap();
     image.sync().unwrap();
     assert!(Image::checked(image.bytes()).unwrap().is_trusted());
     let mut other = Image::untrusted(image.bytes()).unwrap();
@@ -22,7 +22,7 @@ fn formatted_and_checked() {
 #[test]
 fn reopened_and_reformatted() {
     let (mut image, root) = fresh(16);
-    let a = create(&mut image, root, "a", Kind::File).unwrap();
+    let a = create(&mut image, root, "a", NewKind::File).unwrap();
     image.unlink(root, "a").unwrap();
     image.reopen().unwrap();
     // the open node is lost: rule 7
@@ -45,10 +45,10 @@ fn a_refused_open_or_format_changes_nothing() {
 #[test]
 fn folders_that_are_moved() {
     let (mut image, root) = fresh(64);
-    let a = create(&mut image, root, "a", Kind::Folder).unwrap();
-    let b = create(&mut image, root, "b", Kind::Folder).unwrap();
-    create(&mut image, a, "c", Kind::Folder).unwrap();
-    create(&mut image, a, "f", Kind::File).unwrap();
+    let a = create(&mut image, root, "a", NewKind::Folder).unwrap();
+    let b = create(&mut image, root, "b", NewKind::Folder).unwrap();
+    create(&mut image, a, "c", NewKind::Folder).unwrap();
+    create(&mut image, a, "f", NewKind::File).unwrap();
     // a file to another folder, a folder within one, and moves that are refused
     image.rename(a, "f", b, "f").unwrap();
     image.rename(a, "c", a, "d").unwrap();

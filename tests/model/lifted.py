@@ -13,10 +13,10 @@ import sys
 
 TOP = pathlib.Path(__file__).resolve().parent.parent.parent
 sys.path.insert(0, str(TOP / "tests" / "beside_rust"))
-from scripts import model, packed, takes_owner
+from scripts import SOCKET, model, packed, takes_owner
 
 SHARED = TOP.parent / "shared"
-LEVEL = 7
+LEVEL = 8
 # A table's bytes without owners, and where its holds stand.
 OLD_TABLE, HOLDS = 4370, 117 * model.ROWS
 UNKNOWN = b"\5"
@@ -40,6 +40,8 @@ def named(level, name, args, line):
         return 2
     if level < 4 and slash(name, args) and " no 5 " in line:
         return 4
+    if level < 8 and name == "create" and args[3] == SOCKET and " no 6 " in line:
+        return 8
     if level < 5 and any(words in line for words in (" no 16 ", " no 3 ", "check fail rule 2 ")):
         return 5
     return None

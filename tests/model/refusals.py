@@ -1,5 +1,5 @@
 """The last part of the gate's script (gate.py), in which every reason of document 01 and of document 02's orders so far is answered, contents are
-written, read and resized, folders are moved to other folders and paths are walked, and its lines.
+written, read and resized, folders are moved to other folders, stored sockets are used and paths are walked, and its lines.
 
 Each step below says the reason that the documents give, or the bytes that a read finds; the lines, sums and all, are the independent
 model's (replay_model.py), and the port is not asked.
@@ -118,6 +118,20 @@ class Script(Builder):
         k = self.at.files.place(1, file)
         old = self.at.files.blocks[k]
         self.poke_block(k, old, sealed(old[:4] + b"lost" + old[8:]))
+
+    def socket(self, root, name):
+        """A socket as it was stored before order 8: a new file of the root gets that type from outside, in record and slot. The image is opened anew."""
+        file, folder = (self.at.table.rows[self.at.table.holds[h[0]][0]] for h in (self.ok(self.create(root, name)), root))
+        k = folder.rec.blocks - 1
+        for owner in model.OWNERS:
+            self.who = owner
+            for hold, of in enumerate(self.at.table.holds):
+                if of and of[2] == owner:
+                    self.close((hold, of[1]))
+        self.who = 1
+        self.record(file.id, "type", SOCKET)
+        self.change((1, ROOT_FILE), 264 * k + 260, SOCKET.to_bytes(4, "little"), f"set the type in slot {k} of the root to {SOCKET}")
+        return self.again()
 
     def arena(self, length):
         self.raw(b"\2" + struct.pack("<I", length), f"arena of {length} bytes")
@@ -307,6 +321,50 @@ def slashes(b):
     b.ok()
 
 
+def sockets(b):
+    """Order 8: 6 for type 4 in create, in its old place. A stored socket is found, read, written, linked, moved and unlinked, and the pair passes."""
+    root = b.fresh(40)
+    file = b.ok(b.create(root, "file"))
+    b.no(4, create(NOBODY, b"s", SOCKET))
+    b.no(5, create(root, b"/", SOCKET), create(file, b"\0", SOCKET))
+    b.no(6, create(root, b"s", SOCKET), create(file, b"s", SOCKET), create(root, b"file", SOCKET), create(root, b"n" * 256, SOCKET), create(root, b"s", SOCKET, ROOT_FILE))
+    b.ok(b.create(root, "folder", FOLDER))
+    for name in ("s", "t"):
+        root = b.socket(root, name)
+        b.check()
+        b.ok()
+    s, folder = b.ok(b.find(root, "s")), b.ok(b.find(root, "folder"))
+    b.metadata(s)
+    assert b.line.split(" ")[5] == str(SOCKET), b.line
+    b.lists(root, 0, 0, 8192, 4, 6)
+    b.call("entry", root, 4, 264)
+    b.ok()
+    b.stores("write", s, 470, b"across two blocks")
+    b.reads(s, 468, 100, b"\0\0across two blocks")
+    b.stores("resize", s, 472)
+    b.call("set", s, 511, 1, 2, TIME, TIME, TIME)
+    b.ok()
+    for name in ("u", "v"):
+        b.stores("link", folder, name.encode(), s)
+    b.no(12, ("link", folder, b"u", s), create(root, b"s"))
+    b.no(7, *takes_name(s, b"a"), ("list", s, 0, 0, 8192))
+    b.no(9, ("move", root, b"s", root, b"folder"))
+    b.no(7, ("move", root, b"folder", root, b"s"))
+    b.moves(root, "s", root, "w")
+    b.moves(root, "w", folder, "x")
+    b.moves(root, "t", folder, "u")
+    b.moves(root, "file", folder, "u")
+    b.moves(folder, "v", root, "s")
+    b.stores("unlink", root, b"s")
+    b.stores("unlink", folder, b"x")
+    b.reads(s, 469, 100, b"\0ac")
+    b.close(s)
+    b.ok()
+    b.call("sync")
+    b.check()
+    b.ok()
+
+
 def by_call(b):
     """6 to 13, 18 and 20, each from the call that has it."""
     root = b.fresh(32)
@@ -316,7 +374,7 @@ def by_call(b):
     b.ok(b.create(full, "x"))
     b.unlink(root, "gone")
     b.ok()
-    b.no(6, create(root, b"a", 0), create(root, b"a", 5), create(file, b"a", 5))
+    b.no(6, create(root, b"a", 0), create(root, b"a", 4), create(root, b"a", 5), create(file, b"a", 5))
     b.no(7, *takes_name(file, b"a"), ("entry", file, 0, 0), ("list", file, 0, 0, 0), ("move", root, b"file", file, b"a"))
     b.no(7, ("move", root, b"full", root, b"file"))
     b.no(8, *(call for call in takes_name(gone, b"a") if call[0] not in ("find", "walk")), ("find", gone, b".."), ("move", root, b"file", gone, b"a"))
@@ -487,8 +545,9 @@ def stuck(b):
 def contents(b):
     """What is written is what is read, and all other bytes stay: a file, a symlink and a socket."""
     root = b.fresh(32)
+    root = b.socket(root, "socket")
     for name, kind in (("file", FILE), ("link", SYMLINK), ("socket", SOCKET)):
-        h = b.ok(b.create(root, name, kind))
+        h = b.ok(b.find(root, name) if kind == SOCKET else b.create(root, name, kind))
         b.reads(h, 0, 10, b"")
         b.stores("write", h, 0, b"abcdefghij")
         b.sized(h, 10)
@@ -843,7 +902,7 @@ def rests(b, root):
 
 def made():
     b = Script()
-    for part in (bad_arena, damaged, bad_table, bad_owners, bad_handle, owners, bad_name, slashes, by_call, dots, taken, links, table_full, last_stamp, no_space, stuck,
+    for part in (bad_arena, damaged, bad_table, bad_owners, bad_handle, owners, bad_name, slashes, sockets, by_call, dots, taken, links, table_full, last_stamp, no_space, stuck,
                  contents, held_on, limits, device_full, torn, no_contents, carried, no_way_up, paths):
         part(b)
     b.fresh()

@@ -1,5 +1,5 @@
 #!/usr/bin/env python3
-"""An independent model of document 01's calls and of document 02's orders up to 7, for tests: a call script in, the lines a right port
+"""An independent model of document 01's calls and of document 02's orders up to 8, for tests: a call script in, the lines a right port
 prints out.
 
 Written from the documents and the readings of them in docs/DECISIONS.md, on top of arena_model.py; it shares nothing with crates/. A call
@@ -477,7 +477,7 @@ def do_find(s, h, name):
 def do_create(s, h, name, kind, mode, time, file):
     row = s.handle(h)
     new_name(name)
-    need(1 <= kind <= 4, 6)
+    need(1 <= kind <= 3, 6)
     folder_to_change(row)
     need(len(name) <= 255, 10)
     need(not s.lookup(row, name), 12)

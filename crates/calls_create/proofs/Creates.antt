@@ -5,7 +5,7 @@ use mathlib.Core.List.{List}
 use Prim.Native.Nat.{ℕ, _≤_, _<_}
 use native.Mathlib.Omega.{arith}
 use lib.ListN.{length}
-use lib.Dec.{eqb, ltb, leb}
+use lib.Dec.{eqb}
 use borrow.Author.Tests.{eq-eqb, ne-eqb}
 use Rattle.base.specs.Out.{Out, done, refused, bind, ensure, answer, Went, well, ill}
 use Rattle.base.proofs.Outs.{went-is, went-has, went-not, went-stop, went-next, went-weaken}
@@ -23,7 +23,7 @@ use Rattle.sefs.specs.Nodes.{recAt, idAt, newNode, syncRow, Opened, opened}
 use Rattle.sefs.specs.Slots.{lookup}
 use Rattle.sefs.specs.Folders.{entry, direntInit, direntAppend, nlinksInc}
 use Rattle.sefs.specs.Ask.{admit, byHandle, newName, notLong, liveFolder, orExists, start}
-use Rattle.sefs.specs.Create.{Given, birth, nameFolder, named, given, createSteps, callCreate}
+use Rattle.sefs.specs.Create.{Given, canMake, birth, nameFolder, named, given, createSteps, callCreate}
 use Rattle.mem.specs.Mem.{tableIn, Whole}
 use Rattle.mem.specs.State.{fsOf, Ready, Still, Stepped, fsAt}
 use Rattle.folders.proofs.States.{stepped-next}
@@ -65,15 +65,15 @@ moves-is s who i name kind mode time uuid =
     ∙ holding-bind who (createRest (o .state) i (o .row) name kind) (λ s. done (opened s (o .row))) (λ s. done (given s (addHold (s .table) who (o .row)))) (λ s. refl))
 
 work-is : (s : Fs) (who i : ℕ) (name : List ℕ) (kind mode : ℕ) (time : Timespec) (uuid : List ℕ) (room : Bool)
-    → bind (newName name) (λ _. bind (ensure (ltb 0 kind && leb kind 4) 6) (λ _. bind (liveFolder (recAt s i)) (λ _. bind (notLong name) (λ _. bind (lookup (s .arena) (recAt s i) name) (λ f. bind (orExists f) (λ _. bind (ensure (not (there (s .arena) (file 1 uuid))) 14) (λ _. bind (ensure (not (isFolder kind && eqb (recAt s i .nlinks) 65535)) 15) (λ _. bind (ensure room 16) (λ _. createSteps s who i name kind mode time uuid))))))))) ≡ holding who (createWork s i name kind mode time uuid room)
+    → bind (newName name) (λ _. bind (ensure (canMake kind) 6) (λ _. bind (liveFolder (recAt s i)) (λ _. bind (notLong name) (λ _. bind (lookup (s .arena) (recAt s i) name) (λ f. bind (orExists f) (λ _. bind (ensure (not (there (s .arena) (file 1 uuid))) 14) (λ _. bind (ensure (not (isFolder kind && eqb (recAt s i .nlinks) 65535)) 15) (λ _. bind (ensure room 16) (λ _. createSteps s who i name kind mode time uuid))))))))) ≡ holding who (createWork s i name kind mode time uuid room)
 unfolding createWork createAsk createFree noSlot
 work-is s who i name kind mode time uuid room =
     let k : Unit → Out Opened = λ _. createMoves s i name kind mode time uuid in
     let f : Unit → Out Opened = λ _. bind (createFree (s .arena) (recAt s i) name kind uuid room) k in
     let links : Unit → Out Unit = λ _. bind (ensure (not (isFolder kind && eqb (recAt s i .nlinks) 65535)) 15) (λ _. ensure room 16) in
     let taken : Unit → Out Unit = λ _. bind (ensure (not (there (s .arena) (file 1 uuid))) 14) links in
-    holding-both who (newName name) (λ _. bind (ensure (ltb 0 kind && leb kind 4) 6) (λ _. bind (liveFolder (recAt s i)) (λ _. notLong name))) f _ (λ _.
-    holding-both who (ensure (ltb 0 kind && leb kind 4) 6) (λ _. bind (liveFolder (recAt s i)) (λ _. notLong name)) f _ (λ _.
+    holding-both who (newName name) (λ _. bind (ensure (canMake kind) 6) (λ _. bind (liveFolder (recAt s i)) (λ _. notLong name))) f _ (λ _.
+    holding-both who (ensure (canMake kind) 6) (λ _. bind (liveFolder (recAt s i)) (λ _. notLong name)) f _ (λ _.
     holding-both who (liveFolder (recAt s i)) (λ _. notLong name) f _ (λ _.
     holding-bind who (notLong name) f _ (λ _.
     both (lookup (s .arena) (recAt s i) name) orExists _ _ (λ x. refl)
@@ -114,7 +114,7 @@ module _ (r : DiskINode) (name : List ℕ) (kind : ℕ) {m : ℕ} (e : m ≡ ans
   unfolding createAsk
   ask-name z = went-stop _ tt z (asked-went (newName name) (asks-new name) m e)
 
-  module _ (z : m ≡ 0) (b : Bool) (k : b ≡ (ltb 0 kind && leb kind 4)) where
+  module _ (z : m ≡ 0) (b : Bool) (k : b ≡ (canMake kind)) where
     pub ask-kind : b ≡ false → Went (createAsk r name kind) tt (length name ≤ 255) 6
     unfolding createAsk
     ask-kind q = ill {r = 6} (omega arith) (rw (asked-done (newName name) (asks-new name) m e z, ← k, q))

@@ -5,7 +5,7 @@ use mathlib.Core.List.{List}
 use Prim.Native.Nat.{ℕ, _<_, _≤_}
 use lib.ListN.{length}
 use lib.Dec.{eqb}
-use Rattle.structs.specs.Types.{isFolder, isType}
+use Rattle.structs.specs.Types.{isFolder}
 use Rattle.structs.specs.declared.DiskINode.{DiskINode}
 use Rattle.structs.specs.declared.Timespec.{Timespec}
 use Rattle.base.specs.Out.{Out, done, ensure, _>>=_}
@@ -18,7 +18,7 @@ use Rattle.sefs.specs.Meta.{syncMeta}
 use Rattle.sefs.specs.Nodes.{recAt, idAt, newNode, Opened, opened}
 use Rattle.sefs.specs.Folders.{entry, direntAppend}
 use Rattle.sefs.specs.Ask.{newName, notLong, liveFolder}
-use Rattle.sefs.specs.Create.{birth, named}
+use Rattle.sefs.specs.Create.{canMake, birth, named}
 use Rattle.mem.specs.Mem.{Whole}
 use Rattle.steps.specs.Steps.{noSlot, syncTwo}
 
@@ -26,7 +26,7 @@ use Rattle.steps.specs.Steps.{noSlot, syncTwo}
 unfoldable pub createAsk : DiskINode → List ℕ → ℕ → Out Unit
 createAsk r name kind = do
   _ ← newName name
-  _ ← ensure (isType kind) invalidParam
+  _ ← ensure (canMake kind) invalidParam
   _ ← liveFolder r
   notLong name
 

@@ -1,4 +1,5 @@
 // The call create. It asks and reads by the chains of `sound`, decides its steps on a view of the arena, and commits once nothing can refuse it any more.
+ghost use mathlib.Core.Path.{_≡_};
 ghost use mathlib.Core.List.{List};
 ghost use Prim.Native.Nat.{ℕ, _<_, _≤_};
 ghost use lib.ListN.{length};
@@ -6,7 +7,7 @@ ghost use Rattle.base.specs.Out.{Went};
 ghost use Rattle.overlay.specs.View.{left, Empty};
 ghost use Rattle.table.specs.Table.{canHold};
 ghost use Rattle.sefs.specs.Nodes.{opened as openedAs};
-ghost use Rattle.sefs.specs.Create.{birth as bornOf, nameFolder, named, callCreate};
+ghost use Rattle.sefs.specs.Create.{canMake, birth as bornOf, nameFolder, named, callCreate};
 ghost use Rattle.chains.specs.Led.{Led};
 ghost use Rattle.mem.specs.Mem.{tableIn, Whole};
 ghost use Rattle.calls.specs.Asked.{Admitted};
@@ -42,7 +43,6 @@ use steps::reach_read;
 use steps::sync_two;
 use structs::DiskINode;
 use structs::Timespec;
-use structs::is_type;
 use table::Handle;
 use table::Table;
 
@@ -57,6 +57,13 @@ pub struct New {
 
 // ---- 5, 6, 7, 8, 10, 12, 14, 15, 16
 
+// A file, a folder or a symlink; no socket.
+fn can_make(kind: u32) -> bool
+    ensures { λ r. ⌜ r ≡ canMake kind ⌝ }
+{
+    (0 < kind) & (kind <= 3)
+}
+
 fn create_ask(rec: DiskINode, name: &[u8], kind: u32) -> u8
     ensures { λ r. ⌜ Went (createAsk rec (now (name .entry)) kind) tt (length (now (name .entry)) ≤ 255) r ⌝ }
 {
@@ -64,7 +71,7 @@ fn create_ask(rec: DiskINode, name: &[u8], kind: u32) -> u8
     if r != 0 {
         return r;
     }
-    if !is_type(kind) {
+    if !can_make(kind) {
         return 6;
     }
     let r = live_folder(rec);

@@ -12,7 +12,7 @@ use Rattle.base.specs.Search.{pick}
 use Rattle.base.specs.declared.Found.{Found}
 use Rattle.base.specs.declared.Found.the-variants.{At, Nothing}
 use Rattle.structs.specs.Layout.{recordOf}
-use Rattle.structs.specs.Types.{isFolder, isType}
+use Rattle.structs.specs.Types.{isFolder}
 use Rattle.structs.specs.declared.Timespec.{Timespec}
 use Rattle.utf8.specs.Names.{isDots}
 use Rattle.table.specs.Table.{rowAt, rowOf, freeRow, canHold, addHold}
@@ -30,7 +30,7 @@ use Rattle.sefs.specs.Slots.{orNotFound}
 use Rattle.sefs.specs.Folders.{putSlot, direntRemove, nlinksDec, unlinkFolder, direntNodeRemove}
 use Rattle.sefs.specs.Ask.{admit, anOwner, byHandle, goodName, newName, notLong, notSpecial, known, folder, liveFolder, orExists, start}
 use Rattle.sefs.specs.Open.{holdNode, callRoot, callFind}
-use Rattle.sefs.specs.Create.{After, after, Given, createSteps, callCreate}
+use Rattle.sefs.specs.Create.{After, after, Given, canMake, createSteps, callCreate}
 use Rattle.sefs.specs.Unlink.{notFull, unlinkSteps, callUnlink}
 use Rattle.course_states.proofs.Near.{readNear, read-near, metaNear, meta-near, slotBytesNear, slot-bytes-near, lookNear, look-near, findNear, find-near}
 
@@ -128,7 +128,7 @@ unfoldable pub createNear : List ℕ → Table → ℕ → Handle → List ℕ �
 createNear a t w h name kind mode time uuid = do
   i ← byHandle t w h
   _ ← newName name
-  _ ← ensure (isType kind) invalidParam
+  _ ← ensure (canMake kind) invalidParam
   _ ← liveFolder (rowAt t i .rec)
   _ ← notLong name
   f ← lookNear a (rowAt t i .rec) name
@@ -145,7 +145,7 @@ create-near a t w h name kind mode time uuid ok =
     λ j. bind (ok j)
     (λ _. bind (byHandle t w h)
     (λ i. bind (newName name)
-    (λ _. bind (ensure (isType kind) invalidParam)
+    (λ _. bind (ensure (canMake kind) invalidParam)
     (λ _. bind (liveFolder (rowAt t i .rec))
     (λ _. bind (notLong name)
     (λ _. bind (look-near a (rowAt t i .rec) name j)

@@ -3,8 +3,8 @@ use mathlib.Core.Bool.{Bool, true, false, not, _&&_, _||_}
 use mathlib.Core.List.{List, [], _∷_}
 use Prim.Native.Nat.{ℕ}
 use lib.ListN.{length, replicate}
-use lib.Dec.{eqb, ltb}
-use Rattle.structs.specs.Types.{isFolder, isType}
+use lib.Dec.{eqb, ltb, leb}
+use Rattle.structs.specs.Types.{isFolder}
 use Rattle.structs.specs.Constants.{sefsMagic, typeDir}
 use Rattle.base.specs.Out.{Out, done, refused, ensure, _>>=_}
 use Rattle.base.specs.Reasons.{badArena, invalidParam, isDir, entryExist, fileTaken, tooManyLinks, tableFull}
@@ -73,6 +73,10 @@ callFormat a time name = do
 
 -- ---- create: 6, 7, 8, 10, 12, 14, 15, 16, then the steps
 
+-- order 8: "Creating type 4 ends." Of the four types a file, a folder and a symlink can be made
+abbrev pub canMake : ℕ → Bool
+canMake kind = ltb 0 kind && leb kind 3
+
 -- a folder is born with its two slots
 unfoldable pub birth : Fs → ℕ → ℕ → ℕ → Out Fs
 birth s i c kind = pick (isFolder kind) (direntInit s c (idAt s i)) (done s)
@@ -104,7 +108,7 @@ callCreate a t w h name kind mode time uuid = do
   _ ← admit a t
   i ← byHandle t w h
   _ ← newName name
-  _ ← ensure (isType kind) invalidParam
+  _ ← ensure (canMake kind) invalidParam
   _ ← liveFolder (rowAt t i .rec)
   _ ← notLong name
   f ← lookup a (rowAt t i .rec) name

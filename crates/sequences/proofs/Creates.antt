@@ -18,7 +18,7 @@ use Rattle.base.proofs.Numbers.{lt-or-le}
 use Rattle.base.proofs.Tests.{decides-leb}
 use Rattle.le.specs.Le.{Bytes}
 use Rattle.structs.specs.Fits.{SuperFits, RecordFits, EntryFits}
-use Rattle.structs.specs.Types.{isFolder, isType}
+use Rattle.structs.specs.Types.{isFolder}
 use Rattle.structs.specs.declared.DiskEntry.{DiskEntry}
 use Rattle.structs.specs.declared.DiskINode.{DiskINode}
 use Rattle.structs.specs.declared.Timespec.{Timespec}
@@ -39,7 +39,7 @@ use Rattle.sefs.specs.Records.{newRecord, withLinks, withBlocks}
 use Rattle.sefs.specs.Nodes.{nodeFile, Opened, syncRow, newNode}
 use Rattle.sefs.specs.Folders.{entry}
 use Rattle.sefs.specs.Ask.{start}
-use Rattle.sefs.specs.Create.{Given, given, createSteps, callCreate}
+use Rattle.sefs.specs.Create.{Given, given, canMake, createSteps, callCreate}
 use Rattle.rules.specs.Image.{storedSuper, storedMaps, isNode, storedBytes, recOf, isFolderAt}
 use Rattle.rules.specs.Rules.{Allowed}
 use Rattle.rules.proofs.Files.{node-below}
@@ -267,7 +267,7 @@ create-call p y w h name kind mode time uuid nb F =
     ok-bind (says-is (admitted a t A)) λ _ _.
     ok-bind (handle-law a t A w h) λ i u.
     ok-bind (ensure-asks (eqb (newReason (nameVerdict name)) 0) 5 (clear 5 refl)) λ _ good.
-    ok-bind (ensure-asks (isType kind) 6 (clear 6 refl)) λ _ type.
+    ok-bind (ensure-asks (canMake kind) 6 (clear 6 refl)) λ _ type.
     ok-bind (live-folder a t A i (u .used)) λ _ l.
     ok-bind (ensure-asks (leb (length name) 255) 10 (clear 10 refl)) λ _ short.
     ok-bind (new-law a t A (y .passes .typed .bytes) i (u .used) (l .0) name (good-name name good) (is-most (length name) 255 short)) λ f new.
@@ -277,7 +277,7 @@ create-call p y w h name kind mode time uuid nb F =
     ok-bind (ensure-asks (canHold t w) 16 (clear 16 refl)) λ _ can.
     ok-weaken (λ x q. q) clear-17
     (create-law a t (spelled-midway a t y) i (u .used) (l .0) (l .1) name (new none) (is-most (length name) 255 short) nb kind mode time uuid F
-    (ltb-true 0 kind (and-parts (ltb 0 kind) (leb kind 4) type .0)) (is-most kind 4 (and-parts (ltb 0 kind) (leb kind 4) type .1))
+    (ltb-true 0 kind (and-parts (ltb 0 kind) (leb kind 3) type .0)) (omega (arith, is-most kind 3 (and-parts (ltb 0 kind) (leb kind 3) type .1)))
     (not-true (there a (file 1 uuid)) absent) (below i (u .used) few) w (u .owns .owner) can)
   where
     a : List ℕ

@@ -29,7 +29,7 @@ use Rattle.table_laws.proofs.Handles.{live-means}
 use Rattle.sefs.specs.Slots.{lookup, findSlot}
 use Rattle.sefs.specs.Ask.{admit, anOwner, byHandle, goodName, newName, notLong, known, folder, liveFolder, orExists, start}
 use Rattle.sefs.specs.Open.{callRoot, callFind}
-use Rattle.sefs.specs.Create.{callCreate, callLink}
+use Rattle.sefs.specs.Create.{canMake, callCreate, callLink}
 use Rattle.sefs.specs.Unlink.{callUnlink}
 use Rattle.sefs.specs.Move.{callMove}
 use Rattle.sefs.specs.Read.{callMetadata, callSet, callEntry, callListing}
@@ -110,7 +110,7 @@ module _ (a : List ℕ) (t : Table) (w : ℕ) where
       ok-bind (says-admit (no 1 refl) (no 2 refl) (no 3 refl) a t) λ _ _.
       ok-bind (says-handle (no 6 refl) (no 4 refl) t w h) λ i _.
       ok-bind (says-ensure (eqb (newReason (nameVerdict name)) 0) 5 (no 5 refl)) λ _ _.
-      ok-bind (says-ensure (isType kind) 6 (no 6 refl)) λ _ _.
+      ok-bind (says-ensure (canMake kind) 6 (no 6 refl)) λ _ _.
       ok-bind (says-live (no 19 refl) (no 7 refl) (no 8 refl) (rowAt t i .rec)) λ _ _.
       ok-bind (says-ensure (leb (length name) 255) 10 (no 10 refl)) λ _ _.
       ok-bind (says-lookup (Fully (canHold t w)) (no 19 refl) a (rowAt t i .rec) name) λ f _.
@@ -266,7 +266,7 @@ module _ (a : List ℕ) (t u : Table) (w : ℕ) (ft : wellFormed t ≡ true) (fu
       also-then (same-handle h) λ i l.
       let q = same-rec h i l in
       also-then {m = newName name} refl λ _ _.
-      also-then {m = ensure (isType kind) 6} refl λ _ _.
+      also-then {m = ensure (canMake kind) 6} refl λ _ _.
       also-then (ap liveFolder q) λ _ _.
       also-then {m = notLong name} refl λ _ _.
       also-then (ap (λ (r : DiskINode). lookup a r name) q) λ f _.

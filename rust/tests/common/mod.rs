@@ -6,7 +6,7 @@ pub mod script;
 use std::ops::{Deref, DerefMut};
 use std::sync::atomic::{AtomicU64, Ordering};
 
-use dzomrelig::{Editor, FileName, Handle, Image, Kind, Owner, Reason, Time};
+use dzomrelig::{Editor, FileName, Handle, Image, NewKind, Owner, Reason, Time};
 use script::{way, TESTED};
 
 /// The first owner with an image of his own.
@@ -37,7 +37,7 @@ pub fn fresh(blocks: usize) -> (Mine, Handle) {
 }
 
 /// A new node, its file's name new in every call.
-pub fn create<I: DerefMut<Target = Image>>(editor: &mut Editor<I>, folder: Handle, name: &str, kind: Kind) -> Result<Handle, Reason> {
+pub fn create<I: DerefMut<Target = Image>>(editor: &mut Editor<I>, folder: Handle, name: &str, kind: NewKind) -> Result<Handle, Reason> {
     static NEXT: AtomicU64 = AtomicU64::new(1 << 32);
     editor.create(folder, name, kind, 0o644, TIME, file(NEXT.fetch_add(1, Ordering::Relaxed)))
 }

@@ -40,6 +40,8 @@ struct Plan {
     left: Option<usize>,
     /// Names with a slash are there, by pokes before the sequence: no call stores one.
     slashes: bool,
+    /// Sockets are there, by pokes before the sequence: no call makes one.
+    sockets: bool,
     /// Now and then some stored bytes are changed from outside, and the calls go on from there for a while.
     hurt: bool,
     /// No open.
@@ -47,15 +49,15 @@ struct Plan {
 }
 
 /// The plan for this seed: small and roomy images by turns; one in sixteen with the first group's map filled by pokes, one in sixteen
-/// with slashes in stored names, one in sixteen hurt, and one in 64 filled by creating, if there are calls enough.
+/// with slashes in stored names, one in sixteen with stored sockets, one in sixteen hurt, and one in 64 filled by creating, if there are calls enough.
 fn plan(seed: u64, calls: usize, dice: &mut Dice) -> Plan {
     let premise = seed % 2 == 0;
     if seed % 64 == 63 && calls >= 2500 {
         let (blocks, fill) = (2400 + dice.below(1600), 1000 + dice.below(40));
-        return Plan { blocks, names: 60, fill, left: None, slashes: false, hurt: false, premise };
+        return Plan { blocks, names: 60, fill, left: None, slashes: false, sockets: false, hurt: false, premise };
     }
     if seed % 16 == 13 {
-        return Plan { blocks: 24 + dice.below(16), names: 8, fill: 0, left: None, slashes: false, hurt: true, premise };
+        return Plan { blocks: 24 + dice.below(16), names: 8, fill: 0, left: None, slashes: false, sockets: false, hurt: true, premise };
     }
     let blocks = match seed / 2 % 4 {
         0 => 20 + dice.below(50),
@@ -64,8 +66,8 @@ fn plan(seed: u64, calls: usize, dice: &mut Dice) -> Plan {
         _ => 300,
     };
     let left = (seed % 16 == 11).then(|| dice.below(6));
-    let (slashes, names) = (seed % 16 == 5, 3 + dice.below(20));
-    Plan { blocks, names: if slashes { names.max(15) } else { names }, fill: 0, left, slashes, hurt: false, premise }
+    let (slashes, sockets, names) = (seed % 16 == 5, seed % 16 == 3, 3 + dice.below(20));
+    Plan { blocks, names: if slashes { names.max(15) } else { names }, fill: 0, left, slashes, sockets, hurt: false, premise }
 }
 
 pub struct Sequence {
@@ -97,11 +99,14 @@ pub fn sample(seed: u64, bytes: usize) -> Sequence {
     for part in seed.. {
         s.plan = plan(part, 0, &mut s.dice);
         s.plan.blocks = s.plan.blocks.min(128);
-        s.start();
-        let until = s.lines.len() + 100;
+        let (begun, until) = (s.lines.len(), s.lines.len() + 100);
         while s.lines.len() < until {
             let (script, lines) = (s.script.len(), s.lines.len());
-            s.step();
+            if lines == begun {
+                s.start();
+            } else {
+                s.step();
+            }
             if s.script.len() > bytes {
                 s.script.truncate(script);
                 s.lines.truncate(lines);
@@ -166,6 +171,9 @@ impl Sequence {
         if self.plan.slashes {
             self.slash();
         }
+        if self.plan.sockets {
+            self.sockets();
+        }
         for _ in 0..self.plan.fill {
             self.fill();
         }
@@ -183,6 +191,22 @@ impl Sequence {
         for (k, block) in arena.chunks(512).enumerate() {
             let places: Vec<usize> = (24..501).filter(|p| block[0] == 2 && block[*p..].starts_with(b"x-y")).collect();
             self.change(k, |payload| places.iter().for_each(|p| payload[p - 24 + 1] = b'/'));
+        }
+        self.call(Call::Open);
+        self.call(Call::Root);
+    }
+
+    /// Three sockets with names as `listed` has them: the Rust makes them, and the script gets what changed as pokes.
+    fn sockets(&mut self) {
+        self.close_all(0);
+        let before = self.world.arena();
+        for name in ["a0", "B0", "é0"] {
+            let (time, file) = (self.time(), self.file());
+            self.world.old_socket(name, time, file);
+        }
+        let after = self.world.arena();
+        for k in (0..after.len()).filter(|k| before[*k] != after[*k]) {
+            self.outside(Command::Poke(k, after[k]));
         }
         self.call(Call::Open);
         self.call(Call::Root);
@@ -287,7 +311,7 @@ impl Sequence {
         let live = self.world.table.own(self.who);
         let folders: Vec<Handle> = live.iter().copied().filter(|h| self.is_folder(*h)).collect();
         let h = if self.dice.once(4) { self.dice.of(&folders) } else { *folders.last().unwrap() };
-        let kind = if folders.len() < 7 && self.dice.once(60) { 2 } else { self.dice.of(&[1, 1, 3, 4]) };
+        let kind = if folders.len() < 7 && self.dice.once(60) { 2 } else { self.dice.of(&[1, 1, 3]) };
         let name = format!("node {}", self.made).into_bytes();
         let (time, file) = (self.time(), self.file());
         self.call(Call::Create(h, name, kind, 420, time, file));
@@ -473,8 +497,8 @@ impl Sequence {
 
     fn create(&mut self) -> Call {
         let h = self.folder();
-        let kind = self.dice.of(&[1, 1, 1, 1, 2, 2, 2, 2, 3, 4]);
-        let kind = if self.dice.once(80) { self.dice.of(&[0, 5, u32::MAX]) } else { kind };
+        let kind = self.dice.of(&[1, 1, 1, 1, 2, 2, 2, 2, 3, 3]);
+        let kind = if self.dice.once(80) { self.dice.of(&[0, 4, 4, 5, u32::MAX]) } else { kind };
         let name = if self.dice.once(30) { self.name(h, 3) } else { self.listed() };
         Call::Create(h, name, kind, self.dice.next() as u16, self.time(), self.file())
     }
