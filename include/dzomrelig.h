@@ -198,11 +198,17 @@ uint32_t dz_create(uint8_t *arena, size_t arena_len, uint8_t *table, size_t tabl
 uint32_t dz_link(uint8_t *arena, size_t arena_len, uint8_t *table, size_t table_len,
                  uint8_t owner, uint32_t hold, uint64_t stamp, const uint8_t *name, size_t name_len, uint32_t child_hold, uint64_t child_stamp);
 
-/* Takes a name away. The folder's last slot moves to its place. A node that is open stays until its last hold is closed.
+/* Takes the name of a file, symlink or socket away. The folder's last slot moves to its place. A node that is open stays until its last hold is closed.
  * Changes: arena, table. Reasons: BadArena, Damaged, BadTable, InvalidParam (owner), BadHandle, BadName, NotDir, DirRemoved, IsDir (`.`, `..`,
- * empty), NameTooLong, EntryNotFound, DirNotEmpty; NoDeviceSpace, Stuck. */
-uint32_t dz_unlink(uint8_t *arena, size_t arena_len, uint8_t *table, size_t table_len,
-                   uint8_t owner, uint32_t hold, uint64_t stamp, const uint8_t *name, size_t name_len);
+ * empty), NameTooLong, EntryNotFound, IsDir (a folder); NoDeviceSpace, Stuck. */
+uint32_t dz_remove_file(uint8_t *arena, size_t arena_len, uint8_t *table, size_t table_len,
+                        uint8_t owner, uint32_t hold, uint64_t stamp, const uint8_t *name, size_t name_len);
+
+/* The same of an empty folder.
+ * Changes: arena, table. Reasons: BadArena, Damaged, BadTable, InvalidParam (owner), BadHandle, BadName, NotDir, DirRemoved, IsDir (`.`, `..`,
+ * empty), NameTooLong, EntryNotFound, NotDir (no folder), DirNotEmpty; NoDeviceSpace, Stuck. */
+uint32_t dz_remove_folder(uint8_t *arena, size_t arena_len, uint8_t *table, size_t table_len,
+                          uint8_t owner, uint32_t hold, uint64_t stamp, const uint8_t *name, size_t name_len);
 
 /* The node `old_name` of a folder becomes `new_name` of the folder `to`. A node that has that name is replaced; the same node: nothing changes. The
  * `..` of a folder that goes to another folder names that one. It can't go into itself or below.
@@ -253,7 +259,7 @@ uint32_t dz_get_entry(const uint8_t *arena, size_t arena_len, const uint8_t *tab
 
 /* A folder's slots from *next on, as many as are left and the output has room for; *next, one word, becomes the slot to go on with. `dots` asks for
  * slots 0 and 1, `.` and `..`, by any value but 0. Without it a listing begins at slot 2: a *next below is read as 2, and becomes 2 plus the slots
- * written. An unlink between two listings moves slots: begin again after one.
+ * written. A removal between two listings moves slots: begin again after one.
  * Changes: *next, out. Reasons: BadArena, Damaged, BadTable, InvalidParam (owner), BadHandle, NotDir, OutFull; Stuck. */
 uint32_t dz_list(const uint8_t *arena, size_t arena_len, const uint8_t *table, size_t table_len,
                  uint8_t owner, uint32_t hold, uint64_t stamp, uint64_t *next, size_t words, uint8_t dots, uint8_t *out, size_t out_len);
@@ -292,8 +298,10 @@ uint32_t dz_own_create(uint8_t *arena, size_t arena_len, uint16_t *chains, size_
                        const uint8_t *file, size_t file_len, uint64_t *handle, size_t words);
 uint32_t dz_own_link(uint8_t *arena, size_t arena_len, uint16_t *chains, size_t chains_len, uint8_t *table, size_t table_len, uint8_t owner,
                      uint32_t hold, uint64_t stamp, const uint8_t *name, size_t name_len, uint32_t child_hold, uint64_t child_stamp);
-uint32_t dz_own_unlink(uint8_t *arena, size_t arena_len, uint16_t *chains, size_t chains_len, uint8_t *table, size_t table_len, uint8_t owner,
-                       uint32_t hold, uint64_t stamp, const uint8_t *name, size_t name_len);
+uint32_t dz_own_remove_file(uint8_t *arena, size_t arena_len, uint16_t *chains, size_t chains_len, uint8_t *table, size_t table_len, uint8_t owner,
+                            uint32_t hold, uint64_t stamp, const uint8_t *name, size_t name_len);
+uint32_t dz_own_remove_folder(uint8_t *arena, size_t arena_len, uint16_t *chains, size_t chains_len, uint8_t *table, size_t table_len, uint8_t owner,
+                              uint32_t hold, uint64_t stamp, const uint8_t *name, size_t name_len);
 uint32_t dz_own_move(uint8_t *arena, size_t arena_len, uint16_t *chains, size_t chains_len, uint8_t *table, size_t table_len, uint8_t owner,
                      uint32_t hold, uint64_t stamp, const uint8_t *old_name, size_t old_len, uint32_t to_hold, uint64_t to_stamp,
                      const uint8_t *new_name, size_t new_len);

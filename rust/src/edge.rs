@@ -31,7 +31,8 @@ extern "C" {
     fn dz_create(a: *mut u8, al: usize, t: *mut u8, tl: usize, who: u8, hold: u32, stamp: u64, name: *const u8, nl: usize, kind: u32, mode: u16,
                  sec: i64, nsec: i64, file: *const u8, fl: usize, handle: *mut u64, words: usize) -> u32;
     fn dz_link(a: *mut u8, al: usize, t: *mut u8, tl: usize, who: u8, hold: u32, stamp: u64, name: *const u8, nl: usize, child_hold: u32, child_stamp: u64) -> u32;
-    fn dz_unlink(a: *mut u8, al: usize, t: *mut u8, tl: usize, who: u8, hold: u32, stamp: u64, name: *const u8, nl: usize) -> u32;
+    fn dz_remove_file(a: *mut u8, al: usize, t: *mut u8, tl: usize, who: u8, hold: u32, stamp: u64, name: *const u8, nl: usize) -> u32;
+    fn dz_remove_folder(a: *mut u8, al: usize, t: *mut u8, tl: usize, who: u8, hold: u32, stamp: u64, name: *const u8, nl: usize) -> u32;
     fn dz_move(a: *mut u8, al: usize, t: *mut u8, tl: usize, who: u8, hold: u32, stamp: u64, old: *const u8, ol: usize, to_hold: u32, to_stamp: u64,
                new: *const u8, nl: usize) -> u32;
     fn dz_metadata(a: *const u8, al: usize, t: *const u8, tl: usize, who: u8, hold: u32, stamp: u64, metadata: *mut u64, words: usize) -> u32;
@@ -59,7 +60,8 @@ extern "C" {
                      kind: u32, mode: u16, sec: i64, nsec: i64, file: *const u8, fl: usize, handle: *mut u64, words: usize) -> u32;
     fn dz_own_link(a: *mut u8, al: usize, c: *mut u16, cl: usize, t: *mut u8, tl: usize, who: u8, hold: u32, stamp: u64, name: *const u8, nl: usize,
                    child_hold: u32, child_stamp: u64) -> u32;
-    fn dz_own_unlink(a: *mut u8, al: usize, c: *mut u16, cl: usize, t: *mut u8, tl: usize, who: u8, hold: u32, stamp: u64, name: *const u8, nl: usize) -> u32;
+    fn dz_own_remove_file(a: *mut u8, al: usize, c: *mut u16, cl: usize, t: *mut u8, tl: usize, who: u8, hold: u32, stamp: u64, name: *const u8, nl: usize) -> u32;
+    fn dz_own_remove_folder(a: *mut u8, al: usize, c: *mut u16, cl: usize, t: *mut u8, tl: usize, who: u8, hold: u32, stamp: u64, name: *const u8, nl: usize) -> u32;
     fn dz_own_move(a: *mut u8, al: usize, c: *mut u16, cl: usize, t: *mut u8, tl: usize, who: u8, hold: u32, stamp: u64, old: *const u8, ol: usize,
                    to_hold: u32, to_stamp: u64, new: *const u8, nl: usize) -> u32;
     fn dz_own_metadata(a: *const u8, al: usize, c: *const u16, cl: usize, t: *const u8, tl: usize, who: u8, hold: u32, stamp: u64,
@@ -265,13 +267,24 @@ impl Pair {
         })
     }
 
-    pub(crate) fn unlink(&mut self, who: u8, h: Handle, name: &[u8]) -> Result<(), Reason> {
+    pub(crate) fn remove_file(&mut self, who: u8, h: Handle, name: &[u8]) -> Result<(), Reason> {
         let (a, t) = (&mut self.arena, &mut self.table);
         answer(unsafe {
             match &mut self.chains {
-                Some(c) => dz_own_unlink(a.as_mut_ptr(), a.len(), c.as_mut_ptr(), c.len(), t.as_mut_ptr(), t.len(), who, h.hold, h.stamp,
+                Some(c) => dz_own_remove_file(a.as_mut_ptr(), a.len(), c.as_mut_ptr(), c.len(), t.as_mut_ptr(), t.len(), who, h.hold, h.stamp,
                                          name.as_ptr(), name.len()),
-                None => dz_unlink(a.as_mut_ptr(), a.len(), t.as_mut_ptr(), t.len(), who, h.hold, h.stamp, name.as_ptr(), name.len()),
+                None => dz_remove_file(a.as_mut_ptr(), a.len(), t.as_mut_ptr(), t.len(), who, h.hold, h.stamp, name.as_ptr(), name.len()),
+            }
+        })
+    }
+
+    pub(crate) fn remove_folder(&mut self, who: u8, h: Handle, name: &[u8]) -> Result<(), Reason> {
+        let (a, t) = (&mut self.arena, &mut self.table);
+        answer(unsafe {
+            match &mut self.chains {
+                Some(c) => dz_own_remove_folder(a.as_mut_ptr(), a.len(), c.as_mut_ptr(), c.len(), t.as_mut_ptr(), t.len(), who, h.hold, h.stamp,
+                                         name.as_ptr(), name.len()),
+                None => dz_remove_folder(a.as_mut_ptr(), a.len(), t.as_mut_ptr(), t.len(), who, h.hold, h.stamp, name.as_ptr(), name.len()),
             }
         })
     }

@@ -144,14 +144,22 @@ impl<I: DerefMut<Target = Image>> Editor<I> {
         self.image.pair.link(self.who, folder, name.as_ref(), node)
     }
 
-    /// Takes a name away; an empty folder can be unlinked too. The folder's last slot drops into the hole, so slot numbers change.
+    /// Takes the name of a file, symlink or socket away. The folder's last slot drops into the hole, so slot numbers change.
     ///
     /// A node that is open stays, and so does its number, until its last handle is closed.
     ///
-    /// Reasons: `BadHandle`, `BadName`, `NotDir`, `DirRemoved`, `IsDir` (`.`, `..`, empty), `NameTooLong`, `EntryNotFound`, `DirNotEmpty`;
+    /// Reasons: `BadHandle`, `BadName`, `NotDir`, `DirRemoved`, `IsDir` (`.`, `..`, empty), `NameTooLong`, `EntryNotFound`, `IsDir` (a folder);
     /// `NoDeviceSpace`, `Stuck`.
-    pub fn unlink(&mut self, folder: Handle, name: impl AsRef<[u8]>) -> Result<(), Reason> {
-        self.image.pair.unlink(self.who, folder, name.as_ref())
+    pub fn remove_file(&mut self, folder: Handle, name: impl AsRef<[u8]>) -> Result<(), Reason> {
+        self.image.pair.remove_file(self.who, folder, name.as_ref())
+    }
+
+    /// Takes the name of an empty folder away; all else as in [`remove_file`](Editor::remove_file).
+    ///
+    /// Reasons: `BadHandle`, `BadName`, `NotDir`, `DirRemoved`, `IsDir` (`.`, `..`, empty), `NameTooLong`, `EntryNotFound`, `NotDir` (no folder),
+    /// `DirNotEmpty`; `NoDeviceSpace`, `Stuck`.
+    pub fn remove_folder(&mut self, folder: Handle, name: impl AsRef<[u8]>) -> Result<(), Reason> {
+        self.image.pair.remove_folder(self.who, folder, name.as_ref())
     }
 
     /// The node `old` of a folder becomes `new` of the folder `to`, which may be the same. A node of that name is replaced; where it is the same node,
@@ -194,7 +202,7 @@ impl<I: Deref<Target = Image>> Editor<I> {
     /// Reads the bytes of a file, symlink or socket from a place on: as many as there are below its size and the output has room for. How many were
     /// read; the output's bytes after them stay. At the size and beyond there are none.
     ///
-    /// Bytes that were never written are zeros. A node that was unlinked can be read while it is open.
+    /// Bytes that were never written are zeros. A node that was removed can be read while it is open.
     ///
     /// Reasons: `BadHandle`, `NotFile`; `Stuck`.
     pub fn read_at(&self, handle: Handle, place: u64, out: &mut [u8]) -> Result<usize, Reason> {
@@ -245,7 +253,7 @@ impl<I: DerefMut<Target = Image>> Editor<I> {
 // ---- slots
 
 impl<I: Deref<Target = Image>> Editor<I> {
-    /// One slot of a folder. Slots 0 and 1 are `.` and `..`. A number does not stay with its name: see [`unlink`](Editor::unlink).
+    /// One slot of a folder. Slots 0 and 1 are `.` and `..`. A number does not stay with its name: see [`remove_file`](Editor::remove_file).
     ///
     /// Reasons: `BadHandle`, `NotDir`, `EntryNotFound` (no such slot); `Stuck`.
     pub fn entry(&self, folder: Handle, slot: u64) -> Result<Entry, Reason> {
@@ -272,7 +280,7 @@ impl<I: Deref<Target = Image>> Editor<I> {
         Ok(usize::try_from(written).unwrap_or(0))
     }
 
-    /// The entries of a folder, without `.` and `..`: [`entries_from`](Editor::entries_from) a [`Place::with_dots`] has them too. What an unlink does to
+    /// The entries of a folder, without `.` and `..`: [`entries_from`](Editor::entries_from) a [`Place::with_dots`] has them too. What a removal does to
     /// a folder's slots is told at [`Entries`].
     ///
     /// Reasons, as the last item: `BadHandle`, `NotDir`; `Stuck`.
@@ -287,7 +295,7 @@ impl<I: Deref<Target = Image>> Editor<I> {
         Entries::new(Editor::numbered(self, self.who), place)
     }
 
-    /// All entries of a folder as they are now, without `.` and `..`. It stays as it is, whatever is unlinked after it.
+    /// All entries of a folder as they are now, without `.` and `..`. It stays as it is, whatever is removed after it.
     ///
     /// Reasons: as [`entries`](Editor::entries).
     pub fn snapshot(&self, folder: Handle) -> Result<Vec<Entry>, Reason> {

@@ -45,7 +45,7 @@ impl Entry {
 ///
 /// Without the dots a listing begins at slot 2: a place below is read as that.
 ///
-/// A place says where to go on, not which name comes next: an unlink in the folder moves its last slot into the hole, so begin again after one.
+/// A place says where to go on, not which name comes next: a removal in the folder moves its last slot into the hole, so begin again after one.
 #[derive(Clone, Copy, PartialEq, Eq, Hash, Debug)]
 pub struct Place {
     /// The folder.
@@ -82,8 +82,8 @@ const AT_ONCE: usize = 32;
 
 /// The entries of a folder in the order of their slots, as [`Editor::entries`] gives them.
 ///
-/// It borrows the image, so no slot can move while it is in use. Between two iterators one can: an unlink, or a move out of the folder, drops the
-/// folder's last slot into the hole. Who wants to unlink while walking takes a [snapshot](Editor::snapshot) first, and goes by the names in it.
+/// It borrows the image, so no slot can move while it is in use. Between two iterators one can: a removal, or a move out of the folder, drops the
+/// folder's last slot into the hole. Who wants to remove names while walking takes a [snapshot](Editor::snapshot) first, and goes by the names in it.
 ///
 /// A refusal is the last item. The entries before it have been given.
 #[derive(Clone)]

@@ -92,7 +92,7 @@ impl Image {
 
     /// The image's bytes; its handles are gone. As with [`bytes`](Image::bytes), [`sync`](Image::sync) first.
     ///
-    /// A node that was unlinked and is still open stays used in the bytes, and the checker's rule 7 fails there: [`close`](Editor::close) it first.
+    /// A node that was removed and is still open stays used in the bytes, and the checker's rule 7 fails there: [`close`](Editor::close) it first.
     pub fn into_bytes(self) -> Vec<u8> {
         let (arena, _) = self.pair.into_parts();
         arena

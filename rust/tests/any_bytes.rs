@@ -51,7 +51,8 @@ fn call(image: &mut Image, n: &mut Numbers, known: &mut Vec<Handle>) -> bool {
         1..=3 => image.find(h, name(n)).map(Some),
         4 | 5 => image.create_numbered(h, name(n), n.below(6) as u32, n.next() as u16, TIME, file(n.below(50))).map(Some),
         6 => image.link(h, name(n), g).map(|()| None),
-        7 => image.unlink(h, name(n)).map(|()| None),
+        7 if n.below(2) == 0 => image.remove_file(h, name(n)).map(|()| None),
+        7 => image.remove_folder(h, name(n)).map(|()| None),
         8 => image.rename(h, name(n), g, name(n)).map(|()| None),
         9 => image.metadata(h).map(|_| None),
         10 => image.set_metadata(h, &Attributes { mode: n.next() as u16, ..Attributes::default() }).map(|()| None),
@@ -95,7 +96,7 @@ fn grown() -> (Mine, Vec<Handle>) {
     let a = create(&mut image, root, "a", NewKind::File).unwrap();
     let b = create(&mut image, sub, "b", NewKind::Symlink).unwrap();
     image.link(folder, "c", a).unwrap();
-    image.unlink(root, "a").unwrap();
+    image.remove_file(root, "a").unwrap();
     image.write_at(a, 470, "outline of a glyph").unwrap();
     image.write_at(b, 0, "../c").unwrap();
     (image, vec![root, folder, sub, a, b])

@@ -37,10 +37,10 @@ fn bytes_go_out_and_come_in() {
 }
 
 #[test]
-fn an_open_unlinked_node_is_closed_before_the_bytes_are_kept() {
+fn an_open_removed_node_is_closed_before_the_bytes_are_kept() {
     let (mut image, root) = fresh(16);
     let a = create(&mut image, root, "a", NewKind::File).unwrap();
-    image.unlink(root, "a").unwrap();
+    image.remove_file(root, "a").unwrap();
     image.sync().unwrap();
     assert!(image.check().is_ok());
     assert_eq!(Image::checked(image.bytes()).unwrap_err(), Unfit::Fails(FailedRule::Links));
@@ -110,11 +110,11 @@ fn root_and_find() {
 #[test]
 fn walk_by_path() {
     let (mut image, root) = fresh(64);
-    let masters = create(&mut image, root, "masters", Kind::Folder).unwrap();
-    let glyph = create(&mut image, masters, "a", Kind::File).unwrap();
+    let masters = create(&mut image, root, "masters", NewKind::Folder).unwrap();
+    let glyph = create(&mut image, masters, "a", NewKind::File).unwrap();
     for (n, (name, target)) in (1..).zip([("regular", "../masters/a"), ("bold", "/masters/a")]) {
-        let folder = create(&mut image, root, name, Kind::Folder).unwrap();
-        let link = image.create(folder, "a", Kind::Symlink, 0o777, TIME, file(n)).unwrap();
+        let folder = create(&mut image, root, name, NewKind::Folder).unwrap();
+        let link = image.create(folder, "a", NewKind::Symlink, 0o777, TIME, file(n)).unwrap();
         image.write_at(link, 0, target).unwrap();
         let mut links = [238; 16];
         let found = image.walk(root, format!("{name}/a"), &mut links).unwrap();
@@ -132,7 +132,7 @@ fn walk_by_path() {
         image.close(found).unwrap();
     }
     // the rest of a path goes on where a target runs out
-    image.create(root, "m", Kind::Symlink, 0o777, TIME, file(9)).and_then(|m| image.write_at(m, 0, "./masters")).unwrap();
+    image.create(root, "m", NewKind::Symlink, 0o777, TIME, file(9)).and_then(|m| image.write_at(m, 0, "./masters")).unwrap();
     let found = image.walk(root, "m/../m/a", &mut [0; 18]).unwrap();
     assert_eq!(image.metadata(found), image.metadata(glyph));
     assert!(image.check().is_ok());
@@ -159,7 +159,7 @@ fn create_each_kind() {
 }
 
 #[test]
-fn link_unlink_rename() {
+fn link_remove_rename() {
     let (mut image, root) = fresh(32);
     let a = create(&mut image, root, "a", NewKind::File).unwrap();
     let d = create(&mut image, root, "d", NewKind::Folder).unwrap();
@@ -173,11 +173,11 @@ fn link_unlink_rename() {
     assert_eq!(names(&image, root), ["a", "d", "c"]);
     image.rename(root, "c", d, "c").unwrap();
     assert_eq!((names(&image, root), names(&image, d)), (vec!["a".into(), "d".into()], vec!["c".into()]));
-    image.unlink(d, "c").unwrap();
-    image.unlink(root, "d").unwrap();
+    image.remove_file(d, "c").unwrap();
+    image.remove_folder(root, "d").unwrap();
     assert_eq!(image.metadata(d).unwrap().links, 0);
     image.close(d).unwrap();
-    image.unlink(root, "a").unwrap();
+    image.remove_file(root, "a").unwrap();
     // an open node without a name may get one again
     assert_eq!(image.metadata(a).unwrap().links, 0);
     image.link(root, "again", a).unwrap();
@@ -344,12 +344,12 @@ fn shrunk_and_grown() {
 }
 
 #[test]
-fn contents_of_an_unlinked_node() {
+fn contents_of_a_removed_node() {
     let (mut image, root) = fresh(32);
     let a = create(&mut image, root, "a", NewKind::File).unwrap();
     let free = image.check().unwrap().free;
     image.write_at(a, 0, outline(100)).unwrap();
-    image.unlink(root, "a").unwrap();
+    image.remove_file(root, "a").unwrap();
     has(&image, a, &outline(100));
     image.write_at(a, 100, outline(900)).unwrap();
     image.resize(a, 90).unwrap();
@@ -414,7 +414,7 @@ fn four_owners() {
     let his = ben.find(his_root, "a").unwrap();
     assert_eq!(ben.read_to_vec(his).unwrap(), b"outline");
     assert_eq!(ben.link(his_root, "b", a), Err(Reason::BadHandle));
-    ben.unlink(his_root, "a").unwrap();
+    ben.remove_file(his_root, "a").unwrap();
     assert_eq!(ben.close(a), Err(Reason::BadHandle));
     ben.close(his).unwrap();
     // a reader shares the image, and asks for its owner's handles
@@ -506,18 +506,18 @@ fn dots_are_asked_for() {
 }
 
 #[test]
-fn unlink_drops_the_last_slot_into_the_hole() {
+fn removal_drops_the_last_slot_into_the_hole() {
     let (mut image, root) = fresh(32);
     for name in ["a", "b", "c"] {
         create(&mut image, root, name, NewKind::File).unwrap();
     }
     let before = image.snapshot(root).unwrap();
-    image.unlink(root, "a").unwrap();
+    image.remove_file(root, "a").unwrap();
     assert_eq!(names(&image, root), ["c", "b"]);
     assert_eq!(before.len(), 3);
-    // by the names of a snapshot, all can be unlinked while walking
+    // by the names of a snapshot, all can be removed while walking
     for entry in image.snapshot(root).unwrap() {
-        image.unlink(root, &entry.name).unwrap();
+        image.remove_file(root, &entry.name).unwrap();
     }
     assert_eq!(image.snapshot(root), Ok(vec![]));
 }

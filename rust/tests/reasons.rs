@@ -4,14 +4,14 @@ mod common;
 use common::damage::{self, record, superblock, table};
 use common::{create, file, fresh, mine, names, Mine, ROOT_FILE, TIME};
 use dzomrelig::{
-    Attributes, Editor, FailedRule, Handle, Image, Kind, NewKind, NoReason, Place, Reason, Unfit, BLOCK, FILE_LONGEST, LINKS_MOST, NAME_LONGEST,
-    OWN_HOLDS, SLOT, TABLE,
+    Attributes, Editor, FailedRule, Handle, Image, Kind, NewKind, NoReason, Place, Reason, Unfit, BLOCK, FILE_LONGEST, LINKS_MOST,
+    NAME_LONGEST, OWN_HOLDS, SLOT, TABLE,
 };
 
 type Call = fn(&mut Mine, Handle, &[u8]) -> Option<Reason>;
 
 /// The calls that take a table: those with no handle, those with one (of any node, with contents, of a folder), and those with a name beside it.
-const CALLS: [Call; 20] = [
+const CALLS: [Call; 21] = [
     |i, _, _| i.root().err(),
     |i, _, _| i.sync().err(),
     |i, h, _| i.metadata(h).err(),
@@ -29,7 +29,8 @@ const CALLS: [Call; 20] = [
     |i, h, name| i.walk(h, name, &mut [0; 8]).err(),
     |i, h, name| i.create(h, name, NewKind::File, 0, TIME, file(1)).err(),
     |i, h, name| i.link(h, name, h).err(),
-    |i, h, name| i.unlink(h, name).err(),
+    |i, h, name| i.remove_file(h, name).err(),
+    |i, h, name| i.remove_folder(h, name).err(),
     |i, h, name| i.rename(h, name, h, "b").err(),
     |i, h, name| i.rename(h, "b", h, name).err(),
 ];
@@ -162,12 +163,12 @@ fn bad_name() {
     // names of other scripts, and one of 255 bytes
     for name in ["é", "字", "𝒻", &"n".repeat(NAME_LONGEST)] {
         let made = create(&mut image, root, name, NewKind::File).unwrap();
-        image.unlink(root, name).unwrap();
+        image.remove_file(root, name).unwrap();
         image.close(made).unwrap();
     }
 }
 
-/// A slash in a new name, before all that follows; stored ones are found, listed, renamed and unlinked.
+/// A slash in a new name, before all that follows; stored ones are found, listed, renamed and removed.
 #[test]
 fn slashes() {
     let (mut image, root) = fresh(32);
@@ -181,7 +182,8 @@ fn slashes() {
     }
     for name in ["a/b", "/"] {
         no(i, Reason::EntryNotFound, |i| i.find(root, name));
-        no(i, Reason::EntryNotFound, |i| i.unlink(root, name));
+        no(i, Reason::EntryNotFound, |i| i.remove_file(root, name));
+        no(i, Reason::EntryNotFound, |i| i.remove_folder(root, name));
         no(i, Reason::EntryNotFound, |i| i.rename(root, name, root, "b"));
     }
     for name in ["c-d", "e-f"] {
@@ -200,7 +202,7 @@ fn slashes() {
     let found = i.find(root, "c/d").unwrap();
     i.close(found).unwrap();
     i.rename(root, "c/d", root, "cd").unwrap();
-    i.unlink(root, "e/f").unwrap();
+    i.remove_file(root, "e/f").unwrap();
     assert_eq!(names(i, root), ["a", "cd"]);
     assert!(i.check().is_ok());
 }
@@ -216,7 +218,7 @@ fn invalid_param() {
     image.create_numbered(root, "a", 3, 0, TIME, file(1)).unwrap();
 }
 
-/// Type 4 in a create, in the place of a type that is none; stored sockets are found, read, written, linked, renamed and unlinked.
+/// Type 4 in a create, in the place of a type that is none; stored sockets are found, read, written, linked, renamed and removed.
 #[test]
 fn sockets() {
     let (mut image, root) = fresh(32);
@@ -239,7 +241,7 @@ fn sockets() {
     assert_eq!(i.read_to_vec(s).unwrap(), b"\0bytes");
     i.link(root, "b", s).unwrap();
     i.rename(root, "a", root, "c").unwrap();
-    i.unlink(root, "b").unwrap();
+    i.remove_file(root, "b").unwrap();
     assert_eq!(names(i, root), ["c"]);
     i.close(s).unwrap();
     assert!(i.check().is_ok());
@@ -279,7 +281,7 @@ fn by_call() {
     let gone = create(i, root, "gone", NewKind::Folder).unwrap();
     let full = create(i, root, "full", NewKind::Folder).unwrap();
     create(i, full, "x", NewKind::File).unwrap();
-    i.unlink(root, "gone").unwrap();
+    i.remove_folder(root, "gone").unwrap();
 
     all_no(i, Reason::NotDir, leaf, b"a", FOLDERS);
     no(i, Reason::NotDir, |i| i.rename(root, "leaf", leaf, "a"));
@@ -290,7 +292,8 @@ fn by_call() {
     no(i, Reason::DirRemoved, |i| i.rename(root, "leaf", gone, "a"));
 
     for name in ["", ".", ".."] {
-        no(i, Reason::IsDir, |i| i.unlink(root, name));
+        no(i, Reason::IsDir, |i| i.remove_file(root, name));
+        no(i, Reason::IsDir, |i| i.remove_folder(root, name));
         no(i, Reason::IsDir, |i| i.rename(root, name, root, "a"));
         no(i, Reason::IsDir, |i| i.rename(root, "leaf", root, name));
     }
@@ -300,7 +303,8 @@ fn by_call() {
     all_no(i, Reason::NameTooLong, root, &[b'n'; NAME_LONGEST + 1], NAMES);
 
     no(i, Reason::EntryNotFound, |i| i.find(root, "a"));
-    no(i, Reason::EntryNotFound, |i| i.unlink(root, "a"));
+    no(i, Reason::EntryNotFound, |i| i.remove_file(root, "a"));
+    no(i, Reason::EntryNotFound, |i| i.remove_folder(root, "a"));
     no(i, Reason::EntryNotFound, |i| i.rename(root, "a", root, "b"));
     no(i, Reason::EntryNotFound, |i| i.entry(root, 4));
     no(i, Reason::EntryNotFound, |i| i.entry(root, u64::MAX));
@@ -310,7 +314,10 @@ fn by_call() {
         no(i, Reason::EntryExist, |i| i.link(root, name, leaf));
     }
 
-    no(i, Reason::DirNotEmpty, |i| i.unlink(root, "full"));
+    // the call for the other kind: after EntryNotFound, before DirNotEmpty
+    no(i, Reason::IsDir, |i| i.remove_file(root, "full"));
+    no(i, Reason::NotDir, |i| i.remove_folder(root, "leaf"));
+    no(i, Reason::DirNotEmpty, |i| i.remove_folder(root, "full"));
     create(i, root, "other", NewKind::Folder).unwrap();
     no(i, Reason::DirNotEmpty, |i| i.rename(root, "other", root, "full"));
 
@@ -388,12 +395,12 @@ fn walks() {
     let (mut image, root) = fresh(64);
     let i = &mut image;
     for (n, (name, target)) in (1..).zip([("a", "b/none"), ("here", "."), ("round", "round"), ("bad", "x//y"), ("empty", "")]) {
-        let link = i.create(root, name, Kind::Symlink, 0o777, TIME, file(n)).unwrap();
+        let link = i.create(root, name, NewKind::Symlink, 0o777, TIME, file(n)).unwrap();
         i.write_at(link, 0, target).unwrap();
         i.close(link).unwrap();
     }
-    let b = create(i, root, "b", Kind::Folder).unwrap();
-    let leaf = create(i, b, "leaf", Kind::File).unwrap();
+    let b = create(i, root, "b", NewKind::Folder).unwrap();
+    let leaf = create(i, b, "leaf", NewKind::File).unwrap();
     let mut stops = |reason, h, path: &str, room, targets: &str| {
         let mut links = vec![238; room];
         no(i, reason, |i| i.walk(h, path, &mut links));
@@ -420,8 +427,8 @@ fn walks() {
     no(i, Reason::TableFull, |i| i.walk(root, "here/b/leaf", &mut links));
     assert_eq!(links[0], b'.');
     no(i, Reason::EntryNotFound, |i| i.walk(root, "a", &mut links));
-    i.unlink(b, "leaf").unwrap();
-    i.unlink(root, "b").unwrap();
+    i.remove_file(b, "leaf").unwrap();
+    i.remove_folder(root, "b").unwrap();
     no(i, Reason::DirRemoved, |i| i.walk(b, "..", &mut []));
     i.close(folders[0]).unwrap();
     i.walk(b, "/here", &mut links).unwrap();
@@ -515,7 +522,8 @@ fn stuck() {
     let mut image = mine(Image::untrusted(bytes.clone()).unwrap());
     let root = image.root().unwrap();
     no(&mut image, Reason::Stuck, |i| i.find(root, "a"));
-    no(&mut image, Reason::Stuck, |i| i.unlink(root, "a"));
+    no(&mut image, Reason::Stuck, |i| i.remove_file(root, "a"));
+    no(&mut image, Reason::Stuck, |i| i.remove_folder(root, "a"));
     assert_eq!(image.check(), Err(FailedRule::Nodes));
     // type 0 can be found, and has no metadata
     record(&mut bytes, 3, damage::TYPE, &[0]);

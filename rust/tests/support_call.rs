@@ -14,12 +14,12 @@ fn a_number_stays_taken_while_a_handle_is_open() {
     let ann = create(&mut image.editor(ANN), root, "a", NewKind::File).unwrap();
     let outline = image.editor(ANN).metadata(ann).unwrap().inode;
 
-    // Ben opens a too, and unlinks it
+    // Ben opens a too, and removes it
     let his_root = image.editor(BEN).root().unwrap();
     let ben = image.editor(BEN).find(his_root, "a").unwrap();
     assert_ne!(ann, ben);
     assert_eq!(image.editor(BEN).metadata(ben).unwrap().inode, outline);
-    image.editor(BEN).unlink(his_root, "a").unwrap();
+    image.editor(BEN).remove_file(his_root, "a").unwrap();
     assert_eq!(image.editor(ANN).metadata(ann).unwrap().links, 0);
     assert_eq!(image.editor(ANN).find(root, "a"), Err(Reason::EntryNotFound));
 
@@ -53,7 +53,7 @@ fn a_slot_number_does_not_stay_put() {
         create(&mut image, root, name, NewKind::File).unwrap();
     }
     assert_eq!(image.entry(root, 2).unwrap().name, b"a");
-    image.unlink(root, "a").unwrap();
+    image.remove_file(root, "a").unwrap();
     assert_eq!(image.entry(root, 2).unwrap().name, b"c");
     assert_eq!(image.metadata(root).unwrap().size, 4);
 }

@@ -45,8 +45,8 @@ fn edit(image: &Mutex<Image>, me: Owner) {
         kept.sort();
         assert_eq!(there, kept);
         if round % 3 != 0 {
-            // unlinked while it is open: the number stays this editor's
-            call().unlink(folder, &name).unwrap();
+            // removed while it is open: the number stays this editor's
+            call().remove_file(folder, &name).unwrap();
             assert_eq!(call().metadata(found).unwrap().inode, id);
             kept.retain(|k| *k != name);
         }
@@ -138,7 +138,7 @@ fn small_stack() {
         let b = create(&mut image, root, "b", NewKind::File).unwrap();
         image.link(root, "c", b).unwrap();
         image.rename(root, "c", a, "d").unwrap();
-        image.unlink(a, "d").unwrap();
+        image.remove_file(a, "d").unwrap();
         image.write_at(b, 470, "outline of a glyph").unwrap();
         image.resize(b, 481).unwrap();
         assert_eq!(image.read_to_vec(b).unwrap().len(), 481);

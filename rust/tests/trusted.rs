@@ -23,7 +23,7 @@ fn formatted_and_checked() {
 fn reopened_and_reformatted() {
     let (mut image, root) = fresh(16);
     let a = create(&mut image, root, "a", NewKind::File).unwrap();
-    image.unlink(root, "a").unwrap();
+    image.remove_file(root, "a").unwrap();
     image.reopen().unwrap();
     // the open node is lost: rule 7
     assert!(!image.is_trusted());
@@ -81,7 +81,8 @@ fn both(trusted: &mut Image, tested: &mut Image, n: &mut Numbers, known: &mut Ve
             1 | 2 => image.find(h, x).map(Some),
             3 | 4 => image.create_numbered(h, x, kind, mode, TIME, file(number)).map(Some),
             5 => image.link(h, x, g).map(|()| None),
-            6 => image.unlink(h, x).map(|()| None),
+            6 if mode % 2 == 0 => image.remove_file(h, x).map(|()| None),
+            6 => image.remove_folder(h, x).map(|()| None),
             7 => image.rename(h, x, g, y).map(|()| None),
             8 => image.metadata(h).map(|m| Some(Handle { hold: m.inode, stamp: m.size })),
             9 => image.set_metadata(h, &Attributes { mode, ..Attributes::default() }).map(|()| None),

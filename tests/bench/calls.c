@@ -20,8 +20,9 @@ bool bench_sound(in arena, size_t len);
 void plain_read(in blocks, size_t place, uint8_t *out, size_t len);
 void plain_write(uint8_t *blocks, size_t place, in data, size_t len);
 
-enum { ALL = 19 };
-static const char *const KINDS[ALL] = {"format", "open", "root", "find", "create", "link", "unlink", "move", "metadata", "set", "entry", "list", "sync", "close", "check", "read", "write", "resize", "walk"};
+// a kind is its command's byte less 16
+enum { ALL = 22 };
+static const char *const KINDS[ALL] = {"format", "open", "root", "find", "create", "link", 0, "move", "metadata", "set", "entry", "list", "sync", "close", "check", 0, "read", "write", "resize", "walk", "remove-file", "remove-folder"};
 static uint8_t arena[DZ_BLOCK * DZ_BLOCKS_MOST], table[DZ_TABLE], out[8192], *script, *at;
 static uint64_t words[DZ_METADATA_WORDS];
 static uint16_t chains[DZ_CHAINS];
@@ -76,7 +77,7 @@ static uint32_t call(int kind)
     in name = 0, new;
     if (kind > 1 && kind != 12) who = (uint8_t)number(1);
     if (kind > 2 && kind != 12) hold = (uint32_t)number(4), stamp = number(8);
-    if ((kind >= 3 && kind <= 7) || kind == 18) l = number(2), name = bytes(l);
+    if ((kind >= 3 && kind <= 7) || kind >= 19) l = number(2), name = bytes(l);
     switch (kind) {
     case 0: time_of(t); return dz_format(ARENA, TABLE, t[0], t[1], bytes(16), 16);
     case 1: return dz_open(ARENA, TABLE);
@@ -84,7 +85,6 @@ static uint32_t call(int kind)
     case 3: return CALL(find, who, hold, stamp, name, l, words, DZ_HANDLE_WORDS);
     case 4: to = (uint32_t)number(4), k = number(2), time_of(t), new = bytes(16); return CALL(create, who, hold, stamp, name, l, to, (uint16_t)k, t[0], t[1], new, 16, words, DZ_HANDLE_WORDS);
     case 5: to = (uint32_t)number(4), tos = number(8); return CALL(link, who, hold, stamp, name, l, to, tos);
-    case 6: return CALL(unlink, who, hold, stamp, name, l);
     case 7: to = (uint32_t)number(4), tos = number(8), o = number(2), new = bytes(o); return CALL(move, who, hold, stamp, name, l, to, tos, new, o);
     case 8: return CALL(metadata, who, hold, stamp, words, DZ_METADATA_WORDS);
     case 9: k = number(2), tos = number(8), o = number(8), time_of(t), time_of(t + 2), time_of(t + 4); return CALL(set_metadata, who, hold, stamp, (uint16_t)k, tos, o, t[0], t[1], t[2], t[3], t[4], t[5]);
@@ -92,11 +92,13 @@ static uint32_t call(int kind)
     case 11: words[0] = number(8), k = number(1), o = number(2); return CALL(list, who, hold, stamp, words, DZ_NEXT_WORDS, (uint8_t)k, out, o);
     case 12: return own ? dz_own_sync(ARENA, CHAINS, TABLE) : dz_sync(ARENA, TABLE);
     case 13: return CALL(close, who, hold, stamp);
-    case 15: k = number(8), o = number(2); return CALL(read, who, hold, stamp, k, out, o, words, DZ_READ_WORDS);
-    case 16: k = number(8), o = number(2), new = bytes(o); return CALL(write, who, hold, stamp, k, new, o);
-    case 17: k = number(8); return CALL(resize, who, hold, stamp, k);
-    case 18: o = number(2); return CALL(walk, who, hold, stamp, name, l, out, o, words, DZ_HANDLE_WORDS);
-    default: fprintf(stderr, "calls: %s is not timed\n", KINDS[kind]); exit(2);
+    case 16: k = number(8), o = number(2); return CALL(read, who, hold, stamp, k, out, o, words, DZ_READ_WORDS);
+    case 17: k = number(8), o = number(2), new = bytes(o); return CALL(write, who, hold, stamp, k, new, o);
+    case 18: k = number(8); return CALL(resize, who, hold, stamp, k);
+    case 19: o = number(2); return CALL(walk, who, hold, stamp, name, l, out, o, words, DZ_HANDLE_WORDS);
+    case 20: return CALL(remove_file, who, hold, stamp, name, l);
+    case 21: return CALL(remove_folder, who, hold, stamp, name, l);
+    default: fprintf(stderr, "calls: byte %d is not timed\n", kind + 16); exit(2);
     }
 }
 
@@ -111,8 +113,7 @@ static void play(size_t size, uint64_t *count)
             memset(arena, 0, len);
             continue;
         }
-        // commands from 32 on follow 16 to 30
-        int kind = byte - (byte < 32 ? 16 : 17);
+        int kind = byte - 16;
         double from = now();
         uint32_t r = call(kind);
         spent[kind] += now() - from;

@@ -90,12 +90,12 @@ def script(blocks, rounds):
         s.put(33, h, struct.pack("<QH", 0, 400), b"outline." * 50)
         s.put(32, h, struct.pack("<QH", 0, 400))
         s.put(34, h, struct.pack("<Q", 0))
-        # link, moves and unlink in the folder that fills the image
+        # link, moves and remove-file in the folder that fills the image
         s.put(21, root, s.name(b"link"), h)
         s.put(23, root, s.name(b"link"), folder, s.name(b"other"))
         s.put(23, folder, s.name(b"other"), root, s.name(b"there"))
-        s.put(22, root, s.name(b"there"))
-        s.put(22, root, s.name(b"new"))
+        s.put(36, root, s.name(b"there"))
+        s.put(36, root, s.name(b"new"))
         s.close(h)
         s.put(26, root, struct.pack("<QH", 2, 264))
         s.put(27, root, struct.pack("<QBH", 0, 1, 8192))

@@ -28,7 +28,7 @@ def fits(said, got):
 class Counts:
     def __init__(self):
         self.same, self.left, self.unsaid = collections.Counter(), collections.Counter(), collections.Counter()
-        self.differences = []
+        self.both, self.differences = 0, []
 
     def compare(self, name, rust, other):
         """The lines of one script; stops at the first difference, since what follows would only repeat it."""
@@ -51,6 +51,7 @@ class Counts:
             else:
                 ok = fits(said, got)
                 if mark == "=":
+                    self.both += rule == "lookup_follow"
                     self.same[call, " ".join(said.split(" ")[1:3]) if " no " in said else "ok"] += 1
                 else:
                     self.left[rule, call] += 1
@@ -69,6 +70,7 @@ class Counts:
         print(f"sequences {scripts}, calls {calls}")
         print(f"compared with the Rust {sum(self.same.values())}: {by(self.same, 0)}")
         print(f"  their answers: {by(self.same, 1)}")
+        print(f"  of its walks, by lookup_follow too: {self.both}")
         print(f"left out by a rule, the answer that the documents give compared {sum(self.left.values())}: {by(self.left, 0)}")
         print(f"left out by a rule, no answer said {sum(self.unsaid.values())}: {by(self.unsaid, 0)}")
         print(f"differences {len(self.differences)}")

@@ -67,8 +67,11 @@ class Builder:
     def link(self, h, name, node):
         self.call("link", h, raw(name), node, words=f"{shown(h)} {quoted(name)} node {shown(node)}")
 
-    def unlink(self, h, name):
-        self.call("unlink", h, raw(name), words=f"{shown(h)} {quoted(name)}")
+    def remove_file(self, h, name):
+        self.call("remove-file", h, raw(name), words=f"{shown(h)} {quoted(name)}")
+
+    def remove_folder(self, h, name):
+        self.call("remove-folder", h, raw(name), words=f"{shown(h)} {quoted(name)}")
 
     def move(self, h, old, to, new):
         self.call("move", h, raw(old), to, raw(new), words=f"{shown(h)} {quoted(old)} to {shown(to)} {quoted(new)}")

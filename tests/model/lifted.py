@@ -1,7 +1,7 @@
 #!/usr/bin/env python3
 """lifted.py: the scripts of earlier levels (../shared/vectors, and ../shared/vectors-02 below the newest level) as scripts of the newest one, in
-target/lifted/LEVEL, for tests/vectors: owner 1 asks each call and has each live hold of a table, and listings ask for the dots. Where the format was
-broken it is broken again.
+target/lifted/LEVEL, for tests/vectors: owner 1 asks each call and has each live hold of a table, listings ask for the dots, and an unlink is the one of order
+9's two calls that takes what is there. Where the format was broken it is broken again.
 
 The lines are the model's (replay_model.py; the port is not asked), held against the NAME.expected of the script's own level: they are the same, but
 for the sum of a table that had no owners, for calls that a later order names (`named`), and for what follows such a call until format or open have
@@ -13,13 +13,15 @@ import sys
 
 TOP = pathlib.Path(__file__).resolve().parent.parent.parent
 sys.path.insert(0, str(TOP / "tests" / "beside_rust"))
-from scripts import SOCKET, model, packed, takes_owner
+from scripts import SOCKET, followed, model, packed, takes_owner
 
 SHARED = TOP.parent / "shared"
-LEVEL = 8
+LEVEL = 9
 # A table's bytes without owners, and where its holds stand.
 OLD_TABLE, HOLDS = 4370, 117 * model.ROWS
 UNKNOWN = b"\5"
+# The byte of the call that order 9 split.
+UNLINK = 22
 
 
 def folder_of(level):
@@ -47,16 +49,17 @@ def named(level, name, args, line):
     return None
 
 
-def since(byte):
-    """The level from which on this byte is a command."""
-    return 0 if byte < 32 else 1 if byte < 35 else 7
+def last_of(level):
+    """The last command's byte at that level."""
+    return 30 if level < 1 else 34 if level < 7 else 35 if level < 9 else 37
 
 
 def shapes_of(level):
     """What follows a command's byte, at that level: owners from 5 on, the mark for the dots from 6 on."""
     late = "pd" if level < 5 else "d" if level < 6 else ""
     without = str.maketrans("", "", late)
-    return {name: shape.translate(without) for name, shape in model.SHAPES.items() if level >= since(model.BYTES[name])}
+    shapes = {**model.SHAPES, "unlink": model.SHAPES["remove-file"]} if level < 9 else model.SHAPES
+    return {name: shape.translate(without) for name, shape in shapes.items() if model.BYTES.get(name, UNLINK) <= last_of(level)}
 
 
 def with_owners(table):
@@ -65,26 +68,48 @@ def with_owners(table):
     return table[:HOLDS] + b"".join(model.HOLD.pack(row, stamp, stamp != 0) for row, stamp in holds) + table[-8:]
 
 
-def lifted(level, data):
-    """Such a script, and its calls."""
-    made, calls = [], []
+def removes(at, who, h, name):
+    """The call that removes what has this name, as things stand; where nothing has it, either will do."""
     try:
-        for name, args in model.Script(data, shapes_of(level), OLD_TABLE if level < 5 else model.TABLE_BYTES).commands():
+        step = model.Step(at.files, at.table, who)
+        row = step.handle(h)
+        found = row.rec.type == model.FOLDER and step.lookup(row, name)
+        return "remove-folder" if found and step.record(model.u32(found[0], 0)).type == model.FOLDER else "remove-file"
+    except (model.Refused, AttributeError):
+        return "remove-file"
+
+
+def lifted(level, data):
+    """Such a script, its calls, and the model's lines."""
+    made, calls, lines, at = [], [], [], model.Model()
+    named = {**model.NAMED, UNLINK: "unlink"} if level < 9 else model.NAMED
+    try:
+        for name, args in model.Script(data, shapes_of(level), OLD_TABLE if level < 5 else model.TABLE_BYTES, named).commands():
             if level < 5 and name == "table":
                 args = with_owners(*args),
-            if name in model.NAMES:
+            if name == "unlink":
+                args = (1, *args) if level < 5 else args
+                at.is_sound()
+                name = removes(at, *args)
+            elif name in model.NAMES:
                 args = (1, *args) if level < 5 and takes_owner(name) else args
                 args = (*args[:3], 1, *args[3:]) if level < 6 and name == "list" else args
+            if name in model.NAMES:
                 calls.append((name, args))
+                lines.append(at.run(name, args))
+            else:
+                followed(at, name, args)
             made.append(packed(name, args))
     except model.BadScript:
         made.append(UNKNOWN)
         calls.append(("bad script", ()))
-    return b"".join(made), calls
+        lines.append("bad script")
+    return b"".join(made), calls, lines
 
 
-def told(level, line):
-    """A line, without the sum of a table that had no owners."""
+def told(level, line, name):
+    """A line of the call that has this name now, without the sum of a table that had no owners."""
+    line = name + line.removeprefix("unlink") if line.startswith("unlink ") else line
     return line.rsplit(" t ", 1)[0] if level < 5 else line
 
 
@@ -94,7 +119,7 @@ def counted(level, script, now, calls):
     before = script.with_suffix(".expected").read_text().splitlines()
     assert len(now) == len(before) == len(calls), script
     for number, (old, line, (name, args)) in enumerate(zip(before, now, calls), 1):
-        if told(level, old) == told(level, line):
+        if told(level, old, name) == told(level, line, name):
             same += 1
             lost = lost and name not in ("format", "open")
         elif lost:
@@ -114,8 +139,7 @@ def main():
         to.mkdir(parents=True, exist_ok=True)
         total, orders, after, scripts = 0, {}, 0, sorted(folder_of(level).glob("*.script"))
         for script in scripts:
-            data, calls = lifted(level, script.read_bytes())
-            now = list(model.lines(data))
+            data, calls, now = lifted(level, script.read_bytes())
             (to / script.name).write_bytes(data)
             (to / script.with_suffix(".expected").name).write_text("".join(line + "\n" for line in now))
             same, own, later = counted(level, script, now, calls)

@@ -162,9 +162,14 @@ def looks(h, name=b"a"):
             ("list", h, 0, 0, 8192), ("read", h, 0, 8), ("walk", h, name, 8))
 
 
+def removals(h, name):
+    """The two calls of order 9."""
+    return ("remove-file", h, name), ("remove-folder", h, name)
+
+
 def changes(h, name=b"a"):
     """Every call that takes a table and may change the arena."""
-    return (create(h, name), ("link", h, name, h), ("unlink", h, name), ("move", h, name, h, b"b"), ("sync",), ("close", h),
+    return (create(h, name), ("link", h, name, h), *removals(h, name), ("move", h, name, h, b"b"), ("sync",), ("close", h),
             ("write", h, 0, b"a"), ("resize", h, 1))
 
 
@@ -178,7 +183,7 @@ def takes_table(h):
 
 
 def takes_name(h, name):
-    return (("find", h, name), create(h, name), ("link", h, name, h), ("unlink", h, name), ("move", h, name, h, b"b"),
+    return (("find", h, name), create(h, name), ("link", h, name, h), *removals(h, name), ("move", h, name, h, b"b"),
             ("move", h, b"b", h, name), ("walk", h, name, 8))
 
 
@@ -267,9 +272,9 @@ def owners(b):
     b.no(4, ("link", hers, b"b", mine), ("link", root, b"b", hers), ("move", hers, b"a", mine, b"b"), ("move", mine, b"a", hers, b"b"))
     found = b.ok(b.find(hers, "a"))
     b.ok(b.create(found, "x"))
-    b.unlink(found, "x")
+    b.remove_file(found, "x")
     b.ok()
-    b.unlink(hers, "a")
+    b.remove_folder(hers, "a")
     b.ok()
     b.close(found)
     b.ok()
@@ -292,17 +297,17 @@ def bad_name(b):
 
 
 def slashes(b):
-    """Order 4: 5 for a slash in a new name, in its old place. Stored ones are found, listed, unlinked and moved away, and the pair passes."""
+    """Order 4: 5 for a slash in a new name, in its old place. Stored ones are found, listed, removed and moved away, and the pair passes."""
     root = b.fresh(32)
     a = b.ok(b.create(root, "a"))
     b.no(4, create(NOBODY, b"/"), ("link", root, b"/", NOBODY), ("move", root, b"a", NOBODY, b"/"))
     for name in (b"/", b"a/b", b"/" * 300, "é/".encode()):
         b.no(5, create(root, name), create(root, name, 5), create(a, name), ("link", root, name, a), ("link", a, name, root),
              ("move", root, b"a", root, name), ("move", root, b"none", root, name), ("move", root, b"..", a, name))
-    b.no(11, ("find", root, b"a/b"), ("unlink", root, b"a/b"), ("move", root, b"a/b", root, b"b"))
-    b.no(10, ("find", root, b"/" * 256), ("unlink", root, b"/" * 256), ("move", root, b"/" * 256, root, b"b"))
-    b.no(7, ("find", a, b"a/b"), ("unlink", a, b"a/b"))
-    for name, way in (("c-d", "unlink"), ("e-f", "move")):
+    b.no(11, ("find", root, b"a/b"), *removals(root, b"a/b"), ("move", root, b"a/b", root, b"b"))
+    b.no(10, ("find", root, b"/" * 256), *removals(root, b"/" * 256), ("move", root, b"/" * 256, root, b"b"))
+    b.no(7, ("find", a, b"a/b"), *removals(a, b"a/b"))
+    for name, way in (("c-d", "remove-file"), ("e-f", "move")):
         b.close(b.ok(b.create(root, name)))
         b.change((1, ROOT_FILE), 264 * 3 + 5, b"/", "set a slash in slot 3's name")
         name = name.replace("-", "/")
@@ -314,7 +319,7 @@ def slashes(b):
         b.ok()
         b.list(root)
         b.ok()
-        b.call(way, *((root, name.encode()) if way == "unlink" else (root, name.encode(), root, b"b")))
+        b.call(way, *((root, name.encode()) if way != "move" else (root, name.encode(), root, b"b")))
         b.ok()
         b.no(11, ("find", root, name.encode()))
     b.check()
@@ -322,7 +327,7 @@ def slashes(b):
 
 
 def sockets(b):
-    """Order 8: 6 for type 4 in create, in its old place. A stored socket is found, read, written, linked, moved and unlinked, and the pair passes."""
+    """Order 8: 6 for type 4 in create, in its old place. A stored socket is found, read, written, linked, moved and removed, and the pair passes."""
     root = b.fresh(40)
     file = b.ok(b.create(root, "file"))
     b.no(4, create(NOBODY, b"s", SOCKET))
@@ -355,8 +360,9 @@ def sockets(b):
     b.moves(root, "t", folder, "u")
     b.moves(root, "file", folder, "u")
     b.moves(folder, "v", root, "s")
-    b.stores("unlink", root, b"s")
-    b.stores("unlink", folder, b"x")
+    b.no(7, ("remove-folder", root, b"s"))
+    b.stores("remove-file", root, b"s")
+    b.stores("remove-file", folder, b"x")
     b.reads(s, 469, 100, b"\0ac")
     b.close(s)
     b.ok()
@@ -372,19 +378,21 @@ def by_call(b):
     gone = b.ok(b.create(root, "gone", FOLDER))
     full = b.ok(b.create(root, "full", FOLDER))
     b.ok(b.create(full, "x"))
-    b.unlink(root, "gone")
+    b.remove_folder(root, "gone")
     b.ok()
     b.no(6, create(root, b"a", 0), create(root, b"a", 4), create(root, b"a", 5), create(file, b"a", 5))
     b.no(7, *takes_name(file, b"a"), ("entry", file, 0, 0), ("list", file, 0, 0, 0), ("move", root, b"file", file, b"a"))
     b.no(7, ("move", root, b"full", root, b"file"))
     b.no(8, *(call for call in takes_name(gone, b"a") if call[0] not in ("find", "walk")), ("find", gone, b".."), ("move", root, b"file", gone, b"a"))
     for name in (b".", b"..", b""):
-        b.no(9, ("unlink", root, name), ("move", root, name, root, b"a"), ("move", root, b"file", root, name))
+        b.no(9, *removals(root, name), ("move", root, name, root, b"a"), ("move", root, b"file", root, name))
     b.no(9, ("link", root, b"a", full), ("move", root, b"file", root, b"full"))
     b.no(10, *takes_name(root, b"n" * 256))
-    b.no(11, ("find", root, b"a"), ("unlink", root, b"a"), ("move", root, b"a", root, b"b"), ("entry", root, 4, 264), ("entry", root, 4, 0))
+    b.no(11, ("find", root, b"a"), *removals(root, b"a"), ("move", root, b"a", root, b"b"), ("entry", root, 4, 264), ("entry", root, 4, 0))
     b.no(12, create(root, b"file"), ("link", root, b"full", file), create(root, b""))
-    b.no(13, ("unlink", root, b"full"))
+    b.no(13, ("remove-folder", root, b"full"))
+    b.no(9, ("remove-file", root, b"full"))
+    b.no(7, ("remove-folder", root, b"file"))
     b.ok(b.create(root, "other", FOLDER))
     b.no(13, ("move", root, b"other", root, b"full"))
     b.no(20, ("entry", root, 0, 263), ("list", root, 0, 0, 263), ("list", root, 0, 1, 263), ("entry", root, 3, 0), ("list", root, 3, 0, 0))
@@ -392,6 +400,49 @@ def by_call(b):
         b.fresh()
         b.superblock(field, value)
         b.no(18, ("open",))
+
+
+def two_keys(b):
+    """Order 9: 9 for a folder from remove-file, 7 for anything else from remove-folder; both after 11 and before 13."""
+    root = b.fresh(48)
+    kinds = (("file", FILE), ("link", SYMLINK), ("empty", FOLDER), ("full", FOLDER))
+    made = {name: b.ok(b.create(root, name, kind)) for name, kind in kinds}
+    b.close(b.ok(b.create(made["full"], "x")))
+    for name in ("file", "link"):
+        b.no(7, ("remove-folder", root, name.encode()))
+    for name in ("empty", "full"):
+        b.no(9, ("remove-file", root, name.encode()))
+    b.no(13, ("remove-folder", root, b"full"))
+    b.no(11, *removals(root, b"x"), *removals(root, b"/"))
+    b.no(9, *removals(root, b"."), *removals(root, b".."), *removals(root, b""))
+    b.link(root, "again", made["file"])
+    b.ok()
+    for call, name in (("remove-file", b"file"), ("remove-file", b"link"), ("remove-folder", b"empty"), ("remove-file", b"again")):
+        b.stores(call, root, name)
+        b.no(11, *removals(root, name))
+    b.stores("remove-file", made["full"], b"x")
+    b.stores("remove-folder", root, b"full")
+    b.no(8, *removals(made["full"], b"x"))
+    for h in made.values():
+        b.close(h)
+        b.ok()
+    b.check()
+    assert free_in(b.line) == 41, b.line
+    # the record's type decides, not the slot's; type 0 is no folder; a folder of one slot sticks after 7 alone
+    root = b.fresh()
+    for name in ("a", "b"):
+        b.close(b.ok(b.create(root, name, FOLDER)))
+    b.record(3, "type", 0)
+    b.record(4, "blocks", 1)
+    root = b.again()
+    b.no(7, ("remove-folder", root, b"a"))
+    b.no(9, ("remove-file", root, b"b"))
+    b.no(19, ("remove-folder", root, b"b"))
+    b.record(3, "links", 0)
+    b.no(7, ("remove-folder", root, b"a"))
+    b.record(3, "links", 1)
+    b.remove_file(root, "a")
+    b.ok()
 
 
 def dots(b):
@@ -478,7 +529,7 @@ def last_stamp(b):
     b.close(root)
     b.table(table_bytes([(2 ** 25, 1, record(FOLDER, 2, 3, ROOT_FILE)), (4, 0, record(5, 1, 0, ROOT_FILE))], [(0, 1, 1), (1, 2, 1)], 2 ** 64 - 2))
     b.no(19, *takes_contents((1, 2)), *takes_contents((1, 2), 2 ** 64 - 1, b"a"))
-    b.no(17, ("sync",), ("unlink", (0, 1), b"a"), ("close", (0, 1)))
+    b.no(17, ("sync",), ("remove-file", (0, 1), b"a"), ("close", (0, 1)))
     b.ok(b.root())
     for b.who in (2, 1):
         b.no(16, ("root",))
@@ -512,24 +563,24 @@ def stuck(b):
     b.close(b.create(root, "a"))
     b.record(3, "type", 5)
     root = b.again()
-    b.no(19, ("find", root, b"a"), ("unlink", root, b"a"))
+    b.no(19, ("find", root, b"a"), *removals(root, b"a"))
     b.record(3, "type", 0)
     a = b.ok(b.find(root, "a"))
     b.no(19, ("metadata", a), ("link", root, b"b", a), create(a, b"b"), ("move", root, b"a", root, b"a"))
     b.close(a)
     b.record(3, "type", FILE)
     b.record(3, "file", b"m" * 16)
-    b.no(19, ("find", root, b"a"), ("unlink", root, b"a"))
+    b.no(19, ("find", root, b"a"), *removals(root, b"a"))
     root = b.fresh()
     b.close(b.create(root, "a"))
     b.superblock("unused", 2 ** 32 - 1)
-    b.no(19, ("unlink", root, b"a"))
+    b.no(19, ("remove-file", root, b"a"))
     b.map(0, bytes([0xF9]), "set the first map byte to 249 (0 free)")
     b.no(19, create(root, b"b"))
     b.map(0, bytes([0xFC]), "set the first map byte to 252 (2 free)")
     b.no(19, ("root",), ("find", root, b"."), create(root, b"b"))
     b.superblock("groups", 5)
-    b.no(19, ("root",), ("find", root, b"a"), ("unlink", root, b"a"), create(root, b"b"))
+    b.no(19, ("root",), ("find", root, b"a"), *removals(root, b"a"), create(root, b"b"))
     b.change((1, ROOT_FILE), 264 * 2 + 4, b"\xff", "set the first byte of slot 2's name to 255")
     b.no(19, *takes_name(root, b"b"), ("entry", root, 2, 264), ("list", root, 0, 0, 8192), ("list", root, 0, 1, 8192))
     b.fresh()
@@ -599,7 +650,7 @@ def held_on(b):
     root = b.fresh(32)
     a = b.ok(b.create(root, "a"))
     b.stores("write", a, 0, b"before")
-    b.unlink(root, "a")
+    b.remove_file(root, "a")
     b.ok()
     b.reads(a, 0, 100, b"before")
     b.stores("write", a, 1000, b"after")
@@ -737,7 +788,7 @@ def carried(b):
     b.moves(c, "d", e, "d")
     b.moves(a, "e", root, "e")
     b.leads(d, 6)
-    b.unlink(root, "f")
+    b.remove_folder(root, "f")
     b.ok()
     b.no(8, ("move", root, b"e", c, b"x"))
     b.check()
@@ -817,6 +868,16 @@ def paths(b):
     arrives(b, root)
     stopped(b, root)
     rests(b, b.again())
+    link_folder(b)
+
+
+def link_folder(b):
+    """A relative target starts at the link's folder, and not at root or where the walk began."""
+    root = b.fresh()
+    a = b.ok(b.create(root, "a", FOLDER))
+    b.symlink(a, "l", ".")
+    b.walks(root, "a/l", 3, ".")
+    b.walks(a, "l", 3, ".")
 
 
 def arrives(b, root):
@@ -860,7 +921,7 @@ def stopped(b, root):
     file = b.ok(b.walk(root, "rel"))
     b.stops(7, file, "x")
     gone = b.ok(b.create(root, "gone", FOLDER))
-    b.unlink(root, "gone")
+    b.remove_folder(root, "gone")
     b.ok()
     b.stops(8, gone, "..")
     b.walks(gone, ".", 17)
@@ -902,7 +963,7 @@ def rests(b, root):
 
 def made():
     b = Script()
-    for part in (bad_arena, damaged, bad_table, bad_owners, bad_handle, owners, bad_name, slashes, sockets, by_call, dots, taken, links, table_full, last_stamp, no_space, stuck,
+    for part in (bad_arena, damaged, bad_table, bad_owners, bad_handle, owners, bad_name, slashes, sockets, by_call, two_keys, dots, taken, links, table_full, last_stamp, no_space, stuck,
                  contents, held_on, limits, device_full, torn, no_contents, carried, no_way_up, paths):
         part(b)
     b.fresh()

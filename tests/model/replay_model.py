@@ -1,5 +1,5 @@
 #!/usr/bin/env python3
-"""An independent model of document 01's calls and of document 02's orders up to 8, for tests: a call script in, the lines a right port
+"""An independent model of document 01's calls and of document 02's orders up to 9, for tests: a call script in, the lines a right port
 prints out.
 
 Written from the documents and the readings of them in docs/DECISIONS.md, on top of arena_model.py; it shares nothing with crates/. A call
@@ -517,7 +517,8 @@ def do_link(s, h, name, other):
     return ()
 
 
-def do_unlink(s, h, name):
+def removed(s, h, name, folder):
+    """Order 9: 000's unlink of a folder, or of what is none."""
     row = s.handle(h)
     good_names(name)
     folder_to_change(row)
@@ -526,12 +527,23 @@ def do_unlink(s, h, name):
     found = s.lookup(row, name)
     need(found, 11)
     child = s.open_node(u32(found[0], 0))
-    if is_folder(child.rec):
+    if folder:
+        need(is_folder(child.rec), 7)
         need(child.rec.blocks >= 2, 19)
         need(child.rec.blocks == 2, 13)
+    else:
+        need(not is_folder(child.rec), 9)
     s.remove_node(row, child, found[1])
     s.store(row)
     return ()
+
+
+def do_remove_file(s, h, name):
+    return removed(s, h, name, False)
+
+
+def do_remove_folder(s, h, name):
+    return removed(s, h, name, True)
 
 
 def climb(s, target, id):
@@ -851,18 +863,17 @@ class Checker:
 
 # ---------------------------------------------------------------- scripts
 
-NAMES = ("format", "open", "root", "find", "create", "link", "unlink", "move", "metadata", "set", "entry", "list", "sync", "close", "check",
-         "read", "write", "resize", "walk")
-BYTES = dict(zip(NAMES, (*range(16, 31), *range(32, 36))))
+NAMES = ("format", "open", "root", "find", "create", "link", "move", "metadata", "set", "entry", "list", "sync", "close", "check",
+         "read", "write", "resize", "walk", "remove-file", "remove-folder")
+BYTES = dict(zip(NAMES, (*range(16, 22), *range(23, 31), *range(32, 38))))
 NAMED = {byte: name for name, byte in BYTES.items()}
-DOES = {"root": do_root, "find": do_find, "create": do_create, "link": do_link, "unlink": do_unlink, "move": do_move,
-        "metadata": do_metadata, "set": do_set, "sync": do_sync, "close": do_close, "write": do_write, "resize": do_resize,
-        "walk": do_walk}
+DOES = {"root": do_root, "find": do_find, "create": do_create, "link": do_link, "move": do_move, "metadata": do_metadata, "set": do_set,
+        "sync": do_sync, "close": do_close, "write": do_write, "resize": do_resize, "walk": do_walk, "remove-file": do_remove_file, "remove-folder": do_remove_folder}
 OUTPUTS = {"entry": entry_slots, "list": list_slots, "read": read_bytes}
 # What follows a command's byte; p, the owner who asks, stands first where there is one, d says whether the dots are asked for, and l is a path.
-SHAPES = {"format": "tf", "open": "", "root": "p", "find": "phn", "create": "phn42tf", "link": "phnh", "unlink": "phn", "move": "phnhn",
+SHAPES = {"format": "tf", "open": "", "root": "p", "find": "phn", "create": "phn42tf", "link": "phnh", "move": "phnhn",
           "metadata": "ph", "set": "ph288ttt", "entry": "ph8o", "list": "ph8do", "sync": "", "close": "ph", "check": "",
-          "read": "ph8o", "write": "ph8w", "resize": "ph8", "walk": "phlo"}
+          "read": "ph8o", "write": "ph8w", "resize": "ph8", "walk": "phlo", "remove-file": "phn", "remove-folder": "phn"}
 
 
 class BadScript(Exception):
@@ -870,8 +881,8 @@ class BadScript(Exception):
 
 
 class Script:
-    def __init__(self, data, shapes=SHAPES, table=TABLE_BYTES):
-        self.data, self.at, self.shapes, self.table = data, 0, shapes, table
+    def __init__(self, data, shapes=SHAPES, table=TABLE_BYTES, named=NAMED):
+        self.data, self.at, self.shapes, self.table, self.named = data, 0, shapes, table, named
 
     def bytes(self, n):
         if self.at + n > len(self.data):
@@ -916,8 +927,8 @@ class Script:
                 yield "poke", (self.number(4), self.number(1))
             elif byte == 4:
                 yield "table", (self.bytes(self.table),)
-            elif NAMED.get(byte) in self.shapes:
-                name = NAMED[byte]
+            elif self.named.get(byte) in self.shapes:
+                name = self.named[byte]
                 yield name, tuple(self.item(shape) for shape in self.shapes[name])
             else:
                 raise BadScript

@@ -2,17 +2,16 @@
 use mathlib.Core.Path.{_≡_, refl, sym, _∙_, ap}
 use mathlib.Core.Bool.{Bool, true, false, not, _&&_}
 use mathlib.Core.List.{List}
-use Prim.Native.Nat.{ℕ, zero, suc, _<_, _≤_, _*_}
+use Prim.Native.Nat.{ℕ, _<_}
 use native.Mathlib.Omega.{arith}
 use lib.ListN.{length, replicate, getD-replicate}
 use lib.Dec.{eqb, ltb, leb}
 use Rattle.base.specs.Out.{Out, done, refused, bind, ensure, answer, Ok, went, said, Went, well, ill}
-use Rattle.base.specs.Reasons.{badTable, invalidParam}
+use Rattle.base.specs.Reasons.{invalidParam}
 use Rattle.base.specs.Search.{pick, foundBelow}
 use Rattle.base.specs.declared.Found.{Found}
 use Rattle.base.specs.declared.Found.the-variants.{At, Nothing}
-use Rattle.base.proofs.Bools.{bool-cases}
-use Rattle.base.proofs.Outs.{ok-bind, bind-assoc, above-zero, went-is, went-has, went-not, went-weaken}
+use Rattle.base.proofs.Outs.{ok-bind, above-zero, went-is, went-has, went-not}
 use Rattle.base.proofs.Searches.{at-found}
 use Rattle.structs.specs.Types.{isFolder, isType}
 use Rattle.structs.specs.declared.DiskINode.{DiskINode}

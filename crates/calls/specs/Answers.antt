@@ -1,6 +1,5 @@
 -- The calls' answers: the case that an outcome gives, and document 01's number for every case, 0 where the call was done.
 use mathlib.Core.Path.{_≡_}
-use mathlib.Core.Bool.{Bool, true, false}
 use mathlib.Core.List.{List}
 use Prim.Native.Nat.{ℕ, _/_, _<_}
 use lib.ListN.{length}

@@ -2,7 +2,7 @@
 use mathlib.Core.Path.{_≡_, refl, sym, _∙_, ap, subst}
 use mathlib.Core.Bool.{true, false, not, _&&_}
 use mathlib.Core.List.{List}
-use Prim.Native.Nat.{ℕ, _<_, _≤_}
+use Prim.Native.Nat.{ℕ, _<_}
 use native.Mathlib.Omega.{arith}
 use lib.ListN.{length}
 use lib.Dec.{eqb, ltb, leb}
@@ -28,7 +28,7 @@ use Rattle.calls.specs.declared.HeldReply.{HeldReply}
 use Rattle.calls.specs.declared.Handed.{Handed}
 use Rattle.calls.proofs.Answers.{given-held, given-refused}
 use Rattle.calls.proofs.Asks.{Asks, asks-ensure, asks-then, asks-owner, asked-not, asked-done, call-stop, call-next, answer-stop, answer-next}
-use Rattle.calls.proofs.General.{went-last, went-as}
+use Rattle.calls.proofs.General.{went-last}
 use Rattle.calls_find.specs.Finds.{Gives, giveNode, giveNamed, notOrphan, findName, findFolder, findAsk, findId, findIn}
 use Rattle.mem.specs.State.{fsAt}
 

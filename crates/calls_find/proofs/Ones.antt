@@ -10,7 +10,7 @@ use Rattle.sefs.specs.Open.{callRoot, callFind}
 use Rattle.calls.specs.declared.HeldReply.{HeldReply}
 use Rattle.calls_find.specs.Finds.{Gives}
 
-gives-one : (t : Table) (o : Out Added) (r s : HeldReply) → Gives t o r → Gives t o s → r ≡ s
+pub gives-one : (t : Table) (o : Out Added) (r s : HeldReply) → Gives t o r → Gives t o s → r ≡ s
 gives-one t o r s p q = λ x. record { answer = (p .0 ∙ sym (q .0)) x; table = (p .1 ∙ sym (q .1)) x }
 
 pub root-one : (a : List ℕ) (t : Table) (who : ℕ) (r s : HeldReply) → Gives t (callRoot a t who) r → Gives t (callRoot a t who) s → r ≡ s

@@ -7,7 +7,7 @@ use lib.ListN.{length}
 use lib.Dec.{ltb}
 use Rattle.structs.specs.Types.{isFolder}
 use Rattle.structs.specs.declared.DiskINode.{DiskINode}
-use Rattle.base.specs.Out.{Out, done, refused, ensure, _>>=_}
+use Rattle.base.specs.Out.{Out, ensure, _>>=_}
 use Rattle.base.specs.Reasons.{isDir, tooManyLinks}
 use Rattle.arena.specs.Blocks.{legal}
 use Rattle.sefs.specs.State.{Fs}

@@ -10,9 +10,9 @@ use native.Mathlib.Omega.{arith}
 use lib.ListN.{length, length-append}
 use lib.Dec.{ltb}
 use borrow.Author.Tests.{lt-ltb, le-ltb}
-use Rattle.base.specs.Out.{Out, done, refused, bind, ensure, guard, answer, Went, well, ill}
-use Rattle.base.specs.Parts.{part, paste, back}
-use Rattle.base.proofs.Lists.{length-paste, paste-paste}
+use Rattle.base.specs.Out.{Out, done, refused, bind, ensure, Went, well, ill}
+use Rattle.base.specs.Parts.{paste, back}
+use Rattle.base.proofs.Lists.{paste-paste}
 use Rattle.base.proofs.Outs.{went-is, went-has, went-not, above-zero, bind-is-done}
 use Rattle.le.specs.Le.{leAt}
 use Rattle.structs.specs.Layout.{entryOf}
@@ -20,7 +20,7 @@ use Rattle.structs.specs.declared.DiskINode.{DiskINode}
 use Rattle.utf8.specs.Names.{storedName}
 use Rattle.sefs.specs.Slots.{slotBytes, isEnded}
 use Rattle.sefs.specs.Read.{namedSlot, listSlot, listTo}
-use Rattle.calls.specs.Answers.{Laid, lay, leave}
+use Rattle.calls.specs.Answers.{Laid, lay}
 use Rattle.calls.proofs.Outputs.{laid-is}
 use Rattle.calls_list.specs.List.{whether}
 

@@ -1,6 +1,6 @@
 // A folder's slots, as the listing reads them: all are known to be readable before one is written. `end` is the end of the folder's file.
 ghost use mathlib.Core.Path.{_≡_};
-ghost use Prim.Native.Nat.{ℕ, _+_, _*_, _≤_};
+ghost use Prim.Native.Nat.{_+_, _*_, _≤_};
 ghost use lib.ListN.{length};
 ghost use Rattle.base.specs.Out.{Went, done};
 ghost use Rattle.sefs.specs.Nodes.{nodeFile};

@@ -6,12 +6,11 @@ use Prim.Native.Nat.{ℕ, _≤_}
 use native.Mathlib.Omega.{arith}
 use lib.Dec.{eqb, ltb}
 use borrow.Author.Tests.{ltb-true}
-use Rattle.base.specs.Out.{Out, done, refused, bind, Went, ill}
+use Rattle.base.specs.Out.{done, bind, Went, ill}
 use Rattle.base.proofs.Bools.{and-parts}
 use Rattle.base.proofs.Outs.{went-is, went-not, above-zero}
 use Rattle.structs.specs.Layout.{superOf}
 use Rattle.structs.specs.declared.SuperBlock.{SuperBlock}
-use Rattle.table.specs.declared.Table.{Table}
 use Rattle.table.specs.Table.{emptyTable}
 use Rattle.files.specs.Read.{readFile}
 use Rattle.sefs.specs.Meta.{metaFile, loadMaps}

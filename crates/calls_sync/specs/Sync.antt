@@ -11,7 +11,7 @@ use Rattle.files.specs.Read.{there, present}
 use Rattle.files.specs.Store.{touched}
 use Rattle.sefs.specs.State.{Fs}
 use Rattle.sefs.specs.Meta.{metaFile}
-use Rattle.mem.specs.Mem.{tableIn, metaIn, Whole}
+use Rattle.mem.specs.Mem.{Whole}
 use Rattle.mem.specs.State.{fsAt}
 
 -- whether o can be done is answered with r: 0, and then P holds of what it leaves; or its reason

@@ -2,12 +2,12 @@
 use mathlib.Core.Path.{_≡_, refl, sym, ap, _∙_}
 use mathlib.Core.Bool.{Bool, true, false}
 use mathlib.Core.List.{List}
-use Prim.Native.Nat.{ℕ, zero, suc, _+_, _≤_, _<_}
+use Prim.Native.Nat.{ℕ, suc, _+_, _≤_, _<_}
 use native.Mathlib.Omega.{arith}
 use lib.ListN.{length}
 use lib.Dec.{ltb}
 use borrow.Author.Tests.{lt-ltb}
-use Rattle.base.specs.Out.{done, refused, Went, well, ill}
+use Rattle.base.specs.Out.{done, Went, well, ill}
 use Rattle.base.specs.Parts.{tab}
 use Rattle.base.specs.Search.{pick}
 use Rattle.base.proofs.Lists.{length-tab}

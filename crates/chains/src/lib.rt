@@ -3,7 +3,7 @@
 pub mod slots;
 
 ghost use mathlib.Core.Path.{_≡_};
-ghost use Prim.Native.Nat.{ℕ, _+_, _<_, _≤_, _%_};
+ghost use Prim.Native.Nat.{_+_, _<_, _≤_, _%_};
 ghost use lib.ListN.{length};
 ghost use Rattle.base.specs.Out.{Went};
 ghost use Rattle.base.specs.Parts.{tab};

@@ -25,8 +25,8 @@ use Rattle.fsck.specs.declared.Verdict.{Verdict}
 use Rattle.fsck.specs.declared.Verdict.the-variants as verdicts
 use Rattle.course_states.specs.Worlds.{epoch, uuid, editor}
 use Rattle.course_states.proofs.States.{handle, rootTable, freshArena, aWorld, bWorld, cWorld}
-use Rattle.cheats.specs.Cheats.{CreateHolds, CreateBroken, CreateRefuses, CreateConstant, CreateStoresNothing, UnlinkHolds, UnlinkBroken, UnlinkRefuses, UnlinkConstant, UnlinkStoresNothing, onward, TwoHold, OnlyFirst, FindHolds, FindBroken, FindRefuses, FindConstant, CreateFindHolds, BlindFind, CheckBroken, PassesAll, FailsAll, InventsNodes, InventsUnused, InventsFree}
-use Rattle.cheats.proofs.Inputs.{byte, createA, a-done, createEmpty, empty-refused, b-done, fresh-five, a-five, a-seven, b-seven, find-before, find-after, unlinkA, unlinkEmpty, gone-answer, c-length, gone-length, unlink-empty}
+use Rattle.cheats.specs.Cheats.{CreateHolds, CreateBroken, CreateRefuses, CreateConstant, CreateStoresNothing, RemoveHolds, RemoveBroken, RemoveRefuses, RemoveConstant, RemoveStoresNothing, onward, TwoHold, OnlyFirst, FindHolds, FindBroken, FindRefuses, FindConstant, CreateFindHolds, BlindFind, CheckBroken, PassesAll, FailsAll, InventsNodes, InventsUnused, InventsFree}
+use Rattle.cheats.proofs.Inputs.{byte, createA, a-done, createEmpty, empty-refused, b-done, fresh-five, a-five, a-seven, b-seven, find-before, find-after, removeA, removeEmpty, gone-answer, c-length, gone-length, remove-empty}
 use Rattle.cheats.proofs.Counts.{empty-fails, fresh-verdict, a-verdict}
 
 -- ---- what create's contract says where the definition is done, and where it is refused
@@ -63,25 +63,25 @@ unfolding CreateStoresNothing CreateBroken CreateHolds createA
 create-stores port h =
     (createA, λ c. omega (arith, ap (byte 2560) (held-arena c _ a-done), ap (byte 2560) (h createA), fresh-five, a-five))
 
--- ---- unlink
+-- ---- remove-file
 
 not-done : (x : Answer) (n : ℕ) → x ≡ answers.Done → x ≡ answers.Refused n → ⊥
 not-done x n p q = let z : _≡_ {A = ℕ} 0 1 = cc in omega arith
 
-pub unlink-refuses : UnlinkRefuses
-unfolding UnlinkRefuses UnlinkBroken UnlinkHolds unlinkA
-unlink-refuses port h = (unlinkA, λ c. not-done (port unlinkA .after .answer) (h unlinkA .0) (ap (λ (x : Reply). x .answer) (c .answer) ∙ gone-answer) (h unlinkA .1))
+pub remove-refuses : RemoveRefuses
+unfolding RemoveRefuses RemoveBroken RemoveHolds removeA
+remove-refuses port h = (removeA, λ c. not-done (port removeA .after .answer) (h removeA .0) (ap (λ (x : Reply). x .answer) (c .answer) ∙ gone-answer) (h removeA .1))
 
-pub unlink-constant : UnlinkConstant
-unfolding UnlinkConstant UnlinkBroken UnlinkHolds unlinkA unlinkEmpty
-unlink-constant port answers.Done h =
-    (unlinkEmpty, λ c. not-done (port unlinkEmpty .after .answer) 9 (h unlinkEmpty) (ap (λ (x : Reply). x .answer) (c .answer ∙ ap (afterAs (cWorld .table)) unlink-empty)))
-unlink-constant port (answers.Refused n) h =
-    (unlinkA, λ c. not-done (port unlinkA .after .answer) n (ap (λ (x : Reply). x .answer) (c .answer) ∙ gone-answer) (h unlinkA))
+pub remove-constant : RemoveConstant
+unfolding RemoveConstant RemoveBroken RemoveHolds removeA removeEmpty
+remove-constant port answers.Done h =
+    (removeEmpty, λ c. not-done (port removeEmpty .after .answer) 9 (h removeEmpty) (ap (λ (x : Reply). x .answer) (c .answer ∙ ap (afterAs (cWorld .table)) remove-empty)))
+remove-constant port (answers.Refused n) h =
+    (removeA, λ c. not-done (port removeA .after .answer) n (ap (λ (x : Reply). x .answer) (c .answer) ∙ gone-answer) (h removeA))
 
-pub unlink-stores : UnlinkStoresNothing
-unfolding UnlinkStoresNothing UnlinkBroken UnlinkHolds unlinkA
-unlink-stores port h = (unlinkA, λ c. omega (arith, ap (byte 532) (c .arena), ap (byte 532) (h unlinkA), gone-length, c-length))
+pub remove-stores : RemoveStoresNothing
+unfolding RemoveStoresNothing RemoveBroken RemoveHolds removeA
+remove-stores port h = (removeA, λ c. omega (arith, ap (byte 532) (c .arena), ap (byte 532) (h removeA), gone-length, c-length))
 
 -- ---- find
 

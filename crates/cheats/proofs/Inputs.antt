@@ -1,5 +1,6 @@
 -- The inputs at which the cheats are caught, and what the calls do there, from the course's computed states.
 use mathlib.Core.Path.{_≡_, refl, ap, _∙_}
+use mathlib.Core.Bool.{false}
 use mathlib.Core.List.{List, [], _∷_}
 use Prim.Native.Nat.{ℕ}
 use lib.ListN.{getD}
@@ -7,16 +8,16 @@ use Rattle.base.specs.Out.{done, refused}
 use Rattle.structs.specs.Constants.{typeFile}
 use Rattle.sefs.specs.Create.{callCreate}
 use Rattle.sefs.specs.Open.{callFind}
-use Rattle.sefs.specs.Unlink.{callUnlink}
+use Rattle.sefs.specs.Remove.{callRemoveFile}
 use Rattle.calls.specs.Answers.{gotOf}
 use Rattle.calls.specs.declared.Answer.the-variants as answers
 use Rattle.calls.specs.declared.Got.the-variants as gots
 use Rattle.steps.specs.Ends.{afterAs, arenaAfter}
 use Rattle.course_states.specs.Worlds.{epoch, uuid, editor, made}
-use Rattle.course_states.proofs.Calls.{createNear, findCallNear, find-call-near, unlinkNear, unlink-near}
+use Rattle.course_states.proofs.Calls.{createNear, findCallNear, find-call-near, removeCallNear, remove-call-near}
 use Rattle.course_states.proofs.States.{handle, rootTable, freshArena, freshWorld, aMeta, aArena, aWorld, bSlots, bMeta, bArena, bWorld, cSlots, cMeta, cArena, cWorld}
 use Rattle.course_states.proofs.Steps.{computed, fresh-admitted, fresh-made, a-made, a-admitted, b-made, c-admitted}
-use Rattle.cheats.specs.Cheats.{CreateInput, UnlinkInput}
+use Rattle.cheats.specs.Cheats.{CreateInput, RemoveInput}
 
 -- a byte of an arena
 unfoldable pub byte : ℕ → List ℕ → ℕ
@@ -104,36 +105,36 @@ after-near = refl
 pub find-after : gotOf (callFind (aWorld .arena) (aWorld .table) editor (handle 0 1) (97 ∷ [])) ≡ gots.Held (handle 2 3)
 find-after = ap gotOf (find-call-near (aWorld .arena) (aWorld .table) editor (handle 0 1) (97 ∷ []) a-admitted) ∙ after-near
 
--- ---- unlink: `a`, with `a`, `b` and `c` there, and the empty name
+-- ---- remove-file: `a`, with `a`, `b` and `c` there, and the empty name
 
-unfoldable pub unlinkA : UnlinkInput
-unlinkA = record { arena = cWorld .arena; table = cWorld .table; who = editor; handle = handle 0 1; name = 97 ∷ [] }
+unfoldable pub removeA : RemoveInput
+removeA = record { arena = cWorld .arena; table = cWorld .table; who = editor; handle = handle 0 1; name = 97 ∷ [] }
 
-unfoldable pub unlinkEmpty : UnlinkInput
-unlinkEmpty = record { arena = cWorld .arena; table = cWorld .table; who = editor; handle = handle 0 1; name = [] }
+unfoldable pub removeEmpty : RemoveInput
+removeEmpty = record { arena = cWorld .arena; table = cWorld .table; who = editor; handle = handle 0 1; name = [] }
 
-gone-answer-near : afterAs (cWorld .table) (unlinkNear (cWorld .arena) (cWorld .table) editor (handle 0 1) (97 ∷ [])) .answer ≡ answers.Done
-unfolding computed unlinkNear cSlots cMeta cArena cWorld
+gone-answer-near : afterAs (cWorld .table) (removeCallNear false (cWorld .arena) (cWorld .table) editor (handle 0 1) (97 ∷ [])) .answer ≡ answers.Done
+unfolding computed removeCallNear cSlots cMeta cArena cWorld
 gone-answer-near = refl
 
-pub gone-answer : afterAs (cWorld .table) (callUnlink (cWorld .arena) (cWorld .table) editor (handle 0 1) (97 ∷ [])) .answer ≡ answers.Done
-gone-answer = rw (unlink-near (cWorld .arena) (cWorld .table) editor (handle 0 1) (97 ∷ []) c-admitted) gone-answer-near
+pub gone-answer : afterAs (cWorld .table) (callRemoveFile (cWorld .arena) (cWorld .table) editor (handle 0 1) (97 ∷ [])) .answer ≡ answers.Done
+gone-answer = rw (remove-call-near false (cWorld .arena) (cWorld .table) editor (handle 0 1) (97 ∷ []) c-admitted) gone-answer-near
 
 -- byte 20 of the root's head, in block 1: the lowest byte of the folder's length, 1320 and then 1056
 pub c-length : byte 532 (cWorld .arena) ≡ 40
 unfolding computed byte cSlots cMeta cArena cWorld
 c-length = refl
 
-gone-length-near : byte 532 (arenaAfter (cWorld .arena) (unlinkNear (cWorld .arena) (cWorld .table) editor (handle 0 1) (97 ∷ []))) ≡ 32
-unfolding computed byte unlinkNear cSlots cMeta cArena cWorld
+gone-length-near : byte 532 (arenaAfter (cWorld .arena) (removeCallNear false (cWorld .arena) (cWorld .table) editor (handle 0 1) (97 ∷ []))) ≡ 32
+unfolding computed byte removeCallNear cSlots cMeta cArena cWorld
 gone-length-near = refl
 
-pub gone-length : byte 532 (arenaAfter (cWorld .arena) (callUnlink (cWorld .arena) (cWorld .table) editor (handle 0 1) (97 ∷ []))) ≡ 32
-gone-length = rw (unlink-near (cWorld .arena) (cWorld .table) editor (handle 0 1) (97 ∷ []) c-admitted) gone-length-near
+pub gone-length : byte 532 (arenaAfter (cWorld .arena) (callRemoveFile (cWorld .arena) (cWorld .table) editor (handle 0 1) (97 ∷ []))) ≡ 32
+gone-length = rw (remove-call-near false (cWorld .arena) (cWorld .table) editor (handle 0 1) (97 ∷ []) c-admitted) gone-length-near
 
-unlink-empty-near : unlinkNear (cWorld .arena) (cWorld .table) editor (handle 0 1) [] ≡ refused 9
-unfolding computed unlinkNear cSlots cMeta cArena cWorld
-unlink-empty-near = refl
+remove-empty-near : removeCallNear false (cWorld .arena) (cWorld .table) editor (handle 0 1) [] ≡ refused 9
+unfolding computed removeCallNear cSlots cMeta cArena cWorld
+remove-empty-near = refl
 
-pub unlink-empty : callUnlink (cWorld .arena) (cWorld .table) editor (handle 0 1) [] ≡ refused 9
-unlink-empty = unlink-near (cWorld .arena) (cWorld .table) editor (handle 0 1) [] c-admitted ∙ unlink-empty-near
+pub remove-empty : callRemoveFile (cWorld .arena) (cWorld .table) editor (handle 0 1) [] ≡ refused 9
+remove-empty = remove-call-near false (cWorld .arena) (cWorld .table) editor (handle 0 1) [] c-admitted ∙ remove-empty-near

@@ -9,7 +9,7 @@ use Rattle.table.specs.declared.Handle.{Handle}
 use Rattle.table.specs.declared.Table.{Table}
 use Rattle.sefs.specs.Create.{callCreate}
 use Rattle.sefs.specs.Open.{callFind}
-use Rattle.sefs.specs.Unlink.{callUnlink}
+use Rattle.sefs.specs.Remove.{callRemoveFile}
 use Rattle.calls.specs.declared.Reply.{Reply}
 use Rattle.calls.specs.declared.Answer.{Answer}
 use Rattle.calls.specs.declared.Answer.the-variants as answers
@@ -65,10 +65,10 @@ CreateConstant = (port : CreateInput → CreateResult) (r : Got) → ((x : Creat
 unfoldable pub CreateStoresNothing : Type 0
 CreateStoresNothing = (port : CreateInput → CreateResult) → ((x : CreateInput) → port x .arena ≡ x .arena) → CreateBroken port
 
--- ---- unlink
+-- ---- remove-file
 
--- what unlink is given
-pub record UnlinkInput : Type 0 where
+-- what remove-file is given
+pub record RemoveInput : Type 0 where
   pub arena : List ℕ
   pub table : Table
   pub who : ℕ
@@ -76,29 +76,29 @@ pub record UnlinkInput : Type 0 where
   pub name : List ℕ
 
 -- the arena afterwards, and the answer with its table
-pub record UnlinkResult : Type 0 where
+pub record RemoveResult : Type 0 where
   pub arena : List ℕ
   pub after : Reply
 
 -- its contract
-unfoldable pub UnlinkHolds : UnlinkInput → UnlinkResult → Type 0
-UnlinkHolds x y = Returned (x .table) (callUnlink (x .arena) (x .table) (x .who) (x .handle) (x .name)) (x .arena) (y .arena) (y .after)
+unfoldable pub RemoveHolds : RemoveInput → RemoveResult → Type 0
+RemoveHolds x y = Returned (x .table) (callRemoveFile (x .arena) (x .table) (x .who) (x .handle) (x .name)) (x .arena) (y .arena) (y .after)
 
 -- the port breaks the contract at some input
-unfoldable pub UnlinkBroken : (UnlinkInput → UnlinkResult) → Type 0
-UnlinkBroken port = (x : UnlinkInput) × (UnlinkHolds x (port x) → ⊥)
+unfoldable pub RemoveBroken : (RemoveInput → RemoveResult) → Type 0
+RemoveBroken port = (x : RemoveInput) × (RemoveHolds x (port x) → ⊥)
 
--- an unlink that always refuses
-unfoldable pub UnlinkRefuses : Type 0
-UnlinkRefuses = (port : UnlinkInput → UnlinkResult) → ((x : UnlinkInput) → (n : ℕ) × (port x .after .answer ≡ answers.Refused n)) → UnlinkBroken port
+-- a remove-file that always refuses
+unfoldable pub RemoveRefuses : Type 0
+RemoveRefuses = (port : RemoveInput → RemoveResult) → ((x : RemoveInput) → (n : ℕ) × (port x .after .answer ≡ answers.Refused n)) → RemoveBroken port
 
--- an unlink with one constant answer
-unfoldable pub UnlinkConstant : Type 0
-UnlinkConstant = (port : UnlinkInput → UnlinkResult) (r : Answer) → ((x : UnlinkInput) → port x .after .answer ≡ r) → UnlinkBroken port
+-- a remove-file with one constant answer
+unfoldable pub RemoveConstant : Type 0
+RemoveConstant = (port : RemoveInput → RemoveResult) (r : Answer) → ((x : RemoveInput) → port x .after .answer ≡ r) → RemoveBroken port
 
--- an unlink that stores nothing
-unfoldable pub UnlinkStoresNothing : Type 0
-UnlinkStoresNothing = (port : UnlinkInput → UnlinkResult) → ((x : UnlinkInput) → port x .arena ≡ x .arena) → UnlinkBroken port
+-- a remove-file that stores nothing
+unfoldable pub RemoveStoresNothing : Type 0
+RemoveStoresNothing = (port : RemoveInput → RemoveResult) → ((x : RemoveInput) → port x .arena ≡ x .arena) → RemoveBroken port
 
 -- ---- find, which leaves the arena
 

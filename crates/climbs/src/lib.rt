@@ -1,6 +1,5 @@
 // What move asks of the nodes before its first store, by the chains of `sound`: type rules where the new name exists, and that a folder does not go
 // into itself or below. Nothing is opened or changed. A question answers 0, or the number of the reason that refuses the move.
-ghost use mathlib.Core.Path.{_≡_};
 ghost use mathlib.Core.List.{List};
 ghost use Prim.Native.Nat.{ℕ, _<_, _≤_};
 ghost use Rattle.base.specs.Out.{Out, Went, done};

@@ -1,5 +1,6 @@
 -- The course examples: a row each, from the states that the calls were computed to leave, and the table.
 use mathlib.Core.Path.{_≡_, refl, ap, sym, _∙_}
+use mathlib.Core.Bool.{false}
 use mathlib.Core.List.{List, [], _∷_, _++_}
 use Prim.Native.Nat.{ℕ, zero, suc, _*_}
 use native.Mathlib.Omega.{arith}
@@ -13,11 +14,11 @@ use Rattle.utf8.specs.Names.{nameOf}
 use Rattle.files.specs.Read.{lengthOf}
 use Rattle.sefs.specs.Meta.{metaFile}
 use Rattle.sefs.specs.Create.{After, Given}
-use Rattle.sefs.specs.Unlink.{callUnlink}
-use Rattle.course.specs.Course.{Fact, id, unused, mapByte, used, links, slot, rootLength, metaLength, check, answers, number, stopped, facts, usedTo, usedIn, idOf, imageFacts, linksOf, slotsFrom, fileRead, folderRead, goneRead, groupRead, freshRow, fileRow, folderRow, unlinkRow, groupRow, checkRow, longRow, emptyRow, minusRow, table, expected}
+use Rattle.sefs.specs.Remove.{callRemoveFile}
+use Rattle.course.specs.Course.{Fact, id, unused, mapByte, used, links, slot, rootLength, metaLength, check, answers, number, facts, usedTo, usedIn, idOf, imageFacts, linksOf, slotsFrom, fileRead, folderRead, goneRead, groupRead, freshRow, fileRow, folderRow, removeRow, groupRow, checkRow, longRow, emptyRow, minusRow, table, expected}
 use Rattle.course_states.specs.Worlds.{epoch, uuid, rootFile, editor, stored}
 use Rattle.course_states.proofs.Near.{readNear, read-near}
-use Rattle.course_states.proofs.Calls.{createNear, unlinkNear}
+use Rattle.course_states.proofs.Calls.{createNear, removeCallNear}
 use Rattle.course_states.proofs.States.{handle, rootTable, freshArena, cSlots, cMeta, cArena, cWorld, fullArena}
 use Rattle.course_states.proofs.Steps.{computed, fresh-is, begun-is, fresh-made, a-filed, b-filed, c-filed, gone-near, full-is, opened-full, full-made}
 
@@ -84,17 +85,17 @@ before-facts : slotsNear (cWorld .arena) 2 3 ≡ done (slot 2 (97 ∷ []) ∷ sl
 unfolding computed slotsNear cSlots cMeta cArena cWorld
 before-facts = refl
 
-gone-facts : bind (unlinkNear (cWorld .arena) (cWorld .table) editor (handle 0 1) (97 ∷ [])) goneNear
+gone-facts : bind (removeCallNear false (cWorld .arena) (cWorld .table) editor (handle 0 1) (97 ∷ [])) goneNear
     ≡ done (slot 2 (99 ∷ []) ∷ slot 3 (98 ∷ []) ∷ rootLength 1056 ∷ [])
-unfolding computed unlinkNear slotsNear goneNear cSlots cMeta cArena cWorld
+unfolding computed removeCallNear slotsNear goneNear cSlots cMeta cArena cWorld
 gone-facts = refl
 
--- the unlink, and what it leaves
-gone-is : (before : List Fact) → bind (callUnlink (cWorld .arena) (cWorld .table) editor (cWorld .root) (97 ∷ [])) (λ u. bind (goneRead u) (λ now. done (before ++ now)))
+-- the removal, and what it leaves
+gone-is : (before : List Fact) → bind (callRemoveFile (cWorld .arena) (cWorld .table) editor (cWorld .root) (97 ∷ [])) (λ u. bind (goneRead u) (λ now. done (before ++ now)))
     ≡ done (before ++ (slot 2 (99 ∷ []) ∷ slot 3 (98 ∷ []) ∷ rootLength 1056 ∷ []))
 gone-is before =
     rw (gone-near, gone-read-near)
-    (sym (bind-assoc (unlinkNear (cWorld .arena) (cWorld .table) editor (handle 0 1) (97 ∷ [])) goneNear (λ now. done (before ++ now)))
+    (sym (bind-assoc (removeCallNear false (cWorld .arena) (cWorld .table) editor (handle 0 1) (97 ∷ [])) goneNear (λ now. done (before ++ now)))
     ∙ ap (λ (o : Out (List Fact)). bind o (λ now. done (before ++ now))) gone-facts)
 
 group-facts : bind (createNear fullArena rootTable editor (handle 0 1) (65 ∷ []) typeFile 420 epoch (uuid 2)) groupRead
@@ -128,9 +129,9 @@ folder-row : facts folderRow ≡ id 3 ∷ links 2 3 ∷ links 3 2 ∷ used (0 �
 unfolding facts folderRow
 folder-row = rw (begun-is, fresh-made, folder-near) (ap facts folder-facts)
 
-unlink-row : facts unlinkRow ≡ slot 2 (97 ∷ []) ∷ slot 3 (98 ∷ []) ∷ slot 4 (99 ∷ []) ∷ slot 2 (99 ∷ []) ∷ slot 3 (98 ∷ []) ∷ rootLength 1056 ∷ []
-unfolding facts unlinkRow
-unlink-row = rw (begun-is, a-filed, b-filed, c-filed, slots-near (cWorld .arena) 2 3, before-facts)
+remove-row : facts removeRow ≡ slot 2 (97 ∷ []) ∷ slot 3 (98 ∷ []) ∷ slot 4 (99 ∷ []) ∷ slot 2 (99 ∷ []) ∷ slot 3 (98 ∷ []) ∷ rootLength 1056 ∷ []
+unfolding facts removeRow
+remove-row = rw (begun-is, a-filed, b-filed, c-filed, slots-near (cWorld .arena) 2 3, before-facts)
     (ap facts (gone-is (slot 2 (97 ∷ []) ∷ slot 3 (98 ∷ []) ∷ slot 4 (99 ∷ []) ∷ [])))
 
 group-row : facts groupRow ≡ id 1024 ∷ unused 1022 ∷ mapByte 1 252 ∷ metaLength 262144 ∷ []
@@ -157,4 +158,4 @@ minus-row = refl
 pub course : table ≡ expected
 unfolding table
 course =
-    λ x. fresh-row x ∷ file-row x ∷ folder-row x ∷ unlink-row x ∷ group-row x ∷ check-row x ∷ long-row x ∷ empty-row x ∷ minus-row x ∷ []
+    λ x. fresh-row x ∷ file-row x ∷ folder-row x ∷ remove-row x ∷ group-row x ∷ check-row x ∷ long-row x ∷ empty-row x ∷ minus-row x ∷ []

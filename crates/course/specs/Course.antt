@@ -2,7 +2,7 @@
 -- `opened`, `made` and the like, is said in crates/course_states/specs/Worlds.antt, by the calls' definitions.
 use mathlib.Core.List.{List, [], _∷_, _++_}
 use Prim.Native.Nat.{ℕ, zero, suc, _*_}
-use lib.IntN.{ℤ, pos, negsuc}
+use lib.IntN.{ℤ, negsuc}
 use lib.ListN.{getD, set, replicate}
 use Rattle.base.specs.Out.{Out, done, refused, answer, _>>=_}
 use Rattle.base.specs.Search.{pick}
@@ -17,8 +17,8 @@ use Rattle.arena.specs.Fields.{zeros, checkOf, isFree}
 use Rattle.files.specs.Read.{byteAt, lengthOf, readFile}
 use Rattle.sefs.specs.Meta.{metaFile, mapAt}
 use Rattle.sefs.specs.Create.{After, Given}
-use Rattle.sefs.specs.Unlink.{callUnlink}
-use Rattle.course_states.specs.Worlds.{uuid, rootFile, editor, World, fresh, opened, begun, made, filed, stored, full}
+use Rattle.sefs.specs.Remove.{callRemoveFile}
+use Rattle.course_states.specs.Worlds.{rootFile, editor, fresh, opened, begun, made, filed, stored, full}
 
 -- ---- what an example says: a number, or several, and what they are
 
@@ -118,21 +118,21 @@ folderRow = do
   g ← made w (66 ∷ []) typeDir 2
   folderRead g
 
--- once a name is unlinked: slots 2 and 3, and the length of the root's folder file
+-- once a name is removed: slots 2 and 3, and the length of the root's folder file
 unfoldable pub goneRead : After → Out (List Fact)
 goneRead u = do
   r ← slotsFrom (u .arena) 2 2
   done (r ++ (rootLength (lengthOf (u .arena) rootFile) ∷ []))
 
--- "Slots 2 to 4 `a`, `b`, `c`; unlink `a`: slots 2, 3 are `c`, `b`, length 1056."
-unfoldable pub unlinkRow : Out (List Fact)
-unlinkRow = do
+-- "Slots 2 to 4 `a`, `b`, `c`; unlink `a`: slots 2, 3 are `c`, `b`, length 1056." Since order 9 a file goes by remove-file
+unfoldable pub removeRow : Out (List Fact)
+removeRow = do
   w ← begun
   w ← filed w (97 ∷ []) 2
   w ← filed w (98 ∷ []) 3
   w ← filed w (99 ∷ []) 4
   before ← slotsFrom (w .arena) 2 3
-  u ← callUnlink (w .arena) (w .table) editor (w .root) (97 ∷ [])
+  u ← callRemoveFile (w .arena) (w .table) editor (w .root) (97 ∷ [])
   now ← goneRead u
   done (before ++ now)
 
@@ -184,7 +184,7 @@ table =
     facts freshRow
     ∷ facts fileRow
     ∷ facts folderRow
-    ∷ facts unlinkRow
+    ∷ facts removeRow
     ∷ facts groupRow
     ∷ facts checkRow
     ∷ facts longRow
@@ -198,7 +198,7 @@ expected =
     (unused 1021 ∷ mapByte 0 248 ∷ used (0 ∷ 1 ∷ 2 ∷ 3 ∷ 4 ∷ []) ∷ [])
     ∷ (id 3 ∷ unused 1020 ∷ mapByte 0 240 ∷ used (0 ∷ 1 ∷ 2 ∷ 3 ∷ 4 ∷ 5 ∷ 6 ∷ []) ∷ [])
     ∷ (id 3 ∷ links 2 3 ∷ links 3 2 ∷ used (0 ∷ 1 ∷ 2 ∷ 3 ∷ 4 ∷ 5 ∷ 6 ∷ 7 ∷ 8 ∷ []) ∷ [])
-    -- 97, 98, 99 are `a`, `b`, `c`: three slots before the unlink, two after it
+    -- 97, 98, 99 are `a`, `b`, `c`: three slots before the removal, two after it
     ∷ (slot 2 (97 ∷ []) ∷ slot 3 (98 ∷ []) ∷ slot 4 (99 ∷ []) ∷ slot 2 (99 ∷ []) ∷ slot 3 (98 ∷ []) ∷ rootLength 1056 ∷ [])
     ∷ (id 1024 ∷ unused 1022 ∷ mapByte 1 252 ∷ metaLength 262144 ∷ [])
     ∷ (check 2 ∷ [])

@@ -1,12 +1,12 @@
 -- The calls of the examples with less work: each is its definition, line by line, with the readings of Near in place of the definition's
 -- own, and is proved equal to it where arena and table are admitted.
 use mathlib.Core.Path.{_≡_}
-use mathlib.Core.Bool.{Bool, true, false, not, _&&_, _||_}
+use mathlib.Core.Bool.{Bool, false, not, _&&_}
 use mathlib.Core.List.{List}
 use Prim.Native.Nat.{ℕ, _-_, _*_}
 use native.Mathlib.Omega.{arith}
 use lib.Dec.{eqb, ltb, leb}
-use Rattle.base.specs.Out.{Out, done, refused, bind, guard, ensure, _>>=_}
+use Rattle.base.specs.Out.{Out, done, bind, guard, ensure, _>>=_}
 use Rattle.base.specs.Reasons.{stuck, tableFull, invalidParam, fileTaken, tooManyLinks, dirRemoved}
 use Rattle.base.specs.Search.{pick}
 use Rattle.base.specs.declared.Found.{Found}
@@ -26,12 +26,11 @@ use Rattle.sefs.specs.State.{Fs, withArena}
 use Rattle.sefs.specs.Records.{withBlocks}
 use Rattle.sefs.specs.Meta.{metaFile, isUsed}
 use Rattle.sefs.specs.Nodes.{Opened, nodeFile, recAt, setRec, openIn, openAt, loadNode, getNode, syncRow, release}
-use Rattle.sefs.specs.Slots.{orNotFound}
 use Rattle.sefs.specs.Folders.{putSlot, direntRemove, nlinksDec, unlinkFolder, direntNodeRemove}
 use Rattle.sefs.specs.Ask.{admit, anOwner, byHandle, goodName, newName, notLong, notSpecial, known, folder, liveFolder, orExists, start}
 use Rattle.sefs.specs.Open.{holdNode, callRoot, callFind}
 use Rattle.sefs.specs.Create.{After, after, Given, canMake, createSteps, callCreate}
-use Rattle.sefs.specs.Unlink.{notFull, unlinkSteps, callUnlink}
+use Rattle.sefs.specs.Remove.{removable, removeSteps, callRemove}
 use Rattle.course_states.proofs.Near.{readNear, read-near, metaNear, meta-near, slotBytesNear, slot-bytes-near, lookNear, look-near, findNear, find-near}
 
 unfoldable pub startNear : List ℕ → Table → Fs
@@ -154,7 +153,7 @@ create-near a t w h name kind mode time uuid ok =
     (λ _. bind (ensure (not (isFolder kind && eqb (rowAt t i .rec .nlinks) 65535)) tooManyLinks)
     (λ _. bind (ensure (canHold t w) tableFull) (λ _. createSteps (start-near a t j) w i name kind mode time uuid)))))))))))
 
--- ---- unlink
+-- ---- remove-file and remove-folder
 
 unfoldable pub removeNear : Fs → ℕ → ℕ → Out Fs
 removeNear s i k =
@@ -173,20 +172,20 @@ remove-near s i k =
     (λ s. bind (cutFile (s .arena) (nodeFile (recAt s i)) (264 * (recAt s i .blocks - 1)))
     (λ a. done (setRec (withArena s a) i (withBlocks (recAt s i) (recAt s i .blocks - 1)))))))
 
-unfoldable pub unlinkStepsNear : Fs → ℕ → ℕ → ℕ → Out After
-unlinkStepsNear s i c k = do
+unfoldable pub removeStepsNear : Fs → ℕ → ℕ → ℕ → Out After
+removeStepsNear s i c k = do
   s ← bind (removeNear s i k) (λ s. bind (nlinksDec s c) (λ s. bind (pick (isFolder (recAt s c .kind)) (unlinkFolder s i c) (done s)) (λ s. release s c)))
   s ← syncRow s i
   done (after s)
 
-unlink-steps-near : (s : Fs) (i c k : ℕ) → unlinkSteps s i c k ≡ unlinkStepsNear s i c k
-unfolding unlinkSteps direntNodeRemove unlinkStepsNear
-unlink-steps-near s i c k =
+remove-steps-near : (s : Fs) (i c k : ℕ) → removeSteps s i c k ≡ removeStepsNear s i c k
+unfolding removeSteps direntNodeRemove removeStepsNear
+remove-steps-near s i c k =
     λ j. bind (bind (remove-near s i k j) (λ s. bind (nlinksDec s c) (λ s. bind (pick (isFolder (recAt s c .kind)) (unlinkFolder s i c) (done s)) (λ s. release s c))))
     (λ s. bind (syncRow s i) (λ s. done (after s)))
 
-unfoldable pub unlinkNear : List ℕ → Table → ℕ → Handle → List ℕ → Out After
-unlinkNear a t w h name = do
+unfoldable pub removeCallNear : Bool → List ℕ → Table → ℕ → Handle → List ℕ → Out After
+removeCallNear dir a t w h name = do
   i ← byHandle t w h
   _ ← goodName name
   _ ← liveFolder (rowAt t i .rec)
@@ -194,12 +193,12 @@ unlinkNear a t w h name = do
   _ ← notLong name
   s ← findNear a (rowAt t i .rec) name
   o ← getNear (startNear a t) (s .entry .id)
-  _ ← notFull (recAt (o .state) (o .row))
-  unlinkStepsNear (o .state) i (o .row) (s .place)
+  _ ← removable dir (recAt (o .state) (o .row))
+  removeStepsNear (o .state) i (o .row) (s .place)
 
-pub unlink-near : (a : List ℕ) (t : Table) (w : ℕ) (h : Handle) (name : List ℕ) → admit a t ≡ done tt → callUnlink a t w h name ≡ unlinkNear a t w h name
-unfolding callUnlink unlinkNear
-unlink-near a t w h name ok =
+pub remove-call-near : (dir : Bool) (a : List ℕ) (t : Table) (w : ℕ) (h : Handle) (name : List ℕ) → admit a t ≡ done tt → callRemove dir a t w h name ≡ removeCallNear dir a t w h name
+unfolding callRemove removeCallNear
+remove-call-near dir a t w h name ok =
     λ j. bind (ok j)
     (λ _. bind (byHandle t w h)
     (λ i. bind (goodName name)
@@ -208,4 +207,4 @@ unlink-near a t w h name ok =
     (λ _. bind (notLong name)
     (λ _. bind (find-near a (rowAt t i .rec) name j)
     (λ s. bind (get-near (start-near a t j) (s .entry .id) j)
-    (λ o. bind (notFull (recAt (o .state) (o .row))) (λ _. unlink-steps-near (o .state) i (o .row) (s .place) j)))))))))
+    (λ o. bind (removable dir (recAt (o .state) (o .row))) (λ _. remove-steps-near (o .state) i (o .row) (s .place) j)))))))))

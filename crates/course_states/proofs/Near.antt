@@ -1,7 +1,7 @@
 -- Reading and judging an arena with less work: a run of bytes lies in two blocks at the most, so each is looked for once, and a block's
 -- check is one pass over its bytes. Each definition here is proved equal to the one that it stands in for.
-use mathlib.Core.Path.{_≡_, refl, ap, sym, _∙_}
-use mathlib.Core.Bool.{Bool, true, false, not, _&&_, _||_}
+use mathlib.Core.Path.{_≡_, refl, ap, _∙_}
+use mathlib.Core.Bool.{Bool, true, not, _&&_, _||_}
 use mathlib.Core.Logic.{_≢_}
 use mathlib.Core.List.{List, [], _∷_, _++_}
 use Prim.Native.Nat.{ℕ, zero, suc, _+_, _*_, _-_, _/_, _%_, _≤_, _<_}
@@ -9,10 +9,10 @@ use native.Mathlib.Omega.{arith}
 use native.Mathlib.Decide.{ℕ-discrete}
 use lib.ListN.{getD}
 use lib.Dec.{eqb, ltb, leb}
-use Rattle.base.specs.Out.{Out, done, refused, bind, guard, ensure, _>>=_}
+use Rattle.base.specs.Out.{Out, done, bind, guard, _>>=_}
 use Rattle.base.specs.Count.{sumTo, allTo}
 use Rattle.base.specs.Parts.{part, tab}
-use Rattle.base.specs.Reasons.{stuck, badArena, damaged, badTable}
+use Rattle.base.specs.Reasons.{stuck}
 use Rattle.base.specs.Search.{pick, foundBelow}
 use Rattle.base.specs.declared.Found.{Found}
 use Rattle.base.proofs.Counts.{sumTo-suc, sumTo-cong, sumTo-zero}

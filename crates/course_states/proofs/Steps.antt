@@ -1,17 +1,16 @@
 -- Each call of the examples, computed: from the state that the call before left, written down, to the next one.
-use mathlib.Core.Path.{_≡_, refl, ap, _∙_}
-use mathlib.Core.Bool.{Bool, true, false}
+use mathlib.Core.Path.{_≡_, refl, _∙_}
+use mathlib.Core.Bool.{true, false}
 use mathlib.Core.List.{List, [], _∷_}
 use Prim.Native.Nat.{ℕ}
-use lib.ListN.{replicate}
 use Rattle.base.specs.Count.{countTo, sumTo, allTo}
 use Rattle.base.specs.Decides.{same, every}
-use Rattle.base.specs.Out.{Out, done, refused, answer, bind}
+use Rattle.base.specs.Out.{done}
 use Rattle.base.specs.Parts.{paste, tab}
 use Rattle.base.specs.Search.{lowest, foundBelow}
 use Rattle.le.specs.Le.{leAt, leOf, leBytes, lePut}
 use Rattle.le.specs.Signed.{signed, bitsOf}
-use Rattle.structs.specs.Constants.{typeFile, typeDir}
+use Rattle.structs.specs.Constants.{typeFile}
 use Rattle.structs.specs.Layout.{superOf, superBytes, recordOf, join, superFields, recordFields, recordBytes, timeOf, timeFields, timeBytes, entryOf, entryFields, entryBytes}
 use Rattle.maps.specs.Maps.{bitOf, putBit, bitAt, withBit}
 use Rattle.utf8.specs.Names.{zeroAt, hasZero, hasSlash, nameVerdict, isDot, isDots, isSpecial, storedName, isNamed, nameBytes}
@@ -31,15 +30,15 @@ use Rattle.sefs.specs.Folders.{putSlot, direntInit, direntAppend, nlinksInc, nl
 use Rattle.sefs.specs.Ask.{admit, byHandle, liveFolder}
 use Rattle.sefs.specs.Open.{callRoot}
 use Rattle.sefs.specs.Create.{createSteps, callFormat, formatSteps, birth, nameFolder, named}
-use Rattle.sefs.specs.Unlink.{callUnlink, notFull}
-use Rattle.course_states.specs.Worlds.{World, epoch, uuid, editor, fresh, opened, begun, made, filed, full, stored}
+use Rattle.sefs.specs.Remove.{callRemoveFile, removable}
+use Rattle.course_states.specs.Worlds.{epoch, uuid, editor, fresh, opened, begun, made, filed, full, stored}
 use Rattle.course_states.proofs.Near.{byteOf, near, byteNear, runNear, readNear, mapsNear, metaNear, slotBytesNear, slotNear, lookToNear, lookNear, findNear, weigh, layoutBy, soundBy, checkNear, admitted}
-use Rattle.course_states.proofs.Calls.{startNear, loadNear, openNear, getNear, holdNear, rootNear, root-near, createNear, create-near, removeNear, unlinkStepsNear, unlinkNear, unlink-near}
+use Rattle.course_states.proofs.Calls.{startNear, loadNear, openNear, getNear, holdNear, rootNear, root-near, createNear, create-near, removeNear, removeStepsNear, removeCallNear, remove-call-near}
 use Rattle.course_states.proofs.States.{headBlk, dataBlk, freeBlks, recordsOf, metaBytes, folderBytes, rowsOf, holdsOf, handle, rootTable, freshArena, freshWorld, aMeta, aArena, aWorld, bSlots, bMeta, bArena, bWorld, cSlots, cMeta, cArena, cWorld, fullArena, fullWorld}
 
 -- what is opened so that a call is computed: below the calls, and the states
 unfoldable pub computed : ℕ
-unfolding countTo sumTo allTo lowest foundBelow paste tab same every leOf leBytes leAt lePut signed bitsOf join superOf superFields superBytes recordOf recordFields recordBytes timeOf timeFields timeBytes entryOf entryFields entryBytes bitOf putBit bitAt withBit within lead tail step after utf8 zeroAt hasZero hasSlash nameVerdict isDot isDots isSpecial storedName isNamed nameBytes rowOf holdOf liveRow ownHolds canHold addHold rowUsed liveOk holdOk rowOk holdsOk ownersOk rowsOk shaped wellFormed bytesZero numbersZero timeZero recordZero blk putBlk legal checkOf seal sameFile isFree isHead isData zeros freshBlock freeOf headOf dataOf freeCount allZero headOnce dataOnce withinLength under there lengthOf present byteAt readFile claim writeBlk setLength raise putBlock putTo touched putFile makeFile clearTo clearAll isPast zeroTail cutFile isOf dropFile storeMaps syncMeta firstBit isUsed addGroup takeBit allocBlock freeBlock newNode storeRow syncRow freeNode dropNode release putSlot direntInit direntAppend nlinksInc nlinksDec unlinkFolder liveFolder byHandle formatSteps birth nameFolder named createSteps notFull byteOf near byteNear runNear readNear mapsNear metaNear slotBytesNear slotNear lookToNear lookNear findNear weigh layoutBy soundBy startNear loadNear openNear getNear holdNear removeNear unlinkStepsNear headBlk dataBlk freeBlks recordsOf metaBytes folderBytes rowsOf holdsOf
+unfolding countTo sumTo allTo lowest foundBelow paste tab same every leOf leBytes leAt lePut signed bitsOf join superOf superFields superBytes recordOf recordFields recordBytes timeOf timeFields timeBytes entryOf entryFields entryBytes bitOf putBit bitAt withBit within lead tail step after utf8 zeroAt hasZero hasSlash nameVerdict isDot isDots isSpecial storedName isNamed nameBytes rowOf holdOf liveRow ownHolds canHold addHold rowUsed liveOk holdOk rowOk holdsOk ownersOk rowsOk shaped wellFormed bytesZero numbersZero timeZero recordZero blk putBlk legal checkOf seal sameFile isFree isHead isData zeros freshBlock freeOf headOf dataOf freeCount allZero headOnce dataOnce withinLength under there lengthOf present byteAt readFile claim writeBlk setLength raise putBlock putTo touched putFile makeFile clearTo clearAll isPast zeroTail cutFile isOf dropFile storeMaps syncMeta firstBit isUsed addGroup takeBit allocBlock freeBlock newNode storeRow syncRow freeNode dropNode release putSlot direntInit direntAppend nlinksInc nlinksDec unlinkFolder liveFolder byHandle formatSteps birth nameFolder named createSteps removable byteOf near byteNear runNear readNear mapsNear metaNear slotBytesNear slotNear lookToNear lookNear findNear weigh layoutBy soundBy startNear loadNear openNear getNear holdNear removeNear removeStepsNear headBlk dataBlk freeBlks recordsOf metaBytes folderBytes rowsOf holdsOf
 computed = 0
 
 -- ---- the fresh image
@@ -190,10 +189,10 @@ pub c-filed : filed bWorld (99 ∷ []) 4 ≡ done cWorld
 unfolding filed
 c-filed = rw (c-made, root-of-b, ← root-of-c)
 
--- ---- `a` unlinked, as it is computed
+-- ---- `a` removed, as it is computed
 
-pub gone-near : callUnlink (cWorld .arena) (cWorld .table) editor (cWorld .root) (97 ∷ []) ≡ unlinkNear (cWorld .arena) (cWorld .table) editor (handle 0 1) (97 ∷ [])
-gone-near = rw root-of-c (unlink-near (cWorld .arena) (cWorld .table) editor (handle 0 1) (97 ∷ []) c-admitted)
+pub gone-near : callRemoveFile (cWorld .arena) (cWorld .table) editor (cWorld .root) (97 ∷ []) ≡ removeCallNear false (cWorld .arena) (cWorld .table) editor (handle 0 1) (97 ∷ [])
+gone-near = rw root-of-c (remove-call-near false (cWorld .arena) (cWorld .table) editor (handle 0 1) (97 ∷ []) c-admitted)
 
 -- ---- no bit set
 

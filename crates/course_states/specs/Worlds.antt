@@ -3,7 +3,7 @@ use mathlib.Core.List.{List}
 use Prim.Native.Nat.{ℕ}
 use lib.IntN.{pos}
 use lib.ListN.{replicate}
-use Rattle.base.specs.Out.{Out, done, refused, _>>=_}
+use Rattle.base.specs.Out.{Out, done, _>>=_}
 use Rattle.structs.specs.Constants.{typeFile}
 use Rattle.structs.specs.Layout.{superOf, superBytes}
 use Rattle.structs.specs.declared.SuperBlock.{SuperBlock}

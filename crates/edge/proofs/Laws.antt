@@ -5,7 +5,7 @@ use Prim.Native.Nat.{ℕ, _+_, _*_, _<_}
 use native.Mathlib.Omega.{arith}
 use lib.IntN.{ℤ}
 use lib.Dec.{eqb}
-use lib.ListN.{length, getD}
+use lib.ListN.{length}
 use mir.Syntax.{w64}
 use mir.Val.{SFits, toZ, ofZ}
 use mir.ValLaws.{toZ-ofZ}
@@ -142,7 +142,7 @@ counts-not e = record { number = rw e; words = rw e }
 -- ---- what the call leaves, and what the end wrote. p is the outcome with its sizes, o without; u is the table in memory; the table's bytes were t
 -- and are b, words for a result were w and are v
 
--- sync, close, link, unlink, write, resize, format
+-- sync, close, link, the removals, write, resize, format
 pub leaves : {o p : Out After} {u : Table} {a c t b : List ℕ} {r n : ℕ} → p ≡ o → Ended o a c u r
     → (n ≡ r) × (b ≡ pick (eqb r 0) (tableBytes u) t) → Leaves p a c t b n
 leaves e (went f) E = rw (e, f) (record { number = E .0; arena = refl; table = E .1 })

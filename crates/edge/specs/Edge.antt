@@ -44,7 +44,7 @@ lent f l (refused n) = l
 -- ---- a call is sent to the outcome o by its definition and returns n. An arena that it may change was a and is b; the table's bytes were
 -- t and are u; words for a result were w and are v
 
--- sync, close, link, unlink, move, write, resize, format
+-- sync, close, link, the removals, move, write, resize, format
 pub record Leaves (o : Out After) (a b t u : List ℕ) (n : ℕ) : Type 0 where
   pub number : n ≡ answerNumber (answerOf o)
   pub arena : b ≡ arenaAfter a o

@@ -13,7 +13,7 @@ ghost use Rattle.sefs.specs.Create.{callFormat, callCreate, callLink};
 ghost use Rattle.sefs.specs.Move.{callMove};
 ghost use Rattle.sefs.specs.Open.{callOpen, callRoot, callFind};
 ghost use Rattle.sefs.specs.Read.{callMetadata, callSet, callEntry, callListing};
-ghost use Rattle.sefs.specs.Unlink.{callUnlink};
+ghost use Rattle.sefs.specs.Remove.{callRemove, callRemoveFile, callRemoveFolder};
 ghost use Rattle.walk.specs.Walk.{callWalk};
 ghost use Rattle.calls_format.specs.Format.{formatted};
 ghost use Rattle.fsck.specs.Verdicts.{verdictOf};
@@ -37,9 +37,9 @@ use calls_metadata::set_on;
 use calls_move::move_on;
 use calls_open::open_on;
 use calls_read::read_on;
+use calls_remove::remove_on;
 use calls_resize::resize_on;
 use calls_sync::sync_on;
-use calls_unlink::unlink_on;
 use calls_walk::walk_on;
 use calls_write::write_on;
 use ends::end_after;
@@ -280,8 +280,29 @@ pub extern "C" fn dz_link(
     end_after(table, &mem, r)
 }
 
+// Remove-folder where `folder`, else remove-file.
+fn remove_named(
+    arena: &mut [u8],
+    table: &mut [u8],
+    owner: u8,
+    hold: u32,
+    stamp: u64,
+    name: &[u8],
+    folder: bool,
+) -> u32
+    ensures { λ r. ⌜ Leaves (sized 4402 (now (table .entry)) (callRemove folder (now (arena .entry)) (tableOf (now (table .entry))) owner (handleOf hold stamp) (now (name .entry)))) (now (arena .entry)) (now (arena .exit)) (now (table .entry)) (now (table .exit)) r ⌝ }
+{
+    if table.len() != TABLE {
+        return WRONG_SIZE;
+    }
+    let mut mem = [0u8; MEMORY];
+    begin(&mut mem, &table[..]);
+    let r = remove_on(arena, &mut mem, owner, handle(hold, stamp), name, folder);
+    end_after(table, &mem, r)
+}
+
 #[no_mangle]
-pub extern "C" fn dz_unlink(
+pub extern "C" fn dz_remove_file(
     arena: &mut [u8],
     table: &mut [u8],
     owner: u8,
@@ -289,15 +310,23 @@ pub extern "C" fn dz_unlink(
     stamp: u64,
     name: &[u8],
 ) -> u32
-    ensures { λ r. ⌜ Leaves (sized 4402 (now (table .entry)) (callUnlink (now (arena .entry)) (tableOf (now (table .entry))) owner (handleOf hold stamp) (now (name .entry)))) (now (arena .entry)) (now (arena .exit)) (now (table .entry)) (now (table .exit)) r ⌝ }
+    ensures { λ r. ⌜ Leaves (sized 4402 (now (table .entry)) (callRemoveFile (now (arena .entry)) (tableOf (now (table .entry))) owner (handleOf hold stamp) (now (name .entry)))) (now (arena .entry)) (now (arena .exit)) (now (table .entry)) (now (table .exit)) r ⌝ }
 {
-    if table.len() != TABLE {
-        return WRONG_SIZE;
-    }
-    let mut mem = [0u8; MEMORY];
-    begin(&mut mem, &table[..]);
-    let r = unlink_on(arena, &mut mem, owner, handle(hold, stamp), name);
-    end_after(table, &mem, r)
+    remove_named(arena, table, owner, hold, stamp, name, false)
+}
+
+#[no_mangle]
+pub extern "C" fn dz_remove_folder(
+    arena: &mut [u8],
+    table: &mut [u8],
+    owner: u8,
+    hold: u32,
+    stamp: u64,
+    name: &[u8],
+) -> u32
+    ensures { λ r. ⌜ Leaves (sized 4402 (now (table .entry)) (callRemoveFolder (now (arena .entry)) (tableOf (now (table .entry))) owner (handleOf hold stamp) (now (name .entry)))) (now (arena .entry)) (now (arena .exit)) (now (table .entry)) (now (table .exit)) r ⌝ }
+{
+    remove_named(arena, table, owner, hold, stamp, name, true)
 }
 
 #[no_mangle]

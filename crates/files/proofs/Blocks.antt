@@ -16,7 +16,6 @@ use Rattle.overlay.specs.View.{blkOf, view, left, stored, Fine}
 use Rattle.overlay.specs.Steps.{Changed, Did, went, stopped}
 use Rattle.overlay.proofs.Views.{blk-view, length-blkOf, changed-stored}
 use Rattle.overlay.proofs.Chains.{changed-none, changed-more}
-use Rattle.files.specs.Read.{present}
 use Rattle.files.specs.Store.{claim, writeBlk, zeroTail}
 use Rattle.files.proofs.Finds.{below-view, above-view, present-yes, present-no}
 

@@ -7,7 +7,6 @@ use native.Mathlib.Numerals.{add-one}
 use native.Mathlib.Omega.{arith}
 use lib.ListN.{length}
 use borrow.Author.Tests.{le-leb, lt-leb}
-use Rattle.base.specs.Out.{done}
 use Rattle.base.specs.Search.{pick}
 use Rattle.le.specs.Le.{lePut}
 use Rattle.arena.specs.Blocks.{blk, putBlk, blocks}

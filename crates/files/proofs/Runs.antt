@@ -15,7 +15,7 @@ use Rattle.arena.specs.Fields.{File}
 use Rattle.arena.specs.Places.{dataOf}
 use Rattle.overlay.specs.View.{blkOf, view, Fine}
 use Rattle.overlay.proofs.Views.{blk-view, length-blkOf}
-use Rattle.files.specs.Read.{there, lengthOf, present, byteAt, readFile}
+use Rattle.files.specs.Read.{there, lengthOf, byteAt, readFile}
 use Rattle.files.proofs.Finds.{present-yes, present-no}
 
 -- bytes p and p + i lie in one block

@@ -1,6 +1,5 @@
 -- How many blocks of a file can be there, and how many free ones a write may need.
 use mathlib.Core.Path.{_≡_, ap}
-use mathlib.Core.Bool.{not}
 use mathlib.Core.List.{List}
 use mathlib.Core.Logic.{⊎-elim}
 use Prim.Native.Nat.{ℕ, zero, suc, _+_, _/_, _≤_, _<_}

@@ -3,7 +3,6 @@ ghost use mathlib.Core.Path.{_≡_};
 ghost use mathlib.Core.Bool.{true};
 ghost use Prim.Native.Nat.{_+_, _<_, _≤_};
 ghost use lib.ListN.{length, set};
-ghost use Rattle.structs.specs.Types.{isType};
 ghost use Rattle.base.specs.Count.{allTo};
 ghost use Rattle.arena.specs.Blocks.{blocks};
 ghost use Rattle.arena.specs.Places.{headOf};

@@ -24,7 +24,7 @@ use Rattle.files.specs.Read.{byteAt}
 use Rattle.sefs.specs.Meta.{metaFile}
 use Rattle.sefs.specs.Nodes.{noRow}
 use Rattle.mem.specs.Mem as memory
-use Rattle.rules.specs.Image.{run, storedSuper, storedMaps, idsIn, isNode, storedBytes, recBy, recOf, isOpen, nodeCount}
+use Rattle.rules.specs.Image.{run, storedSuper, idsIn, isNode, storedBytes, recBy, recOf, isOpen, nodeCount}
 use Rattle.fsck_read.specs.Loaded.{Loaded, Of}
 
 pub groups-some : (m : List ℕ) → Loaded m → (0 < memory.superIn m .groups) × (memory.superIn m .groups ≤ 4)

@@ -7,31 +7,28 @@ use calls_find::find;
 use calls_find::root;
 use calls_link::link;
 use calls_move::move_;
-use calls_unlink::unlink;
-use calls_walk::walk;
+use calls_remove::remove_file;
+use calls_remove::remove_folder;
 use lesson_lib::image;
 use lesson_lib::lines::create_line;
 use lesson_lib::lines::handle_line;
 use lesson_lib::lines::outline_line;
 use lesson_lib::lines::save_line;
 use lesson_lib::lines::slot_line;
-use lesson_lib::lines::stored;
 use lesson_lib::say;
 use lesson_lib::say::text;
 use lesson_lib::world::ANN;
 use lesson_lib::world::BEN;
-use lesson_lib::world::create;
 use lesson_lib::world::fresh;
 use lesson_lib::world::handle;
 use lesson_made::three_files;
+use lesson_paths::masters;
 use structs::DIR;
 use structs::FILE;
 use table::Handle;
 use table::Table;
 use table_bytes::write_table;
 use utf8::equal;
-
-const SYMLINK: u32 = 3;
 
 fn slots(arena: &mut [u8; 8192]) {
     let w = three_files(arena);
@@ -41,10 +38,10 @@ fn slots(arena: &mut [u8; 8192]) {
     slot_line(arena, t, root, b"  create a, b, c: slot 2 is ", 2);
     slot_line(arena, t, root, b", slot 3 is ", 3);
     slot_line(arena, t, root, b", slot 4 is ", 4);
-    let u = unlink(arena, t, ANN, root, b"a");
+    let u = remove_file(arena, t, ANN, root, b"a");
     let a = u.answer;
     let t = u.table;
-    say::answer(b".\n  unlink a: ", a);
+    say::answer(b".\n  remove-file a: ", a);
     slot_line(arena, t, root, b"; slot 2 is ", 2);
     slot_line(arena, t, root, b", slot 3 is ", 3);
     say::number(
@@ -155,76 +152,28 @@ fn families(arena: &mut [u8; 8192]) {
     reorganised(arena, t, root, sans, serif, handle(a));
 }
 
-// A symlink a in a folder: what is written in it is its target.
-fn symlink_line(
-    arena: &mut [u8],
-    t: Table,
-    folder: Handle,
-    n: u8,
-    before: &[u8],
-    target: &[u8],
-) -> Table {
-    let g = create(arena, t, ANN, folder, b"a", SYMLINK, n);
-    let a = g.answer;
-    let t = g.table;
-    save_line(arena, t, ANN, handle(a), before, target)
-}
-
-// A walk from the root, and the targets that it has read.
-fn walk_line(arena: &[u8], t: Table, root: Handle, path: &[u8]) -> HeldReply {
-    let mut links = [0u8; 64];
-    let g = walk(arena, t, ANN, root, path, &mut links);
-    let a = g.answer;
-    text(b"  walk to ");
-    text(path);
-    say::got(b": ", a);
-    text(b"; the link buffer has ");
-    stored(&links);
-    g
-}
-
-fn by_path(arena: &mut [u8], t: Table, root: Handle) {
-    let g = walk_line(&arena[..], t, root, b"Sans/a");
-    let a = g.answer;
-    let t = g.table;
-    handle_line(&arena[..], t, ANN, handle(a), b"; it is ");
-    let t = save_line(
-        arena,
-        t,
-        ANN,
-        handle(a),
-        b".\n  Ann saves her curve there: ",
-        b"M0 0 C1 9 4 9 5 0",
-    );
-    let g = walk_line(&arena[..], t, root, b"Serif/a");
-    let a = g.answer;
-    let t = g.table;
-    outline_line(&arena[..], t, ANN, handle(a), b"; it reads ");
-    text(b".\n");
-    walk_line(&arena[..], t, root, b"Serif/a/b");
-    text(b".\n");
-}
-
-// It takes more than 16 blocks.
-fn masters() {
-    text(b"\nOne master glyph in two families, by path\n");
-    let mut arena = [0u8; 16384];
-    let w = fresh(&mut arena);
+// The delete key has remove-file, the folder menu remove-folder.
+fn two_keys(arena: &mut [u8; 8192]) {
+    text(b"\nThe delete key and the folder menu\n");
+    let w = fresh(arena);
     let t = w.table;
     let root = w.root;
-    let g = create_line(&mut arena, t, ANN, root, b"a", FILE, 2);
+    let g = create_line(arena, t, ANN, root, b"a", FILE, 2);
     let t = g.table;
-    let g = create_line(&mut arena, t, ANN, root, b"Sans", DIR, 3);
-    let a = g.answer;
+    let g = create_line(arena, t, ANN, root, b"Bold", DIR, 3);
     let t = g.table;
-    let before = b"  a symlink a there, with the target ../a: ";
-    let t = symlink_line(&mut arena, t, handle(a), 4, before, b"../a");
-    let g = create_line(&mut arena, t, ANN, root, b"Serif", DIR, 5);
-    let a = g.answer;
-    let t = g.table;
-    let before = b"  a symlink a there, with the target /a: ";
-    let t = symlink_line(&mut arena, t, handle(a), 6, before, b"/a");
-    by_path(&mut arena, t, root);
+    let u = remove_file(arena, t, ANN, root, b"Bold");
+    let a = u.answer;
+    let t = u.table;
+    say::answer(b"  The delete key on Bold, which is empty: ", a);
+    let u = remove_folder(arena, t, ANN, root, b"a");
+    let a = u.answer;
+    let t = u.table;
+    say::answer(b".\n  The folder menu on a: ", a);
+    let u = remove_folder(arena, t, ANN, root, b"Bold");
+    let a = u.answer;
+    say::answer(b".\n  The folder menu on Bold: ", a);
+    text(b".\n");
 }
 
 // A handle is a hold and a stamp, and not a node's number.
@@ -235,10 +184,10 @@ fn hold_line(before: &[u8], h: Handle) {
 
 // Ann and Ben have a glyph open; Ben removes it and makes another.
 fn removed(arena: &mut [u8; 8192], t: Table, root: Handle, ann: Handle) -> HeldReply {
-    let u = unlink(arena, t, BEN, root, b"a");
+    let u = remove_file(arena, t, BEN, root, b"a");
     let a = u.answer;
     let t = u.table;
-    say::answer(b"  Ben unlinks a: ", a);
+    say::answer(b"  Ben removes a: ", a);
     handle_line(arena, t, ANN, ann, b"; Ann's a is ");
     text(b".\n");
     create_line(arena, t, BEN, root, b"b", FILE, 3)
@@ -350,5 +299,6 @@ fn main() {
     same_node(&mut arena);
     families(&mut arena);
     masters();
+    two_keys(&mut arena);
     support_call(&mut arena);
 }

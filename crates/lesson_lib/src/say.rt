@@ -32,6 +32,7 @@ fn words(reason: u8) {
         4 => text(b" (bad handle)"),
         6 => text(b" (invalid parameter)"),
         7 => text(b" (not a folder)"),
+        9 => text(b" (is a folder)"),
         10 => text(b" (name too long)"),
         12 => text(b" (entry exists)"),
         _ => text(b""),

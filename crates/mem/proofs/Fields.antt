@@ -1,6 +1,6 @@
 -- The fields of a row, by the bytes that they are in memory: read there, and one number of a record changed there.
-use mathlib.Core.Path.{_≡_, refl, sym, ap, _∙_}
-use mathlib.Core.Bool.{Bool, true, not}
+use mathlib.Core.Path.{_≡_, sym, ap, _∙_}
+use mathlib.Core.Bool.{true, not}
 use mathlib.Core.List.{List, [], _∷_}
 use Prim.Native.Nat.{ℕ, _+_, _*_, _^_, _<_, _≤_}
 use native.Mathlib.Omega.{arith}
@@ -8,14 +8,13 @@ use lib.ListN.{length, getD, set}
 use lib.Seq.{getD-set-same}
 use lib.Dec.{eqb}
 use Rattle.base.specs.Parts.{part, paste}
-use Rattle.base.proofs.Lists.{getD-part, length-paste, part-paste, part-paste-other, set-paste}
+use Rattle.base.proofs.Lists.{getD-part, length-paste, part-paste-other, set-paste}
 use Rattle.base.proofs.Parts.{part-part}
 use Rattle.le.specs.Le.{leOf, leAt, leBytes, lePut}
 use Rattle.le.specs.Signed.{signed}
 use Rattle.le.proofs.Laws.{leAt-part, length-leBytes, leAt-lePut-fits}
 use Rattle.structs.specs.Layout.{timeOf, recordOf}
 use Rattle.structs.specs.declared.DiskINode.{DiskINode}
-use Rattle.structs.proofs.Layouts.{number-back}
 use Rattle.table.specs.declared.Row.{Row}
 use Rattle.table.specs.Table.{rowAt, takeRow}
 use Rattle.table_bytes.specs.Layout.{rowFrom}

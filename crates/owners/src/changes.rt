@@ -10,7 +10,7 @@ ghost use lib.ListN.{length};
 ghost use Rattle.sefs.specs.Close.{closeSteps, callClose, callSync};
 ghost use Rattle.sefs.specs.Create.{callCreate, callLink};
 ghost use Rattle.sefs.specs.Move.{callMove};
-ghost use Rattle.sefs.specs.Unlink.{callUnlink};
+ghost use Rattle.sefs.specs.Remove.{callRemove};
 ghost use Rattle.mem.specs.Mem.{tableIn, Whole};
 ghost use Rattle.mem.specs.State.{fsAt};
 ghost use Rattle.calls.specs.Answers.{addedAs};
@@ -29,10 +29,10 @@ use calls_link::link_led;
 use calls_link::link_rows;
 use calls_move::move_rows;
 use calls_move::plan_led;
+use calls_remove::pick_led;
+use calls_remove::remove;
 use calls_sync::sync_in;
 use calls_sync::sync_led;
-use calls_unlink::remove;
-use calls_unlink::unlink_led;
 use mem::begin;
 use sound::chain_all;
 use table::Handle;
@@ -154,20 +154,30 @@ pub fn link_on(
     r
 }
 
-pub fn unlink_on(
+pub fn remove_on(
     arena: &mut [u8],
     chains: &mut [u16],
     mem: &mut [u8],
     who: u8,
     h: Handle,
     name: &[u8],
+    folder: bool,
 ) -> u8
     requires { ⌜ Kept (now arena) (now chains) (now mem) ⌝ }
-    ensures { λ r. ⌜ Ended (callUnlink (now (arena .entry)) (tableIn (now (mem .entry))) who h (now (name .entry))) (now (arena .entry)) (now (arena .exit)) (tableIn (now (mem .exit))) r ⌝ }
+    ensures { λ r. ⌜ Ended (callRemove folder (now (arena .entry)) (tableIn (now (mem .entry))) who h (now (name .entry))) (now (arena .entry)) (now (arena .exit)) (tableIn (now (mem .exit))) r ⌝ }
     ensures { λ _. ⌜ Chained (now (arena .exit)) (now (chains .exit)) ⌝ }
 {
     let c = &chains[..];
-    let b = unlink_led(&arena[..], &c[..4096], &c[4096..8192], mem, who, h, name);
+    let b = pick_led(
+        &arena[..],
+        &c[..4096],
+        &c[4096..8192],
+        mem,
+        who,
+        h,
+        name,
+        folder,
+    );
     if b.reason != 0 {
         return b.reason;
     }

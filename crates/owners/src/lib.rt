@@ -10,7 +10,7 @@ ghost use Rattle.sefs.specs.Create.{callCreate, callLink};
 ghost use Rattle.sefs.specs.Move.{callMove};
 ghost use Rattle.sefs.specs.Open.{callRoot, callFind};
 ghost use Rattle.sefs.specs.Read.{callMetadata, callSet, callEntry, callListing};
-ghost use Rattle.sefs.specs.Unlink.{callUnlink};
+ghost use Rattle.sefs.specs.Remove.{callRemove, callRemoveFile, callRemoveFolder};
 ghost use Rattle.walk.specs.Walk.{callWalk};
 ghost use Rattle.edge.specs.Words.{handleOf, timeOf};
 ghost use Rattle.edge.specs.Edge.{sized, sizedWalk, startIn, Leaves, Makes, Holds, Walks, Sets, Tells, Shows, Lists};
@@ -27,8 +27,8 @@ use changes::close_on;
 use changes::create_on;
 use changes::link_on;
 use changes::move_on;
+use changes::remove_on;
 use changes::sync_on;
-use changes::unlink_on;
 use edge::args::file_of;
 use edge::args::handle;
 use edge::args::new_node;
@@ -262,8 +262,37 @@ pub extern "C" fn dz_own_link(
     end_after(table, &mem, r)
 }
 
+// Remove-folder where `folder`, else remove-file.
+fn remove_named(
+    arena: &mut [u8],
+    chains: &mut [u16],
+    table: &mut [u8],
+    owner: u8,
+    hold: u32,
+    stamp: u64,
+    name: &[u8],
+    folder: bool,
+) -> u32
+    requires { ⌜ Owned (now arena) (now chains) (now table) ⌝ }
+    ensures { λ r. ⌜ Leaves (callRemove folder (now (arena .entry)) (tableOf (now (table .entry))) owner (handleOf hold stamp) (now (name .entry))) (now (arena .entry)) (now (arena .exit)) (now (table .entry)) (now (table .exit)) r ⌝ }
+    ensures { λ _. ⌜ Chained (now (arena .exit)) (now (chains .exit)) ⌝ }
+{
+    let mut mem = [0u8; MEMORY];
+    begin(&mut mem, &table[..]);
+    let r = remove_on(
+        arena,
+        chains,
+        &mut mem,
+        owner,
+        handle(hold, stamp),
+        name,
+        folder,
+    );
+    end_after(table, &mem, r)
+}
+
 #[no_mangle]
-pub extern "C" fn dz_own_unlink(
+pub extern "C" fn dz_own_remove_file(
     arena: &mut [u8],
     chains: &mut [u16],
     table: &mut [u8],
@@ -273,13 +302,27 @@ pub extern "C" fn dz_own_unlink(
     name: &[u8],
 ) -> u32
     requires { ⌜ Owned (now arena) (now chains) (now table) ⌝ }
-    ensures { λ r. ⌜ Leaves (callUnlink (now (arena .entry)) (tableOf (now (table .entry))) owner (handleOf hold stamp) (now (name .entry))) (now (arena .entry)) (now (arena .exit)) (now (table .entry)) (now (table .exit)) r ⌝ }
+    ensures { λ r. ⌜ Leaves (callRemoveFile (now (arena .entry)) (tableOf (now (table .entry))) owner (handleOf hold stamp) (now (name .entry))) (now (arena .entry)) (now (arena .exit)) (now (table .entry)) (now (table .exit)) r ⌝ }
     ensures { λ _. ⌜ Chained (now (arena .exit)) (now (chains .exit)) ⌝ }
 {
-    let mut mem = [0u8; MEMORY];
-    begin(&mut mem, &table[..]);
-    let r = unlink_on(arena, chains, &mut mem, owner, handle(hold, stamp), name);
-    end_after(table, &mem, r)
+    remove_named(arena, chains, table, owner, hold, stamp, name, false)
+}
+
+#[no_mangle]
+pub extern "C" fn dz_own_remove_folder(
+    arena: &mut [u8],
+    chains: &mut [u16],
+    table: &mut [u8],
+    owner: u8,
+    hold: u32,
+    stamp: u64,
+    name: &[u8],
+) -> u32
+    requires { ⌜ Owned (now arena) (now chains) (now table) ⌝ }
+    ensures { λ r. ⌜ Leaves (callRemoveFolder (now (arena .entry)) (tableOf (now (table .entry))) owner (handleOf hold stamp) (now (name .entry))) (now (arena .entry)) (now (arena .exit)) (now (table .entry)) (now (table .exit)) r ⌝ }
+    ensures { λ _. ⌜ Chained (now (arena .exit)) (now (chains .exit)) ⌝ }
+{
+    remove_named(arena, chains, table, owner, hold, stamp, name, true)
 }
 
 #[no_mangle]

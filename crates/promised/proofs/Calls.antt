@@ -14,7 +14,7 @@ use Rattle.table.specs.Table.{emptyTable}
 use Rattle.sefs.specs.declared.Metadata.{Metadata}
 use Rattle.sefs.specs.Open.{callRoot, callFind}
 use Rattle.sefs.specs.Create.{After, Given, callFormat, callCreate, callLink}
-use Rattle.sefs.specs.Unlink.{callUnlink}
+use Rattle.sefs.specs.Remove.{callRemoveFile, callRemoveFolder}
 use Rattle.sefs.specs.Move.{callMove}
 use Rattle.sefs.specs.Read.{callMetadata, callSet, callEntry, callListing}
 use Rattle.sefs.specs.Contents.{callRead, callWrite, callResize}
@@ -35,7 +35,7 @@ use Rattle.calls_create.specs.Held.{ReturnedHeld}
 use Rattle.calls_format.specs.Format.{formatted}
 use Rattle.calls_find.specs.Finds.{Gives}
 use Rattle.sequences.specs.Pairs.{Pair, pair, Passed}
-use Rattle.sequences.specs.Calls.{Call, root, find, walk, create, link, unlink, move, metadata, setMetadata, getEntry, listing, read, write, resize, sync, close, Fits, AskerFits, HandleFits, NewFits, SetFits, does, reasonOf, next}
+use Rattle.sequences.specs.Calls.{Call, root, find, walk, create, link, removeFile, removeFolder, move, metadata, setMetadata, getEntry, listing, read, write, resize, sync, close, Fits, AskerFits, HandleFits, NewFits, SetFits, does, reasonOf, next}
 use Rattle.sequences.specs.Promises.{Keeps, Well, Fresh}
 use Rattle.sequences.proofs.Sequences.{keeps}
 use Rattle.sequences.proofs.Fresh.{fresh}
@@ -157,10 +157,15 @@ module _ (p : Pair) (y : Passed p) where
     unfolding does
     link-keeps name n child C = by-return (link who h name child) p (callLink (p .arena) (p .table) who h name child) (held (link who h name child) (Q, H, n, C)) refl
 
-    pub unlink-keeps : (name : List ℕ) → Bytes name → (b : List ℕ) (r : answered.Reply)
-        → Returned (p .table) (callUnlink (p .arena) (p .table) who h name) (p .arena) b r → Stays b (r .table) (answerNumber (r .answer))
+    pub remove-file-keeps : (name : List ℕ) → Bytes name → (b : List ℕ) (r : answered.Reply)
+        → Returned (p .table) (callRemoveFile (p .arena) (p .table) who h name) (p .arena) b r → Stays b (r .table) (answerNumber (r .answer))
     unfolding does
-    unlink-keeps name n = by-return (unlink who h name) p (callUnlink (p .arena) (p .table) who h name) (held (unlink who h name) (Q, H, n)) refl
+    remove-file-keeps name n = by-return (removeFile who h name) p (callRemoveFile (p .arena) (p .table) who h name) (held (removeFile who h name) (Q, H, n)) refl
+
+    pub remove-folder-keeps : (name : List ℕ) → Bytes name → (b : List ℕ) (r : answered.Reply)
+        → Returned (p .table) (callRemoveFolder (p .arena) (p .table) who h name) (p .arena) b r → Stays b (r .table) (answerNumber (r .answer))
+    unfolding does
+    remove-folder-keeps name n = by-return (removeFolder who h name) p (callRemoveFolder (p .arena) (p .table) who h name) (held (removeFolder who h name) (Q, H, n)) refl
 
     pub move-keeps : (old : List ℕ) → Bytes old → (target : Handle) → HandleFits target → (name : List ℕ) → Bytes name
         → (b : List ℕ) (r : answered.Reply)

@@ -15,7 +15,7 @@ use Rattle.table_bytes.specs.Layout.{tableOf, tableBytes}
 use Rattle.table_bytes.proofs.Layouts.{length-fits, tableOf-tableBytes}
 use Rattle.sefs.specs.Open.{callRoot, callFind}
 use Rattle.sefs.specs.Create.{After, Given, callCreate, callLink}
-use Rattle.sefs.specs.Unlink.{callUnlink}
+use Rattle.sefs.specs.Remove.{callRemoveFile, callRemoveFolder}
 use Rattle.sefs.specs.Move.{callMove}
 use Rattle.sefs.specs.Read.{callSet}
 use Rattle.sefs.specs.Contents.{callWrite, callResize}
@@ -23,7 +23,7 @@ use Rattle.sefs.specs.Close.{callSync, callClose}
 use Rattle.walk.specs.Walk.{callWalk}
 use Rattle.rules.proofs.Check.{check-pass}
 use Rattle.sequences.specs.Pairs.{Pair, pair, Passed}
-use Rattle.sequences.specs.Calls.{Call, root, find, walk, create, link, unlink, move, setMetadata, write, resize, sync, close, Fits, AskerFits, HandleFits, NewFits, SetFits, does, next}
+use Rattle.sequences.specs.Calls.{Call, root, find, walk, create, link, removeFile, removeFolder, move, setMetadata, write, resize, sync, close, Fits, AskerFits, HandleFits, NewFits, SetFits, does}
 use Rattle.sequences.specs.Promises.{Keeps}
 use Rattle.sequences.proofs.Sequences.{keeps}
 use Rattle.edge.specs.Edge.{sized, Leaves, Makes, Holds, Sets}
@@ -111,9 +111,13 @@ module _ (a t : List ℕ) (y : Trusted a t) where
       unfolding does
       link-owned name N child C = leaves-trusted (link who h name child) (Q, H, N, C) (callLink a (tableOf t) who h name child) refl
 
-      pub unlink-owned : (name : List ℕ) → Bytes name → {b : List ℕ} → Leaves (callUnlink a (tableOf t) who h name) a b t u n → Trusted b u
+      pub remove-file-owned : (name : List ℕ) → Bytes name → {b : List ℕ} → Leaves (callRemoveFile a (tableOf t) who h name) a b t u n → Trusted b u
       unfolding does
-      unlink-owned name N = leaves-trusted (unlink who h name) (Q, H, N) (callUnlink a (tableOf t) who h name) refl
+      remove-file-owned name N = leaves-trusted (removeFile who h name) (Q, H, N) (callRemoveFile a (tableOf t) who h name) refl
+
+      pub remove-folder-owned : (name : List ℕ) → Bytes name → {b : List ℕ} → Leaves (callRemoveFolder a (tableOf t) who h name) a b t u n → Trusted b u
+      unfolding does
+      remove-folder-owned name N = leaves-trusted (removeFolder who h name) (Q, H, N) (callRemoveFolder a (tableOf t) who h name) refl
 
       pub move-owned : (old : List ℕ) → Bytes old → (target : Handle) → HandleFits target → (name : List ℕ) → Bytes name
           → {b : List ℕ} → Leaves (callMove a (tableOf t) who h old target name) a b t u n → Trusted b u

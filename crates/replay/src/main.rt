@@ -1,5 +1,4 @@
 // Runs a call script from standard input: scripts of at most 262,144 bytes, arenas of at most 65,536.
-ghost use mathlib.Core.Path.{_≡_};
 ghost use Prim.Native.Nat.{_≤_};
 ghost use lib.ListN.{length};
 use libc::STDIN_FILENO;

@@ -10,9 +10,9 @@ use crate::writes::call_create;
 use crate::writes::call_format;
 use crate::writes::call_link;
 use crate::writes::call_move;
+use crate::writes::call_remove;
 use crate::writes::call_resize;
 use crate::writes::call_sync;
-use crate::writes::call_unlink;
 use crate::writes::call_write;
 use replay_reads::do_read;
 use script::desk::arena_len;
@@ -21,7 +21,7 @@ use script::lines::put_name;
 use script::lines::put_sums;
 use script::shape::size_at;
 
-// Those of writes.rt: 16, 20 to 23, 28, 29, 33, 34. The others leave the arena as it is.
+// Those of writes.rt: 16, 20, 21, 23, 28, 29, 33, 34, 36, 37. The others leave the arena as it is.
 fn do_call(
     script: &[u8],
     at: usize,
@@ -38,12 +38,13 @@ fn do_call(
         16 => call_format(script, at, desk, arena, text, w),
         20 => call_create(script, at, desk, arena, text, w),
         21 => call_link(script, at, desk, arena, text, w),
-        22 => call_unlink(script, at, desk, arena, text, w),
         23 => call_move(script, at, desk, arena, text, w),
         28 => call_sync(desk, arena, text, w),
         29 => call_close(script, at, desk, arena, text, w),
         33 => call_write(script, at, desk, arena, text, w),
         34 => call_resize(script, at, desk, arena, text, w),
+        36 => call_remove(script, at, desk, arena, text, w, false),
+        37 => call_remove(script, at, desk, arena, text, w, true),
         _ => do_read(script, at, desk, &arena[..], text, w),
     }
 }

@@ -118,7 +118,7 @@ pub fn call_resize(
     put_after(desk, text, w, a)
 }
 
-// ---- create, link, unlink, move: names
+// ---- create, link, remove-file and remove-folder, move: names
 
 // What create makes, 38 bytes.
 fn new_at(script: &[u8], at: usize) -> New
@@ -200,13 +200,15 @@ pub fn call_link(
     put_after(desk, text, w, a)
 }
 
-pub fn call_unlink(
+// `folder`: remove-folder.
+pub fn call_remove(
     script: &[u8],
     at: usize,
     desk: &mut [u8],
     arena: &mut [u8],
     text: &mut [u8],
     w: usize,
+    folder: bool,
 ) -> usize
     requires { ⌜ at + named1 (now script) at 14 ≤ length (now script) ⌝ }
     requires { ⌜ (length (now desk) ≡ 4419) × (w + 400 ≤ length (now text)) ⌝ }
@@ -215,12 +217,13 @@ pub fn call_unlink(
     let h = handle_at(script, at + 2);
     let s = at + 16;
     let e = name_end(script, at + 14);
-    let a = calls_unlink::unlink(
+    let a = calls_remove::remove_named(
         arena,
         read_table(&desk[..]),
         script[at + 1],
         h,
         &script[s..e],
+        folder,
     );
     put_after(desk, text, w, a)
 }

@@ -34,7 +34,6 @@ sizeBy c s at =
     (cond (eqb c 19) (named1 s at 14)
     (cond (eqb c 20) (named1 s at 14 + 38)
     (cond (eqb c 21) (named1 s at 14 + 12)
-    (cond (eqb c 22) (named1 s at 14)
     (cond (eqb c 23) (named2 s at)
     (cond (eqb c 24) 14
     (cond (eqb c 25) 80
@@ -46,7 +45,9 @@ sizeBy c s at =
     (cond (eqb c 32) 24
     (cond (eqb c 33) (named1 s at 22)
     (cond (eqb c 34) 22
-    (cond (eqb c 35) (named1 s at 14 + 2) 0))))))))))))))))))))))
+    (cond (eqb c 35) (named1 s at 14 + 2)
+    (cond (eqb c 36) (named1 s at 14)
+    (cond (eqb c 37) (named1 s at 14) 0)))))))))))))))))))))))
 
 abbrev pub sizeOf : List ℕ → ℕ → ℕ
 sizeOf s at = sizeBy (getD s at 0) s at

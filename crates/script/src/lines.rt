@@ -22,8 +22,8 @@ use table_bytes::write_table;
 // ---- the call's name
 
 pub fn put_name(text: &mut [u8], w: usize, c: u8) -> usize
-    requires { ⌜ w + 8 ≤ length (now text) ⌝ }
-    ensures { λ r. ⌜ r ≤ w + 8 ⌝ }
+    requires { ⌜ w + 13 ≤ length (now text) ⌝ }
+    ensures { λ r. ⌜ r ≤ w + 13 ⌝ }
 {
     match c {
         16 => put_word(text, w, b"format"),
@@ -32,7 +32,6 @@ pub fn put_name(text: &mut [u8], w: usize, c: u8) -> usize
         19 => put_word(text, w, b"find"),
         20 => put_word(text, w, b"create"),
         21 => put_word(text, w, b"link"),
-        22 => put_word(text, w, b"unlink"),
         23 => put_word(text, w, b"move"),
         24 => put_word(text, w, b"metadata"),
         25 => put_word(text, w, b"set"),
@@ -44,6 +43,8 @@ pub fn put_name(text: &mut [u8], w: usize, c: u8) -> usize
         33 => put_word(text, w, b"write"),
         34 => put_word(text, w, b"resize"),
         35 => put_word(text, w, b"walk"),
+        36 => put_word(text, w, b"remove-file"),
+        37 => put_word(text, w, b"remove-folder"),
         _ => put_word(text, w, b"check"),
     }
 }

@@ -141,7 +141,6 @@ pub fn size_at(script: &[u8], at: usize, limit: usize) -> usize
         19 => named(script, at, 14),
         20 => named_more(script, at, 14, 38),
         21 => named_more(script, at, 14, 12),
-        22 => named(script, at, 14),
         23 => named_twice(script, at),
         24 => whole(script, at, 14),
         25 => whole(script, at, 80),
@@ -154,6 +153,8 @@ pub fn size_at(script: &[u8], at: usize, limit: usize) -> usize
         33 => lengthy(script, at, 22, 8192),
         34 => whole(script, at, 22),
         35 => path_output(script, at),
+        36 => named(script, at, 14),
+        37 => named(script, at, 14),
         _ => 0,
     }
 }

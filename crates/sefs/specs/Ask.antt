@@ -1,5 +1,5 @@
 -- What a call asks before its steps: the reasons that every call can give, in document 01's order, and those about folders and names.
-use mathlib.Core.Bool.{Bool, true, false, not}
+use mathlib.Core.Bool.{not}
 use mathlib.Core.List.{List}
 use Prim.Native.Nat.{ℕ}
 use lib.ListN.{length}

@@ -1,8 +1,8 @@
 -- sync and close.
-use mathlib.Core.Bool.{Bool, true, false}
+use mathlib.Core.Bool.{Bool}
 use mathlib.Core.List.{List}
 use Prim.Native.Nat.{ℕ, zero, suc}
-use Rattle.base.specs.Out.{Out, done, refused, _>>=_}
+use Rattle.base.specs.Out.{Out, done, _>>=_}
 use Rattle.base.specs.Search.{pick}
 use Rattle.base.specs.declared.Found.{Found}
 use Rattle.base.specs.declared.Found.the-variants.{At, Nothing}

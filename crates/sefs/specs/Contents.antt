@@ -1,12 +1,12 @@
 -- Calls on a file's own bytes (order 1): read, write, resize. "for files, symlinks and sockets"; links are not looked at.
-use mathlib.Core.Bool.{Bool, not, _&&_}
+use mathlib.Core.Bool.{not, _&&_}
 use mathlib.Core.List.{List}
 use Prim.Native.Nat.{ℕ, _+_, _-_, min}
 use lib.ListN.{length}
 use lib.Dec.{ltb, leb}
 use Rattle.structs.specs.Types.{isFolder, isType}
 use Rattle.structs.specs.declared.DiskINode.{DiskINode}
-use Rattle.base.specs.Out.{Out, done, refused, ensure, guard, _>>=_}
+use Rattle.base.specs.Out.{Out, done, ensure, guard, _>>=_}
 use Rattle.base.specs.Parts.{tab}
 use Rattle.base.specs.Reasons.{stuck, notFile, fileTooBig}
 use Rattle.base.specs.Search.{pick}

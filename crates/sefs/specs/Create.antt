@@ -1,16 +1,14 @@
 -- Calls that make: format, create, link.
-use mathlib.Core.Bool.{Bool, true, false, not, _&&_, _||_}
-use mathlib.Core.List.{List, [], _∷_}
+use mathlib.Core.Bool.{Bool, not, _&&_}
+use mathlib.Core.List.{List, _∷_}
 use Prim.Native.Nat.{ℕ}
 use lib.ListN.{length, replicate}
 use lib.Dec.{eqb, ltb, leb}
 use Rattle.structs.specs.Types.{isFolder}
 use Rattle.structs.specs.Constants.{sefsMagic, typeDir}
-use Rattle.base.specs.Out.{Out, done, refused, ensure, _>>=_}
-use Rattle.base.specs.Reasons.{badArena, invalidParam, isDir, entryExist, fileTaken, tooManyLinks, tableFull}
+use Rattle.base.specs.Out.{Out, done, ensure, _>>=_}
+use Rattle.base.specs.Reasons.{badArena, invalidParam, isDir, fileTaken, tooManyLinks, tableFull}
 use Rattle.base.specs.Search.{pick}
-use Rattle.base.specs.declared.Found.{Found}
-use Rattle.base.specs.declared.Found.the-variants.{At, Nothing}
 use Rattle.structs.specs.declared.Timespec.{Timespec}
 use Rattle.table.specs.declared.Table.{Table}
 use Rattle.table.specs.declared.Handle.{Handle}
@@ -22,7 +20,7 @@ use Rattle.files.specs.Read.{there}
 use Rattle.files.specs.Store.{makeFile, cutFile}
 use Rattle.sefs.specs.State.{Fs, Meta}
 use Rattle.sefs.specs.Meta.{metaFile, syncMeta}
-use Rattle.sefs.specs.Nodes.{recAt, idAt, newNode, syncRow, Opened}
+use Rattle.sefs.specs.Nodes.{recAt, idAt, newNode, syncRow}
 use Rattle.sefs.specs.Slots.{lookup}
 use Rattle.sefs.specs.Folders.{entry, direntInit, direntAppend, nlinksInc}
 use Rattle.sefs.specs.Ask.{admit, byHandle, newName, notLong, known, liveFolder, orExists, start}

@@ -1,11 +1,10 @@
 -- Folders: slots written and removed, and link counts (000's INodeImpl). A folder is a row of the table of open nodes.
-use mathlib.Core.Bool.{Bool, true, false, not, _&&_}
 use mathlib.Core.List.{List, [], _∷_}
 use Prim.Native.Nat.{ℕ, _+_, _*_, _-_}
-use lib.Dec.{eqb, ltb, leb}
+use lib.Dec.{eqb, ltb}
 use Rattle.structs.specs.Types.{isFolder}
 use Rattle.structs.specs.Constants.{typeDir}
-use Rattle.base.specs.Out.{Out, done, refused, bind, guard, _>>=_}
+use Rattle.base.specs.Out.{Out, done, guard, _>>=_}
 use Rattle.base.specs.Reasons.{stuck, tooManyLinks}
 use Rattle.base.specs.Search.{pick}
 use Rattle.structs.specs.Layout.{entryBytes}

@@ -8,7 +8,7 @@ pub mod Ask
 pub mod Read
 pub mod Open
 pub mod Create
-pub mod Unlink
+pub mod Remove
 pub mod Move
 pub mod Close
 pub mod Contents

@@ -3,8 +3,8 @@ use mathlib.Core.Bool.{Bool, true, false, not, _&&_}
 use mathlib.Core.List.{List, [], _∷_, _++_}
 use Prim.Native.Nat.{ℕ, zero, suc, _+_, _*_, _-_}
 use lib.ListN.{replicate}
-use lib.Dec.{eqb, ltb, leb}
-use Rattle.base.specs.Out.{Out, done, refused, bind, guard, _>>=_}
+use lib.Dec.{eqb, ltb}
+use Rattle.base.specs.Out.{Out, done, guard, _>>=_}
 use Rattle.base.specs.Parts.{part}
 use Rattle.base.specs.Reasons.{stuck, noDeviceSpace}
 use Rattle.base.specs.Search.{lowest, pick}

@@ -1,9 +1,9 @@
 -- move (000's move_).
-use mathlib.Core.Bool.{Bool, true, false, not, _&&_, _||_}
+use mathlib.Core.Bool.{not, _&&_}
 use mathlib.Core.List.{List}
-use Prim.Native.Nat.{ℕ, zero, suc, _+_, _*_}
-use lib.Dec.{eqb, ltb, leb}
-use Rattle.base.specs.Out.{Out, done, refused, ensure, guard, _>>=_}
+use Prim.Native.Nat.{ℕ, zero, suc, _*_}
+use lib.Dec.{eqb, leb}
+use Rattle.base.specs.Out.{Out, done, refused, guard, _>>=_}
 use Rattle.base.specs.Reasons.{invalidParam, notDir, isDir, dirNotEmpty, stuck}
 use Rattle.base.specs.Search.{pick}
 use Rattle.base.specs.declared.Found.{Found}
@@ -20,7 +20,7 @@ use Rattle.table.specs.Table.{rowAt, rowOf}
 use Rattle.files.specs.Read.{readFile}
 use Rattle.sefs.specs.State.{Fs}
 use Rattle.sefs.specs.Meta.{metaFile, isUsed}
-use Rattle.sefs.specs.Nodes.{recAt, idAt, getNode, syncRow, release, Opened}
+use Rattle.sefs.specs.Nodes.{recAt, idAt, getNode, syncRow, release}
 use Rattle.sefs.specs.Slots.{slotBytes, lookup, slotAt, Slot, findSlot}
 use Rattle.sefs.specs.Folders.{entry, dotsEntry, putSlot, direntAppend, direntRemove, direntNodeRemove, nlinksInc, nlinksDec}
 use Rattle.sefs.specs.Ask.{admit, byHandle, goodName, newName, notLong, notSpecial, known, liveFolder, start}

@@ -1,9 +1,9 @@
 -- Nodes: opened, made, stored and dropped (000's SEFS and INodeImpl's Drop). A node in use has a row in the table of open nodes.
 use mathlib.Core.Bool.{Bool, true, false, not, _&&_}
 use mathlib.Core.List.{List}
-use Prim.Native.Nat.{ℕ, _+_, _*_}
-use lib.Dec.{eqb, ltb, leb}
-use Rattle.base.specs.Out.{Out, done, refused, bind, guard, _>>=_}
+use Prim.Native.Nat.{ℕ, _*_}
+use lib.Dec.{eqb, leb}
+use Rattle.base.specs.Out.{Out, done, refused, guard, _>>=_}
 use Rattle.base.specs.Reasons.{stuck}
 use Rattle.base.specs.Search.{pick}
 use Rattle.base.specs.declared.Found.{Found}
@@ -11,14 +11,13 @@ use Rattle.base.specs.declared.Found.the-variants.{At, Nothing}
 use Rattle.structs.specs.Layout.{recordOf, recordBytes}
 use Rattle.structs.specs.declared.DiskINode.{DiskINode}
 use Rattle.structs.specs.declared.Timespec.{Timespec}
-use Rattle.table.specs.declared.Table.{Table}
 use Rattle.table.specs.Table.{rowAt, rowOf, freeRow, takeRow, withDirty, freeRowAt, rowUsed}
 use Rattle.arena.specs.Fields.{File, file}
 use Rattle.files.specs.Read.{there, readFile}
 use Rattle.files.specs.Store.{putFile, makeFile, dropFile}
-use Rattle.sefs.specs.State.{Fs, Meta, withArena, withTable}
+use Rattle.sefs.specs.State.{Fs, withArena, withTable}
 use Rattle.sefs.specs.Records.{newRecord}
-use Rattle.sefs.specs.Meta.{metaFile, isUsed, Allocated, allocBlock, freeBlock, syncMeta}
+use Rattle.sefs.specs.Meta.{metaFile, isUsed, allocBlock, freeBlock, syncMeta}
 
 -- "Byte 1: .. 1 node file", by the record's file name
 abbrev pub nodeFile : DiskINode → File

@@ -1,20 +1,17 @@
 -- Calls that open: open, root, find. They change no byte of the arena.
-use mathlib.Core.Bool.{Bool, true, false, not, _&&_}
+use mathlib.Core.Bool.{not, _&&_}
 use mathlib.Core.List.{List}
 use Prim.Native.Nat.{ℕ}
-use lib.ListN.{length}
-use lib.Dec.{eqb, ltb, leb}
+use lib.Dec.{eqb, ltb}
 use Rattle.structs.specs.Constants.{sefsMagic}
-use Rattle.base.specs.Out.{Out, done, refused, ensure, _>>=_}
-use Rattle.base.specs.Reasons.{badArena, damaged, dirRemoved, tableFull, wrongFs}
-use Rattle.structs.specs.Layout.{superOf, entryOf}
+use Rattle.base.specs.Out.{Out, done, ensure, _>>=_}
+use Rattle.base.specs.Reasons.{dirRemoved, tableFull, wrongFs}
+use Rattle.structs.specs.Layout.{superOf}
 use Rattle.utf8.specs.Names.{isDots}
 use Rattle.table.specs.declared.Table.{Table}
 use Rattle.table.specs.declared.Handle.{Handle}
 use Rattle.table.specs.declared.Added.{Added}
 use Rattle.table.specs.Table.{emptyTable, rowAt, canHold, addHold}
-use Rattle.arena.specs.Blocks.{legal}
-use Rattle.sound.specs.Sound.{sound}
 use Rattle.files.specs.Read.{readFile}
 use Rattle.sefs.specs.State.{Fs}
 use Rattle.sefs.specs.Meta.{metaFile, loadMaps}

@@ -1,13 +1,13 @@
 -- Calls that read: metadata, get entry, listing. And set metadata, which changes the row alone.
-use mathlib.Core.Bool.{Bool, true, false, not, _&&_}
+use mathlib.Core.Bool.{true, not, _&&_}
 use mathlib.Core.List.{List, [], _++_}
-use Prim.Native.Nat.{ℕ, zero, suc, _+_, _-_, _*_, _/_, _%_, _^_, min}
-use lib.Dec.{eqb, ltb, leb}
+use Prim.Native.Nat.{ℕ, zero, suc, _+_, _-_, _/_, _%_, _^_, min}
+use lib.Dec.{ltb, leb}
 use Rattle.structs.specs.Types.{isFolder}
-use Rattle.base.specs.Out.{Out, done, refused, ensure, guard, _>>=_}
+use Rattle.base.specs.Out.{Out, done, ensure, _>>=_}
 use Rattle.base.specs.Reasons.{entryNotFound, outFull, stuck}
 use Rattle.base.specs.Search.{pick}
-use Rattle.structs.specs.Layout.{entryOf, entryBytes}
+use Rattle.structs.specs.Layout.{entryOf}
 use Rattle.structs.specs.declared.DiskINode.{DiskINode}
 use Rattle.structs.specs.declared.Timespec.{Timespec}
 use Rattle.utf8.specs.Names.{storedName}

@@ -1,9 +1,9 @@
 -- A folder's slots, read (000's read_direntry and the lookups).
-use mathlib.Core.Bool.{Bool, true, false, not, _&&_}
+use mathlib.Core.Bool.{Bool, true, false}
 use mathlib.Core.List.{List}
-use Prim.Native.Nat.{ℕ, zero, suc, _+_, _*_}
-use lib.Dec.{eqb, ltb, leb}
-use Rattle.base.specs.Out.{Out, done, refused, bind, guard, _>>=_}
+use Prim.Native.Nat.{ℕ, zero, suc, _*_}
+use lib.Dec.{ltb, leb}
+use Rattle.base.specs.Out.{Out, done, refused, guard, _>>=_}
 use Rattle.base.specs.Reasons.{stuck, entryNotFound}
 use Rattle.base.specs.Search.{pick, foundBelow}
 use Rattle.base.specs.declared.Found.{Found}

@@ -40,7 +40,7 @@ use Rattle.sefs.specs.Slots.{Slot}
 use Rattle.sefs.specs.Folders.{putSlot, direntInit, direntAppend, direntRemove, direntNodeRemove, nlinksInc, nlinksDec, unlinkFolder}
 use Rattle.sefs.specs.Create.{After, after, birth, nameFolder, named, linkSteps}
 use Rattle.sefs.specs.Close.{withNext, syncFrom}
-use Rattle.sefs.specs.Unlink.{unlinkSteps}
+use Rattle.sefs.specs.Remove.{removeSteps}
 use Rattle.sefs.specs.Contents.{resizeSteps, writeSteps}
 use Rattle.sefs.specs.Move.{Replaced, none, node, readSlots, judge, removeReplaced, moveWithin, moveDots, moveLinks, moveParent, moveBetween, moveSteps, notBelow, moveOnto, replace, moveFree, moveTo}
 use Rattle.sefs_laws.proofs.Says.{says-make, says-ensure, says-read, says-slot-bytes, says-slot, says-find, says-cut}
@@ -372,9 +372,9 @@ module _ (P : List ℕ → Table → Type 0) (change : Changes P) where
             ok-bind {P = λ (w : Fs). P (w .arena) (w .table)} (any-pick (isFolder (recAt v c .kind)) (unlinkFolder v i c) (done v) (λ _. leaves-unlink-folder v i c l) (λ _. went l)) λ w m.
             leaves-release w c m
 
-        pub leaves-unlink : (s : Fs) (i : ℕ) → Fills P i → (c k : ℕ) → P (s .arena) (s .table) → LeavesAfter P (unlinkSteps s i c k)
-        unfolding unlinkSteps
-        leaves-unlink s i fills c k h = ok-bind (leaves-node-remove s i fills c k h) λ u g. ok-bind (leaves-sync u i g) λ v l. went l
+        pub leaves-steps : (s : Fs) (i : ℕ) → Fills P i → (c k : ℕ) → P (s .arena) (s .table) → LeavesAfter P (removeSteps s i c k)
+        unfolding removeSteps
+        leaves-steps s i fills c k h = ok-bind (leaves-node-remove s i fills c k h) λ u g. ok-bind (leaves-sync u i g) λ v l. went l
 
         pub leaves-replaced : (s : Fs) (j : ℕ) → Fills P j → (r : Replaced) → P (s .arena) (s .table) → Leaves P (removeReplaced s j r)
         leaves-replaced s j fills none h = went h

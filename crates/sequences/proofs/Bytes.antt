@@ -46,10 +46,10 @@ use Rattle.image.proofs.Metas.{kept-same, kept-then}
 use Rattle.image.proofs.Appends.{file-apart}
 use Rattle.sequences.specs.Pairs.{Pair, Passed}
 use Rattle.walk.specs.Walk.{callWalk}
-use Rattle.sequences.specs.Calls.{Call, root, find, walk, create, link, unlink, move, metadata, setMetadata, getEntry, listing, read, write, resize, sync, close, check, Fits, does, next}
+use Rattle.sequences.specs.Calls.{Call, root, find, walk, create, link, removeFile, removeFolder, move, metadata, setMetadata, getEntry, listing, read, write, resize, sync, close, check, Fits, does, next}
 use Rattle.sequences.specs.Promises.{On, SameFile, Through, writes, resizes}
 use Rattle.sequences.proofs.Passing.{allowed, spelled-any}
-use Rattle.sequences.proofs.Tables.{FillsFolders, keeps-create, keeps-link, keeps-unlink, keeps-write, keeps-resize, keeps-sync, keeps-close}
+use Rattle.sequences.proofs.Tables.{FillsFolders, keeps-create, keeps-link, keeps-remove, keeps-write, keeps-resize, keeps-sync, keeps-close}
 use Rattle.sequences.proofs.Bears.{Bears, Turns}
 use Rattle.sequences.proofs.Moves.{move-call}
 use Rattle.sequences.proofs.Corner.{at-put, Has, new-law, on-changes, on-takes, on-frees, on-used, on-there}
@@ -275,8 +275,10 @@ module _ (p : Pair) (y : Passed p) (who : ℕ) (h : Handle) (n : ℕ) (f : List 
       ok-bind (keeps-create (λ b u. Stays a f b) a t v g name kind mode time uuid (λ i l dir none. create-steps v g i l dir name kind mode time uuid (named-node uuid (F .3 .file) (F .3 .bytes)) none)) λ x k. went k
   calls (link v g name child) F z =
       ok-bind (keeps-link C (calm-stores a t f) (calm-drops a t f) (calm-changes a t f) (calm-takes a t f) (calm-frees a t f) a t folders v g name child (calm-start a t f)) λ x k. went (k .stays)
-  calls (unlink v g name) F z =
-      ok-bind (keeps-unlink C (calm-stores a t f) (calm-drops a t f) (calm-changes a t f) (calm-takes a t f) (calm-frees a t f) a t folders v g name (calm-start a t f)) λ x k. went (k .stays)
+  calls (removeFile v g name) F z =
+      ok-bind (keeps-remove C (calm-stores a t f) (calm-drops a t f) (calm-changes a t f) (calm-takes a t f) (calm-frees a t f) false a t folders v g name (calm-start a t f)) λ x k. went (k .stays)
+  calls (removeFolder v g name) F z =
+      ok-bind (keeps-remove C (calm-stores a t f) (calm-drops a t f) (calm-changes a t f) (calm-takes a t f) (calm-frees a t f) true a t folders v g name (calm-start a t f)) λ x k. went (k .stays)
   calls (move v g old target name) F z =
       ok-bind (ok-weaken (λ x k. k) (λ m r. tt) (move-call (λ b u. Calm a t f b u × On u who h n f) watched p (spelled-any p y) (λ v g i l dir b d u k w. (folders v g i l dir b d u k (w .0), w .1)) moved (calm-start a t f, on) v g old target name (F .4))) λ x k. went (k .1 .0 .stays)
   calls (metadata v g) F z = ok-bind (any (callMetadata a t v g)) λ x _. went (λ e. kept-same a (file 1 f))

@@ -30,7 +30,7 @@ use Rattle.sefs.specs.Slots.{lookup, findSlot}
 use Rattle.sefs.specs.Ask.{admit, anOwner, byHandle, goodName, newName, notLong, known, folder, liveFolder, orExists, start}
 use Rattle.sefs.specs.Open.{callRoot, callFind}
 use Rattle.sefs.specs.Create.{canMake, callCreate, callLink}
-use Rattle.sefs.specs.Unlink.{callUnlink}
+use Rattle.sefs.specs.Remove.{callRemove}
 use Rattle.sefs.specs.Move.{callMove}
 use Rattle.sefs.specs.Read.{callMetadata, callSet, callEntry, callListing}
 use Rattle.sefs.specs.Contents.{callRead, callWrite, callResize}
@@ -42,11 +42,11 @@ use Rattle.walk.specs.Walk.{Spot, spot, walkIn, callWalk}
 use Rattle.walk.proofs.Ways.{walk-is}
 use Rattle.image.proofs.Handles.{admitted}
 use Rattle.sequences.specs.Pairs.{Pair, pair, Passed}
-use Rattle.sequences.specs.Calls.{Call, root, find, walk, create, link, unlink, move, metadata, setMetadata, getEntry, listing, read, write, resize, sync, close, check, Fits, asker, does, reasonOf, next}
+use Rattle.sequences.specs.Calls.{Call, root, find, walk, create, link, removeFile, removeFolder, move, metadata, setMetadata, getEntry, listing, read, write, resize, sync, close, check, Fits, asker, does, reasonOf, next}
 use Rattle.sequences.specs.Promises.{Along, ends, goes, Spares, Apart}
 use Rattle.sequences.specs.Reasons.{reasonsOf, has, Reasons}
 use Rattle.sequences.specs.Places
-use Rattle.sequences.specs.Places.{CountsOwn, Makes, by-root, by-find, by-walk, by-create, Full, FullMeans, RootFull, SameFor, Arrives, FullByOwn, Names, Refused, ApartByOwner}
+use Rattle.sequences.specs.Places.{CountsOwn, Makes, by-root, by-find, by-walk, by-create, FullMeans, RootFull, SameFor, Arrives, FullByOwn, Names, Refused, ApartByOwner}
 use Rattle.sequences.proofs.Passing.{allowed}
 use Rattle.sequences.proofs.Reasons.{says-hold, says-way, says-create-steps, reasons}
 use Rattle.sequences.proofs.Sequences.{apart}
@@ -149,7 +149,8 @@ either (find w h name) = makes by-find
 either (walk w h path room) = makes by-walk
 either (create w h name kind mode time uuid) = makes by-create
 either (link w h name child) = never-full refl
-either (unlink w h name) = never-full refl
+either (removeFile w h name) = never-full refl
+either (removeFolder w h name) = never-full refl
 either (move w h old target name) = never-full refl
 either (metadata w h) = never-full refl
 either (setMetadata w h mode uid gid at mt ct) = never-full refl
@@ -330,12 +331,13 @@ module _ (p : Pair) (v w : ℕ) (h : Handle) (i : ℕ) (live : liveRow (p .table
   move-refused g old name y Nothing e = rw (enter p y, handle-not (p .table) v g o e) refl
 
 names-refused : (p : Pair) (c : Call) (w : ℕ) (h : Handle) (i : ℕ) → Passed p → liveRow (p .table) w h ≡ At i → Owner (asker c) → asker c ≢ w → Names h c → reasonOf c p ≡ 4
-unfolding does callFind callWalk callCreate callLink callUnlink callMove callMetadata callSet callEntry callListing callRead callWrite callResize callClose
+unfolding does callFind callWalk callCreate callLink callRemove callMove callMetadata callSet callEntry callListing callRead callWrite callResize callClose
 names-refused p c w h i y l o d (Places.finds {v = v}) = rw (enter p y, his p v w h i l o d) refl
 names-refused p c w h i y l o d (Places.walks {v = v}) = rw (enter p y, his p v w h i l o d) refl
 names-refused p c w h i y l o d (Places.creates {v = v}) = rw (enter p y, his p v w h i l o d) refl
 names-refused p c w h i y l o d (Places.links {v = v}) = rw (enter p y, his p v w h i l o d) refl
-names-refused p c w h i y l o d (Places.unlinks {v = v}) = rw (enter p y, his p v w h i l o d) refl
+names-refused p c w h i y l o d (Places.removes-file {v = v}) = rw (enter p y, his p v w h i l o d) refl
+names-refused p c w h i y l o d (Places.removes-folder {v = v}) = rw (enter p y, his p v w h i l o d) refl
 names-refused p c w h i y l o d (Places.moves {v = v}) = rw (enter p y, his p v w h i l o d) refl
 names-refused p c w h i y l o d (Places.asks {v = v}) = rw (enter p y, his p v w h i l o d) refl
 names-refused p c w h i y l o d (Places.sets {v = v}) = rw (enter p y, his p v w h i l o d) refl

@@ -1,4 +1,4 @@
--- A move inside one folder: a slot gets another name; where a node is replaced, its slot goes as in unlink; then the folder's record is stored.
+-- A move inside one folder: a slot gets another name; where a node is replaced, its slot goes as in a removal; then the folder's record is stored.
 use mathlib.Core.Path.{refl, _≡_, sym, ap, _∙_, subst}
 use Rattle.sefs_laws.proofs.Clear.{Clear, clear-17}
 use mathlib.Core.Bool.{true}

@@ -16,7 +16,7 @@ use Rattle.table_laws.specs.Rules.{Owner}
 use Rattle.sefs.specs.Ask.{start}
 use Rattle.walk.specs.Walk.{Spot, spot, walkIn}
 use Rattle.sequences.specs.Pairs.{Pair, pair, Passed}
-use Rattle.sequences.specs.Calls.{Call, root, find, walk, create, link, unlink, move, metadata, setMetadata, getEntry, listing, read, write, resize, close, Fits, asker, reasonOf, next}
+use Rattle.sequences.specs.Calls.{Call, root, find, walk, create, link, removeFile, removeFolder, move, metadata, setMetadata, getEntry, listing, read, write, resize, close, Fits, asker, reasonOf, next}
 use Rattle.sequences.specs.Promises.{Along, On, Safe}
 
 -- ---- "Whether a call that reaches that check meets TableFull depends on its owner's own live holds and the stamp supply alone."
@@ -72,7 +72,8 @@ pub data Names (h : Handle) : Call → Type 0 where
   creates : {v : ℕ} {name : List ℕ} {kind mode : ℕ} {time : Timespec} {file : List ℕ} → Names h (create v h name kind mode time file)
   links : {v : ℕ} {name : List ℕ} {child : Handle} → Names h (link v h name child)
   is-linked : {v : ℕ} {g : Handle} {name : List ℕ} → Names h (link v g name h)
-  unlinks : {v : ℕ} {name : List ℕ} → Names h (unlink v h name)
+  removes-file : {v : ℕ} {name : List ℕ} → Names h (removeFile v h name)
+  removes-folder : {v : ℕ} {name : List ℕ} → Names h (removeFolder v h name)
   moves : {v : ℕ} {old name : List ℕ} {target : Handle} → Names h (move v h old target name)
   is-target : {v : ℕ} {g : Handle} {old name : List ℕ} → Names h (move v g old h name)
   asks : {v : ℕ} → Names h (metadata v h)

@@ -2,7 +2,7 @@
 use mathlib.Core.List.{List}
 use Prim.Native.Nat.{ℕ}
 use Rattle.structs.specs.declared.DiskINode.{DiskINode}
-use Rattle.base.specs.Out.{Out, done, refused, _>>=_}
+use Rattle.base.specs.Out.{Out, _>>=_}
 use Rattle.sefs.specs.State.{Fs}
 use Rattle.sefs.specs.Nodes.{syncRow}
 use Rattle.sefs.specs.Slots.{lookup}

@@ -11,7 +11,7 @@ use Rattle.structs.specs.declared.DiskINode.{DiskINode}
 use Rattle.table.specs.declared.Table.{Table}
 use Rattle.table.specs.declared.Row.{Row}
 use Rattle.table.specs.Zero.{zeroRow}
-use Rattle.table.specs.Table.{offRow, rowAt, holdAt, withRow, takeRow, withRecord, withDirty, freeRowAt, ownHolds}
+use Rattle.table.specs.Table.{offRow, rowAt, holdAt, withRow, takeRow, withDirty, freeRowAt, ownHolds}
 use Rattle.table_laws.specs.Rules.{Holder, Formed, also}
 
 -- fewer rows need a hold where more are a call's own

@@ -71,7 +71,7 @@ isDot l = same l (46 ∷ [])
 unfoldable pub isDots : List ℕ → Bool
 isDots l = same l (46 ∷ 46 ∷ [])
 
--- unlink and move refuse "`.`, `..`, empty"
+-- removals and move refuse "`.`, `..`, empty"
 unfoldable pub isSpecial : List ℕ → Bool
 isSpecial l = eqb (length l) 0 || (isDot l || isDots l)
 

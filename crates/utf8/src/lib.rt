@@ -195,7 +195,7 @@ pub fn is_dots(name: &[u8]) -> bool
     equal(name, b"..")
 }
 
-// The names that unlink and move refuse.
+// The names that removals and move refuse.
 pub fn is_special(name: &[u8]) -> bool
     ensures { λ r. ⌜ r ≡ isSpecial (now (name .entry)) ⌝ }
 {

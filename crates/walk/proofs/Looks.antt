@@ -1,10 +1,9 @@
 -- A look at a node: what an opening would say, by the record that is there.
-use mathlib.Core.Path.{_≡_, refl, sym, _∙_, ap}
+use mathlib.Core.Path.{_≡_, refl, _∙_, ap}
 use mathlib.Core.Bool.{Bool, true, false}
 use mathlib.Core.List.{List}
-use Prim.Native.Nat.{ℕ, _<_, _*_}
+use Prim.Native.Nat.{ℕ, _*_}
 use native.Mathlib.Omega.{arith}
-use lib.ListN.{length}
 use lib.Dec.{leb}
 use Rattle.base.specs.Out.{Out, done, refused, bind, guard}
 use Rattle.base.specs.Reasons.{stuck}
@@ -12,8 +11,7 @@ use Rattle.base.specs.declared.Found.{Found}
 use Rattle.base.specs.declared.Found.the-variants.{At, Nothing}
 use Rattle.structs.specs.Layout.{recordOf}
 use Rattle.structs.specs.declared.DiskINode.{DiskINode}
-use Rattle.table.specs.declared.Table.{Table}
-use Rattle.table.specs.Table.{rowAt, rowOf, freeRow, takeRow}
+use Rattle.table.specs.Table.{rowOf, freeRow}
 use Rattle.table_laws.specs.Rules.{WellFormed}
 use Rattle.table_laws.proofs.Finds.{row-found}
 use Rattle.table_laws.proofs.Rows.{row-here}

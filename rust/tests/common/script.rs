@@ -163,7 +163,7 @@ impl Replay {
     }
 
     fn command(&mut self, byte: u8, s: &mut Reader) -> Read<()> {
-        let who = if matches!(byte, 18..=27 | 29 | 32..=35) { s.u8()? } else { 0 };
+        let who = if matches!(byte, 18..=27 | 29 | 32..=37) { s.u8()? } else { 0 };
         match byte {
             1 => {
                 let length = s.length(ARENA_MOST)?;
@@ -218,11 +218,6 @@ impl Replay {
                 let (h, name, node) = (s.handle()?, s.name()?, s.handle()?);
                 let answer = self.by(who).link(h, name, node);
                 self.line("link", done(answer));
-            }
-            22 => {
-                let (h, name) = (s.handle()?, s.name()?);
-                let answer = self.by(who).unlink(h, name);
-                self.line("unlink", done(answer));
             }
             23 => {
                 let (h, old, to, new) = (s.handle()?, s.name()?, s.handle()?, s.name()?);
@@ -292,6 +287,16 @@ impl Replay {
                 let (path, room, mut links) = (s.bytes(length)?, s.room()?, [238; OUT]);
                 let answer = held(self.by(who).walk(h, path, &mut links[..room]));
                 self.line("walk", format!("{answer} o {}", sum(&links)));
+            }
+            36 => {
+                let (h, name) = (s.handle()?, s.name()?);
+                let answer = self.by(who).remove_file(h, name);
+                self.line("remove-file", done(answer));
+            }
+            37 => {
+                let (h, name) = (s.handle()?, s.name()?);
+                let answer = self.by(who).remove_folder(h, name);
+                self.line("remove-folder", done(answer));
             }
             _ => return Err(BadScript),
         }

@@ -137,7 +137,7 @@ impl Sequence {
         }
         let line = self.world.call(self.who, &call);
         let on = !matches!(line, Line::Lost(_));
-        if !self.answered || matches!(line, Line::Same(_)) {
+        if !self.answered || matches!(line, Line::Same(_) | Line::Both(_)) {
             call.write(self.who, &mut self.script);
             self.lines.push(line);
         }
@@ -348,14 +348,18 @@ impl Sequence {
             return Call::Root;
         }
         if self.world.free_blocks() < 4 && self.dice.once(2) {
-            return if self.dice.once(2) { self.unlink() } else { Call::Close(self.dice.of(&live)) };
+            return if self.dice.once(2) { self.remove() } else { Call::Close(self.dice.of(&live)) };
         }
-        match self.dice.below(1300) {
+        // Samples are from before order 7, and stay what they are.
+        if !self.answered && !self.links(true).is_empty() && self.dice.once(2) {
+            return self.aim();
+        }
+        match self.dice.below(if self.answered { 1300 } else { 1550 }) {
             0..=19 => Call::Root,
             20..=189 => self.find(),
             190..=399 => self.create(),
             400..=479 => self.link(),
-            480..=629 => self.unlink(),
+            480..=629 => self.remove(),
             630..=799 => self.moving(),
             800..=829 => Call::Metadata(self.any()),
             830..=869 => self.set(),
@@ -366,6 +370,8 @@ impl Sequence {
             988..=995 => Call::Check,
             996..=998 if !self.plan.premise => Call::Open,
             996..=999 => Call::Metadata(self.any()),
+            1300..=1469 => self.walk(),
+            1470..=1549 => self.aim(),
             _ => self.contents(),
         }
     }
@@ -503,6 +509,129 @@ impl Sequence {
         Call::Create(h, name, kind, self.dice.next() as u16, self.time(), self.file())
     }
 
+    /// A walk by path, mostly from a folder.
+    fn walk(&mut self) -> Call {
+        let h = if self.dice.once(12) { self.any() } else { self.filled() };
+        let from = self.world.table.row(h).map_or(2, |row| row.id());
+        let path = match self.dice.below(12) {
+            0 => self.bad_path(from),
+            1 | 2 => self.many_links(from),
+            _ => self.path(from, 4, 6),
+        };
+        Call::Walk(h, path, self.dice.of(&[8192, 8192, 8192, 8192, 8192, 8192, 300, 40, 12, 4, 1, 0]))
+    }
+
+    /// The holds of symlinks that who asks has: all, or those that have no target yet.
+    fn links(&self, fresh: bool) -> Vec<Handle> {
+        let row = |h: &Handle| self.world.table.row(*h).is_some_and(|row| row.kind() == 3 && (!fresh || row.size() == 0));
+        self.world.table.own(self.who).into_iter().filter(row).collect()
+    }
+
+    /// A symlink gets a target, mostly one that has none; where there is no symlink, one is made.
+    fn aim(&mut self) -> Call {
+        let (links, fresh) = (self.links(false), self.links(true));
+        if fresh.is_empty() && !links.is_empty() && self.dice.once(2) {
+            return Call::Resize(self.dice.of(&links), 0);
+        }
+        if fresh.is_empty() && (links.is_empty() || self.dice.once(2)) {
+            let h = self.folder();
+            return Call::Create(h, self.listed(), 3, 511, self.time(), self.file());
+        }
+        let h = self.dice.of(if fresh.is_empty() { &links } else { &fresh });
+        let from = self.home(h);
+        let target = match self.dice.below(14) {
+            0 => self.bad_path(from),
+            1 | 2 => self.dice.of(&[b".".to_vec(), b"..".to_vec(), b"/".to_vec()]),
+            // From root it leads there wherever the symlink is.
+            _ => self.path(from, 2, 0),
+        };
+        Call::Write(h, 0, target)
+    }
+
+    /// The number of an open folder that has a name of this node, or of any.
+    fn home(&mut self, h: Handle) -> u32 {
+        let id = |s: &Sequence, h: Handle| s.world.table.row(h).map_or(2, |row| row.id());
+        let node = id(self, h);
+        let named = |f: &Handle| self.world.slots(*f).iter().any(|slot| slot.id == node);
+        let home = self.world.table.handles().into_iter().find(named);
+        let folder = home.unwrap_or_else(|| self.folder());
+        id(self, folder)
+    }
+
+    /// A path of a few parts: mostly along what is stored, from this folder, or once in `root` from root; `links` of 16 parts are a
+    /// symlink where there is one.
+    fn path(&mut self, from: u32, root: usize, links: usize) -> Vec<u8> {
+        let root = self.dice.once(root);
+        let start = if root { 2 } else { from };
+        let (mut at, mut parts) = (start, vec![]);
+        loop {
+            let (part, id, kind) = self.part(at, links);
+            parts.push(part);
+            // After a symlink it may go on anywhere, after a file nowhere.
+            let on = match kind {
+                2 => !self.dice.once(3),
+                3 => self.dice.once(2),
+                _ => self.dice.once(12),
+            };
+            if !on || parts.len() == 6 {
+                break;
+            }
+            at = if kind == 2 { id } else { self.dice.of(&[2, start, at]) };
+        }
+        let text = parts.join(&b'/');
+        if root {
+            [b"/", text.as_slice()].concat()
+        } else {
+            text
+        }
+    }
+
+    /// A part to look up in this folder, and what has that name there: its number and type, or 0.
+    fn part(&mut self, at: u32, links: usize) -> (Vec<u8>, u32, u32) {
+        let slots = self.world.slots_of(at);
+        let later: Vec<Vec<u8>> = slots.iter().skip(2).map(|s| s.name.clone()).collect();
+        let aimed: Vec<Vec<u8>> = slots.iter().filter(|s| s.kind == 3).map(|s| s.name.clone()).collect();
+        let part = match self.dice.below(16) {
+            0 => b".".to_vec(),
+            1 => b"..".to_vec(),
+            2 => self.listed(),
+            n if n < 3 + links && !aimed.is_empty() => self.dice.of(&aimed),
+            _ if later.is_empty() => self.listed(),
+            _ => self.dice.of(&later),
+        };
+        let here = slots.iter().find(|s| s.name == part);
+        here.map_or((part.clone(), 0, 0), |s| (part, s.id, s.kind))
+    }
+
+    /// The same symlink over and over, up to one more than may be followed; or no part but dots, up to the longest path.
+    fn many_links(&mut self, from: u32) -> Vec<u8> {
+        let links: Vec<Vec<u8>> = self.world.slots_of(from).into_iter().filter(|s| s.kind == 3).map(|s| s.name).collect();
+        if links.is_empty() || self.dice.once(6) {
+            let most = self.dice.of(&[3, 20, 300, 2047, 2048, 2049, 4095]);
+            return vec![b".".as_slice(); 1 + most].join(&b'/');
+        }
+        let (first, other) = (self.dice.of(&links), self.dice.of(&links));
+        let count = self.dice.of(&[2, 3, 7, 8, 8, 9, 9, 10]);
+        let parts: Vec<Vec<u8>> = (0..count).map(|_| self.dice.of(&[first.clone(), first.clone(), other.clone()])).collect();
+        parts.join(&b'/')
+    }
+
+    /// A text with an empty part, a special name or a byte that no text has; now and then a lone slash, which is good.
+    fn bad_path(&mut self, from: u32) -> Vec<u8> {
+        let (good, special) = (self.path(from, 4, 6), self.special());
+        let slash = b"/".as_slice();
+        match self.dice.below(8) {
+            0 => [good.as_slice(), slash].concat(),
+            1 => [slash, slash, &good].concat(),
+            2 => [good.as_slice(), slash, slash, &good].concat(),
+            3 => [good.as_slice(), slash, &special].concat(),
+            4 => [special.as_slice(), slash, &good].concat(),
+            5 => self.dice.of(&[vec![], slash.to_vec(), b"//".to_vec()]),
+            6 => [good.as_slice(), b"\0"].concat(),
+            _ => special,
+        }
+    }
+
     /// A hold of a node that is no folder, if there is one.
     fn other_kind(&mut self) -> Handle {
         let live = self.world.table.own(self.who);
@@ -521,9 +650,16 @@ impl Sequence {
         Call::Link(h, name, node)
     }
 
-    fn unlink(&mut self) -> Call {
+    /// Mostly by the call for what has the name.
+    fn remove(&mut self) -> Call {
         let h = self.filled();
-        Call::Unlink(h, self.name(h, 8))
+        let name = self.name(h, 8);
+        let folder = self.world.slots(h).iter().any(|slot| slot.name == name && slot.kind == 2);
+        if folder != self.dice.once(10) {
+            Call::RemoveFolder(h, name)
+        } else {
+            Call::RemoveFile(h, name)
+        }
     }
 
     fn moving(&mut self) -> Call {
@@ -605,7 +741,9 @@ impl Sequence {
         }
         let h = self.other_kind();
         let at = self.offset(h);
-        match self.dice.below(30) {
+        // A symlink mostly keeps its target.
+        let link = !self.answered && self.links(false).contains(&h) && !self.dice.once(6);
+        match if link { 0 } else { self.dice.below(30) } {
             0..=9 => Call::Read(h, at, if self.dice.once(3) { 8192 } else { self.amount() as u16 }),
             10..=22 => Call::Write(h, at, self.data()),
             _ => Call::Resize(h, at),

@@ -6,6 +6,7 @@
 //! A sum that is not known is a dash.
 //!
 //!     = LINE          the Rust's answer and the sums: the port prints this line
+//!     =lookup_follow LINE  the same of a walk, and the Rust's `lookup_follow` ends there too
 //!     ~RULE LINE      left out by that rule; the documents' answer
 //!     ?RULE NAME SUMS left out by that rule; no answer is said, but a refusal keeps these sums
 //!     ! TEXT          the Rust broke off where no rule foresaw it; the run ends
@@ -14,6 +15,7 @@ mod gen;
 mod script;
 mod table;
 mod timed;
+mod walk;
 mod world;
 
 use script::{Command, Next, Script};

@@ -27,7 +27,6 @@ pub enum Call {
     Find(Handle, Vec<u8>),
     Create(Handle, Vec<u8>, u32, u16, Timespec, FileName),
     Link(Handle, Vec<u8>, Handle),
-    Unlink(Handle, Vec<u8>),
     Move(Handle, Vec<u8>, Handle, Vec<u8>),
     Metadata(Handle),
     Set(Handle, u16, u64, u64, [Timespec; 3]),
@@ -40,13 +39,19 @@ pub enum Call {
     Read(Handle, u64, u16),
     Write(Handle, u64, Vec<u8>),
     Resize(Handle, u64),
+    /// Path, length of the link buffer.
+    Walk(Handle, Vec<u8>, u16),
+    RemoveFile(Handle, Vec<u8>),
+    RemoveFolder(Handle, Vec<u8>),
 }
 
-pub const KINDS: usize = 18;
+pub const KINDS: usize = 20;
 #[rustfmt::skip]
 pub const NAMES: [&str; KINDS] =
-    ["format", "open", "root", "find", "create", "link", "unlink", "move", "metadata", "set", "entry", "list", "sync", "close", "check",
-     "read", "write", "resize"];
+    ["format", "open", "root", "find", "create", "link", "move", "metadata", "set", "entry", "list", "sync", "close", "check",
+     "read", "write", "resize", "walk", "remove-file", "remove-folder"];
+/// The commands' bytes: from 32 on those that document 02 adds; 22 was unlink.
+const BYTES: [u8; KINDS] = [16, 17, 18, 19, 20, 21, 23, 24, 25, 26, 27, 28, 29, 30, 32, 33, 34, 35, 36, 37];
 
 impl Call {
     /// Its place among the names.
@@ -58,18 +63,20 @@ impl Call {
             Call::Find(..) => 3,
             Call::Create(..) => 4,
             Call::Link(..) => 5,
-            Call::Unlink(..) => 6,
-            Call::Move(..) => 7,
-            Call::Metadata(_) => 8,
-            Call::Set(..) => 9,
-            Call::Entry(..) => 10,
-            Call::List(..) => 11,
-            Call::Sync => 12,
-            Call::Close(_) => 13,
-            Call::Check => 14,
-            Call::Read(..) => 15,
-            Call::Write(..) => 16,
-            Call::Resize(..) => 17,
+            Call::Move(..) => 6,
+            Call::Metadata(_) => 7,
+            Call::Set(..) => 8,
+            Call::Entry(..) => 9,
+            Call::List(..) => 10,
+            Call::Sync => 11,
+            Call::Close(_) => 12,
+            Call::Check => 13,
+            Call::Read(..) => 14,
+            Call::Write(..) => 15,
+            Call::Resize(..) => 16,
+            Call::Walk(..) => 17,
+            Call::RemoveFile(..) => 18,
+            Call::RemoveFolder(..) => 19,
         }
     }
 
@@ -78,10 +85,8 @@ impl Call {
         !matches!(self, Call::Format(..) | Call::Open | Call::Sync | Call::Check)
     }
 
-    /// The command's byte: from 16 on, and from 32 on for what document 02 adds.
     fn byte(&self) -> u8 {
-        let number = self.number() as u8;
-        number + if number < 15 { 16 } else { 17 }
+        BYTES[self.number()]
     }
 
     pub fn name(&self) -> &'static str {
@@ -90,17 +95,19 @@ impl Call {
 
     pub fn handles(&self) -> Vec<Handle> {
         match self {
-            Call::Find(h, _) | Call::Create(h, ..) | Call::Unlink(h, _) => vec![*h],
+            Call::Find(h, _) | Call::Create(h, ..) | Call::RemoveFile(h, _) | Call::RemoveFolder(h, _) => vec![*h],
             Call::Link(h, _, g) | Call::Move(h, _, g, _) => vec![*h, *g],
             Call::Metadata(h) | Call::Set(h, ..) | Call::Entry(h, ..) | Call::List(h, ..) | Call::Close(h) => vec![*h],
-            Call::Read(h, ..) | Call::Write(h, ..) | Call::Resize(h, _) => vec![*h],
+            Call::Read(h, ..) | Call::Write(h, ..) | Call::Resize(h, _) | Call::Walk(h, ..) => vec![*h],
             _ => vec![],
         }
     }
 
+    /// The texts that it gives: names, or a path.
     pub fn names(&self) -> Vec<&[u8]> {
         match self {
-            Call::Find(_, n) | Call::Create(_, n, ..) | Call::Link(_, n, _) | Call::Unlink(_, n) => vec![n],
+            Call::Find(_, n) | Call::Create(_, n, ..) | Call::Link(_, n, _) => vec![n],
+            Call::RemoveFile(_, n) | Call::RemoveFolder(_, n) | Call::Walk(_, n, _) => vec![n],
             Call::Move(_, n, _, m) => vec![n, m],
             _ => vec![],
         }
@@ -133,7 +140,7 @@ impl Call {
                 put_time(out, time);
                 out.extend(file);
             }
-            Call::Find(h, name) | Call::Unlink(h, name) => {
+            Call::Find(h, name) | Call::RemoveFile(h, name) | Call::RemoveFolder(h, name) => {
                 put_handle(out, h);
                 put_name(out, name);
             }
@@ -183,6 +190,11 @@ impl Call {
             Call::Resize(h, length) => {
                 put_handle(out, h);
                 out.extend(length.to_le_bytes());
+            }
+            Call::Walk(h, path, room) => {
+                put_handle(out, h);
+                put_name(out, path);
+                out.extend(room.to_le_bytes());
             }
             Call::Open | Call::Root | Call::Sync | Call::Check => (),
         }
@@ -273,7 +285,6 @@ impl Script<'_> {
             19 => Call::Find(self.handle()?, self.name()?),
             20 => Call::Create(self.handle()?, self.name()?, self.u32()?, self.u16()?, self.time()?, self.array()?),
             21 => Call::Link(self.handle()?, self.name()?, self.handle()?),
-            22 => Call::Unlink(self.handle()?, self.name()?),
             23 => Call::Move(self.handle()?, self.name()?, self.handle()?, self.name()?),
             24 => Call::Metadata(self.handle()?),
             25 => Call::Set(self.handle()?, self.u16()?, self.u64()?, self.u64()?, [self.time()?, self.time()?, self.time()?]),
@@ -285,6 +296,9 @@ impl Script<'_> {
             32 => Call::Read(self.handle()?, self.u64()?, self.room()?),
             33 => Call::Write(self.handle()?, self.u64()?, self.data()?),
             34 => Call::Resize(self.handle()?, self.u64()?),
+            35 => Call::Walk(self.handle()?, self.data()?, self.room()?),
+            36 => Call::RemoveFile(self.handle()?, self.name()?),
+            37 => Call::RemoveFolder(self.handle()?, self.name()?),
             _ => return None,
         })
     }

@@ -2,6 +2,7 @@
 //! device keeps files as plain bytes in memory, and a hold is an `Arc` at the lowest free place: nothing is compared here.
 //! `driver contents FILES ROUNDS`: the same of reads and writes of three sizes, beside so many files.
 use crate::script::{Call, Command, Handle, Next, Script, KINDS, NAMES};
+use crate::walk::MOST_LINKS;
 use crate::world::{feed, kind_of, metadata_of, text, Lister, FED};
 use rcore_fs::dev::{DevError, DevResult};
 use rcore_fs::vfs::{FileSystem, INode, Result, Timespec};
@@ -113,7 +114,7 @@ impl Image {
                 self.node(h).create(text(name), kind_of(*kind), *mode).map(|node| self.hold(node))
             }
             Call::Link(h, name, other) => self.node(h).link(text(name), self.node(other)),
-            Call::Unlink(h, name) => self.node(h).unlink(text(name)),
+            Call::RemoveFile(h, name) | Call::RemoveFolder(h, name) => self.node(h).unlink(text(name)),
             Call::Move(h, old, to, new) => self.node(h).move_(text(old), self.node(to), text(new)),
             Call::Metadata(h) => self.node(h).metadata().map(|_| ()),
             Call::Set(h, mode, uid, gid, times) => self.node(h).set_metadata(&metadata_of(*mode, *uid, *gid, times)),
@@ -127,6 +128,7 @@ impl Image {
             Call::Read(h, at, room) => self.node(h).read_at(*at as usize, &mut vec![0; *room as usize]).map(|_| ()),
             Call::Write(h, at, data) => self.node(h).write_at(*at as usize, data).map(|_| ()),
             Call::Resize(h, length) => self.node(h).resize(*length as usize),
+            Call::Walk(h, path, _) => self.node(h).lookup_follow(text(path), MOST_LINKS).map(|node| self.hold(node)),
             Call::Check => panic!("the Rust has no checker"),
         }
     }

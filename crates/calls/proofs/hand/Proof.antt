@@ -1,6 +1,5 @@
 -- `calls::hand`: the hold is made where the node was opened.
-use mathlib.Core.Path.{ap, sym, _∙_}
-use Prim.Native.Nat.{ℕ}
+use mathlib.Core.Path.{ap}
 use native.Mathlib.Omega.{arith}
 use Rattle.calls.specs.declared.Handed.{Handed}
 use borrow.Author.Needs.{needs}

@@ -1,6 +1,5 @@
 -- `calls_entry::write_entry`: the slot is copied once it was read.
 use mathlib.Core.Path.{sym, _∙_}
-use lib.ListN.{length}
 use lib.Seq.{length-take-le}
 use Rattle.base.proofs.Outs.{went-has}
 use Rattle.calls_entry.proofs.Entries.{entry-not, entry-copied}

@@ -1,5 +1,5 @@
 -- `calls_find::find_on`: arena and table, then the call by the chains that were left.
-use mathlib.Core.Path.{sym, _∙_}
+use mathlib.Core.Path.{sym}
 use Rattle.base.proofs.Outs.{went-has, went-not, above-zero}
 use Rattle.sound.proofs.Chains.{length-firsts}
 use Rattle.mem.specs.Mem.{tableIn}

@@ -1,5 +1,4 @@
 -- `calls_list::write_slots`: the slots are written once each was read.
-use native.Mathlib.Omega.{arith}
 use Rattle.base.proofs.Outs.{went-is}
 use Rattle.calls_list.proofs.Listings.{slots-stop}
 use borrow.Author.Needs.{needs}

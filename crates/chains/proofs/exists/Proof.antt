@@ -1,5 +1,4 @@
 -- `chains::exists`: a file's end is 0 where it is not there.
-use mathlib.Core.Path.{sym, _∙_}
 use Rattle.arena.specs.Fields.{file}
 use Rattle.chains.proofs.Ends.{end-there}
 use borrow.Author.Needs.{needs}

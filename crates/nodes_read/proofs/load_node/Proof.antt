@@ -1,6 +1,5 @@
 -- `nodes_read::load_node`: the record is read, then the definition's rest.
 use mathlib.Core.Path.{_≡_, ap, _∙_}
-use Prim.Native.Nat.{_*_}
 use Rattle.base.proofs.Outs.{went-weaken}
 use Rattle.base.proofs.Parts.{part-whole}
 use Rattle.structs.specs.Layout.{recordOf}

@@ -1,5 +1,4 @@
 -- `steps::append_named`: the slot that was made is the one that is appended.
-use native.Mathlib.Omega.{arith}
 use Rattle.folders.proofs.Folders.{id-of}
 use Rattle.steps.proofs.Steps.{appended}
 use borrow.Author.Needs.{needs}

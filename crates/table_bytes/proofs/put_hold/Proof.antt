@@ -1,5 +1,4 @@
 -- `table_bytes::put_hold`: three fields, one after another.
-use mathlib.Core.Path.{refl}
 use native.Mathlib.Omega.{arith}
 use Rattle.le.specs.Le.{lePut}
 use Rattle.le.proofs.Laws.{length-leBytes}

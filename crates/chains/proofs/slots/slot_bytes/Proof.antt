@@ -1,5 +1,4 @@
 -- `chains::slots::slot_bytes`: the read, then the test of the type.
-use Prim.Native.Nat.{ℕ, _*_}
 use native.Mathlib.Omega.{arith}
 use Rattle.chains.proofs.Ends.{read-sized}
 use Rattle.chains.proofs.Lookups.{bytes-stop, bytes-stuck, bytes-done}

@@ -1,6 +1,5 @@
 -- `edge::ends::end_fresh`: the empty table, laid over all of the slice, where the reason is 0.
-use mathlib.Core.Path.{_≡_, refl, sym, _∙_}
-use lib.ListN.{length}
+use mathlib.Core.Path.{refl, sym, _∙_}
 use Rattle.base.proofs.Parts.{paste-whole}
 use Rattle.table.specs.Table.{emptyTable}
 use Rattle.table_bytes.specs.Layout.{tableBytes}

@@ -1,6 +1,5 @@
 -- `folders::slots::find_slot`: by what the lookup found.
 use Prim.Native.Nat.{_<_}
-use mathlib.Core.Path.{_∙_}
 use Rattle.base.proofs.Outs.{went-has}
 use Rattle.table.specs.Table.{rowAt}
 use Rattle.mem.specs.Mem.{tableIn}

@@ -1,6 +1,5 @@
 -- `lesson_lib::image::block_of`: only blocks of the arena are looked at.
 use Prim.Native.Nat.{_≤_, _-_}
-use native.Mathlib.Omega.{arith}
 use borrow.Author.Needs.{needs}
 use Rattle.lesson_lib.proofs.image.block_of.Statement.{statement}
 use Rattle.lesson_lib.proofs.image.block_of.Tie as tie

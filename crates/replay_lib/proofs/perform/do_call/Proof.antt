@@ -26,17 +26,11 @@ call-link-requires c κs =
     let s = c .before .before .before .before .before .before .before .before .before in
     (bytes-there 21 (s .args .script .now) (s .args .at) (c .before .before .before .match .keys3) (s .pre .0), s .pre .1)
 
-call-unlink-requires : tie.Need-call-unlink-requires
-unfolding sizeBy
-call-unlink-requires c κs =
-    let s = c .before .before .before .before .before .before .before .before .before in
-    (bytes-there 22 (s .args .script .now) (s .args .at) (c .before .before .before .match .keys4) (s .pre .0), s .pre .1)
-
 call-move-requires : tie.Need-call-move-requires
 unfolding sizeBy
 call-move-requires c κs =
     let s = c .before .before .before .before .before .before .before .before .before in
-    (bytes-there 23 (s .args .script .now) (s .args .at) (c .before .before .before .match .keys5) (s .pre .0), s .pre .1)
+    (bytes-there 23 (s .args .script .now) (s .args .at) (c .before .before .before .match .keys4) (s .pre .0), s .pre .1)
 
 call-sync-requires : tie.Need-call-sync-requires
 call-sync-requires c κs = search needs
@@ -45,19 +39,31 @@ call-close-requires : tie.Need-call-close-requires
 unfolding sizeBy
 call-close-requires c κs =
     let s = c .before .before .before .before .before .before .before .before .before in
-    (bytes-there 29 (s .args .script .now) (s .args .at) (c .before .before .before .match .keys7) (s .pre .0), s .pre .1)
+    (bytes-there 29 (s .args .script .now) (s .args .at) (c .before .before .before .match .keys6) (s .pre .0), s .pre .1)
 
 call-write-requires : tie.Need-call-write-requires
 unfolding sizeBy
 call-write-requires c κs =
     let s = c .before .before .before .before .before .before .before .before .before in
-    (bytes-there 33 (s .args .script .now) (s .args .at) (c .before .before .before .match .keys8) (s .pre .0), s .pre .1)
+    (bytes-there 33 (s .args .script .now) (s .args .at) (c .before .before .before .match .keys7) (s .pre .0), s .pre .1)
 
 call-resize-requires : tie.Need-call-resize-requires
 unfolding sizeBy
 call-resize-requires c κs =
     let s = c .before .before .before .before .before .before .before .before .before in
-    (bytes-there 34 (s .args .script .now) (s .args .at) (c .before .before .before .match .keys9) (s .pre .0), s .pre .1)
+    (bytes-there 34 (s .args .script .now) (s .args .at) (c .before .before .before .match .keys8) (s .pre .0), s .pre .1)
+
+call-remove-requires : tie.Need-call-remove-requires
+unfolding sizeBy
+call-remove-requires c κs =
+    let s = c .before .before .before .before .before .before .before .before .before in
+    (bytes-there 36 (s .args .script .now) (s .args .at) (c .before .before .before .match .keys9) (s .pre .0), s .pre .1)
+
+call-remove-requires-2 : tie.Need-call-remove-requires-2
+unfolding sizeBy
+call-remove-requires-2 c κs =
+    let s = c .before .before .before .before .before .before .before .before .before in
+    (bytes-there 37 (s .args .script .now) (s .args .at) (c .before .before .before .match .keys10) (s .pre .0), s .pre .1)
 
 do-read-requires : tie.Need-do-read-requires
 do-read-requires c κs = search needs
@@ -182,6 +188,18 @@ same-length-30 c = search needs
 returns-10 : tie.Need-returns-10
 returns-10 c = search needs
 
+same-length-31 : tie.Need-same-length-31
+same-length-31 c = search needs
+
+same-length-32 : tie.Need-same-length-32
+same-length-32 c = search needs
+
+same-length-33 : tie.Need-same-length-33
+same-length-33 c = search needs
+
+returns-11 : tie.Need-returns-11
+returns-11 c = search needs
+
 pub do-call-spec : {M : Type 1} → statement M
 do-call-spec =
     tie.close
@@ -190,12 +208,13 @@ do-call-spec =
     call-format-requires
     call-create-requires
     call-link-requires
-    call-unlink-requires
     call-move-requires
     call-sync-requires
     call-close-requires
     call-write-requires
     call-resize-requires
+    call-remove-requires
+    call-remove-requires-2
     do-read-requires
     same-length
     same-length-2
@@ -236,4 +255,8 @@ do-call-spec =
     same-length-28
     same-length-29
     same-length-30
-    returns-10)
+    returns-10
+    same-length-31
+    same-length-32
+    same-length-33
+    returns-11)

@@ -40,9 +40,6 @@ named-more-requires c κs = search needs
 named-more-requires-2 : tie.Need-named-more-requires-2
 named-more-requires-2 c κs = search needs
 
-named-requires-2 : tie.Need-named-requires-2
-named-requires-2 c κs = search needs
-
 named-twice-requires : tie.Need-named-twice-requires
 named-twice-requires c κs = search needs
 
@@ -78,6 +75,12 @@ whole-requires-11 c κs = search needs
 
 path-output-requires : tie.Need-path-output-requires
 path-output-requires c κs = search needs
+
+named-requires-2 : tie.Need-named-requires-2
+named-requires-2 c κs = search needs
+
+named-requires-3 : tie.Need-named-requires-3
+named-requires-3 c κs = search needs
 
 returns : tie.Need-returns
 unfolding sizeBy arenaBy outputBy
@@ -121,58 +124,62 @@ returns-10 c = plain 21 _ _ (c .before .match .keys10) _ _ refl refl (c .named-m
 
 returns-11 : tie.Need-returns-11
 unfolding sizeBy arenaBy outputBy
-returns-11 c = plain 22 _ _ (c .before .match .keys11) _ _ refl refl (c .named2 .ensures .0)
+returns-11 c = plain 23 _ _ (c .before .match .keys11) _ _ refl refl (c .named-twice .ensures)
 
 returns-12 : tie.Need-returns-12
 unfolding sizeBy arenaBy outputBy
-returns-12 c = plain 23 _ _ (c .before .match .keys12) _ _ refl refl (c .named-twice .ensures)
+returns-12 c = plain 24 _ _ (c .before .match .keys12) _ _ refl refl (c .whole6 .ensures)
 
 returns-13 : tie.Need-returns-13
 unfolding sizeBy arenaBy outputBy
-returns-13 c = plain 24 _ _ (c .before .match .keys13) _ _ refl refl (c .whole6 .ensures)
+returns-13 c = plain 25 _ _ (c .before .match .keys13) _ _ refl refl (c .whole7 .ensures)
 
 returns-14 : tie.Need-returns-14
 unfolding sizeBy arenaBy outputBy
-returns-14 c = plain 25 _ _ (c .before .match .keys14) _ _ refl refl (c .whole7 .ensures)
+returns-14 c = answers 26 _ _ (c .before .match .keys14) _ _ (c .with-output .ensures .0, λ h. (omega arith, c .with-output .ensures .1 h))
 
 returns-15 : tie.Need-returns-15
 unfolding sizeBy arenaBy outputBy
-returns-15 c = answers 26 _ _ (c .before .match .keys15) _ _ (c .with-output .ensures .0, λ h. (omega arith, c .with-output .ensures .1 h))
+returns-15 c = answers 27 _ _ (c .before .match .keys15) _ _ (c .with-output2 .ensures .0, λ h. (omega arith, c .with-output2 .ensures .1 h))
 
 returns-16 : tie.Need-returns-16
 unfolding sizeBy arenaBy outputBy
-returns-16 c = answers 27 _ _ (c .before .match .keys16) _ _ (c .with-output2 .ensures .0, λ h. (omega arith, c .with-output2 .ensures .1 h))
+returns-16 c = plain 28 _ _ (c .before .match .keys16) _ _ refl refl (c .whole8 .ensures)
 
 returns-17 : tie.Need-returns-17
 unfolding sizeBy arenaBy outputBy
-returns-17 c = plain 28 _ _ (c .before .match .keys17) _ _ refl refl (c .whole8 .ensures)
+returns-17 c = plain 29 _ _ (c .before .match .keys17) _ _ refl refl (c .whole9 .ensures)
 
 returns-18 : tie.Need-returns-18
 unfolding sizeBy arenaBy outputBy
-returns-18 c = plain 29 _ _ (c .before .match .keys18) _ _ refl refl (c .whole9 .ensures)
+returns-18 c = plain 30 _ _ (c .before .match .keys18) _ _ refl refl (c .whole10 .ensures)
 
 returns-19 : tie.Need-returns-19
 unfolding sizeBy arenaBy outputBy
-returns-19 c = plain 30 _ _ (c .before .match .keys19) _ _ refl refl (c .whole10 .ensures)
+returns-19 c = answers 32 _ _ (c .before .match .keys19) _ _ (c .with-output3 .ensures .0, λ h. (omega arith, c .with-output3 .ensures .1 h))
 
 returns-20 : tie.Need-returns-20
 unfolding sizeBy arenaBy outputBy
-returns-20 c = answers 32 _ _ (c .before .match .keys20) _ _ (c .with-output3 .ensures .0, λ h. (omega arith, c .with-output3 .ensures .1 h))
+returns-20 c = plain 33 _ _ (c .before .match .keys20) _ _ refl refl (c .lengthy .ensures .0)
 
 returns-21 : tie.Need-returns-21
 unfolding sizeBy arenaBy outputBy
-returns-21 c = plain 33 _ _ (c .before .match .keys21) _ _ refl refl (c .lengthy .ensures .0)
+returns-21 c = plain 34 _ _ (c .before .match .keys21) _ _ refl refl (c .whole11 .ensures)
 
 returns-22 : tie.Need-returns-22
 unfolding sizeBy arenaBy outputBy
-returns-22 c = plain 34 _ _ (c .before .match .keys22) _ _ refl refl (c .whole11 .ensures)
+returns-22 c = answers 35 _ _ (c .before .match .keys22) _ _ (c .path-output .ensures .0, λ h. (omega arith, c .path-output .ensures .1 h))
 
 returns-23 : tie.Need-returns-23
 unfolding sizeBy arenaBy outputBy
-returns-23 c = answers 35 _ _ (c .before .match .keys23) _ _ (c .path-output .ensures .0, λ h. (omega arith, c .path-output .ensures .1 h))
+returns-23 c = plain 36 _ _ (c .before .match .keys23) _ _ refl refl (c .named2 .ensures .0)
 
 returns-24 : tie.Need-returns-24
-returns-24 c = search needs
+unfolding sizeBy arenaBy outputBy
+returns-24 c = plain 37 _ _ (c .before .match .keys24) _ _ refl refl (c .named3 .ensures .0)
+
+returns-25 : tie.Need-returns-25
+returns-25 c = search needs
 
 pub size-at-spec : {M : Type 1} → statement M
 size-at-spec =
@@ -189,7 +196,6 @@ size-at-spec =
     named-requires
     named-more-requires
     named-more-requires-2
-    named-requires-2
     named-twice-requires
     whole-requires-6
     whole-requires-7
@@ -202,6 +208,8 @@ size-at-spec =
     lengthy-requires
     whole-requires-11
     path-output-requires
+    named-requires-2
+    named-requires-3
     returns
     returns-2
     returns-3
@@ -225,4 +233,5 @@ size-at-spec =
     returns-21
     returns-22
     returns-23
-    returns-24)
+    returns-24
+    returns-25)

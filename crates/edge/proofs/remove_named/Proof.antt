@@ -1,0 +1,68 @@
+-- `edge::remove_named`: 255 where a size is wrong; else the call on the table in memory, and how it ends.
+use mathlib.Core.Path.{sym, _∙_}
+use Rattle.sefs.specs.Remove.{callRemove}
+use Rattle.edge.proofs.Laws.{sized-is, sized-not, leaves-not, leaves}
+use borrow.Author.Needs.{needs}
+use Rattle.edge.proofs.remove_named.Statement.{statement}
+use Rattle.edge.proofs.remove_named.Tie as tie
+
+returns : tie.Need-returns
+returns c =
+    let s = c .before .before .before .before in
+    let yes1 = c .if1 in
+    leaves-not (sized-not 4402 (s .args .table .now) _ (yes1 .taken))
+
+slice-aggregate-begin : tie.Need-slice-aggregate-begin
+slice-aggregate-begin c = search needs
+
+begin-requires : tie.Need-begin-requires
+begin-requires c κs = search needs
+
+slice-aggregate-remove-on : tie.Need-slice-aggregate-remove-on
+slice-aggregate-remove-on c = search needs
+
+handle-requires : tie.Need-handle-requires
+handle-requires c κs = search needs
+
+remove-on-requires : tie.Need-remove-on-requires
+remove-on-requires c κs =
+    let bbegin = c .before .before .before .before .begin in
+    (bbegin .ensures .1)
+
+slice-aggregate-end-after : tie.Need-slice-aggregate-end-after
+slice-aggregate-end-after c = search needs
+
+end-after-requires : tie.Need-end-after-requires
+end-after-requires c κs = search needs
+
+same-length : tie.Need-same-length
+same-length c = search needs
+
+same-length-2 : tie.Need-same-length-2
+same-length-2 c = search needs
+
+returns-2 : tie.Need-returns-2
+returns-2 c =
+    let s = c .before .before .before .before .before .before .before .before .before .before .before .before .before .before .before .before .before .before .before .before in
+    let no1 = c .before .before .before .before .before .before .before .before .before .before .before .before .before .before .before .before .if1 in
+    let bbegin = c .before .before .before .before .before .before .before .before .before .before .before .before .before .begin in
+    let handle = c .before .before .before .before .before .before .before .before .before .handle in
+    let removes = c .before .before .before .before .before .before .before .before .remove-on in
+    let endafter = c .before .before .end-after in
+    leaves (sized-is 4402 (s .args .table .now) _ (no1 .left) ∙ (λ x. callRemove (s .args .folder) (s .args .arena .now) (sym (bbegin .ensures .0) x) (s .args .owner) (sym (handle .ensures) x) (s .args .name .now))) (removes .ensures) (endafter .ensures)
+
+pub remove-named-spec : {M : Type 1} → statement M
+remove-named-spec =
+    tie.close
+    (tie.spec
+    returns
+    slice-aggregate-begin
+    begin-requires
+    slice-aggregate-remove-on
+    handle-requires
+    remove-on-requires
+    slice-aggregate-end-after
+    end-after-requires
+    same-length
+    same-length-2
+    returns-2)

@@ -1,0 +1,62 @@
+-- `owners::remove_named`: the call on the table in memory; the chains are its own.
+use mathlib.Core.Path.{sym}
+use Rattle.sefs.specs.Remove.{callRemove}
+use Rattle.edge.proofs.Laws.{leaves}
+use Rattle.owners.proofs.Laws.{keeps}
+use borrow.Author.Needs.{needs}
+use Rattle.owners.proofs.remove_named.Statement.{statement}
+use Rattle.owners.proofs.remove_named.Tie as tie
+
+slice-aggregate-begin : tie.Need-slice-aggregate-begin
+slice-aggregate-begin c = search needs
+
+begin-requires : tie.Need-begin-requires
+begin-requires c κs = search needs
+
+slice-aggregate-remove-on : tie.Need-slice-aggregate-remove-on
+slice-aggregate-remove-on c = search needs
+
+handle-requires : tie.Need-handle-requires
+handle-requires c κs = search needs
+
+remove-on-requires : tie.Need-remove-on-requires
+remove-on-requires c κs = let b = c .before .before .before .before .before in keeps (b .before .before .before .before .before .before .before .pre) (b .begin .ensures .0) (b .begin .ensures .1)
+
+slice-aggregate-end-after : tie.Need-slice-aggregate-end-after
+slice-aggregate-end-after c = search needs
+
+end-after-requires : tie.Need-end-after-requires
+end-after-requires c κs = search needs
+
+same-length : tie.Need-same-length
+same-length c = search needs
+
+same-length-2 : tie.Need-same-length-2
+same-length-2 c = search needs
+
+same-length-3 : tie.Need-same-length-3
+same-length-3 c = search needs
+
+returns : tie.Need-returns
+returns c =
+    let e = c .before .before in
+    let o = e .before .before .before .before .before .before .before .before in
+    let b = o .before .before .before .before .before .before in
+    let s = b .before .before .before .before .before .before .before in
+    (leaves (λ x. callRemove (s .args .folder) (s .args .arena .now) (sym (b .begin .ensures .0) x) (s .args .owner) (sym (o .before .handle .ensures) x) (s .args .name .now)) (o .remove-on .ensures .0) (e .end-after .ensures), o .remove-on .ensures .1)
+
+pub remove-named-spec : {M : Type 1} → statement M
+remove-named-spec =
+    tie.close
+    (tie.spec
+    slice-aggregate-begin
+    begin-requires
+    slice-aggregate-remove-on
+    handle-requires
+    remove-on-requires
+    slice-aggregate-end-after
+    end-after-requires
+    same-length
+    same-length-2
+    same-length-3
+    returns)
