@@ -180,9 +180,9 @@ def main():
     for who in ("tested", "owner"):
         print(f"    {who}: {way[who + '-down'] / 1000:.1f} and {way[who + '-up'] / 1000:.1f} µs")
     print("walks, tested and by an owner:")
-    for path, links in ((50, 0), (1, 8), (50, 8)):
-        data = walked(4096, path, links, 20)
-        print(f"    {path} deep, {links} symlinks, 4,096 blocks: {port(data)['walk'] / 1000:.1f} and {port(data, 'own')['walk'] / 1000:.1f} µs")
+    for depth, links in ((50, 0), (1, 8), (50, 8)):
+        data = walked(4096, depth, links, 20)
+        print(f"    {depth} deep, {links} symlinks, 4,096 blocks: {port(data)['walk'] / 1000:.1f} and {port(data, 'own')['walk'] / 1000:.1f} µs")
     for blocks, files in ((128, 66), (4096, 2225)):
         print(f"check of {blocks:,} blocks with {files:,} files: {port(full(blocks, files))['check'] / 1000:.0f} µs")
 

@@ -1,30 +1,31 @@
 //! Long random sequences: each next call is drawn with a look at the open nodes and folders as they are on the Rust's side, so that
 //! most calls find something to do.
 use crate::script::{Call, Command, Handle};
+use crate::table::OWN_HOLDS;
 use crate::world::{Line, World};
 use rcore_fs::vfs::Timespec;
 
 /// splitmix64.
-struct Dice(u64);
+pub struct Dice(pub u64);
 
 impl Dice {
-    fn next(&mut self) -> u64 {
+    pub fn next(&mut self) -> u64 {
         self.0 = self.0.wrapping_add(0x9e37_79b9_7f4a_7c15);
         let z = (self.0 ^ self.0 >> 30).wrapping_mul(0xbf58_476d_1ce4_e5b9);
         let z = (z ^ z >> 27).wrapping_mul(0x94d0_49bb_1331_11eb);
         z ^ z >> 31
     }
 
-    fn below(&mut self, n: usize) -> usize {
+    pub fn below(&mut self, n: usize) -> usize {
         (self.next() % n as u64) as usize
     }
 
     /// True once in n.
-    fn once(&mut self, n: usize) -> bool {
+    pub fn once(&mut self, n: usize) -> bool {
         self.below(n) == 0
     }
 
-    fn of<T: Clone>(&mut self, all: &[T]) -> T {
+    pub fn of<T: Clone>(&mut self, all: &[T]) -> T {
         all[self.below(all.len())].clone()
     }
 }
@@ -70,8 +71,16 @@ fn plan(seed: u64, calls: usize, dice: &mut Dice) -> Plan {
     Plan { blocks, names: if slashes { names.max(15) } else { names }, fill: 0, left, slashes, sockets, hurt: false, premise }
 }
 
-pub struct Sequence {
+/// A side that goes along in the same process: it hears of each command and call, and of what is said of it on the Rust's side. It walks by opening what is
+/// on its way, so no walk is drawn where the owner has no places for that.
+pub trait Beside {
+    fn outside(&mut self, command: &Command);
+    fn call(&mut self, who: u8, call: &Call, line: &Line, world: &mut World);
+}
+
+pub struct Sequence<'a> {
     world: World,
+    beside: Option<&'a mut dyn Beside>,
     dice: Dice,
     plan: Plan,
     pub script: Vec<u8>,
@@ -86,15 +95,15 @@ pub struct Sequence {
     answered: bool,
 }
 
-fn begin(seed: u64, calls: usize, answered: bool) -> Sequence {
+fn begin<'a>(seed: u64, calls: usize, answered: bool) -> Sequence<'a> {
     let mut dice = Dice(seed);
     let plan = plan(seed, calls, &mut dice);
     let (script, lines, closed) = (vec![], vec![], vec![]);
-    Sequence { world: World::new(), dice, plan, script, lines, who: 1, holds: 8, made: 0, closed, answered }
+    Sequence { world: World::new(), beside: None, dice, plan, script, lines, who: 1, holds: 8, made: 0, closed, answered }
 }
 
 /// Short runs on one image after the other, as many as go into `bytes` bytes, of calls that the Rust answered.
-pub fn sample(seed: u64, bytes: usize) -> Sequence {
+pub fn sample<'a>(seed: u64, bytes: usize) -> Sequence<'a> {
     let mut s = begin(seed, 0, true);
     for part in seed.. {
         s.plan = plan(part, 0, &mut s.dice);
@@ -117,8 +126,8 @@ pub fn sample(seed: u64, bytes: usize) -> Sequence {
     s
 }
 
-pub fn sequence(seed: u64, calls: usize) -> Sequence {
-    let mut s = begin(seed, calls, false);
+pub fn sequence<'a>(seed: u64, calls: usize, beside: Option<&'a mut dyn Beside>) -> Sequence<'a> {
+    let mut s = Sequence { beside, ..begin(seed, calls, false) };
     s.start();
     while s.lines.len() < calls && s.step() {
         if s.plan.hurt && s.dice.once(60) {
@@ -130,13 +139,16 @@ pub fn sequence(seed: u64, calls: usize) -> Sequence {
     s
 }
 
-impl Sequence {
+impl Sequence<'_> {
     fn call(&mut self, call: Call) -> bool {
         if self.answered && self.world.moved_folder(&call).is_some() {
             return true;
         }
         let line = self.world.call(self.who, &call);
         let on = !matches!(line, Line::Lost(_));
+        if let Some(beside) = &mut self.beside {
+            beside.call(self.who, &call, &line, &mut self.world);
+        }
         if !self.answered || matches!(line, Line::Same(_) | Line::Both(_)) {
             call.write(self.who, &mut self.script);
             self.lines.push(line);
@@ -146,6 +158,9 @@ impl Sequence {
 
     fn outside(&mut self, command: Command) {
         command.write(&mut self.script);
+        if let Some(beside) = &mut self.beside {
+            beside.outside(&command);
+        }
         self.world.outside(&command);
     }
 
@@ -370,7 +385,8 @@ impl Sequence {
             988..=995 => Call::Check,
             996..=998 if !self.plan.premise => Call::Open,
             996..=999 => Call::Metadata(self.any()),
-            1300..=1469 => self.walk(),
+            1300..=1469 if self.beside.is_none() || live.len() + 4 <= OWN_HOLDS => self.walk(),
+            1300..=1469 => self.find(),
             1470..=1549 => self.aim(),
             _ => self.contents(),
         }

@@ -94,7 +94,7 @@ fn main() -> std::io::Result<()> {
         }
         ["timed", rounds] => timed::timed(&mut out, &input()?, number(rounds))?,
         ["contents", files, rounds] => timed::contents(&mut out, number(files), number(rounds))?,
-        ["gen", seed, calls, file] => gen(&mut out, gen::sequence(number(seed), number(calls) as usize), file)?,
+        ["gen", seed, calls, file] => gen(&mut out, gen::sequence(number(seed), number(calls) as usize, None), file)?,
         ["sample", seed, bytes, file] => gen(&mut out, gen::sample(number(seed), number(bytes) as usize), file)?,
         _ => {
             eprintln!("driver run < SCRIPT\ndriver raw < SCRIPT\ndriver timed ROUNDS < SCRIPT\ndriver contents FILES ROUNDS\ndriver gen SEED CALLS FILE\ndriver sample SEED BYTES FILE");

@@ -3,7 +3,6 @@
 //! is asked beside them where both sets of rules take the texts.
 use crate::device::Device;
 use rcore_fs::vfs::{FileSystem, FileType, FsError, INode, PATH_MAX};
-use rcore_fs_sefs::SEFS;
 use std::collections::VecDeque;
 use std::result::Result;
 use std::sync::Arc;
@@ -43,10 +42,11 @@ pub struct Walked {
 }
 
 pub struct Walk<'a> {
-    pub fs: &'a SEFS,
-    pub device: &'a Device,
+    fs: &'a dyn FileSystem,
+    /// The device under it, where it has to know that contents are read.
+    device: Option<&'a Device>,
     /// The link buffer's length.
-    pub room: usize,
+    room: usize,
     links: Vec<u8>,
     met: usize,
     /// A target is longer than what `lookup_follow` reads of one.
@@ -54,7 +54,7 @@ pub struct Walk<'a> {
 }
 
 impl<'a> Walk<'a> {
-    pub fn new(fs: &'a SEFS, device: &'a Device, room: usize) -> Walk<'a> {
+    pub fn new(fs: &'a dyn FileSystem, device: Option<&'a Device>, room: usize) -> Walk<'a> {
         Walk { fs, device, room, links: vec![], met: 0, long: false }
     }
 
@@ -119,9 +119,10 @@ impl<'a> Walk<'a> {
 
     /// A call that reads contents: as many bytes as there are.
     fn contents<T>(&self, act: impl FnOnce() -> T) -> T {
-        self.device.disk().contents = true;
+        let set = |on: bool| self.device.iter().for_each(|device| device.disk().contents = on);
+        set(true);
         let answer = act();
-        self.device.disk().contents = false;
+        set(false);
         answer
     }
 
