@@ -1,12 +1,12 @@
--- `calls_remove::empty_folder`: a law for each of its ends.
+-- `removals::empty_folder`: a law for each of its ends.
 use mathlib.Core.Path.{sym, _∙_}
 use Rattle.table.specs.Table.{rowAt}
 use Rattle.mem.specs.Mem.{tableIn}
-use Rattle.calls_remove.proofs.Parts.{empty-other, empty-few, empty-more, empty-two}
+use Rattle.removals.proofs.Parts.{empty-other, empty-few, empty-more, empty-two}
 use borrow.Author.Needs.{needs}
 use native.Mathlib.Omega.{arith}
-use Rattle.calls_remove.proofs.empty_folder.Statement.{statement}
-use Rattle.calls_remove.proofs.empty_folder.Tie as tie
+use Rattle.removals.proofs.empty_folder.Statement.{statement}
+use Rattle.removals.proofs.empty_folder.Tie as tie
 
 kind-at-requires : tie.Need-kind-at-requires
 kind-at-requires c κs = search needs

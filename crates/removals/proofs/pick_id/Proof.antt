@@ -1,10 +1,10 @@
--- `calls_remove::pick_id`: the node, and whether it goes.
+-- `removals::pick_id`: the node, and whether it goes.
 use Rattle.base.proofs.Outs.{went-has}
 use Rattle.mem.specs.State.{fsAt}
-use Rattle.calls_remove.proofs.Parts.{id-stop, id-kept, id-next}
+use Rattle.removals.proofs.Parts.{id-stop, id-kept, id-next}
 use borrow.Author.Needs.{needs}
-use Rattle.calls_remove.proofs.pick_id.Statement.{statement}
-use Rattle.calls_remove.proofs.pick_id.Tie as tie
+use Rattle.removals.proofs.pick_id.Statement.{statement}
+use Rattle.removals.proofs.pick_id.Tie as tie
 
 get-node-requires : tie.Need-get-node-requires
 get-node-requires c κs = search needs

@@ -1,9 +1,9 @@
--- `calls_remove::remove_ask`: question after question.
+-- `removals::remove_ask`: question after question.
 use mathlib.Core.Path.{_∙_}
-use Rattle.calls_remove.proofs.Parts.{ask-stop, ask-next, live-stop, live-next}
+use Rattle.removals.proofs.Parts.{ask-stop, ask-next, live-stop, live-next}
 use borrow.Author.Needs.{needs}
-use Rattle.calls_remove.proofs.remove_ask.Statement.{statement}
-use Rattle.calls_remove.proofs.remove_ask.Tie as tie
+use Rattle.removals.proofs.remove_ask.Statement.{statement}
+use Rattle.removals.proofs.remove_ask.Tie as tie
 
 good-name-requires : tie.Need-good-name-requires
 good-name-requires c κs = search needs

@@ -1,9 +1,9 @@
--- `calls_remove::ask_name`: question after question.
+-- `removals::ask_name`: question after question.
 use mathlib.Core.Path.{_∙_}
-use Rattle.calls_remove.proofs.Parts.{name-stop, name-next}
+use Rattle.removals.proofs.Parts.{name-stop, name-next}
 use borrow.Author.Needs.{needs}
-use Rattle.calls_remove.proofs.ask_name.Statement.{statement}
-use Rattle.calls_remove.proofs.ask_name.Tie as tie
+use Rattle.removals.proofs.ask_name.Statement.{statement}
+use Rattle.removals.proofs.ask_name.Tie as tie
 
 not-special-requires : tie.Need-not-special-requires
 not-special-requires c κs = search needs

@@ -1,12 +1,12 @@
--- `calls_remove::ask_node`: a law for each of its ends.
+-- `removals::ask_node`: a law for each of its ends.
 use mathlib.Core.Path.{sym, _∙_}
 use Rattle.table.specs.Table.{rowAt}
 use Rattle.mem.specs.Mem.{tableIn}
-use Rattle.calls_remove.proofs.Parts.{type-above, as-folder, file-folder, file-other}
+use Rattle.removals.proofs.Parts.{type-above, as-folder, file-folder, file-other}
 use borrow.Author.Needs.{needs}
 use native.Mathlib.Omega.{arith}
-use Rattle.calls_remove.proofs.ask_node.Statement.{statement}
-use Rattle.calls_remove.proofs.ask_node.Tie as tie
+use Rattle.removals.proofs.ask_node.Statement.{statement}
+use Rattle.removals.proofs.ask_node.Tie as tie
 
 kind-at-requires : tie.Need-kind-at-requires
 kind-at-requires c κs = search needs
