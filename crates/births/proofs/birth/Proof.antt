@@ -1,9 +1,9 @@
--- `calls_create::birth`: by the kind.
+-- `births::birth`: by the kind.
 use Rattle.folders.proofs.Folders.{id-of}
-use Rattle.calls_create.proofs.Creates.{birth-folder, birth-still}
+use Rattle.births.proofs.Births.{birth-folder, birth-still}
 use borrow.Author.Needs.{needs}
-use Rattle.calls_create.proofs.birth.Statement.{statement}
-use Rattle.calls_create.proofs.birth.Tie as tie
+use Rattle.births.proofs.birth.Statement.{statement}
+use Rattle.births.proofs.birth.Tie as tie
 
 id-at-requires : tie.Need-id-at-requires
 id-at-requires c κs = search needs
