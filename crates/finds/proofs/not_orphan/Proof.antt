@@ -1,11 +1,11 @@
--- `calls_find::not_orphan`: the test that its definition makes.
+-- `finds::not_orphan`: the test that its definition makes.
 use mathlib.Core.Path.{ap, sym, _∙_}
 use mathlib.Core.Bool.{Bool, not, _&&_}
 use lib.Dec.{eqb}
 use Rattle.calls.proofs.Asks.{ensure-done, ensure-not}
 use borrow.Author.Needs.{needs}
-use Rattle.calls_find.proofs.not_orphan.Statement.{statement}
-use Rattle.calls_find.proofs.not_orphan.Tie as tie
+use Rattle.finds.proofs.not_orphan.Statement.{statement}
+use Rattle.finds.proofs.not_orphan.Tie as tie
 
 is-dots-requires : tie.Need-is-dots-requires
 is-dots-requires c κs = search needs

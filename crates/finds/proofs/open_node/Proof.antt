@@ -1,9 +1,9 @@
--- `calls_find::open_node`: superblock and maps, then the node.
+-- `finds::open_node`: superblock and maps, then the node.
 use Rattle.mem.specs.Mem.{tableIn}
-use Rattle.calls_find.proofs.Finds.{hold-went}
+use Rattle.finds.proofs.Parts.{hold-went}
 use borrow.Author.Needs.{needs}
-use Rattle.calls_find.proofs.open_node.Statement.{statement}
-use Rattle.calls_find.proofs.open_node.Tie as tie
+use Rattle.finds.proofs.open_node.Statement.{statement}
+use Rattle.finds.proofs.open_node.Tie as tie
 
 load-meta-requires : tie.Need-load-meta-requires
 load-meta-requires c κs = search needs

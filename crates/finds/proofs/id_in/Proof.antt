@@ -1,9 +1,9 @@
--- `calls_find::id_in`: the id is the slot's first field.
+-- `finds::id_in`: the id is the slot's first field.
 use mathlib.Core.Path.{_∙_}
-use Rattle.calls_find.proofs.Finds.{entry-id, id-went}
+use Rattle.finds.proofs.Parts.{entry-id, id-went}
 use borrow.Author.Needs.{needs}
-use Rattle.calls_find.proofs.id_in.Statement.{statement}
-use Rattle.calls_find.proofs.id_in.Tie as tie
+use Rattle.finds.proofs.id_in.Statement.{statement}
+use Rattle.finds.proofs.id_in.Tie as tie
 
 find-slot-requires : tie.Need-find-slot-requires
 find-slot-requires c κs = search needs

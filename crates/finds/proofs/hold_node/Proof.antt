@@ -1,9 +1,9 @@
--- `calls_find::hold_node`: the hold on what was opened.
+-- `finds::hold_node`: the hold on what was opened.
 use Rattle.base.proofs.Outs.{went-has}
-use Rattle.calls_find.proofs.Finds.{handed}
+use Rattle.finds.proofs.Parts.{handed}
 use borrow.Author.Needs.{needs}
-use Rattle.calls_find.proofs.hold_node.Statement.{statement}
-use Rattle.calls_find.proofs.hold_node.Tie as tie
+use Rattle.finds.proofs.hold_node.Statement.{statement}
+use Rattle.finds.proofs.hold_node.Tie as tie
 
 open-node-requires : tie.Need-open-node-requires
 open-node-requires c κs = search needs
