@@ -21,11 +21,11 @@ use Rattle.sefs.specs.State.{Fs}
 use Rattle.sefs.specs.Meta.{syncMeta}
 use Rattle.sefs.specs.Nodes.{recAt, idAt, newNode, syncRow, Opened, opened}
 use Rattle.sefs.specs.Slots.{lookup}
-use Rattle.sefs.specs.Folders.{entry, direntInit, direntAppend, nlinksInc}
+use Rattle.sefs.specs.Folders.{entry, direntAppend, nlinksInc}
 use Rattle.sefs.specs.Ask.{admit, byHandle, newName, notLong, liveFolder, orExists, start}
 use Rattle.sefs.specs.Create.{Given, canMake, birth, nameFolder, named, given, createSteps, callCreate}
 use Rattle.mem.specs.Mem.{tableIn, Whole}
-use Rattle.mem.specs.State.{fsOf, Ready, Still, Stepped, fsAt}
+use Rattle.mem.specs.State.{fsOf, Still, Stepped, fsAt}
 use Rattle.folders.proofs.States.{stepped-next}
 use Rattle.calls.proofs.Asks.{asks-live, asked-done, asked-went, call-stop, call-next}
 use Rattle.steps.specs.Steps.{noSlot, syncTwo}
@@ -130,19 +130,7 @@ module _ (r : DiskINode) (name : List ℕ) (kind : ℕ) {m : ℕ} (e : m ≡ ans
       pub ask-long : {x : ℕ} → n ≡ 0 → x ≡ answer (notLong name) → Went (createAsk r name kind) tt (length name ≤ 255) x
       ask-long y d = rw rest-is (went-next _ (asked-done (liveFolder r) (asks-live r) n f y) (long name _ d))
 
--- ---- a folder's slots and links
-
-module _ (s : Fs) (i c kind : ℕ) where
-  pub birth-folder : {v : Fs} {P : Type 0} {r id : ℕ} → kind ≡ 2 → id ≡ idAt s i → Went (direntInit s c id) v P r → Went (birth s i c kind) v P r
-  unfolding birth
-  birth-folder k q g = rw (eq-eqb kind 2 k, ← q) g
-
-  pub birth-other : {P : Type 0} → (kind ≡ 2 → ⊥) → P → Went (birth s i c kind) s P 0
-  unfolding birth
-  birth-other k p = well (rw (ne-eqb kind 2 k)) p
-
-pub birth-still : (a w m : List ℕ) (i c kind : ℕ) → Ready a w m → (kind ≡ 2 → ⊥) → Stepped (birth (fsOf a w m) i c kind) a w w m 6 0
-birth-still a w m i c kind R k = let x : Still a w w m 6 = record { fine = R .fine; whole = R .whole; room = omega arith } in birth-other (fsOf a w m) i c kind k x
+-- ---- a folder's links
 
 module _ {t : Fs} {P : Type 0} {r : ℕ} (s : Fs) (i c : ℕ) (g : Went (nlinksInc s c) t P r) where
   pub folder-stop : (v : Fs) (Q : Type 0) → (r ≡ 0 → ⊥) → Went (nameFolder s i c) v Q r

@@ -1,5 +1,4 @@
 // The call create. It asks and reads by the chains of `sound`, decides its steps on a view of the arena, and commits once nothing can refuse it any more.
-ghost use mathlib.Core.Path.{_≡_};
 ghost use mathlib.Core.List.{List};
 ghost use Prim.Native.Nat.{ℕ, _<_, _≤_};
 ghost use lib.ListN.{length};
@@ -7,7 +6,7 @@ ghost use Rattle.base.specs.Out.{Went};
 ghost use Rattle.overlay.specs.View.{left, Empty};
 ghost use Rattle.table.specs.Table.{canHold};
 ghost use Rattle.sefs.specs.Nodes.{opened as openedAs};
-ghost use Rattle.sefs.specs.Create.{canMake, birth as bornOf, nameFolder, named, callCreate};
+ghost use Rattle.sefs.specs.Create.{nameFolder, named, callCreate};
 ghost use Rattle.chains.specs.Led.{Led};
 ghost use Rattle.mem.specs.Mem.{tableIn, Whole};
 ghost use Rattle.calls.specs.Asked.{Admitted};
@@ -16,6 +15,8 @@ ghost use Rattle.mem.specs.State.{fsOf, Ready, Still, Stepped, fsAt};
 ghost use Rattle.calls.specs.Answers.{addedAs};
 ghost use Rattle.calls_create.specs.Create.{createAsk, createFree, createSync, createRest, createMoves, createWork, Asked};
 ghost use Rattle.calls_create.specs.Held.{holding, EndedOpen, EndedHeld, ReturnedHeld};
+use births::birth;
+use births::can_make;
 use calls::ByHandle;
 use calls::Handed;
 use calls::HeldReply;
@@ -27,11 +28,9 @@ use calls::not_handed;
 use calls::not_long;
 use calls::settle_held;
 use chains::exists;
-use folders::dirent_init;
 use folders::nlinks_inc;
 use holds::can_hold;
 use mem::MEMORY;
-use mem::id_at;
 use mem::put_table;
 use mem::rec_at;
 use nodes::Opened;
@@ -56,13 +55,6 @@ pub struct New {
 }
 
 // ---- 5, 6, 7, 8, 10, 12, 14, 15, 16
-
-// A file, a folder or a symlink; no socket.
-fn can_make(kind: u32) -> bool
-    ensures { λ r. ⌜ r ≡ canMake kind ⌝ }
-{
-    (0 < kind) & (kind <= 3)
-}
 
 fn create_ask(rec: DiskINode, name: &[u8], kind: u32) -> u8
     ensures { λ r. ⌜ Went (createAsk rec (now (name .entry)) kind) tt (length (now (name .entry)) ≤ 255) r ⌝ }
@@ -176,18 +168,6 @@ fn create_asked(arena: &[u8], mem: &mut [u8], who: u8, h: Handle, name: &[u8], n
 }
 
 // ---- the steps
-
-// A folder is born with its two slots.
-fn birth(arena: &[u8], work: &mut [u8], mem: &mut [u8], i: usize, c: usize, kind: u32) -> u8
-    requires { ⌜ Ready (now arena) (now work) (now mem) × ((6 ≤ left (now work)) × ((i < 34) × (c < 34))) ⌝ }
-    ensures { λ r. ⌜ Stepped (bornOf (fsOf (now (arena .entry)) (now (work .entry)) (now (mem .entry))) i c kind) (now (arena .entry)) (now (work .entry)) (now (work .exit)) (now (mem .exit)) 6 r ⌝ }
-{
-    if kind == 2 {
-        let parent = id_at(&mem[..], i);
-        return dirent_init(arena, work, mem, c, parent);
-    }
-    0
-}
 
 // A new folder is named by its own `.` too, and its parent by its `..`.
 fn name_folder(mem: &mut [u8], i: usize, c: usize) -> u8

@@ -1,5 +1,5 @@
 -- Root and find: from their parts to the calls, and from what the code answers to the answers.
-use mathlib.Core.Path.{_≡_, refl, sym, _∙_, ap, subst}
+use mathlib.Core.Path.{_≡_, refl, sym, _∙_, ap}
 use mathlib.Core.Bool.{true, false, not, _&&_}
 use mathlib.Core.List.{List}
 use Prim.Native.Nat.{ℕ, _<_}
@@ -8,48 +8,24 @@ use lib.ListN.{length}
 use lib.Dec.{eqb, ltb, leb}
 use Rattle.base.specs.Out.{Out, done, refused, bind, ensure, answer, Went, well, ill}
 use Rattle.base.proofs.Outs.{went-is, went-not, above-zero}
-use Rattle.le.specs.Le.{leAt}
-use Rattle.structs.specs.Layout.{entryOf}
 use Rattle.structs.specs.declared.DiskINode.{DiskINode}
 use Rattle.utf8.specs.Names.{isDots, nameVerdict, earlyReason}
 use Rattle.table.specs.declared.Table.{Table}
 use Rattle.table.specs.declared.Handle.{Handle}
 use Rattle.table.specs.declared.Added.{Added}
-use Rattle.table.specs.Table.{rowAt, canHold, addHold}
-use Rattle.sefs.specs.State.{Fs}
-use Rattle.sefs.specs.Meta.{loadMeta}
-use Rattle.sefs.specs.Nodes.{Opened, opened, getNode}
+use Rattle.table.specs.Table.{rowAt, canHold}
 use Rattle.sefs.specs.Slots.{Slot, findSlot}
 use Rattle.sefs.specs.Ask.{admit, anOwner, byHandle, goodName, notLong, known, folder, start}
 use Rattle.sefs.specs.Open.{callRoot, callFind, holdNode}
-use Rattle.mem.specs.Mem.{tableIn, metaIn, Whole}
 use Rattle.calls.specs.Answers.{gotOf, heldTable, givenOf, notHanded}
 use Rattle.calls.specs.declared.HeldReply.{HeldReply}
 use Rattle.calls.specs.declared.Handed.{Handed}
 use Rattle.calls.proofs.Answers.{given-held, given-refused}
 use Rattle.calls.proofs.Asks.{Asks, asks-ensure, asks-then, asks-owner, asked-not, asked-done, call-stop, call-next, answer-stop, answer-next}
-use Rattle.calls.proofs.General.{went-last}
-use Rattle.calls_find.specs.Finds.{Gives, giveNode, giveNamed, notOrphan, findName, findFolder, findAsk, findId, findIn}
-use Rattle.mem.specs.State.{fsAt}
-
--- ---- a node opened, and the hold on it
-
--- the state at a call's start, as the code has it
-fs-start : (a m : List ℕ) (t : Table) → tableIn m ≡ t → metaIn m ≡ loadMeta a → fsAt a m ≡ start a t
-fs-start a m t f g = rw (f, g)
-
--- the node that was opened, and the hold
-pub hold-went : (a m n : List ℕ) (t : Table) (who id row r : ℕ) → tableIn m ≡ t → metaIn m ≡ loadMeta a → Went (getNode (fsAt a m) id) (opened (fsAt a n) row) (Whole n × (row < 34)) r → Went (holdNode (start a t) who id) (addHold (tableIn n) who row) (Whole n × (row < 34)) r
-unfolding holdNode
-hold-went a m n t who id row r e f g =
-    subst (λ (s : Fs). Went (holdNode s who id) (addHold (tableIn n) who row) (Whole n × (row < 34)) r) (fs-start a m t e f) (went-last (λ (o : Opened). addHold (o .state .table) who (o .row)) (λ (p : Whole n × (row < 34)). p) g)
+use Rattle.finds.specs.Parts.{notOrphan, findId}
+use Rattle.calls_find.specs.Finds.{Gives, giveNode, giveNamed, findName, findFolder, findAsk, findIn}
 
 -- ---- answers
-
--- the hold x by the handle and the table that it left
-pub handed : {o : Out Added} {x y : Added} {P : Type 0} {n r : ℕ} → r ≡ n → (n ≡ 0 → x ≡ y) → Went o x P n → Went o y Unit r
-handed q k (well e p) = rw q (well (e ∙ ap done (k refl)) tt)
-handed q k (ill l e) = rw q (ill l e)
 
 -- a refusal
 pub not-handed : {o : Out Added} {x : Added} {n : ℕ} {r : Handed} → 0 < n → o ≡ refused n → r ≡ notHanded n → Went o x Unit (r .reason)
@@ -150,16 +126,6 @@ module _ (r : DiskINode) (name : List ℕ) (n : ℕ) where
   pub ask-next : (a : List ℕ) → n ≡ answer (findAsk r name) → n ≡ 0 → findIn a r name ≡ findId a r name
   unfolding findIn
   ask-next a e z = rw (asked-done (findAsk r name) (asks-find r name) n e z)
-
--- a slot's first field
-pub entry-id : (l : List ℕ) → leAt l 0 4 ≡ entryOf l .id
-unfolding entryOf
-entry-id l = refl
-
--- the id in the slot that was found
-pub id-went : (a : List ℕ) (r : DiskINode) (name l : List ℕ) (place n id : ℕ) (P : Type 0) → id ≡ entryOf l .id → Went (findSlot a r name) (record { place = place; entry = entryOf l }) P n → Went (findId a r name) id Unit n
-unfolding findId
-id-went a r name l place n id P f g = rw f (went-last (λ (s : Slot). s .entry .id) (λ (p : P). tt) g)
 
 -- the node that the name leads to
 module _ (a : List ℕ) (t : Table) (who : ℕ) (r : DiskINode) (name : List ℕ) {id n : ℕ} (f : Went (findIn a r name) id Unit n) where

@@ -1,21 +1,18 @@
 -- Root and find, in the parts that the code has.
 use mathlib.Core.Path.{_≡_}
-use mathlib.Core.Bool.{not, _&&_}
 use mathlib.Core.List.{List}
 use Prim.Native.Nat.{ℕ}
-use lib.Dec.{eqb}
-use Rattle.base.specs.Out.{Out, done, ensure, _>>=_}
-use Rattle.base.specs.Reasons.{dirRemoved, tableFull}
+use Rattle.base.specs.Out.{Out, ensure, _>>=_}
+use Rattle.base.specs.Reasons.{tableFull}
 use Rattle.structs.specs.declared.DiskINode.{DiskINode}
-use Rattle.utf8.specs.Names.{isDots}
 use Rattle.table.specs.declared.Table.{Table}
 use Rattle.table.specs.declared.Added.{Added}
 use Rattle.table.specs.Table.{canHold}
 use Rattle.sefs.specs.Ask.{start, goodName, known, folder, notLong}
 use Rattle.sefs.specs.Open.{holdNode}
-use Rattle.sefs.specs.Slots.{findSlot}
 use Rattle.calls.specs.Answers.{gotOf, heldTable}
 use Rattle.calls.specs.declared.HeldReply.{HeldReply}
+use Rattle.finds.specs.Parts.{notOrphan, findId}
 
 -- a call that makes a hold answers what its outcome says, with the outcome's table
 abbrev pub Gives : Table → Out Added → HeldReply → Type 0
@@ -29,10 +26,6 @@ giveNode a t w id = do
   holdNode (start a t) w id
 
 -- ---- find, once the handle's row is known
-
--- 8: only `..` of a removed folder
-abbrev pub notOrphan : DiskINode → List ℕ → Out Unit
-notOrphan r name = ensure (not (isDots name && eqb (r .nlinks) 0)) dirRemoved
 
 unfoldable pub findName : DiskINode → List ℕ → Out Unit
 findName r name = do
@@ -49,12 +42,6 @@ unfoldable pub findAsk : DiskINode → List ℕ → Out Unit
 findAsk r name = do
   _ ← goodName name
   findFolder r name
-
--- the id in the slot with that name
-unfoldable pub findId : List ℕ → DiskINode → List ℕ → Out ℕ
-findId a r name = do
-  s ← findSlot a r name
-  done (s .entry .id)
 
 unfoldable pub findIn : List ℕ → DiskINode → List ℕ → Out ℕ
 findIn a r name = do

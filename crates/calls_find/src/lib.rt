@@ -1,63 +1,37 @@
 // The calls that open a node: root and find. They change no byte of the arena, and read it by the chains of `sound`.
 ghost use mathlib.Core.Path.{_≡_};
-ghost use Prim.Native.Nat.{ℕ, _<_};
-ghost use lib.ListN.{length};
+ghost use Prim.Native.Nat.{_<_};
 ghost use Rattle.base.specs.Out.{Went, answer};
-ghost use Rattle.table.specs.Table.{addHold};
-ghost use Rattle.sefs.specs.Ask.{start};
-ghost use Rattle.sefs.specs.Open.{callRoot, callFind, holdNode};
+ghost use Rattle.sefs.specs.Open.{callRoot, callFind};
 ghost use Rattle.chains.specs.Led.{Led};
-ghost use Rattle.mem.specs.Mem.{tableIn, Whole, memorySize};
+ghost use Rattle.mem.specs.Mem.{tableIn, Whole};
 ghost use Rattle.table.specs.Table.{rowAt};
 ghost use Rattle.calls.specs.Answers.{addedAs};
 ghost use Rattle.calls.specs.Asked.{Admitted};
-ghost use Rattle.calls_find.specs.Finds.{Gives, giveNode, giveNamed, notOrphan, findName, findFolder, findAsk, findId, findIn};
+ghost use Rattle.finds.specs.Parts.{findId};
+ghost use Rattle.calls_find.specs.Finds.{Gives, giveNode, giveNamed, findName, findFolder, findAsk, findIn};
 use calls::Handed;
 use calls::HeldReply;
 use calls::an_owner;
 use calls::by_handle;
 use calls::folder;
 use calls::good_name;
-use calls::hand;
 use calls::known;
 use calls::led::admit;
 use calls::not_handed;
 use calls::not_long;
 use calls::settle_held;
-use chains::slots::find_slot;
+use finds::Named;
+use finds::hold_node;
+use finds::id_in;
+use finds::not_orphan;
 use holds::can_hold;
-use le::u32_at;
 use mem::MEMORY;
 use mem::put_table;
 use mem::rec_at;
-use nodes::Opened;
-use nodes_read::get_node;
-use nodes_read::meta::load_meta;
 use structs::DiskINode;
 use table::Handle;
 use table::Table;
-use utf8::is_dots;
-
-// ---- a node opened, with a hold of its own
-
-// Whoever has the hold then.
-fn open_node(arena: &[u8], first: &[u16], next: &[u16], mem: &mut [u8], id: u32) -> Opened
-    requires { ⌜ Led (now arena) (now first) (now next) ⌝ }
-    requires { ⌜ length (now mem) ≡ memorySize ⌝ }
-    ensures { λ r. ⌜ ((w : ℕ) → Went (holdNode (start (now (arena .entry)) (tableIn (now (mem .entry)))) w id) (addHold (tableIn (now (mem .exit))) w (r .row)) (Whole (now (mem .exit)) × (r .row < 34)) (r .reason)) ⌝ }
-{
-    load_meta(arena, first, next, mem);
-    get_node(arena, first, next, mem, id)
-}
-
-fn hold_node(arena: &[u8], first: &[u16], next: &[u16], mem: &mut [u8], who: u8, id: u32) -> Handed
-    requires { ⌜ Led (now arena) (now first) (now next) ⌝ }
-    requires { ⌜ length (now mem) ≡ memorySize ⌝ }
-    ensures { λ r. ⌜ Went (holdNode (start (now (arena .entry)) (tableIn (now (mem .entry)))) who id) (addedAs (r .handle) (tableIn (now (mem .exit)))) Unit (r .reason) ⌝ }
-{
-    let o = open_node(arena, first, next, mem, id);
-    hand(mem, who, o.reason, o.row)
-}
 
 // 16 where no hold can be given.
 pub fn give_node(
@@ -117,16 +91,6 @@ pub fn root(arena: &[u8], t: Table, who: u8) -> HeldReply
 
 // ---- find
 
-// 8, for exactly `..`.
-fn not_orphan(rec: DiskINode, name: &[u8]) -> u8
-    ensures { λ r. ⌜ r ≡ answer (notOrphan rec (now (name .entry))) ⌝ }
-{
-    if is_dots(name) & (rec.nlinks == 0) {
-        return 8;
-    }
-    0
-}
-
 fn find_name(rec: DiskINode, name: &[u8]) -> u8
     ensures { λ r. ⌜ r ≡ answer (findName rec (now (name .entry))) ⌝ }
 {
@@ -159,31 +123,6 @@ fn find_ask(rec: DiskINode, name: &[u8]) -> u8
         return r;
     }
     find_folder(rec, name)
-}
-
-// The id in the slot with that name, where the reason is 0.
-pub struct Named {
-    pub reason: u8,
-    pub id: u32,
-}
-
-fn id_in(
-    arena: &[u8],
-    first: &[u16],
-    next: &[u16],
-    slot: &mut [u8],
-    rec: DiskINode,
-    name: &[u8],
-) -> Named
-    requires { ⌜ Led (now arena) (now first) (now next) ⌝ }
-    requires { ⌜ length (now slot) ≡ 264 ⌝ }
-    ensures { λ r. ⌜ Went (findId (now (arena .entry)) rec (now (name .entry))) (r .id) Unit (r .reason) ⌝ }
-{
-    let p = find_slot(arena, first, next, rec, name, slot);
-    Named {
-        reason: p.reason,
-        id: u32_at(&slot[..], 0),
-    }
 }
 
 pub fn find_id(arena: &[u8], first: &[u16], next: &[u16], rec: DiskINode, name: &[u8]) -> Named

@@ -18,7 +18,8 @@ use Rattle.sefs.specs.Remove.{removable, removeSteps, callRemove}
 use Rattle.mem.specs.Mem.{tableIn}
 use Rattle.steps.specs.Ends.{Begun, Rest, ending}
 use Rattle.steps.proofs.Ends.{bind-same, begun-start, rest-off, rest-as, rest-then}
-use Rattle.calls_remove.specs.Steps.{nameAsks, removeAsks, removeNode, removeId, removeName, removeFrom}
+use Rattle.removals.specs.Removals.{nameAsks, removeAsks, removeNode, removeId}
+use Rattle.calls_remove.specs.Steps.{removeName, removeFrom}
 use Rattle.mem.specs.State.{fsAt}
 
 -- the questions first

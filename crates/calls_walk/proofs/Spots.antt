@@ -24,7 +24,8 @@ use Rattle.sefs.specs.Contents.{readBytes}
 use Rattle.calls.specs.Answers.{Laid, leave}
 use Rattle.calls.proofs.Asks.{asks-ensure, asked-not, asked-done}
 use Rattle.calls.proofs.General.{went-last}
-use Rattle.calls_find.specs.Finds.{notOrphan, findName, findFolder, findId}
+use Rattle.finds.specs.Parts.{notOrphan, findId}
+use Rattle.calls_find.specs.Finds.{findName, findFolder}
 use Rattle.calls_find.proofs.Finds.{asks-folder}
 use Rattle.walk.specs.Walk.{lookAt, Spot, spot, atRoot, partIn, targetOf, goodText, fromRoot, enter}
 use Rattle.walk.proofs.Looks.{look-stop, look-row, look-stored}

@@ -2,7 +2,7 @@
 use mathlib.Core.Path.{refl}
 use Rattle.base.proofs.Outs.{went-has}
 use Rattle.steps.proofs.Ends.{fs-begun, ended-not, ended-done}
-use Rattle.calls_remove.specs.Steps.{removeNode}
+use Rattle.removals.specs.Removals.{removeNode}
 use borrow.Author.Needs.{needs}
 use Rattle.calls_remove.proofs.remove_in.Statement.{statement}
 use Rattle.calls_remove.proofs.remove_in.Tie as tie

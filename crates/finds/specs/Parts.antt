@@ -1,0 +1,20 @@
+-- Parts of find, once the handle's row is known.
+use mathlib.Core.Bool.{not, _&&_}
+use mathlib.Core.List.{List}
+use Prim.Native.Nat.{ℕ}
+use lib.Dec.{eqb}
+use Rattle.base.specs.Out.{Out, done, ensure, _>>=_}
+use Rattle.base.specs.Reasons.{dirRemoved}
+use Rattle.structs.specs.declared.DiskINode.{DiskINode}
+use Rattle.utf8.specs.Names.{isDots}
+use Rattle.sefs.specs.Slots.{findSlot}
+
+-- 8: only `..` of a removed folder
+abbrev pub notOrphan : DiskINode → List ℕ → Out Unit
+notOrphan r name = ensure (not (isDots name && eqb (r .nlinks) 0)) dirRemoved
+
+-- the id in the slot with that name
+unfoldable pub findId : List ℕ → DiskINode → List ℕ → Out ℕ
+findId a r name = do
+  s ← findSlot a r name
+  done (s .entry .id)
