@@ -1,13 +1,13 @@
--- `calls_list::list_ask`: question after question.
+-- `list_slots::list_ask`: question after question.
 use mathlib.Core.Path.{sym, _∙_, ap}
 use mathlib.Core.Bool.{not, _&&_}
 use Prim.Native.Nat.{ℕ}
 use lib.Dec.{ltb}
 use borrow.Author.Needs.{needs}
 use Rattle.calls.proofs.Asks.{ensure-done, ensure-not}
-use Rattle.calls_list.proofs.Listings.{list-ask-stop, list-ask-room}
-use Rattle.calls_list.proofs.list_ask.Statement.{statement}
-use Rattle.calls_list.proofs.list_ask.Tie as tie
+use Rattle.list_slots.proofs.Listings.{list-ask-stop, list-ask-room}
+use Rattle.list_slots.proofs.list_ask.Statement.{statement}
+use Rattle.list_slots.proofs.list_ask.Tie as tie
 
 readable-requires : tie.Need-readable-requires
 readable-requires c κs = search needs

@@ -22,7 +22,7 @@ use Rattle.sefs.specs.Slots.{slotBytes, isEnded}
 use Rattle.sefs.specs.Read.{namedSlot, listSlot, listTo}
 use Rattle.calls.specs.Answers.{Laid, lay}
 use Rattle.calls.proofs.Outputs.{laid-is}
-use Rattle.calls_list.specs.List.{whether}
+use Rattle.list_slots.specs.List.{whether}
 
 -- ---- one slot
 

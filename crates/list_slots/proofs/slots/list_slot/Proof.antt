@@ -1,8 +1,8 @@
--- `calls_list::slots::list_slot`: the slot, and then its type.
-use Rattle.calls_list.proofs.Turns.{list-stop, list-done, list-stuck}
+-- `list_slots::slots::list_slot`: the slot, and then its type.
+use Rattle.list_slots.proofs.Turns.{list-stop, list-done, list-stuck}
 use borrow.Author.Needs.{needs}
-use Rattle.calls_list.proofs.slots.list_slot.Statement.{statement}
-use Rattle.calls_list.proofs.slots.list_slot.Tie as tie
+use Rattle.list_slots.proofs.slots.list_slot.Statement.{statement}
+use Rattle.list_slots.proofs.slots.list_slot.Tie as tie
 
 named-slot-requires : tie.Need-named-slot-requires
 named-slot-requires c κs = search needs

@@ -1,9 +1,9 @@
--- `calls_list::write_slots`: the slots are written once each was read.
+-- `list_slots::write_slots`: the slots are written once each was read.
 use Rattle.base.proofs.Outs.{went-is}
-use Rattle.calls_list.proofs.Listings.{slots-stop}
+use Rattle.list_slots.proofs.Listings.{slots-stop}
 use borrow.Author.Needs.{needs}
-use Rattle.calls_list.proofs.write_slots.Statement.{statement}
-use Rattle.calls_list.proofs.write_slots.Tie as tie
+use Rattle.list_slots.proofs.write_slots.Statement.{statement}
+use Rattle.list_slots.proofs.write_slots.Tie as tie
 
 end-of-requires : tie.Need-end-of-requires
 end-of-requires c κs = search needs

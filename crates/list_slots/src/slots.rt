@@ -7,7 +7,7 @@ ghost use Rattle.sefs.specs.Nodes.{nodeFile};
 ghost use Rattle.sefs.specs.Read.{listSlot, listTo};
 ghost use Rattle.chains.specs.Led.{Led, endOf};
 ghost use Rattle.calls.specs.Answers.{Laid};
-ghost use Rattle.calls_list.specs.List.{whether};
+ghost use Rattle.list_slots.specs.List.{whether};
 use chains::slots::named_slot;
 use chains::slots::slot_bytes;
 use le::u32_at;

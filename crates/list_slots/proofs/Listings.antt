@@ -9,16 +9,12 @@ use lib.Dec.{ltb}
 use Rattle.base.specs.Out.{Out, done, refused, bind, ensure, answer, Went}
 use Rattle.base.proofs.Outs.{went-not, above-zero}
 use Rattle.structs.specs.declared.DiskINode.{DiskINode}
-use Rattle.table.specs.declared.Table.{Table}
-use Rattle.table.specs.declared.Handle.{Handle}
-use Rattle.table.specs.Table.{rowAt}
-use Rattle.sefs.specs.Ask.{admit, byHandle}
-use Rattle.sefs.specs.Read.{readable, listTo, callListing}
+use Rattle.sefs.specs.Read.{readable, listTo}
 use Rattle.calls.specs.Answers.{listedOf, Laid, lay, leave}
 use Rattle.calls.specs.declared.Listed.the-variants as listeds
-use Rattle.calls.proofs.Asks.{Asks, asks-ensure, asks-then, asks-readable, asked-not, asked-done, answer-stop, answer-next, call-stop, call-next}
-use Rattle.calls_list.specs.List.{listAsk, listIn, whether, listedAs}
-use Rattle.calls_list.proofs.Turns.{whether-not}
+use Rattle.calls.proofs.Asks.{Asks, asks-ensure, asks-then, asks-readable, asked-not, asked-done, answer-stop, answer-next}
+use Rattle.list_slots.specs.List.{listAsk, listIn, whether, listedAs}
+use Rattle.list_slots.proofs.Turns.{whether-not}
 
 pub asks-list : (r : DiskINode) (next room : ℕ) → Asks (listAsk r next room)
 unfolding listAsk
@@ -63,18 +59,3 @@ module _ (a : List ℕ) (r : DiskINode) (next room n : ℕ) (e : n ≡ answer (l
 -- the slots are read to know that they can be, and it is not so
 pub slots-stop : {r : ℕ} (o : Out (List ℕ)) (out : List ℕ) (n : ℕ) → Went (whether o) tt Unit r → (r ≡ 0 → ⊥) → Laid o out out n r
 slots-stop {r} o out n g z = leave (above-zero r z) (whether-not o r (went-not g z)) refl
-
--- ---- the call, once arena and table are known
-
-pub listing-refused : (a : List ℕ) (t : Table) (who : ℕ) (h : Handle) (next room : ℕ) {n : ℕ} → admit a t ≡ refused n → callListing a t who h next room ≡ refused n
-unfolding callListing
-listing-refused a t who h next room q = rw q
-
-module _ {P : Type 0} (a : List ℕ) (t : Table) (who : ℕ) (h : Handle) (q : admit a t ≡ done tt) (next room row r : ℕ) (g : Went (byHandle t who h) row P r) where
-  pub listing-dead : (r ≡ 0 → ⊥) → callListing a t who h next room ≡ refused r
-  unfolding callListing listIn
-  listing-dead z = call-stop a t who h q (λ i. listIn a (rowAt t i .rec) next room) row r g z
-
-  pub listing-goes : (w : DiskINode) → r ≡ 0 → w ≡ rowAt t row .rec → listIn a w next room ≡ callListing a t who h next room
-  unfolding callListing listIn
-  listing-goes w z e = sym (call-next a t who h q (λ i. listIn a (rowAt t i .rec) next room) row r g z ∙ rw (← e))

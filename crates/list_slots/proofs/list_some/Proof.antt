@@ -1,8 +1,8 @@
--- `calls_list::list_some`: nothing, or the slots.
-use Rattle.calls_list.proofs.Turns.{write-none}
+-- `list_slots::list_some`: nothing, or the slots.
+use Rattle.list_slots.proofs.Turns.{write-none}
 use borrow.Author.Needs.{needs}
-use Rattle.calls_list.proofs.list_some.Statement.{statement}
-use Rattle.calls_list.proofs.list_some.Tie as tie
+use Rattle.list_slots.proofs.list_some.Statement.{statement}
+use Rattle.list_slots.proofs.list_some.Tie as tie
 
 returns : tie.Need-returns
 returns c =

@@ -1,14 +1,14 @@
--- `calls_list::slots::list_check`: the slots before k can be listed. The measure is what is left of them.
+-- `list_slots::slots::list_check`: the slots before k can be listed. The measure is what is left of them.
 use mathlib.Core.Path.{_≡_, refl, _∙_, ap}
 use Prim.Native.Nat.{_-_, _≤_}
 use native.Mathlib.Omega.{arith}
 use lib.ListN.{length}
 use Rattle.base.specs.Out.{done}
 use Rattle.sefs.specs.Read.{listTo}
-use Rattle.calls_list.specs.List.{whether}
-use Rattle.calls_list.proofs.Turns.{listTo-none, whether-next, whether-stop, whether-all}
-use Rattle.calls_list.proofs.slots.list_check.Statement.{statement}
-use Rattle.calls_list.proofs.slots.list_check.Tie as tie
+use Rattle.list_slots.specs.List.{whether}
+use Rattle.list_slots.proofs.Turns.{listTo-none, whether-next, whether-stop, whether-all}
+use Rattle.list_slots.proofs.slots.list_check.Statement.{statement}
+use Rattle.list_slots.proofs.slots.list_check.Tie as tie
 
 abbrev Inv-loop : tie.InvT-loop
 Inv-loop arena first next slot₀ rec end at n k₀ slot k = (k ≤ n) × (length slot ≡ length slot₀) × (whether (listTo arena rec at k) ≡ done tt)

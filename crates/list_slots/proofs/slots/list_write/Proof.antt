@@ -1,4 +1,4 @@
--- `calls_list::slots::list_write`: the slots before k are written. The measure is what is left of them.
+-- `list_slots::slots::list_write`: the slots before k are written. The measure is what is left of them.
 use mathlib.Core.Path.{_≡_, refl, _∙_}
 use Prim.Native.Nat.{_+_, _*_, _-_, _≤_}
 use native.Mathlib.Omega.{arith}
@@ -7,9 +7,9 @@ use Rattle.base.proofs.Lists.{length-part}
 use Rattle.sefs.specs.Read.{listTo}
 use Rattle.calls.specs.Answers.{Laid}
 use Rattle.calls.proofs.Outputs.{laid-length}
-use Rattle.calls_list.proofs.Turns.{write-none, write-next, write-all}
-use Rattle.calls_list.proofs.slots.list_write.Statement.{statement}
-use Rattle.calls_list.proofs.slots.list_write.Tie as tie
+use Rattle.list_slots.proofs.Turns.{write-none, write-next, write-all}
+use Rattle.list_slots.proofs.slots.list_write.Statement.{statement}
+use Rattle.list_slots.proofs.slots.list_write.Tie as tie
 
 abbrev Inv-loop : tie.InvT-loop
 Inv-loop arena first next rec end at n out₀ k₀ out k = (k ≤ n) × ((length out ≡ length out₀) × Laid (listTo arena rec at k) out₀ out (264 * k) 0)

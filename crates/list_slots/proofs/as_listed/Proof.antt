@@ -1,7 +1,7 @@
--- `calls_list::as_listed`: by the reason.
-use Rattle.calls_list.proofs.Listings.{listed-as}
-use Rattle.calls_list.proofs.as_listed.Statement.{statement}
-use Rattle.calls_list.proofs.as_listed.Tie as tie
+-- `list_slots::as_listed`: by the reason.
+use Rattle.list_slots.proofs.Listings.{listed-as}
+use Rattle.list_slots.proofs.as_listed.Statement.{statement}
+use Rattle.list_slots.proofs.as_listed.Tie as tie
 
 returns : tie.Need-returns
 returns c = rw (c .if1 .taken)

@@ -1,14 +1,14 @@
--- `calls_list::list_in`: the questions, then the slots.
+-- `list_slots::list_in`: the questions, then the slots.
 use mathlib.Core.Path.{_≡_, refl, sym, _∙_, ap}
 use Prim.Native.Nat.{_-_, _/_, min}
 use native.Mathlib.Omega.{arith}
 use lib.ListN.{length}
 use Rattle.calls.specs.Answers.{listedOf, laid}
 use Rattle.calls.proofs.Outputs.{laid-out}
-use Rattle.calls_list.proofs.Listings.{laid-listed, list-in-stop, list-in-next}
+use Rattle.list_slots.proofs.Listings.{laid-listed, list-in-stop, list-in-next}
 use borrow.Author.Needs.{needs}
-use Rattle.calls_list.proofs.list_in.Statement.{statement}
-use Rattle.calls_list.proofs.list_in.Tie as tie
+use Rattle.list_slots.proofs.list_in.Statement.{statement}
+use Rattle.list_slots.proofs.list_in.Tie as tie
 
 list-ask-requires : tie.Need-list-ask-requires
 list-ask-requires c κs = search needs
