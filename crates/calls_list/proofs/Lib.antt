@@ -1,4 +1,3 @@
-pub mod Turns
-pub mod Listings
+pub mod Calls
 pub mod Places
 pub mod Ones

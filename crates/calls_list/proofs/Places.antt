@@ -25,7 +25,7 @@ use Rattle.calls.specs.Answers.{listedOf}
 use Rattle.calls.specs.declared.Listed.{Listed}
 use Rattle.calls.specs.declared.Listed.the-variants as listeds
 use Rattle.calls.proofs.Asks.{handle-below}
-use Rattle.calls_list.proofs.Turns.{list-bytes}
+use Rattle.list_slots.proofs.Turns.{list-bytes}
 use Rattle.calls_list.specs.declared.Moved.{Moved}
 use Rattle.calls_list.specs.Place.{startOf, movedAs}
 

@@ -8,8 +8,8 @@ use lib.Seq.{take-at, drop-at, drop-drop, take-append-le, drop-append-le, drop-a
 use Rattle.base.specs.Parts.{part, back, paste}
 use Rattle.base.proofs.Lists.{length-part}
 use Rattle.base.proofs.Parts.{drop-take}
-use Rattle.calls_walk.specs.Texts.{leftOf, boundOf}
-use Rattle.calls_walk.proofs.Splits.{part-end}
+use Rattle.walk_parts.specs.Texts.{leftOf, boundOf}
+use Rattle.walk_parts.proofs.Splits.{part-end}
 
 -- ---- a target laid at s
 

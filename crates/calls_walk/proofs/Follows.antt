@@ -9,7 +9,7 @@ use native.Mathlib.Numerals.{add-one}
 use native.Mathlib.Omega.{arith}
 use lib.ListN.{length, getD, take, drop, set, length-append, length-set}
 use lib.Seq.{getD-set-same, getD-set-other}
-use borrow.Author.Tests.{ne-eqb}
+use borrow.Author.Tests.{ne-eqb, le-leb, lt-leb}
 use Rattle.base.specs.Count.{bit}
 use Rattle.base.specs.Out.{Out, done, refused}
 use Rattle.base.specs.Parts.{part, back, paste}
@@ -17,15 +17,19 @@ use Rattle.base.specs.Search.{pick}
 use Rattle.base.proofs.Bools.{bool-cases}
 use Rattle.base.proofs.Lists.{length-part, length-paste, part-paste}
 use Rattle.base.proofs.Outs.{above-zero}
+use Rattle.structs.specs.declared.DiskINode.{DiskINode}
 use Rattle.sefs.specs.State.{Fs}
+use Rattle.sefs.specs.Nodes.{nodeFile}
+use Rattle.sefs.specs.Contents.{readBytes}
 use Rattle.calls.specs.Answers.{Laid, lay, leave}
 use Rattle.walk.specs.Walk.{fromRoot, partsOf, cut, Spot, spot, met, along, targetOf, enter, walked, walkOn}
 use Rattle.walk.proofs.Walks.{more, along-join, walk-loop, walk-unread, walk-bad, walk-follow}
-use Rattle.calls_walk.specs.Texts.{leftOf, boundOf}
-use Rattle.calls_walk.specs.States.{restsOf, readOf, endOf, outcome, Marked, Stands, Turned, stop, Entered, Meets, Followed, unread, read}
-use Rattle.calls_walk.specs.declared.Going.{Going}
-use Rattle.calls_walk.specs.declared.Passed.{Passed}
-use Rattle.calls_walk.proofs.Splits.{root-in}
+use Rattle.walk_parts.specs.Texts.{leftOf, boundOf}
+use Rattle.walk_parts.specs.States.{Entered}
+use Rattle.walk_parts.specs.declared.Going.{Going}
+use Rattle.walk_parts.specs.declared.Passed.{Passed}
+use Rattle.walk_parts.proofs.Splits.{root-in}
+use Rattle.calls_walk.specs.States.{restsOf, readOf, endOf, outcome, Marked, Stands, Turned, stop, Meets, Followed, unread, read}
 use Rattle.calls_walk.proofs.Buffers.{length-read, back-own, back-laid, paste-read, paste-kept, part-target, left-drop, left-longer, bound-longer}
 use Rattle.calls_walk.proofs.Turns.{outcome-over, outcome-going, stopped}
 
@@ -212,6 +216,20 @@ module _ (s : Fs) (path links m : List ℕ) (g : Going) (p : Passed) (S : Stands
     pub follow-turns : (now : List ℕ) → Followed s links now g p h → Turned s path links now m (marked m (g .depth) (g .from + p .place) (g .to)) g h
     follow-turns now (unread l e q w) = rw (q, w) (follow-unread l e)
     follow-turns now (read {l = l} t u q E) = rw q (follow-read l t u E)
+
+-- ---- a target is read
+
+module _ (a : List ℕ) (r : DiskINode) (room : ℕ) where
+  pub target-full : (out : List ℕ) → room < r .size → Laid (targetOf a r room) out out 0 20
+  unfolding targetOf
+  target-full out h = leave {r = 20} (omega arith) (rw (lt-leb (r .size) room h)) refl
+
+  target-is : r .size ≤ room → targetOf a r room ≡ readBytes a (nodeFile r) 0 (r .size)
+  unfolding targetOf
+  target-is h = rw (le-leb (r .size) room h)
+
+  pub target-read : {out now : List ℕ} {n q : ℕ} → r .size ≤ room → n ≡ r .size → Laid (readBytes a (nodeFile r) 0 n) out now n q → Laid (targetOf a r room) out now n q
+  target-read h e g = rw (target-is h, ← e) g
 
 -- ---- what the code does at a link: `out` is what the part of the buffer from the targets on comes back as
 

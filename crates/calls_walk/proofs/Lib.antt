@@ -1,6 +1,3 @@
-pub mod Splits
-pub mod Spots
-pub mod Alongs
 pub mod Buffers
 pub mod Turns
 pub mod Follows

@@ -28,11 +28,12 @@ use Rattle.mem.specs.State.{fsAt}
 use Rattle.calls.specs.Asked.{Admitted}
 use Rattle.calls_find.specs.Finds.{giveNode}
 use Rattle.walk.specs.Walk.{fromRoot, partsOf, cut, Spot, spot, ended, along, enter, Walked, walked, orStop, walkOn, walkIn, holdEnd, callWalk}
-use Rattle.calls_walk.specs.Texts.{leftOf, boundOf}
-use Rattle.calls_walk.specs.States.{wayOf, restsOf, readOf, endOf, outcome, Stands, Turned, stop, arrive, goBack, Entered, Meets, Walks}
-use Rattle.calls_walk.specs.declared.Going.{Going}
-use Rattle.calls_walk.specs.declared.Passed.{Passed}
-use Rattle.calls_walk.proofs.Splits.{root-in, part-end}
+use Rattle.walk_parts.specs.Texts.{leftOf, boundOf}
+use Rattle.walk_parts.specs.States.{wayOf, Entered}
+use Rattle.walk_parts.specs.declared.Going.{Going}
+use Rattle.walk_parts.specs.declared.Passed.{Passed}
+use Rattle.walk_parts.proofs.Splits.{root-in, part-end}
+use Rattle.calls_walk.specs.States.{restsOf, readOf, endOf, outcome, Stands, Turned, stop, arrive, goBack, Meets, Walks}
 use Rattle.calls_walk.proofs.Buffers.{length-read, left-size}
 use Rattle.calls_walk.proofs.Turns.{outcome-over, outcome-going, turn-stop, turn-arrive, turn-back}
 

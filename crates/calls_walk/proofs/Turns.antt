@@ -1,39 +1,21 @@
 -- From text to text: what a turn of the walk comes to.
 use mathlib.Core.Path.{_≡_, refl, sym, _∙_, ap}
-use mathlib.Core.Bool.{true, false, not}
+use mathlib.Core.Bool.{true, false}
 use mathlib.Core.List.{List, [], _++_}
 use Prim.Native.Nat.{ℕ, zero, suc, _+_, _-_, _*_, _≤_}
 use native.Mathlib.Omega.{arith}
 use lib.ListN.{length, getD}
-use lib.Dec.{eqb}
 use borrow.Author.Tests.{ne-eqb}
-use Rattle.base.specs.Out.{Out, done, refused, Went, well, ill}
+use Rattle.base.specs.Out.{done, refused}
 use Rattle.base.proofs.Bools.{true-false}
 use Rattle.base.proofs.Outs.{above-zero}
-use Rattle.structs.specs.declared.DiskINode.{DiskINode}
 use Rattle.sefs.specs.State.{Fs}
-use Rattle.walk.specs.Walk.{cut, Spot, spot, ended, along, walked, walkOn}
+use Rattle.walk.specs.Walk.{cut, spot, ended, along, walked, walkOn}
 use Rattle.walk.proofs.Walks.{along-none, more, along-join, walk-stop, walk-end, walk-resume}
-use Rattle.calls_walk.specs.Texts.{leftOf}
-use Rattle.calls_walk.specs.States.{restsOf, readOf, endOf, outcome, Stands, Turned, stop, arrive, goBack, Entered}
-use Rattle.calls_walk.specs.declared.Going.{Going}
-use Rattle.calls_walk.specs.declared.Passed.{Passed}
-
--- ---- a text is entered
-
-pub entered : {o : Out Spot} {id n : ℕ} {rec : DiskINode} → Went o (spot id rec) Unit n → (k u d f e : ℕ)
-    → Entered (record { over = not (eqb n 0); reason = n; id = id; rec = rec; left = k; used = u; depth = d; from = f; to = e }) o k u d f e
-entered (well q p) k u d f e = record { goes = λ _. q; ends = λ t. absurd (true-false t refl); left = refl; used = refl; depth = refl; from = refl; to = refl }
-entered (ill {r = n} l q) k u d f e =
-    record {
-      goes = λ t. absurd (true-false (ap not (ne-eqb n 0 (λ z. omega (arith, l, z)))) t);
-      ends = λ _. (q, l);
-      left = refl;
-      used = refl;
-      depth = refl;
-      from = refl;
-      to = refl;
-    }
+use Rattle.walk_parts.specs.Texts.{leftOf}
+use Rattle.walk_parts.specs.declared.Going.{Going}
+use Rattle.walk_parts.specs.declared.Passed.{Passed}
+use Rattle.calls_walk.specs.States.{restsOf, readOf, endOf, outcome, Stands, Turned, stop, arrive, goBack}
 
 -- ---- the state that a turn begins with
 

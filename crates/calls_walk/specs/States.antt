@@ -4,28 +4,17 @@ use mathlib.Core.Path.{_≡_}
 use mathlib.Core.List.{List, [], _++_}
 use Prim.Native.Nat.{ℕ, zero, suc, _+_, _-_, _*_, _<_, _≤_}
 use lib.ListN.{length, getD, take, drop}
-use lib.Dec.{eqb, leb}
+use lib.Dec.{eqb}
 use Rattle.base.specs.Count.{bit}
-use Rattle.base.specs.Out.{Out, done, refused, ensure, _>>=_}
+use Rattle.base.specs.Out.{Out, done, refused}
 use Rattle.base.specs.Parts.{paste}
-use Rattle.base.specs.Reasons.{stuck}
 use Rattle.base.specs.Search.{pick}
 use Rattle.sefs.specs.State.{Fs}
-use Rattle.walk.specs.Walk.{fromRoot, cut, lookAt, Spot, spot, Way, ended, met, along, targetOf, enter, Walked, walked, walkOn}
-use Rattle.calls_walk.specs.Texts.{leftOf, boundOf}
-use Rattle.calls_walk.specs.declared.Passed.{Passed}
-use Rattle.calls_walk.specs.declared.Going.{Going}
-
--- the node that a slot names; its type is looked at
-unfoldable pub standOn : Fs → ℕ → Out Spot
-standOn s id = do
-  n ← lookAt s id
-  _ ← ensure (leb (n .kind) 4) stuck
-  done (spot id n)
-
--- how the walk along what is left of a text went
-unfoldable pub wayOf : List ℕ → Passed → Out Way
-wayOf l p = pick (eqb (p .reason) 0) (done (pick (p .link) (met (spot (p .id) (p .rec)) (p .node) (cut (drop (p .place) l))) (ended (spot (p .id) (p .rec))))) (refused (p .reason))
+use Rattle.walk.specs.Walk.{fromRoot, cut, Spot, spot, met, along, targetOf, enter, Walked, walked, walkOn}
+use Rattle.walk_parts.specs.Texts.{leftOf, boundOf}
+use Rattle.walk_parts.specs.States.{Entered}
+use Rattle.walk_parts.specs.declared.Passed.{Passed}
+use Rattle.walk_parts.specs.declared.Going.{Going}
 
 -- the rests that are remembered: d of them, each by the two places at which it begins and ends, the last one first
 unfoldable pub restsOf : List ℕ → List ℕ → List ℕ → ℕ → List (List ℕ)
@@ -117,16 +106,6 @@ goBack m g p = record {
   from = getD m (2 * (g .depth - 1)) 0;
   to = getD m (2 * (g .depth - 1) + 1) 0;
 }
-
--- a text is entered, at the spot e or not
-pub record Entered (h : Going) (o : Out Spot) (k n d f e : ℕ) : Type 0 where
-  pub goes : h .over ≡ false → o ≡ done (spot (h .id) (h .rec))
-  pub ends : h .over ≡ true → (o ≡ refused (h .reason)) × (0 < h .reason)
-  pub left : h .left ≡ k
-  pub used : h .used ≡ n
-  pub depth : h .depth ≡ d
-  pub from : h .from ≡ f
-  pub to : h .to ≡ e
 
 -- along what is left of the text p met a link
 pub record Meets (s : Fs) (path links : List ℕ) (g : Going) (p : Passed) : Type 0 where

@@ -5,7 +5,7 @@ use Rattle.base.proofs.Outs.{went-has}
 use Rattle.mem.specs.Mem.{tableIn}
 use Rattle.calls.specs.Answers.{listedOf, laid}
 use Rattle.calls.proofs.Asks.{admitted}
-use Rattle.calls_list.proofs.Listings.{listing-dead, listing-goes}
+use Rattle.calls_list.proofs.Calls.{listing-dead, listing-goes}
 use borrow.Author.Needs.{needs}
 use Rattle.calls_list.proofs.list_led.Statement.{statement}
 use Rattle.calls_list.proofs.list_led.Tie as tie

@@ -6,7 +6,7 @@ use Rattle.sound.proofs.Chains.{length-firsts}
 use Rattle.mem.specs.Mem.{tableIn}
 use Rattle.calls.specs.Answers.{listedOf, laid}
 use Rattle.calls.proofs.Asks.{blank}
-use Rattle.calls_list.proofs.Listings.{listing-refused}
+use Rattle.calls_list.proofs.Calls.{listing-refused}
 use borrow.Author.Needs.{needs}
 use Rattle.calls_list.proofs.listing_on.Statement.{statement}
 use Rattle.calls_list.proofs.listing_on.Tie as tie

@@ -1,5 +1,5 @@
 -- `calls_walk::read_target`: 20 before it is read.
-use Rattle.calls_walk.proofs.Spots.{target-full, target-read}
+use Rattle.calls_walk.proofs.Follows.{target-full, target-read}
 use mathlib.Core.Path.{refl}
 use native.Mathlib.Omega.{arith}
 use lib.ListN.{length}

@@ -5,7 +5,7 @@ use mathlib.Core.Path.{refl, subst}
 use Prim.Native.Nat.{ℕ}
 use lib.ListN.{length}
 use Rattle.walk.specs.Walk.{spot, enter}
-use Rattle.calls_walk.specs.States.{Entered}
+use Rattle.walk_parts.specs.States.{Entered}
 use borrow.Author.Needs.{needs}
 use Rattle.calls_walk.proofs.walk_from.Statement.{statement}
 use Rattle.calls_walk.proofs.walk_from.Tie as tie

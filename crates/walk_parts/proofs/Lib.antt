@@ -1,0 +1,4 @@
+pub mod Splits
+pub mod Spots
+pub mod Alongs
+pub mod Entries
