@@ -100,18 +100,12 @@ pub data-not : (f : File) (q : ℕ) (b : List ℕ) → tagOf b ≢ 2 → isData 
 unfolding isData
 data-not f q b n = rw (ne-eqb (tagOf b) 2 n)
 
--- a head is of one file, and a data block of one file and number
+-- a head is of one file
 pub head-one : (f g : File) (b : List ℕ) → isHead f b ≡ true → isHead g b ≡ sameFile f g
 unfolding isHead
 head-one f g b e =
     let H = head-is f b e in
     rw (eq-eqb (tagOf b) 1 (H .tag)) (ap (λ (h : File). sameFile h g) (H .of))
-
-pub data-one : (f g : File) (q r : ℕ) (b : List ℕ) → isData f q b ≡ true → isData g r b ≡ (eqb q r && sameFile f g)
-unfolding isData
-data-one f g q r b e =
-    let D = data-is f q b e in
-    rw (eq-eqb (tagOf b) 2 (D .tag)) (ap₂ (λ (n : ℕ) (h : File). eqb n r && sameFile h g) (D .number) (D .of))
 
 -- ---- the first 24 bytes decide
 

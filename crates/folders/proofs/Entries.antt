@@ -35,7 +35,3 @@ entry-laid l a b n z id kind name h s p q e g =
     (laid-next 4 256 a b z 0 x (leBytes 4 kind ∷ []) ln lb eb
     (laid-last b z 260 (leBytes 4 kind) (omega (arith, length-leBytes 4 kind)) g)) .is
     ∙ paste-whole l (entryBytes (entry id name kind)) (h ∙ sym (length-entryBytes (entry id name kind) ln))
-
--- they are 264
-pub length-entry : (id kind : ℕ) (name : List ℕ) → length name ≤ 255 → length (entryBytes (entry id name kind)) ≡ 264
-length-entry id kind name s = length-entryBytes (entry id name kind) (length-nameBytes name (omega arith))

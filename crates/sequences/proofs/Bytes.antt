@@ -218,9 +218,6 @@ module _ (p : Pair) (y : Passed p) (who : ℕ) (h : Handle) (n : ℕ) (f : List 
 
   -- ---- a move fills the moved folder's file too, once it has found it again: while the handle is on the node, that is another's
 
-  abbrev Watched : List ℕ → Table → Type 0
-  Watched b u = Calm (p .arena) (p .table) f b u × On u who h n f
-
   some-n : n ≢ 0
   some-n z = row-n .node (on .node ∙ z)
 

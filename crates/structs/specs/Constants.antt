@@ -4,7 +4,7 @@ use Prim.Native.Nat.{ℕ}
 abbrev pub sefsMagic : ℕ
 sefsMagic = 0x2f8d_be2a
 
--- "Types: 1 file, 2 folder, 3 symlink, 4 socket."
+-- "Types: 1 file, 2 folder, 3 symlink, 4 socket.": those that a definition names
 abbrev pub typeFile : ℕ
 typeFile = 1
 
@@ -13,6 +13,3 @@ typeDir = 2
 
 abbrev pub typeSymlink : ℕ
 typeSymlink = 3
-
-abbrev pub typeSocket : ℕ
-typeSocket = 4

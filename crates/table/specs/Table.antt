@@ -74,10 +74,7 @@ freeRow t = rowOf t 0
 abbrev pub takeRow : Table → ℕ → ℕ → DiskINode → Bool → Table
 takeRow t i id rec dirty = withRow t i (record { id = id; dirty = dirty; rec = rec })
 
--- another record, or another mark, in a row
-abbrev pub withRecord : Table → ℕ → DiskINode → Table
-withRecord t i rec = withRow t i (record { id = rowAt t i .id; dirty = rowAt t i .dirty; rec = rec })
-
+-- another mark in a row
 abbrev pub withDirty : Table → ℕ → Bool → Table
 withDirty t i dirty = withRow t i (record { id = rowAt t i .id; dirty = dirty; rec = rowAt t i .rec })
 
