@@ -31,12 +31,7 @@ fn symlink_line(
 }
 
 // A walk from the root, and the targets that it has read.
-fn walk_line(
-    arena: &[u8; 16384],
-    table: &mut [u8; 4402],
-    root: Handle,
-    path: &[u8],
-) -> Handle {
+fn walk_line(arena: &[u8; 16384], table: &mut [u8; 4402], root: Handle, path: &[u8]) -> Handle {
     text(b"  walk to ");
     text(path);
     let mut links = [0u8; 64];

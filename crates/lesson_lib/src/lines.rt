@@ -45,9 +45,6 @@ pub fn second_map_line(arena: &[u8; 8192]) {
         b" node numbers are free; its map's first byte is ",
         image::meta_byte(arena, SECOND_MAP) as u64,
     );
-    say::number(
-        b";\n  the metadata file has ",
-        image::meta_length(arena),
-    );
+    say::number(b";\n  the metadata file has ", image::meta_length(arena));
     text(b" bytes.\n");
 }
