@@ -5,9 +5,8 @@ ghost use lib.ListN.{length};
 use arena::free_count;
 use arena::is_data;
 use arena::is_head;
-use arena::write_block;
+use arena::put_check;
 use base::clear;
-use base::copy;
 use base::index;
 use le::put_u32;
 use le::u32_at;
@@ -100,16 +99,13 @@ fn use_all(block: &mut [u8])
 {
     put_u32(block, 32, 0);
     clear(&mut block[152..280]);
+    put_check(block);
 }
 
-// The first group has no number left. The block writer makes the block's check right.
+// The first group has no number left.
 pub fn fill_group(arena: &mut [u8])
     requires { ⌜ length (now arena) ≡ 8192 ⌝ }
 {
     let o = meta_at(&arena[..], 0);
-    let e = o + 512;
-    let mut b = [0u8; 512];
-    copy(&mut b, &arena[o..e]);
-    use_all(&mut b);
-    write_block(&mut arena[o..e], &b);
+    use_all(&mut arena[o..o + 512]);
 }

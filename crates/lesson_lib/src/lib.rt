@@ -1,5 +1,4 @@
-// What the lesson's scenes share: the calls as they use them, what an image's bytes tell, and the lines that they print.
+// What the lesson prints of no call: words and numbers, and what an image's bytes tell. It stands apart from the calls, which cost much to load.
 pub mod image;
 pub mod lines;
 pub mod say;
-pub mod world;

@@ -1,11 +1,11 @@
--- `lesson_lib::lines::stored`: the first zero is not past the end.
+-- `lesson_lib::say::stored`: the first zero is not past the end.
 use mathlib.Core.Path.{sym}
 use native.Mathlib.Omega.{arith}
 use borrow.Author.Needs.{needs}
 use lib.Seq.{length-take-le}
 use Rattle.utf8.proofs.Names.{zeroAt-le}
-use Rattle.lesson_lib.proofs.lines.stored.Statement.{statement}
-use Rattle.lesson_lib.proofs.lines.stored.Tie as tie
+use Rattle.lesson_lib.proofs.say.stored.Statement.{statement}
+use Rattle.lesson_lib.proofs.say.stored.Tie as tie
 
 first-zero-requires : tie.Need-first-zero-requires
 first-zero-requires c κs = search needs
