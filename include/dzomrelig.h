@@ -1,4 +1,4 @@
-/* Dzomrelig at the C edge: the twenty calls of documents 01 and 02, proved (crates/edge), and those for owners (crates/owners). Plain C11, usable from C++.
+/* Dzomrelig at the C edge: the twenty calls of documents 01 and 02, proved (crates/edge, crates/edge_contents), and those for owners (crates/owners, crates/owners_contents). Plain C11, usable from C++.
  *
  * How the calls take and give things:
  * - Arena, table, names and output are a pointer and a length. No pointer is null, and a slice that a call may change overlaps no other.

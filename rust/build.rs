@@ -1,14 +1,18 @@
 //! Finds the libraries of the proved calls and hands them to the linker, or says in one line how to make them.
 //!
 //! On x86-64 they are the archives of `rt staticlib LIBRARY`, elsewhere the objects of `tests/native LIBRARY OBJECT`.
-//! DZOMRELIG_LIB, DZOMRELIG_OWNERS_LIB and DZOMRELIG_CONTENTS_LIB name other files, archives or objects. Each is put into OUT_DIR as an archive, so that crates which depend
-//! on this one get it too.
+//! DZOMRELIG_LIB, DZOMRELIG_EDGE_CONTENTS_LIB, DZOMRELIG_OWNERS_LIB and DZOMRELIG_CONTENTS_LIB name other files, archives or objects. Each is put into OUT_DIR as an
+//! archive, so that crates which depend on this one get it too.
 use std::path::{Path, PathBuf};
 use std::{env, fs, process};
 
 /// The crate, and the variable that names another file.
-const LIBRARIES: [(&str, &str); 3] =
-    [("owners_contents", "DZOMRELIG_CONTENTS_LIB"), ("owners", "DZOMRELIG_OWNERS_LIB"), ("edge", "DZOMRELIG_LIB")];
+const LIBRARIES: [(&str, &str); 4] = [
+    ("owners_contents", "DZOMRELIG_CONTENTS_LIB"),
+    ("owners", "DZOMRELIG_OWNERS_LIB"),
+    ("edge_contents", "DZOMRELIG_EDGE_CONTENTS_LIB"),
+    ("edge", "DZOMRELIG_LIB"),
+];
 const ARCHIVE: &[u8] = b"!<arch>\n";
 const OBJECT: &[u8] = b"\x7fELF";
 
@@ -42,10 +46,13 @@ fn library(name: &str, variable: &str) -> (PathBuf, String) {
 
 /// The library that has a function.
 fn home(function: &str) -> &'static str {
-    match function {
-        "own_read" | "own_write" | "own_resize" => "owners_contents",
-        _ if function.starts_with("own_") => "owners",
-        _ => "edge",
+    let call = function.strip_prefix("own_");
+    let contents = matches!(call.unwrap_or(function), "read" | "write" | "resize" | "get_entry" | "list");
+    match (call, contents) {
+        (Some(_), true) => "owners_contents",
+        (Some(_), false) => "owners",
+        (None, true) => "edge_contents",
+        (None, false) => "edge",
     }
 }
 

@@ -119,7 +119,7 @@ def full(blocks, files):
 
 def build():
     os.makedirs(OUT, exist_ok=True)
-    libraries = ("edge", "owners", "owners_contents", "bench")
+    libraries = ("edge", "edge_contents", "owners", "owners_contents", "bench")
     objects = [os.path.join(OUT, f"{library}.o") for library in libraries]
     for library, made in zip(libraries, objects):
         subprocess.run([os.path.join(TOP, "tests", "native"), library, made], check=True)

@@ -1,41 +1,30 @@
 -- From what a call leaves in memory and returns to what the C function leaves.
 use mathlib.Core.Path.{_≡_, refl, sym, _∙_, ap, subst}
 use mathlib.Core.List.{List, [], _∷_}
-use Prim.Native.Nat.{ℕ, _+_, _*_, _<_}
+use Prim.Native.Nat.{ℕ, _+_, _<_}
 use native.Mathlib.Omega.{arith}
-use lib.IntN.{ℤ}
 use lib.Dec.{eqb}
 use lib.ListN.{length}
-use mir.Syntax.{w64}
-use mir.Val.{SFits, toZ, ofZ}
-use mir.ValLaws.{toZ-ofZ}
 use borrow.Author.Tests.{eq-eqb, ne-eqb}
 use Rattle.base.specs.Out.{Out, done, refused, Went, well, ill}
-use Rattle.base.specs.Parts.{part, paste}
+use Rattle.base.specs.Parts.{paste}
 use Rattle.base.specs.Search.{pick}
-use Rattle.base.proofs.Lists.{length-part}
-use Rattle.base.proofs.Parts.{part-all}
 use Rattle.le.specs.Le.{Bytes}
 use Rattle.structs.specs.declared.Timespec.{Timespec}
-use Rattle.structs.proofs.Layouts.{recordOf-fits}
-use Rattle.table.specs.declared.Row.{Row}
 use Rattle.table.specs.declared.Table.{Table}
 use Rattle.table.specs.declared.Handle.{Handle}
 use Rattle.table.specs.declared.Added.{Added}
 use Rattle.table.specs.Table.{rowAt}
-use Rattle.table_bytes.specs.Layout.{rowFrom, tableOf, tableBytes}
+use Rattle.table_bytes.specs.Layout.{tableOf, tableBytes}
 use Rattle.sefs.specs.declared.Metadata.{Metadata}
 use Rattle.sefs.specs.Create.{After, Given}
 use Rattle.sefs.specs.Read.{callListing}
 use Rattle.mem.specs.Mem.{tableIn}
-use Rattle.mem.proofs.Mems.{row-read}
 use Rattle.calls.specs.declared.Answer.{Answer}
 use Rattle.calls.specs.declared.Told.{Told}
-use Rattle.calls.specs.declared.Told.the-variants as tolds
 use Rattle.calls.specs.declared.Listed.{Listed}
 use Rattle.calls.specs.declared.Listed.the-variants.{Slots}
 use Rattle.calls.specs.declared.Taken.{Taken}
-use Rattle.calls.specs.declared.Taken.the-variants as takens
 use Rattle.calls.specs.Answers.{addedAs, answerOf, answerNumber, toldOf, toldNumber, listedOf, listedNumber, takenOf, takenNumber, laid, Lays}
 use Rattle.calls_list.proofs.Places.{listing-left, listed-slots}
 use Rattle.steps.specs.Ends.{Ended, went, stopped}
@@ -50,8 +39,9 @@ use Rattle.walk.specs.Walk.{Walked, walked, mostLinks}
 use Rattle.calls_walk.proofs.Runs.{nothing-laid}
 use Rattle.fsck.specs.declared.Verdict.{Verdict}
 use Rattle.fsck.specs.declared.Verdict.the-variants.{Pass}
-use Rattle.edge.specs.Words.{timeOf, newOf, handleWords, metadataWords, counted}
-use Rattle.edge.specs.Edge.{sized, sizedWalk, Leaves, Makes, Holds, Walks, Sets, Tells, Shows, Lists, Takes, Counts, toldWordsBy, listedWordsBy, takenWordsBy, courseNumber, courseTableBy}
+use Rattle.edge_ends.specs.Words.{handleWords, toldWordsBy, listedWordsBy, takenWordsBy}
+use Rattle.edge_ends.proofs.Laws.{passed-over, blocks-in}
+use Rattle.edge.specs.Edge.{sized, sizedWalk, Leaves, Makes, Holds, Walks, Sets, Tells, Shows, Lists, Takes, Counts, newOf, counted, courseNumber, courseTableBy}
 
 -- ---- a slice of a fixed size
 
@@ -69,23 +59,11 @@ module _ {A : Type 0} (n : ℕ) (l : List ℕ) (x : Walked A) where
   pub walk-not-sized : (length l ≡ n → ⊥) → sizedWalk n l x ≡ walked [] mostLinks (refused 255)
   walk-not-sized z = rw (ne-eqb (length l) n z)
 
--- ---- a time: a signed local holds bits, so what a callee is given is read back from them
-
-pub time-is : {t : Timespec} {sec nsec : ℤ} → SFits w64 sec → SFits w64 nsec → t ≡ timeOf (toZ w64 (ofZ w64 sec)) (toZ w64 (ofZ w64 nsec)) → t ≡ timeOf sec nsec
-time-is {sec = sec} {nsec = nsec} f g e = e ∙ (λ x. timeOf (toZ-ofZ w64 sec f x) (toZ-ofZ w64 nsec g x))
-
 -- what a node is to be, from its parts
 pub new-is : {n : New} {kind mode : ℕ} {t u : Timespec} {f g : List ℕ} → n ≡ newOf kind mode t f → t ≡ u → f ≡ g → n ≡ newOf kind mode u g
 new-is {kind = kind} {mode = mode} e p q = e ∙ (λ x. newOf kind mode (p x) (q x))
 
 -- ---- an answer, by its case
-
--- what is written where the reason is 0
-pub picked : (x y : List ℕ) (r : ℕ) → r ≡ 0 → x ≡ pick (eqb r 0) x y
-picked x y r e = rw e
-
-pub passed-over : (x y : List ℕ) (r : ℕ) → (r ≡ 0 → ⊥) → y ≡ pick (eqb r 0) x y
-passed-over x y r z = rw (ne-eqb r 0 z)
 
 module _ {k : Course} (l : List ℕ) (u : Table) where
   pub course-made : {b : List ℕ} → k ≡ Made → b ≡ tableBytes u → (0 ≡ courseNumber k) × (b ≡ courseTableBy l u k)
@@ -95,15 +73,6 @@ module _ {k : Course} (l : List ℕ) (u : Table) where
   course-same e q = (rw e, q ∙ rw e)
 
 module _ (w : List ℕ) where
-  pub told-tells : {v : List ℕ} {x : Told} {m : Metadata} → x ≡ tolds.Tells m → v ≡ metadataWords m → (0 ≡ toldNumber x) × (v ≡ toldWordsBy w x)
-  told-tells e q = (rw e, q ∙ rw e)
-
-  pub listed-slots-word : (from : ℕ) {v : List ℕ} {l : Listed} {n : ℕ} → l ≡ Slots n → v ≡ (from + n) ∷ [] → (0 ≡ listedNumber l) × (v ≡ listedWordsBy w from l)
-  listed-slots-word from e q = (rw e, q ∙ rw e)
-
-  pub taken-bytes : {v : List ℕ} {x : Taken} {n : ℕ} → x ≡ takens.Bytes n → v ≡ n ∷ [] → (0 ≡ takenNumber x) × (v ≡ takenWordsBy w x)
-  taken-bytes e q = (rw e, q ∙ rw e)
-
   pub counts-pass : {v : List ℕ} {x : Verdict} {a b c : ℕ} → x ≡ Pass a b c → v ≡ a ∷ b ∷ c ∷ [] → Counts (counted x) w v 0
   counts-pass e q = record { number = rw e; words = q ∙ rw e }
 
@@ -202,15 +171,6 @@ pub counts : {o p : Out (List ℕ)} {w v : List ℕ} {n : ℕ} → p ≡ o → C
 counts e C = rw e C
 
 -- ---- the listing's word
-
--- a row's count of slots fits its type, so the slot to go on with does
-blocks-in : (t : List ℕ) → Bytes t → length t ≡ 4402 → (i : ℕ) → i < 34 → rowAt (tableOf t) i .rec .blocks < 4294967296
-unfolding rowFrom
-blocks-in t B L i k =
-    let r : List ℕ = part t (117 * i) (117 * i + 117) in
-    let n : length r ≡ 117 = length-part t (117 * i) (117 * i + 117) (omega arith) (omega (arith, L)) ∙ omega arith in
-    let F = recordOf-fits (part r 5 117) (part-all (λ x. x < 256) r (omega arith) (part-all (λ x. x < 256) t (omega arith) B (117 * i) (117 * i + 117)) 5 117) (length-part r 5 117 (omega arith) (omega (arith, n))) in
-    subst (λ (x : Row). x .rec .blocks < 4294967296) (sym (row-read t i k)) (F .blocks)
 
 pub listed-room : (a t m : List ℕ) (w : ℕ) (h : Handle) (from room : ℕ) (l : Listed) → Bytes t → length t ≡ 4402 → tableIn m ≡ tableOf t → from < 18446744073709551616
     → l ≡ listedOf (callListing a (tableIn m) w h from room) → (n : ℕ) → l ≡ Slots n → from + n < 18446744073709551616

@@ -8,25 +8,27 @@ use lib.Dec.{eqb}
 use Rattle.base.specs.Out.{Out, done, refused, guard, answer, kept}
 use Rattle.base.specs.Parts.{paste}
 use Rattle.base.specs.Search.{pick}
+use Rattle.structs.specs.declared.Timespec.{Timespec}
 use Rattle.table.specs.declared.Table.{Table}
 use Rattle.table.specs.declared.Added.{Added}
 use Rattle.table_bytes.specs.Layout.{tableOf, tableBytes}
 use Rattle.sefs.specs.declared.Metadata.{Metadata}
 use Rattle.sefs.specs.Create.{After, Given}
-use Rattle.calls.specs.declared.Told.{Told}
-use Rattle.calls.specs.declared.Told.the-variants as tolds
-use Rattle.calls.specs.declared.Listed.{Listed}
-use Rattle.calls.specs.declared.Listed.the-variants as listeds
-use Rattle.calls.specs.declared.Taken.{Taken}
-use Rattle.calls.specs.declared.Taken.the-variants as takens
 use Rattle.calls.specs.Answers.{answerOf, answerNumber, gotOf, gotNumber, toldOf, toldNumber, listedOf, listedNumber, takenOf, takenNumber, laid}
 use Rattle.steps.specs.Ends.{arenaAfter}
 use Rattle.calls_create.specs.Held.{arenaHeld}
+use Rattle.calls_create.specs.declared.New.{New}
 use Rattle.calls_move.specs.declared.Course.{Course}
 use Rattle.calls_move.specs.declared.Course.the-variants.{Made, Same, Refused}
 use Rattle.calls_list.specs.Place.{startOf}
 use Rattle.walk.specs.Walk.{Walked, walked, mostLinks}
-use Rattle.edge.specs.Words.{handleWords, metadataWords}
+use Rattle.fsck.specs.declared.Verdict.{Verdict}
+use Rattle.fsck.specs.declared.Verdict.the-variants.{Pass, Fail}
+use Rattle.edge_ends.specs.Words.{handleWords, metadataWords}
+
+-- what create is to make, by its arguments
+abbrev pub newOf : ℕ → ℕ → Timespec → List ℕ → New
+newOf kind mode time file = record { kind = kind; mode = mode; time = time; file = file }
 
 -- "a slice of a wrong fixed size gets 255, and then nothing is called and nothing changes": as if the call were refused with that number
 abbrev pub sized : {A : Type 0} → ℕ → List ℕ → Out A → Out A
@@ -99,25 +101,15 @@ pub record Takes (o : Out (List ℕ)) (p q w v : List ℕ) (n : ℕ) : Type 0 wh
   pub output : q ≡ laid p o
   pub words : v ≡ lent (λ l. length l ∷ []) w o
 
+-- the check's verdict as an outcome: "0 for a pass", with nodes, unused and free; "or the failing rule's number"
+abbrev pub counted : Verdict → Out (List ℕ)
+counted (Pass nodes unused free) = done (nodes ∷ unused ∷ free ∷ [])
+counted (Fail rule) = refused rule
+
 -- check: a number above 0 is the rule that fails
 pub record Counts (o : Out (List ℕ)) (w v : List ℕ) (n : ℕ) : Type 0 where
   pub number : n ≡ answer o
   pub words : v ≡ kept w o
-
--- ---- words by the answer that the call's function returns: w as they were
-
-abbrev pub toldWordsBy : List ℕ → Told → List ℕ
-toldWordsBy w (tolds.Tells m) = metadataWords m
-toldWordsBy w (tolds.Refused n) = w
-
--- (the listing began at slot `from`)
-abbrev pub listedWordsBy : List ℕ → ℕ → Listed → List ℕ
-listedWordsBy w from (listeds.Slots n) = (from + n) ∷ []
-listedWordsBy w from (listeds.Refused r) = w
-
-abbrev pub takenWordsBy : List ℕ → Taken → List ℕ
-takenWordsBy w (takens.Bytes n) = n ∷ []
-takenWordsBy w (takens.Refused n) = w
 
 -- ---- move, by what deciding it came to: the number, and the table's bytes, which were l. u is the table that memory has
 

@@ -1,59 +1,49 @@
 // The calls as C functions (include/dzomrelig.h). A slice is its pointer and its length. Each returns 0, or document 01's number; a table
 // that is not 4,402 bytes, a file's name that is not 16, or words for a result that are not as many as it has: 255, and nothing is called.
 // The table's bytes are copied to the call's memory, and written back on success: no table by value is made.
-pub mod args;
-pub mod ends;
-pub mod results;
+mod ends;
 
+ghost use mathlib.Core.Path.{_≡_};
 ghost use lib.ListN.{length};
 ghost use Rattle.table_bytes.specs.Layout.{tableOf};
 ghost use Rattle.sefs.specs.Close.{callSync, callClose};
-ghost use Rattle.sefs.specs.Contents.{callRead, callWrite, callResize};
 ghost use Rattle.sefs.specs.Create.{callFormat, callCreate, callLink};
 ghost use Rattle.sefs.specs.Move.{callMove};
 ghost use Rattle.sefs.specs.Open.{callOpen, callRoot, callFind};
-ghost use Rattle.sefs.specs.Read.{callMetadata, callSet, callEntry, callListing};
+ghost use Rattle.sefs.specs.Read.{callMetadata, callSet};
 ghost use Rattle.sefs.specs.Remove.{callRemove, callRemoveFile, callRemoveFolder};
 ghost use Rattle.walk.specs.Walk.{callWalk};
 ghost use Rattle.calls_format.specs.Format.{formatted};
 ghost use Rattle.fsck.specs.Verdicts.{verdictOf};
-ghost use Rattle.edge.specs.Words.{handleOf, timeOf, counted};
-ghost use Rattle.edge.specs.Edge.{sized, sizedWalk, startIn, Leaves, Makes, Holds, Walks, Sets, Tells, Shows, Lists, Takes, Counts};
-use args::file_of;
-use args::handle;
-use args::new_node;
-use args::time;
+ghost use Rattle.edge_ends.specs.Words.{handleOf, timeOf};
+ghost use Rattle.edge.specs.Edge.{sized, sizedWalk, newOf, counted, Leaves, Makes, Holds, Walks, Sets, Tells, Counts};
 use calls_close::close_on;
+use calls_create::New;
 use calls_create::create_on;
-use calls_entry::entry_on;
 use calls_find::find_on;
 use calls_find::root_on;
 use calls_format::format_on;
 use calls_link::link_on;
-use calls_list::listing_on;
-use calls_list::start_of;
 use calls_metadata::metadata_on;
 use calls_metadata::set_on;
 use calls_move::move_on;
 use calls_open::open_on;
-use calls_read::read_on;
 use calls_remove::remove_on;
-use calls_resize::resize_on;
 use calls_sync::sync_on;
 use calls_walk::walk_on;
-use calls_write::write_on;
-use ends::end_after;
+use edge_ends::args::file_of;
+use edge_ends::args::handle;
+use edge_ends::args::time;
+use edge_ends::ends::end_after;
+use edge_ends::ends::end_fresh;
+use edge_ends::ends::end_held;
+use edge_ends::ends::end_told;
 use ends::end_course;
-use ends::end_fresh;
-use ends::end_held;
-use ends::end_listed;
-use ends::end_taken;
-use ends::end_told;
 use ends::end_verdict;
-use ends::number;
 use fsck::check_on;
 use mem::MEMORY;
 use mem::begin;
+use structs::Timespec;
 
 // Bytes, words, and what a slice of another size is answered with, as in the header.
 const TABLE: usize = 4402;
@@ -65,10 +55,6 @@ const HANDLE_WORDS: usize = 2;
 const METADATA_WORDS: usize = 14;
 
 const COUNTS_WORDS: usize = 3;
-
-const NEXT_WORDS: usize = 1;
-
-const READ_WORDS: usize = 1;
 
 const WRONG_SIZE: u32 = 255;
 
@@ -223,6 +209,17 @@ pub extern "C" fn dz_close(
 }
 
 // ---- names
+
+pub fn new_node(kind: u32, mode: u16, time: Timespec, file: [u8; 16]) -> New
+    ensures { λ r. ⌜ r ≡ newOf kind mode time file ⌝ }
+{
+    New {
+        kind: kind,
+        mode: mode,
+        time: time,
+        file: file,
+    }
+}
 
 #[no_mangle]
 pub extern "C" fn dz_create(
@@ -401,142 +398,11 @@ pub extern "C" fn dz_set_metadata(
         return WRONG_SIZE;
     }
     let h = handle(hold, stamp);
-    let atime = time(asec, ansec);
-    let mtime = time(msec, mnsec);
-    let ctime = time(csec, cnsec);
+    let at = time(asec, ansec);
+    let mt = time(msec, mnsec);
+    let ct = time(csec, cnsec);
     let mut mem = [0u8; MEMORY];
     begin(&mut mem, &table[..]);
-    let r = set_on(
-        arena,
-        &mut mem,
-        owner,
-        h,
-        mode,
-        uid,
-        gid,
-        atime,
-        mtime,
-        ctime,
-    );
+    let r = set_on(arena, &mut mem, owner, h, mode, uid, gid, at, mt, ct);
     end_after(table, &mem, r)
-}
-
-// ---- contents
-
-// The word is how many bytes were written.
-#[no_mangle]
-pub extern "C" fn dz_read(
-    arena: &[u8],
-    table: &[u8],
-    owner: u8,
-    hold: u32,
-    stamp: u64,
-    place: u64,
-    out: &mut [u8],
-    count: &mut [u64],
-) -> u32
-    ensures { λ r. ⌜ Takes (sized 4402 (now (table .entry)) (sized 1 (now (count .entry)) (callRead (now (arena .entry)) (tableOf (now (table .entry))) owner (handleOf hold stamp) place (length (now (out .entry)))))) (now (out .entry)) (now (out .exit)) (now (count .entry)) (now (count .exit)) r ⌝ }
-{
-    if table.len() != TABLE {
-        return WRONG_SIZE;
-    }
-    if count.len() != READ_WORDS {
-        return WRONG_SIZE;
-    }
-    let mut mem = [0u8; MEMORY];
-    begin(&mut mem, table);
-    let t = read_on(arena, &mem, owner, handle(hold, stamp), place, out);
-    end_taken(count, t)
-}
-
-#[no_mangle]
-pub extern "C" fn dz_write(
-    arena: &mut [u8],
-    table: &mut [u8],
-    owner: u8,
-    hold: u32,
-    stamp: u64,
-    place: u64,
-    src: &[u8],
-) -> u32
-    ensures { λ r. ⌜ Leaves (sized 4402 (now (table .entry)) (callWrite (now (arena .entry)) (tableOf (now (table .entry))) owner (handleOf hold stamp) place (now (src .entry)))) (now (arena .entry)) (now (arena .exit)) (now (table .entry)) (now (table .exit)) r ⌝ }
-{
-    if table.len() != TABLE {
-        return WRONG_SIZE;
-    }
-    let mut mem = [0u8; MEMORY];
-    begin(&mut mem, &table[..]);
-    let r = write_on(arena, &mut mem, owner, handle(hold, stamp), place, src);
-    end_after(table, &mem, r)
-}
-
-#[no_mangle]
-pub extern "C" fn dz_resize(
-    arena: &mut [u8],
-    table: &mut [u8],
-    owner: u8,
-    hold: u32,
-    stamp: u64,
-    n: u64,
-) -> u32
-    ensures { λ r. ⌜ Leaves (sized 4402 (now (table .entry)) (callResize (now (arena .entry)) (tableOf (now (table .entry))) owner (handleOf hold stamp) n)) (now (arena .entry)) (now (arena .exit)) (now (table .entry)) (now (table .exit)) r ⌝ }
-{
-    if table.len() != TABLE {
-        return WRONG_SIZE;
-    }
-    let mut mem = [0u8; MEMORY];
-    begin(&mut mem, &table[..]);
-    let r = resize_on(arena, &mut mem, owner, handle(hold, stamp), n);
-    end_after(table, &mem, r)
-}
-
-// ---- slots
-
-#[no_mangle]
-pub extern "C" fn dz_get_entry(
-    arena: &[u8],
-    table: &[u8],
-    owner: u8,
-    hold: u32,
-    stamp: u64,
-    slot: u64,
-    out: &mut [u8],
-) -> u32
-    ensures { λ r. ⌜ Shows (sized 4402 (now (table .entry)) (callEntry (now (arena .entry)) (tableOf (now (table .entry))) owner (handleOf hold stamp) slot (length (now (out .entry))))) (now (out .entry)) (now (out .exit)) r ⌝ }
-{
-    if table.len() != TABLE {
-        return WRONG_SIZE;
-    }
-    let mut mem = [0u8; MEMORY];
-    begin(&mut mem, table);
-    let a = entry_on(arena, &mem, owner, handle(hold, stamp), slot, out);
-    number(a)
-}
-
-// The word is the place's next slot, and then the one to go on with. `dots` is not 0 where the dots are asked for.
-#[no_mangle]
-pub extern "C" fn dz_list(
-    arena: &[u8],
-    table: &[u8],
-    owner: u8,
-    hold: u32,
-    stamp: u64,
-    next: &mut [u64],
-    dots: u8,
-    out: &mut [u8],
-) -> u32
-    ensures { λ r. ⌜ Lists (sized 4402 (now (table .entry)) (sized 1 (now (next .entry)) (callListing (now (arena .entry)) (tableOf (now (table .entry))) owner (handleOf hold stamp) (startIn dots (now (next .entry))) (length (now (out .entry)))))) (startIn dots (now (next .entry))) (now (out .entry)) (now (out .exit)) (now (next .entry)) (now (next .exit)) r ⌝ }
-{
-    if table.len() != TABLE {
-        return WRONG_SIZE;
-    }
-    if next.len() != NEXT_WORDS {
-        return WRONG_SIZE;
-    }
-    let at = next[0];
-    let from = start_of(dots != 0, at);
-    let mut mem = [0u8; MEMORY];
-    begin(&mut mem, table);
-    let l = listing_on(arena, &mem, owner, handle(hold, stamp), from, out);
-    end_listed(next, from, l)
 }

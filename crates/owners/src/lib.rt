@@ -1,44 +1,39 @@
 // The calls of an owner: nobody else writes its arena and its table, and a check of both has passed, or they were just formatted. Then reasons
 // 1, 2 and 3 can't come (`owned`, crates/promised), and nothing tests for them. The owner keeps the chains of all blocks beside the arena: a
 // call that changes the arena makes them again.
-mod changes;
-
 ghost use lib.ListN.{length};
 ghost use Rattle.table_bytes.specs.Layout.{tableOf};
 ghost use Rattle.sefs.specs.Close.{callSync, callClose};
 ghost use Rattle.sefs.specs.Create.{callCreate, callLink};
 ghost use Rattle.sefs.specs.Move.{callMove};
 ghost use Rattle.sefs.specs.Open.{callRoot, callFind};
-ghost use Rattle.sefs.specs.Read.{callMetadata, callSet, callEntry, callListing};
+ghost use Rattle.sefs.specs.Read.{callMetadata, callSet};
 ghost use Rattle.sefs.specs.Remove.{callRemove, callRemoveFile, callRemoveFolder};
 ghost use Rattle.walk.specs.Walk.{callWalk};
-ghost use Rattle.edge.specs.Words.{handleOf, timeOf};
-ghost use Rattle.edge.specs.Edge.{sized, sizedWalk, startIn, Leaves, Makes, Holds, Walks, Sets, Tells, Shows, Lists};
-ghost use Rattle.owners.specs.Owned.{Chained, Owned, Builds};
-use calls_entry::entry_led;
+ghost use Rattle.edge_ends.specs.Words.{handleOf, timeOf};
+ghost use Rattle.edge.specs.Edge.{sized, sizedWalk, Leaves, Makes, Holds, Walks, Sets, Tells};
+ghost use Rattle.owners_kept.specs.Owned.{Chained, Owned};
+ghost use Rattle.owners.specs.Builds.{Builds};
 use calls_find::find_led;
 use calls_find::root_led;
-use calls_list::list_led;
-use calls_list::start_of;
 use calls_metadata::metadata_in;
 use calls_metadata::set_in;
 use calls_walk::walk_led;
-use changes::close_on;
-use changes::create_on;
-use changes::link_on;
-use changes::move_on;
-use changes::remove_on;
-use changes::sync_on;
-use edge::args::file_of;
-use edge::args::handle;
-use edge::args::new_node;
-use edge::args::time;
-use edge::ends::end_after;
-use edge::ends::end_held;
-use edge::ends::end_listed;
-use edge::ends::end_told;
+use edge::new_node;
+use edge_ends::args::file_of;
+use edge_ends::args::handle;
+use edge_ends::args::time;
+use edge_ends::ends::end_after;
+use edge_ends::ends::end_held;
+use edge_ends::ends::end_told;
 use mem::MEMORY;
 use mem::begin;
+use owners_kept::close_on;
+use owners_kept::sync_on;
+use owners_names::create_on;
+use owners_names::link_on;
+use owners_names::move_on;
+use owners_names::remove_on;
 use sound::chain_all;
 
 // Words, and what a slice of another size is answered with, as in the header.
@@ -49,8 +44,6 @@ const FILE_NAME: usize = 16;
 const HANDLE_WORDS: usize = 2;
 
 const METADATA_WORDS: usize = 14;
-
-const NEXT_WORDS: usize = 1;
 
 const WRONG_SIZE: u32 = 255;
 
@@ -404,71 +397,4 @@ pub extern "C" fn dz_own_set_metadata(
     begin(&mut mem, &table[..]);
     let r = set_in(&mut mem, owner, h, mode, uid, gid, atime, mtime, ctime);
     end_after(table, &mem, r)
-}
-
-// ---- slots
-
-#[no_mangle]
-pub extern "C" fn dz_own_get_entry(
-    arena: &[u8],
-    chains: &[u16],
-    table: &[u8],
-    owner: u8,
-    hold: u32,
-    stamp: u64,
-    slot: u64,
-    out: &mut [u8],
-) -> u32
-    requires { ⌜ Owned (now arena) (now chains) (now table) ⌝ }
-    ensures { λ r. ⌜ Shows (callEntry (now (arena .entry)) (tableOf (now (table .entry))) owner (handleOf hold stamp) slot (length (now (out .entry)))) (now (out .entry)) (now (out .exit)) r ⌝ }
-{
-    let mut mem = [0u8; MEMORY];
-    begin(&mut mem, table);
-    let r = entry_led(
-        arena,
-        &chains[..4096],
-        &chains[4096..8192],
-        &mem,
-        owner,
-        handle(hold, stamp),
-        slot,
-        out,
-    );
-    r as u32
-}
-
-// The word is the place's next slot, and then the one to go on with. `dots` is not 0 where the dots are asked for.
-#[no_mangle]
-pub extern "C" fn dz_own_list(
-    arena: &[u8],
-    chains: &[u16],
-    table: &[u8],
-    owner: u8,
-    hold: u32,
-    stamp: u64,
-    next: &mut [u64],
-    dots: u8,
-    out: &mut [u8],
-) -> u32
-    requires { ⌜ Owned (now arena) (now chains) (now table) ⌝ }
-    ensures { λ r. ⌜ Lists (sized 1 (now (next .entry)) (callListing (now (arena .entry)) (tableOf (now (table .entry))) owner (handleOf hold stamp) (startIn dots (now (next .entry))) (length (now (out .entry))))) (startIn dots (now (next .entry))) (now (out .entry)) (now (out .exit)) (now (next .entry)) (now (next .exit)) r ⌝ }
-{
-    if next.len() != NEXT_WORDS {
-        return WRONG_SIZE;
-    }
-    let at = next[0];
-    let from = start_of(dots != 0, at);
-    let mut mem = [0u8; MEMORY];
-    begin(&mut mem, table);
-    let l = list_led(
-        arena,
-        &chains[..4096],
-        &chains[4096..8192],
-        &mem,
-        owner,
-        handle(hold, stamp),
-        from,
-        out,
-    );
-    end_listed(next, from, l)
 }

@@ -1,27 +1,34 @@
-// The calls of an owner on a file's own bytes. Who may make them, and what is kept beside the arena, says crate `owners`.
+// The calls of an owner on what a node holds: a file's own bytes, a folder's slots. Who may make them, and what is kept beside the arena, says crate `owners_kept`.
 ghost use mathlib.Core.Path.{_≡_};
 ghost use lib.ListN.{length};
 ghost use Rattle.table_bytes.specs.Layout.{tableOf};
 ghost use Rattle.sefs.specs.Contents.{callRead, callWrite, callResize};
+ghost use Rattle.sefs.specs.Read.{callEntry, callListing};
 ghost use Rattle.mem.specs.Mem.{tableIn};
 ghost use Rattle.steps.specs.Ends.{Ended};
-ghost use Rattle.edge.specs.Words.{handleOf};
-ghost use Rattle.edge.specs.Edge.{sized, Leaves, Takes};
-ghost use Rattle.owners.specs.Owned.{Chained, Owned, Kept};
+ghost use Rattle.edge_ends.specs.Words.{handleOf};
+ghost use Rattle.edge.specs.Edge.{sized, startIn, Leaves, Shows, Lists, Takes};
+ghost use Rattle.owners_kept.specs.Owned.{Chained, Owned, Kept};
+use calls_entry::entry_led;
+use calls_list::list_led;
+use calls_list::start_of;
 use calls_read::read_led;
 use calls_resize::resize_led;
 use calls_resize::set_size;
 use calls_write::write_led;
 use calls_write::write_row;
-use edge::args::handle;
-use edge::ends::end_after;
-use edge::ends::end_taken;
+use edge_ends::args::handle;
+use edge_ends::ends::end_after;
+use edge_ends::ends::end_listed;
+use edge_ends::ends::end_taken;
 use mem::MEMORY;
 use mem::begin;
 use sound::chain_all;
 use table::Handle;
 
 // As in the header.
+const NEXT_WORDS: usize = 1;
+
 const READ_WORDS: usize = 1;
 
 const WRONG_SIZE: u32 = 255;
@@ -179,4 +186,71 @@ pub extern "C" fn dz_own_resize(
     begin(&mut mem, &table[..]);
     let r = resize_on(arena, chains, &mut mem, owner, handle(hold, stamp), size);
     end_after(table, &mem, r)
+}
+
+// ---- slots
+
+#[no_mangle]
+pub extern "C" fn dz_own_get_entry(
+    arena: &[u8],
+    chains: &[u16],
+    table: &[u8],
+    owner: u8,
+    hold: u32,
+    stamp: u64,
+    slot: u64,
+    out: &mut [u8],
+) -> u32
+    requires { ⌜ Owned (now arena) (now chains) (now table) ⌝ }
+    ensures { λ r. ⌜ Shows (callEntry (now (arena .entry)) (tableOf (now (table .entry))) owner (handleOf hold stamp) slot (length (now (out .entry)))) (now (out .entry)) (now (out .exit)) r ⌝ }
+{
+    let mut mem = [0u8; MEMORY];
+    begin(&mut mem, table);
+    let r = entry_led(
+        arena,
+        &chains[..4096],
+        &chains[4096..8192],
+        &mem,
+        owner,
+        handle(hold, stamp),
+        slot,
+        out,
+    );
+    r as u32
+}
+
+// The word is the place's next slot, and then the one to go on with. `dots` is not 0 where the dots are asked for.
+#[no_mangle]
+pub extern "C" fn dz_own_list(
+    arena: &[u8],
+    chains: &[u16],
+    table: &[u8],
+    owner: u8,
+    hold: u32,
+    stamp: u64,
+    next: &mut [u64],
+    dots: u8,
+    out: &mut [u8],
+) -> u32
+    requires { ⌜ Owned (now arena) (now chains) (now table) ⌝ }
+    ensures { λ r. ⌜ Lists (sized 1 (now (next .entry)) (callListing (now (arena .entry)) (tableOf (now (table .entry))) owner (handleOf hold stamp) (startIn dots (now (next .entry))) (length (now (out .entry))))) (startIn dots (now (next .entry))) (now (out .entry)) (now (out .exit)) (now (next .entry)) (now (next .exit)) r ⌝ }
+{
+    if next.len() != NEXT_WORDS {
+        return WRONG_SIZE;
+    }
+    let at = next[0];
+    let from = start_of(dots != 0, at);
+    let mut mem = [0u8; MEMORY];
+    begin(&mut mem, table);
+    let l = list_led(
+        arena,
+        &chains[..4096],
+        &chains[4096..8192],
+        &mem,
+        owner,
+        handle(hold, stamp),
+        from,
+        out,
+    );
+    end_listed(next, from, l)
 }

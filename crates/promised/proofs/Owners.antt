@@ -27,7 +27,7 @@ use Rattle.sequences.specs.Calls.{Call, root, find, walk, create, link, removeF
 use Rattle.sequences.specs.Promises.{Keeps}
 use Rattle.sequences.proofs.Sequences.{keeps}
 use Rattle.edge.specs.Edge.{sized, Leaves, Makes, Holds, Sets}
-use Rattle.owners.specs.Owned.{Chained, Owned}
+use Rattle.owners_kept.specs.Owned.{Chained, Owned}
 use Rattle.promised.specs.Promised.{Trusted}
 
 -- ---- before a call

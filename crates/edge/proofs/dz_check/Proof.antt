@@ -1,7 +1,7 @@
 -- `edge::dz_check`: 255 where a size is wrong; else the call on the table in memory, and how it ends.
 use mathlib.Core.Path.{sym, _∙_}
 use Rattle.fsck.specs.Verdicts.{verdictOf}
-use Rattle.edge.specs.Words.{counted}
+use Rattle.edge.specs.Edge.{counted}
 use Rattle.edge.proofs.Laws.{sized-is, sized-not, counts-not, counts}
 use borrow.Author.Needs.{needs}
 use Rattle.edge.proofs.dz_check.Statement.{statement}

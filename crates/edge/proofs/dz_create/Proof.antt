@@ -1,7 +1,8 @@
 -- `edge::dz_create`: 255 where a size is wrong; else the call on the table in memory, and how it ends.
 use mathlib.Core.Path.{sym, _∙_}
 use Rattle.sefs.specs.Create.{callCreate}
-use Rattle.edge.proofs.Laws.{sized-is, sized-not, time-is, new-is, makes-not, makes}
+use Rattle.edge_ends.proofs.Laws.{time-is}
+use Rattle.edge.proofs.Laws.{sized-is, sized-not, new-is, makes-not, makes}
 use borrow.Author.Needs.{needs}
 use Rattle.edge.proofs.dz_create.Statement.{statement}
 use Rattle.edge.proofs.dz_create.Tie as tie

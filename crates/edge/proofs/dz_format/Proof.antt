@@ -2,7 +2,8 @@
 use mathlib.Core.Path.{sym, _∙_}
 use Rattle.sefs.specs.Create.{callFormat}
 use Rattle.calls_format.specs.Format.{formatted}
-use Rattle.edge.proofs.Laws.{sized-is, sized-not, time-is, leaves-not, leaves}
+use Rattle.edge_ends.proofs.Laws.{time-is}
+use Rattle.edge.proofs.Laws.{sized-is, sized-not, leaves-not, leaves}
 use borrow.Author.Needs.{needs}
 use Rattle.edge.proofs.dz_format.Statement.{statement}
 use Rattle.edge.proofs.dz_format.Tie as tie

@@ -1,8 +1,9 @@
 -- `owners::dz_own_create`: 255 where a size is wrong; else the call on the table in memory; the chains are its own.
 use mathlib.Core.Path.{sym, _∙_}
 use Rattle.sefs.specs.Create.{callCreate}
-use Rattle.edge.proofs.Laws.{sized-is, sized-not, time-is, new-is, makes-not, makes}
-use Rattle.owners.proofs.Laws.{keeps}
+use Rattle.edge_ends.proofs.Laws.{time-is}
+use Rattle.edge.proofs.Laws.{sized-is, sized-not, new-is, makes-not, makes}
+use Rattle.owners_kept.proofs.Laws.{keeps}
 use borrow.Author.Needs.{needs}
 use Rattle.owners.proofs.dz_own_create.Statement.{statement}
 use Rattle.owners.proofs.dz_own_create.Tie as tie

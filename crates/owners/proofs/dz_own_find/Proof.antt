@@ -3,7 +3,7 @@ use mathlib.Core.Path.{sym, _∙_}
 use Rattle.sound.proofs.Chains.{length-firsts}
 use Rattle.sefs.specs.Open.{callFind}
 use Rattle.edge.proofs.Laws.{sized-is, sized-not, holds-not, holds}
-use Rattle.owners.proofs.Laws.{admitted}
+use Rattle.owners_kept.proofs.Laws.{admitted}
 use borrow.Author.Needs.{needs}
 use Rattle.owners.proofs.dz_own_find.Statement.{statement}
 use Rattle.owners.proofs.dz_own_find.Tie as tie

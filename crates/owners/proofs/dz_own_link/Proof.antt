@@ -2,7 +2,7 @@
 use mathlib.Core.Path.{sym}
 use Rattle.sefs.specs.Create.{callLink}
 use Rattle.edge.proofs.Laws.{leaves}
-use Rattle.owners.proofs.Laws.{keeps}
+use Rattle.owners_kept.proofs.Laws.{keeps}
 use borrow.Author.Needs.{needs}
 use Rattle.owners.proofs.dz_own_link.Statement.{statement}
 use Rattle.owners.proofs.dz_own_link.Tie as tie

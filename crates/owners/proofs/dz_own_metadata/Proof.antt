@@ -4,7 +4,7 @@ use Rattle.mem.specs.Mem.{tableIn}
 use Rattle.sefs.specs.Read.{callMetadata}
 use Rattle.calls_metadata.proofs.Tells.{metadata-admitted}
 use Rattle.edge.proofs.Laws.{sized-is, sized-not, tells-not, tells}
-use Rattle.owners.proofs.Laws.{not-refused}
+use Rattle.owners_kept.proofs.Laws.{not-refused}
 use borrow.Author.Needs.{needs}
 use Rattle.owners.proofs.dz_own_metadata.Statement.{statement}
 use Rattle.owners.proofs.dz_own_metadata.Tie as tie

@@ -3,8 +3,9 @@ use mathlib.Core.Path.{sym, _∙_}
 use Rattle.mem.specs.Mem.{tableIn}
 use Rattle.sefs.specs.Read.{callSet}
 use Rattle.calls_metadata.proofs.Tells.{set-admitted}
-use Rattle.edge.proofs.Laws.{time-is, sets}
-use Rattle.owners.proofs.Laws.{not-refused}
+use Rattle.edge_ends.proofs.Laws.{time-is}
+use Rattle.edge.proofs.Laws.{sets}
+use Rattle.owners_kept.proofs.Laws.{not-refused}
 use borrow.Author.Needs.{needs}
 use Rattle.owners.proofs.dz_own_set_metadata.Statement.{statement}
 use Rattle.owners.proofs.dz_own_set_metadata.Tie as tie

@@ -4,7 +4,7 @@ use lib.ListN.{length}
 use Rattle.sound.proofs.Chains.{length-firsts}
 use Rattle.walk.specs.Walk.{callWalk}
 use Rattle.edge.proofs.Laws.{walk-sized, walk-not-sized, walks-not, walks}
-use Rattle.owners.proofs.Laws.{admitted}
+use Rattle.owners_kept.proofs.Laws.{admitted}
 use borrow.Author.Needs.{needs}
 use Rattle.owners.proofs.dz_own_walk.Statement.{statement}
 use Rattle.owners.proofs.dz_own_walk.Tie as tie

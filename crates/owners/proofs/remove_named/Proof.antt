@@ -2,7 +2,7 @@
 use mathlib.Core.Path.{sym}
 use Rattle.sefs.specs.Remove.{callRemove}
 use Rattle.edge.proofs.Laws.{leaves}
-use Rattle.owners.proofs.Laws.{keeps}
+use Rattle.owners_kept.proofs.Laws.{keeps}
 use borrow.Author.Needs.{needs}
 use Rattle.owners.proofs.remove_named.Statement.{statement}
 use Rattle.owners.proofs.remove_named.Tie as tie

@@ -4,7 +4,7 @@ use lib.ListN.{length}
 use Rattle.sound.proofs.Chains.{length-firsts}
 use Rattle.sefs.specs.Contents.{callRead}
 use Rattle.edge.proofs.Laws.{sized-is, sized-not, takes-not, takes}
-use Rattle.owners.proofs.Laws.{admitted}
+use Rattle.owners_kept.proofs.Laws.{admitted}
 use borrow.Author.Needs.{needs}
 use Rattle.owners_contents.proofs.dz_own_read.Statement.{statement}
 use Rattle.owners_contents.proofs.dz_own_read.Tie as tie

@@ -2,7 +2,7 @@
 use mathlib.Core.Path.{sym}
 use Rattle.sefs.specs.Contents.{callResize}
 use Rattle.edge.proofs.Laws.{leaves}
-use Rattle.owners.proofs.Laws.{keeps}
+use Rattle.owners_kept.proofs.Laws.{keeps}
 use borrow.Author.Needs.{needs}
 use Rattle.owners_contents.proofs.dz_own_resize.Statement.{statement}
 use Rattle.owners_contents.proofs.dz_own_resize.Tie as tie

@@ -1,7 +1,7 @@
 -- `owners_contents::write_in`: what is asked by the chains, then the stores, then the chains.
 use mathlib.Core.Path.{refl}
 use Rattle.steps.proofs.Ends.{rest-is, rest-has, rest-not, ended-is, ended-refused}
-use Rattle.owners.proofs.Laws.{rechained, as-many}
+use Rattle.owners_kept.proofs.Laws.{rechained, as-many}
 use borrow.Author.Needs.{needs}
 use Rattle.owners_contents.proofs.write_in.Statement.{statement}
 use Rattle.owners_contents.proofs.write_in.Tie as tie

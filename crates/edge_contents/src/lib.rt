@@ -1,0 +1,149 @@
+// The calls on what a node holds, as C functions: a file's own bytes, a folder's slots. How they answer says crate `edge`.
+ghost use lib.ListN.{length};
+ghost use Rattle.table_bytes.specs.Layout.{tableOf};
+ghost use Rattle.sefs.specs.Contents.{callRead, callWrite, callResize};
+ghost use Rattle.sefs.specs.Read.{callEntry, callListing};
+ghost use Rattle.edge_ends.specs.Words.{handleOf};
+ghost use Rattle.edge.specs.Edge.{sized, startIn, Leaves, Shows, Lists, Takes};
+use calls_entry::entry_on;
+use calls_list::listing_on;
+use calls_list::start_of;
+use calls_read::read_on;
+use calls_resize::resize_on;
+use calls_write::write_on;
+use edge_ends::args::handle;
+use edge_ends::ends::end_after;
+use edge_ends::ends::end_listed;
+use edge_ends::ends::end_taken;
+use edge_ends::ends::number;
+use mem::MEMORY;
+use mem::begin;
+
+// As in the header.
+const TABLE: usize = 4402;
+
+const NEXT_WORDS: usize = 1;
+
+const READ_WORDS: usize = 1;
+
+const WRONG_SIZE: u32 = 255;
+
+// ---- bytes
+
+// The word is how many bytes were written.
+#[no_mangle]
+pub extern "C" fn dz_read(
+    arena: &[u8],
+    table: &[u8],
+    owner: u8,
+    hold: u32,
+    stamp: u64,
+    place: u64,
+    out: &mut [u8],
+    count: &mut [u64],
+) -> u32
+    ensures { λ r. ⌜ Takes (sized 4402 (now (table .entry)) (sized 1 (now (count .entry)) (callRead (now (arena .entry)) (tableOf (now (table .entry))) owner (handleOf hold stamp) place (length (now (out .entry)))))) (now (out .entry)) (now (out .exit)) (now (count .entry)) (now (count .exit)) r ⌝ }
+{
+    if table.len() != TABLE {
+        return WRONG_SIZE;
+    }
+    if count.len() != READ_WORDS {
+        return WRONG_SIZE;
+    }
+    let mut mem = [0u8; MEMORY];
+    begin(&mut mem, table);
+    let t = read_on(arena, &mem, owner, handle(hold, stamp), place, out);
+    end_taken(count, t)
+}
+
+#[no_mangle]
+pub extern "C" fn dz_write(
+    arena: &mut [u8],
+    table: &mut [u8],
+    owner: u8,
+    hold: u32,
+    stamp: u64,
+    place: u64,
+    src: &[u8],
+) -> u32
+    ensures { λ r. ⌜ Leaves (sized 4402 (now (table .entry)) (callWrite (now (arena .entry)) (tableOf (now (table .entry))) owner (handleOf hold stamp) place (now (src .entry)))) (now (arena .entry)) (now (arena .exit)) (now (table .entry)) (now (table .exit)) r ⌝ }
+{
+    if table.len() != TABLE {
+        return WRONG_SIZE;
+    }
+    let mut mem = [0u8; MEMORY];
+    begin(&mut mem, &table[..]);
+    let r = write_on(arena, &mut mem, owner, handle(hold, stamp), place, src);
+    end_after(table, &mem, r)
+}
+
+#[no_mangle]
+pub extern "C" fn dz_resize(
+    arena: &mut [u8],
+    table: &mut [u8],
+    owner: u8,
+    hold: u32,
+    stamp: u64,
+    n: u64,
+) -> u32
+    ensures { λ r. ⌜ Leaves (sized 4402 (now (table .entry)) (callResize (now (arena .entry)) (tableOf (now (table .entry))) owner (handleOf hold stamp) n)) (now (arena .entry)) (now (arena .exit)) (now (table .entry)) (now (table .exit)) r ⌝ }
+{
+    if table.len() != TABLE {
+        return WRONG_SIZE;
+    }
+    let mut mem = [0u8; MEMORY];
+    begin(&mut mem, &table[..]);
+    let r = resize_on(arena, &mut mem, owner, handle(hold, stamp), n);
+    end_after(table, &mem, r)
+}
+
+// ---- slots
+
+#[no_mangle]
+pub extern "C" fn dz_get_entry(
+    arena: &[u8],
+    table: &[u8],
+    owner: u8,
+    hold: u32,
+    stamp: u64,
+    slot: u64,
+    out: &mut [u8],
+) -> u32
+    ensures { λ r. ⌜ Shows (sized 4402 (now (table .entry)) (callEntry (now (arena .entry)) (tableOf (now (table .entry))) owner (handleOf hold stamp) slot (length (now (out .entry))))) (now (out .entry)) (now (out .exit)) r ⌝ }
+{
+    if table.len() != TABLE {
+        return WRONG_SIZE;
+    }
+    let mut mem = [0u8; MEMORY];
+    begin(&mut mem, table);
+    let a = entry_on(arena, &mem, owner, handle(hold, stamp), slot, out);
+    number(a)
+}
+
+// The word is the place's next slot, and then the one to go on with. `dots` is not 0 where the dots are asked for.
+#[no_mangle]
+pub extern "C" fn dz_list(
+    arena: &[u8],
+    table: &[u8],
+    owner: u8,
+    hold: u32,
+    stamp: u64,
+    next: &mut [u64],
+    dots: u8,
+    out: &mut [u8],
+) -> u32
+    ensures { λ r. ⌜ Lists (sized 4402 (now (table .entry)) (sized 1 (now (next .entry)) (callListing (now (arena .entry)) (tableOf (now (table .entry))) owner (handleOf hold stamp) (startIn dots (now (next .entry))) (length (now (out .entry)))))) (startIn dots (now (next .entry))) (now (out .entry)) (now (out .exit)) (now (next .entry)) (now (next .exit)) r ⌝ }
+{
+    if table.len() != TABLE {
+        return WRONG_SIZE;
+    }
+    if next.len() != NEXT_WORDS {
+        return WRONG_SIZE;
+    }
+    let at = next[0];
+    let from = start_of(dots != 0, at);
+    let mut mem = [0u8; MEMORY];
+    begin(&mut mem, table);
+    let l = listing_on(arena, &mem, owner, handle(hold, stamp), from, out);
+    end_listed(next, from, l)
+}
