@@ -13,7 +13,7 @@ use le::put_u64;
 use le::u64_at;
 use perform::perform;
 use script::text::put_word;
-use table_bytes::write_table;
+use table_bytes::put_empty;
 
 pub const DESK: usize = 4419;
 
@@ -50,7 +50,7 @@ pub fn begin(desk: &mut [u8], arena: &mut [u8]) {
     if arena.len() < 8192 {
         return;
     }
-    write_table(desk, table::empty());
+    put_empty(desk);
     base::clear(&mut arena[..8192]);
     put_u64(desk, 4402, 8192);
     stand(desk, 0, 1);

@@ -2,27 +2,49 @@
 ghost use mathlib.Core.Path.{_≡_};
 ghost use Prim.Native.Nat.{_+_, _<_, _≤_};
 ghost use lib.ListN.{length};
+ghost use Rattle.mem.specs.Mem.{Whole};
 ghost use Rattle.script.specs.Shape.{There};
 ghost use Rattle.replay_lib.specs.Steps.{Primed, Gone};
 use crate::Step;
-use crate::writes::call_close;
+use crate::writes::call_change;
 use crate::writes::call_create;
 use crate::writes::call_format;
-use crate::writes::call_link;
 use crate::writes::call_move;
-use crate::writes::call_remove;
-use crate::writes::call_resize;
-use crate::writes::call_sync;
-use crate::writes::call_write;
+use mem::MEMORY;
 use replay_reads::do_read;
 use script::desk::arena_len;
 use script::desk::do_quiet;
+use script::desk::to_memory;
 use script::lines::put_name;
 use script::lines::put_sums;
 use script::shape::size_at;
 
-// Those of writes.rt: 16, 20, 21, 23, 28, 29, 33, 34, 36, 37. The others leave the arena as it is.
+// Those of writes.rt: 16, 20, 23, and 21, 28, 29, 33, 34, 36, 37. The others leave the arena as it is.
 fn do_call(
+    script: &[u8],
+    at: usize,
+    desk: &mut [u8],
+    arena: &mut [u8],
+    mem: &mut [u8],
+    text: &mut [u8],
+    w: usize,
+) -> usize
+    requires { ⌜ There (now script) at ⌝ }
+    requires { ⌜ (length (now desk) ≡ 4419) × (w + 400 ≤ length (now text)) ⌝ }
+    requires { ⌜ Whole (now mem) ⌝ }
+    ensures { λ r. ⌜ r ≤ w + 400 ⌝ }
+{
+    match script[at] {
+        16 => call_format(script, at, desk, arena, text, w),
+        20 => call_create(script, at, desk, arena, mem, text, w),
+        23 => call_move(script, at, desk, arena, mem, text, w),
+        21 | 28 | 29 | 33 | 34 | 36 | 37 => call_change(script, at, desk, arena, mem, text, w),
+        _ => do_read(script, at, desk, &arena[..], mem, text, w),
+    }
+}
+
+// With memory of its own.
+fn do_fresh(
     script: &[u8],
     at: usize,
     desk: &mut [u8],
@@ -34,19 +56,9 @@ fn do_call(
     requires { ⌜ (length (now desk) ≡ 4419) × (w + 400 ≤ length (now text)) ⌝ }
     ensures { λ r. ⌜ r ≤ w + 400 ⌝ }
 {
-    match script[at] {
-        16 => call_format(script, at, desk, arena, text, w),
-        20 => call_create(script, at, desk, arena, text, w),
-        21 => call_link(script, at, desk, arena, text, w),
-        23 => call_move(script, at, desk, arena, text, w),
-        28 => call_sync(desk, arena, text, w),
-        29 => call_close(script, at, desk, arena, text, w),
-        33 => call_write(script, at, desk, arena, text, w),
-        34 => call_resize(script, at, desk, arena, text, w),
-        36 => call_remove(script, at, desk, arena, text, w, false),
-        37 => call_remove(script, at, desk, arena, text, w, true),
-        _ => do_read(script, at, desk, &arena[..], text, w),
-    }
+    let mut mem = [0u8; MEMORY];
+    to_memory(&desk[..], &mut mem);
+    do_call(script, at, desk, arena, &mut mem, text, w)
 }
 
 // A call and its line.
@@ -63,7 +75,7 @@ fn do_line(
     ensures { λ r. ⌜ r ≤ w + 512 ⌝ }
 {
     let a = put_name(text, w, script[at]);
-    let b = do_call(script, at, desk, arena, text, a);
+    let b = do_fresh(script, at, desk, arena, text, a);
     put_sums(&desk[..], &arena[..], text, b)
 }
 

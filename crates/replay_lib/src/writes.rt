@@ -1,12 +1,14 @@
-// The calls that change the arena. The caller has seen that the command is whole, and put the call's name. Who asks stands right after the
-// command's byte.
+// The calls that change the arena. The caller has seen that the command is whole, put the call's name, and brought the table to memory. Who
+// asks stands right after the command's byte.
 ghost use mathlib.Core.Path.{_≡_};
 ghost use Prim.Native.Nat.{_+_, _≤_};
 ghost use lib.ListN.{length};
-ghost use Rattle.script.specs.Shape.{named1, named2};
-use calls::HeldReply;
-use calls::Reply;
+ghost use Rattle.le.specs.Le.{leAt};
+ghost use Rattle.mem.specs.Mem.{Whole, memorySize};
+ghost use Rattle.script.specs.Shape.{There, named1, named2};
+use calls::Handed;
 use calls_create::New;
+use calls_move::Course;
 use le::u16_at;
 use le::u32_at;
 use le::u64_at;
@@ -17,9 +19,18 @@ use script::args::time_at;
 use script::lines::put_after;
 use script::lines::put_fresh;
 use script::lines::put_given;
-use table_bytes::read_table;
+use script::lines::put_no;
+use script::lines::put_ok;
 
-// ---- format, sync, close
+// ---- format
+
+fn format(script: &[u8], at: usize, arena: &mut [u8]) -> u8
+    requires { ⌜ at + 33 ≤ length (now script) ⌝ }
+{
+    let time = time_at(script, at + 1);
+    let file = file_at(script, at + 17);
+    calls_format::format_on(arena, time, file)
+}
 
 pub fn call_format(
     script: &[u8],
@@ -33,92 +44,11 @@ pub fn call_format(
     requires { ⌜ (length (now desk) ≡ 4419) × (w + 400 ≤ length (now text)) ⌝ }
     ensures { λ r. ⌜ r ≤ w + 400 ⌝ }
 {
-    let time = time_at(script, at + 1);
-    let file = file_at(script, at + 17);
-    let a = calls_format::format(arena, time, file);
-    put_fresh(desk, text, w, a)
+    let r = format(script, at, arena);
+    put_fresh(desk, text, w, r)
 }
 
-pub fn call_sync(desk: &mut [u8], arena: &mut [u8], text: &mut [u8], w: usize) -> usize
-    requires { ⌜ (length (now desk) ≡ 4419) × (w + 400 ≤ length (now text)) ⌝ }
-    ensures { λ r. ⌜ r ≤ w + 400 ⌝ }
-{
-    let a = calls_sync::sync(arena, read_table(&desk[..]));
-    put_after(desk, text, w, a)
-}
-
-pub fn call_close(
-    script: &[u8],
-    at: usize,
-    desk: &mut [u8],
-    arena: &mut [u8],
-    text: &mut [u8],
-    w: usize,
-) -> usize
-    requires { ⌜ at + 14 ≤ length (now script) ⌝ }
-    requires { ⌜ (length (now desk) ≡ 4419) × (w + 400 ≤ length (now text)) ⌝ }
-    ensures { λ r. ⌜ r ≤ w + 400 ⌝ }
-{
-    let h = handle_at(script, at + 2);
-    let a = calls_close::close(arena, read_table(&desk[..]), script[at + 1], h);
-    put_after(desk, text, w, a)
-}
-
-// ---- write, resize
-
-fn write(script: &[u8], at: usize, desk: &[u8], arena: &mut [u8]) -> Reply
-    requires { ⌜ at + named1 (now script) at 22 ≤ length (now script) ⌝ }
-    requires { ⌜ length (now desk) ≡ 4419 ⌝ }
-{
-    let h = handle_at(script, at + 2);
-    let place = u64_at(script, at + 14);
-    let s = at + 24;
-    let e = name_end(script, at + 22);
-    calls_write::write(
-        arena,
-        read_table(desk),
-        script[at + 1],
-        h,
-        place,
-        &script[s..e],
-    )
-}
-
-pub fn call_write(
-    script: &[u8],
-    at: usize,
-    desk: &mut [u8],
-    arena: &mut [u8],
-    text: &mut [u8],
-    w: usize,
-) -> usize
-    requires { ⌜ at + named1 (now script) at 22 ≤ length (now script) ⌝ }
-    requires { ⌜ (length (now desk) ≡ 4419) × (w + 400 ≤ length (now text)) ⌝ }
-    ensures { λ r. ⌜ r ≤ w + 400 ⌝ }
-{
-    let a = write(script, at, &desk[..], arena);
-    put_after(desk, text, w, a)
-}
-
-pub fn call_resize(
-    script: &[u8],
-    at: usize,
-    desk: &mut [u8],
-    arena: &mut [u8],
-    text: &mut [u8],
-    w: usize,
-) -> usize
-    requires { ⌜ at + 22 ≤ length (now script) ⌝ }
-    requires { ⌜ (length (now desk) ≡ 4419) × (w + 400 ≤ length (now text)) ⌝ }
-    ensures { λ r. ⌜ r ≤ w + 400 ⌝ }
-{
-    let h = handle_at(script, at + 2);
-    let n = u64_at(script, at + 14);
-    let a = calls_resize::resize(arena, read_table(&desk[..]), script[at + 1], h, n);
-    put_after(desk, text, w, a)
-}
-
-// ---- create, link, remove-file and remove-folder, move: names
+// ---- create
 
 // What create makes, 38 bytes.
 fn new_at(script: &[u8], at: usize) -> New
@@ -132,22 +62,15 @@ fn new_at(script: &[u8], at: usize) -> New
     }
 }
 
-fn create(script: &[u8], at: usize, desk: &[u8], arena: &mut [u8]) -> HeldReply
+fn create(script: &[u8], at: usize, arena: &mut [u8], mem: &mut [u8]) -> Handed
     requires { ⌜ at + (named1 (now script) at 14 + 38) ≤ length (now script) ⌝ }
-    requires { ⌜ length (now desk) ≡ 4419 ⌝ }
+    requires { ⌜ Whole (now mem) ⌝ }
 {
     let h = handle_at(script, at + 2);
     let s = at + 16;
     let e = name_end(script, at + 14);
     let new = new_at(script, e);
-    calls_create::create(
-        arena,
-        read_table(desk),
-        script[at + 1],
-        h,
-        &script[s..e],
-        new,
-    )
+    calls_create::create_on(arena, mem, script[at + 1], h, &script[s..e], new)
 }
 
 pub fn call_create(
@@ -155,77 +78,53 @@ pub fn call_create(
     at: usize,
     desk: &mut [u8],
     arena: &mut [u8],
+    mem: &mut [u8],
     text: &mut [u8],
     w: usize,
 ) -> usize
     requires { ⌜ at + (named1 (now script) at 14 + 38) ≤ length (now script) ⌝ }
     requires { ⌜ (length (now desk) ≡ 4419) × (w + 400 ≤ length (now text)) ⌝ }
+    requires { ⌜ Whole (now mem) ⌝ }
     ensures { λ r. ⌜ r ≤ w + 400 ⌝ }
 {
-    let g = create(script, at, &desk[..], arena);
-    put_given(desk, text, w, g)
+    let h = create(script, at, arena, mem);
+    put_given(desk, &mem[..], text, w, h)
 }
 
-fn link(script: &[u8], at: usize, desk: &[u8], arena: &mut [u8]) -> Reply
-    requires { ⌜ at + (named1 (now script) at 14 + 12) ≤ length (now script) ⌝ }
-    requires { ⌜ length (now desk) ≡ 4419 ⌝ }
+// ---- move
+
+// The first name ends at `end`.
+fn move_names(script: &[u8], at: usize, end: usize, arena: &mut [u8], mem: &mut [u8]) -> Course
+    requires { ⌜ (at + 16 ≤ end) × (end + 14 + leAt (now script) (end + 12) 2 ≤ length (now script)) ⌝ }
+    requires { ⌜ Whole (now mem) ⌝ }
 {
     let h = handle_at(script, at + 2);
     let s = at + 16;
-    let e = name_end(script, at + 14);
-    let child = handle_at(script, e);
-    calls_link::link(
+    let target = handle_at(script, end);
+    let from = end + 14;
+    let to = name_end(script, end + 12);
+    calls_move::move_on(
         arena,
-        read_table(desk),
+        mem,
         script[at + 1],
         h,
-        &script[s..e],
-        child,
+        &script[s..end],
+        target,
+        &script[from..to],
     )
 }
 
-pub fn call_link(
-    script: &[u8],
-    at: usize,
-    desk: &mut [u8],
-    arena: &mut [u8],
-    text: &mut [u8],
-    w: usize,
-) -> usize
-    requires { ⌜ at + (named1 (now script) at 14 + 12) ≤ length (now script) ⌝ }
-    requires { ⌜ (length (now desk) ≡ 4419) × (w + 400 ≤ length (now text)) ⌝ }
-    ensures { λ r. ⌜ r ≤ w + 400 ⌝ }
+// Where both names are one node's, the desk keeps its table.
+fn put_course(desk: &mut [u8], mem: &[u8], text: &mut [u8], w: usize, c: Course) -> usize
+    requires { ⌜ (length (now desk) ≡ 4419) × (w + 24 ≤ length (now text)) ⌝ }
+    requires { ⌜ length (now mem) ≡ memorySize ⌝ }
+    ensures { λ r. ⌜ r ≤ w + 24 ⌝ }
 {
-    let a = link(script, at, &desk[..], arena);
-    put_after(desk, text, w, a)
-}
-
-// `folder`: remove-folder.
-pub fn call_remove(
-    script: &[u8],
-    at: usize,
-    desk: &mut [u8],
-    arena: &mut [u8],
-    text: &mut [u8],
-    w: usize,
-    folder: bool,
-) -> usize
-    requires { ⌜ at + named1 (now script) at 14 ≤ length (now script) ⌝ }
-    requires { ⌜ (length (now desk) ≡ 4419) × (w + 400 ≤ length (now text)) ⌝ }
-    ensures { λ r. ⌜ r ≤ w + 400 ⌝ }
-{
-    let h = handle_at(script, at + 2);
-    let s = at + 16;
-    let e = name_end(script, at + 14);
-    let a = calls_remove::remove_named(
-        arena,
-        read_table(&desk[..]),
-        script[at + 1],
-        h,
-        &script[s..e],
-        folder,
-    );
-    put_after(desk, text, w, a)
+    match c {
+        Course::Made => put_after(desk, mem, text, w, 0),
+        Course::Same => put_ok(text, w),
+        Course::Refused(r) => put_no(text, w, r),
+    }
 }
 
 pub fn call_move(
@@ -233,27 +132,102 @@ pub fn call_move(
     at: usize,
     desk: &mut [u8],
     arena: &mut [u8],
+    mem: &mut [u8],
     text: &mut [u8],
     w: usize,
 ) -> usize
     requires { ⌜ at + named2 (now script) at ≤ length (now script) ⌝ }
     requires { ⌜ (length (now desk) ≡ 4419) × (w + 400 ≤ length (now text)) ⌝ }
+    requires { ⌜ Whole (now mem) ⌝ }
     ensures { λ r. ⌜ r ≤ w + 400 ⌝ }
+{
+    let e = name_end(script, at + 14);
+    let c = move_names(script, at, e, arena, mem);
+    put_course(desk, &mem[..], text, w, c)
+}
+
+// ---- those that answer a reason alone: link, close, write, resize, remove-file and remove-folder, sync
+
+fn link(script: &[u8], at: usize, arena: &mut [u8], mem: &mut [u8]) -> u8
+    requires { ⌜ at + (named1 (now script) at 14 + 12) ≤ length (now script) ⌝ }
+    requires { ⌜ Whole (now mem) ⌝ }
 {
     let h = handle_at(script, at + 2);
     let s = at + 16;
     let e = name_end(script, at + 14);
-    let target = handle_at(script, e);
-    let from = e + 14;
-    let to = name_end(script, e + 12);
-    let a = calls_move::move_(
-        arena,
-        read_table(&desk[..]),
-        script[at + 1],
-        h,
-        &script[s..e],
-        target,
-        &script[from..to],
-    );
-    put_after(desk, text, w, a)
+    let child = handle_at(script, e);
+    calls_link::link_on(arena, mem, script[at + 1], h, &script[s..e], child)
+}
+
+fn close(script: &[u8], at: usize, arena: &mut [u8], mem: &mut [u8]) -> u8
+    requires { ⌜ at + 14 ≤ length (now script) ⌝ }
+    requires { ⌜ Whole (now mem) ⌝ }
+{
+    let h = handle_at(script, at + 2);
+    calls_close::close_on(arena, mem, script[at + 1], h)
+}
+
+fn write(script: &[u8], at: usize, arena: &mut [u8], mem: &mut [u8]) -> u8
+    requires { ⌜ at + named1 (now script) at 22 ≤ length (now script) ⌝ }
+    requires { ⌜ Whole (now mem) ⌝ }
+{
+    let h = handle_at(script, at + 2);
+    let place = u64_at(script, at + 14);
+    let s = at + 24;
+    let e = name_end(script, at + 22);
+    calls_write::write_on(arena, mem, script[at + 1], h, place, &script[s..e])
+}
+
+fn resize(script: &[u8], at: usize, arena: &mut [u8], mem: &mut [u8]) -> u8
+    requires { ⌜ at + 22 ≤ length (now script) ⌝ }
+    requires { ⌜ Whole (now mem) ⌝ }
+{
+    let h = handle_at(script, at + 2);
+    let n = u64_at(script, at + 14);
+    calls_resize::resize_on(arena, mem, script[at + 1], h, n)
+}
+
+// `folder`: remove-folder.
+fn remove(script: &[u8], at: usize, arena: &mut [u8], mem: &mut [u8], folder: bool) -> u8
+    requires { ⌜ at + named1 (now script) at 14 ≤ length (now script) ⌝ }
+    requires { ⌜ Whole (now mem) ⌝ }
+{
+    let h = handle_at(script, at + 2);
+    let s = at + 16;
+    let e = name_end(script, at + 14);
+    calls_remove::remove_on(arena, mem, script[at + 1], h, &script[s..e], folder)
+}
+
+// By the command's byte: 21, 29, 33, 34, 36, 37, and 28.
+fn change(script: &[u8], at: usize, arena: &mut [u8], mem: &mut [u8]) -> u8
+    requires { ⌜ There (now script) at ⌝ }
+    requires { ⌜ Whole (now mem) ⌝ }
+{
+    match script[at] {
+        21 => link(script, at, arena, mem),
+        29 => close(script, at, arena, mem),
+        33 => write(script, at, arena, mem),
+        34 => resize(script, at, arena, mem),
+        36 => remove(script, at, arena, mem, false),
+        37 => remove(script, at, arena, mem, true),
+        _ => calls_sync::sync_on(arena, mem),
+    }
+}
+
+pub fn call_change(
+    script: &[u8],
+    at: usize,
+    desk: &mut [u8],
+    arena: &mut [u8],
+    mem: &mut [u8],
+    text: &mut [u8],
+    w: usize,
+) -> usize
+    requires { ⌜ There (now script) at ⌝ }
+    requires { ⌜ (length (now desk) ≡ 4419) × (w + 400 ≤ length (now text)) ⌝ }
+    requires { ⌜ Whole (now mem) ⌝ }
+    ensures { λ r. ⌜ r ≤ w + 400 ⌝ }
+{
+    let r = change(script, at, arena, mem);
+    put_after(desk, &mem[..], text, w, r)
 }

@@ -1,8 +1,9 @@
-// Commands 1 to 4, which set the arena and the table, and how much of the arena is there.
+// Commands 1 to 4, which set the arena and the table; how much of the arena is there; and the table on its way to a call and back.
 ghost use mathlib.Core.Path.{_≡_};
 ghost use Prim.Native.Nat.{_+_, _<_, _≤_};
 ghost use lib.ListN.{length, getD};
 ghost use Rattle.le.specs.Le.{leAt};
+ghost use Rattle.mem.specs.Mem.{Whole, memorySize};
 ghost use Rattle.script.specs.Shape.{There, arenaOf};
 use base::clear;
 use base::copy;
@@ -10,6 +11,8 @@ use base::index;
 use le::put_u64;
 use le::u32_at;
 use le::u64_at;
+use mem::begin;
+use mem::write_back;
 use table_bytes::read_table;
 use table_bytes::write_table;
 
@@ -74,4 +77,23 @@ pub fn do_quiet(script: &[u8], at: usize, desk: &mut [u8], arena: &mut [u8])
         3 => set_byte(script, at, &desk[..], arena),
         _ => set_table(script, at, desk),
     }
+}
+
+// ---- a call has the table in memory of its own, and no table by value is made
+
+pub fn to_memory(desk: &[u8], mem: &mut [u8])
+    requires { ⌜ (length (now desk) ≡ 4419) × (length (now mem) ≡ memorySize) ⌝ }
+    ensures { λ _. ⌜ Whole (now (mem .exit)) ⌝ }
+{
+    begin(mem, &desk[..4402]);
+}
+
+// A refusal leaves the desk's table as it is.
+pub fn from_memory(desk: &mut [u8], mem: &[u8], reason: u8)
+    requires { ⌜ (length (now desk) ≡ 4419) × (length (now mem) ≡ memorySize) ⌝ }
+{
+    if reason != 0 {
+        return;
+    }
+    write_back(&mut desk[..4402], mem);
 }

@@ -2,64 +2,71 @@
 ghost use mathlib.Core.Path.{_≡_};
 ghost use Prim.Native.Nat.{_+_, _≤_};
 ghost use lib.ListN.{length};
-use crate::text::put_number;
+ghost use Rattle.mem.specs.Mem.{memorySize};
+use crate::desk::from_memory;
+use crate::text::put_labelled;
 use crate::text::put_signed;
 use crate::text::put_value;
 use crate::text::put_word;
 use calls::Answer;
-use calls::Got;
-use calls::HeldReply;
+use calls::Handed;
 use calls::Listed;
-use calls::Reply;
 use calls::Taken;
 use calls::Told;
 use sefs::Metadata;
 use structs::Timespec;
 use sums::sum;
 use table::Handle;
-use table_bytes::write_table;
+use table_bytes::put_empty;
 
 // ---- the call's name
 
+// The name in a row of 13 bytes, which ends before a dot.
+fn put_row(text: &mut [u8], w: usize, names: &[u8], s: usize) -> usize
+    requires { ⌜ (w + 13 ≤ length (now text)) × (s + 13 ≤ length (now names)) ⌝ }
+    ensures { λ r. ⌜ r ≤ w + 13 ⌝ }
+{
+    let mut i: usize = 0;
+    while i < 13 {
+        if names[s + i] == b'.' {
+            return w + i;
+        }
+        text[w + i] = names[s + i];
+        i = i + 1;
+    }
+    w + i
+}
+
+// By the byte's remainder, as bytes from 16 to 47 have one each. (One table: a match with an arm for each name takes half a minute to prove.)
 pub fn put_name(text: &mut [u8], w: usize, c: u8) -> usize
     requires { ⌜ w + 13 ≤ length (now text) ⌝ }
     ensures { λ r. ⌜ r ≤ w + 13 ⌝ }
 {
-    match c {
-        16 => put_word(text, w, b"format"),
-        17 => put_word(text, w, b"open"),
-        18 => put_word(text, w, b"root"),
-        19 => put_word(text, w, b"find"),
-        20 => put_word(text, w, b"create"),
-        21 => put_word(text, w, b"link"),
-        23 => put_word(text, w, b"move"),
-        24 => put_word(text, w, b"metadata"),
-        25 => put_word(text, w, b"set"),
-        26 => put_word(text, w, b"entry"),
-        27 => put_word(text, w, b"list"),
-        28 => put_word(text, w, b"sync"),
-        29 => put_word(text, w, b"close"),
-        32 => put_word(text, w, b"read"),
-        33 => put_word(text, w, b"write"),
-        34 => put_word(text, w, b"resize"),
-        35 => put_word(text, w, b"walk"),
-        36 => put_word(text, w, b"remove-file"),
-        37 => put_word(text, w, b"remove-folder"),
-        _ => put_word(text, w, b"check"),
-    }
+    put_row(
+        text,
+        w,
+        b"read.........write........resize.......walk.........\
+          remove-file..remove-folder..........................\
+          ....................................................\
+          ....................................................\
+          format.......open.........root.........find.........\
+          create.......link......................move.........\
+          metadata.....set..........entry........list.........\
+          sync.........close........check.....................",
+        13 * ((c as usize) % 32),
+    )
 }
 
 // ---- what it answered
 
-fn put_no(text: &mut [u8], w: usize, reason: u8) -> usize
+pub fn put_no(text: &mut [u8], w: usize, reason: u8) -> usize
     requires { ⌜ w + 24 ≤ length (now text) ⌝ }
     ensures { λ r. ⌜ r ≤ w + 24 ⌝ }
 {
-    let v = put_word(text, w, b" no");
-    put_value(text, v, reason as u64)
+    put_labelled(text, w, b" no", reason as u64)
 }
 
-fn put_ok(text: &mut [u8], w: usize) -> usize
+pub fn put_ok(text: &mut [u8], w: usize) -> usize
     requires { ⌜ w + 3 ≤ length (now text) ⌝ }
     ensures { λ r. ⌜ r ≤ w + 3 ⌝ }
 {
@@ -80,19 +87,8 @@ fn put_held(text: &mut [u8], w: usize, h: Handle) -> usize
     requires { ⌜ w + 45 ≤ length (now text) ⌝ }
     ensures { λ r. ⌜ r ≤ w + 45 ⌝ }
 {
-    let v = put_ok(text, w);
-    let u = put_value(text, v, h.hold as u64);
-    put_value(text, u, h.stamp)
-}
-
-fn put_got(text: &mut [u8], w: usize, g: Got) -> usize
-    requires { ⌜ w + 45 ≤ length (now text) ⌝ }
-    ensures { λ r. ⌜ r ≤ w + 45 ⌝ }
-{
-    match g {
-        Got::Held(h) => put_held(text, w, h),
-        Got::Refused(r) => put_no(text, w, r),
-    }
+    let v = put_labelled(text, w, b" ok", h.hold as u64);
+    put_value(text, v, h.stamp)
 }
 
 // ---- metadata
@@ -163,8 +159,7 @@ fn put_count(text: &mut [u8], w: usize, n: usize) -> usize
     requires { ⌜ w + 24 ≤ length (now text) ⌝ }
     ensures { λ r. ⌜ r ≤ w + 24 ⌝ }
 {
-    let v = put_ok(text, w);
-    put_value(text, v, n as u64)
+    put_labelled(text, w, b" ok", n as u64)
 }
 
 pub fn put_listed(text: &mut [u8], w: usize, l: Listed) -> usize
@@ -192,8 +187,7 @@ pub fn put_output(text: &mut [u8], w: usize, out: &[u8]) -> usize
     requires { ⌜ w + 23 ≤ length (now text) ⌝ }
     ensures { λ r. ⌜ r ≤ w + 23 ⌝ }
 {
-    let v = put_word(text, w, b" o ");
-    put_number(text, v, sum(out))
+    put_labelled(text, w, b" o", sum(out))
 }
 
 // ---- the check's verdict
@@ -202,54 +196,69 @@ pub fn put_pass(text: &mut [u8], w: usize, nodes: u32, unused: u32, free: u32) -
     requires { ⌜ w + 86 ≤ length (now text) ⌝ }
     ensures { λ r. ⌜ r ≤ w + 86 ⌝ }
 {
-    let a = put_word(text, w, b" pass nodes");
-    let b = put_value(text, a, nodes as u64);
-    let c = put_word(text, b, b" unused");
-    let d = put_value(text, c, unused as u64);
-    let e = put_word(text, d, b" free");
-    put_value(text, e, free as u64)
+    let a = put_labelled(text, w, b" pass nodes", nodes as u64);
+    let b = put_labelled(text, a, b" unused", unused as u64);
+    put_labelled(text, b, b" free", free as u64)
 }
 
 pub fn put_fail(text: &mut [u8], w: usize, rule: u8) -> usize
     requires { ⌜ w + 31 ≤ length (now text) ⌝ }
     ensures { λ r. ⌜ r ≤ w + 31 ⌝ }
 {
-    let v = put_word(text, w, b" fail rule");
-    put_value(text, v, rule as u64)
+    put_labelled(text, w, b" fail rule", rule as u64)
 }
 
-// ---- answers with a table: the desk takes it
+// ---- answers of calls that change the table: by the reason, 0 on success
 
-pub fn put_after(desk: &mut [u8], text: &mut [u8], w: usize, a: Reply) -> usize
-    requires { ⌜ (length (now desk) ≡ 4419) × (w + 24 ≤ length (now text)) ⌝ }
+fn put_reason(text: &mut [u8], w: usize, reason: u8) -> usize
+    requires { ⌜ w + 24 ≤ length (now text) ⌝ }
     ensures { λ r. ⌜ r ≤ w + 24 ⌝ }
 {
-    let t = a.table;
-    let r = a.answer;
-    write_table(desk, t);
-    put_answer(text, w, r)
+    if reason == 0 {
+        return put_ok(text, w);
+    }
+    put_no(text, w, reason)
+}
+
+pub fn put_after(desk: &mut [u8], mem: &[u8], text: &mut [u8], w: usize, reason: u8) -> usize
+    requires { ⌜ (length (now desk) ≡ 4419) × (w + 24 ≤ length (now text)) ⌝ }
+    requires { ⌜ length (now mem) ≡ memorySize ⌝ }
+    ensures { λ r. ⌜ r ≤ w + 24 ⌝ }
+{
+    from_memory(desk, mem, reason);
+    put_reason(text, w, reason)
 }
 
 // Format and open set the empty table on success only.
-pub fn put_fresh(desk: &mut [u8], text: &mut [u8], w: usize, a: Reply) -> usize
+pub fn put_fresh(desk: &mut [u8], text: &mut [u8], w: usize, reason: u8) -> usize
     requires { ⌜ (length (now desk) ≡ 4419) × (w + 24 ≤ length (now text)) ⌝ }
     ensures { λ r. ⌜ r ≤ w + 24 ⌝ }
 {
-    let r = a.answer;
-    match r {
-        Answer::Done => put_after(desk, text, w, a),
-        Answer::Refused(n) => put_no(text, w, n),
+    if reason != 0 {
+        return put_no(text, w, reason);
     }
+    put_empty(desk);
+    put_ok(text, w)
 }
 
-pub fn put_given(desk: &mut [u8], text: &mut [u8], w: usize, g: HeldReply) -> usize
-    requires { ⌜ (length (now desk) ≡ 4419) × (w + 45 ≤ length (now text)) ⌝ }
+fn put_handed(text: &mut [u8], w: usize, h: Handed) -> usize
+    requires { ⌜ w + 45 ≤ length (now text) ⌝ }
     ensures { λ r. ⌜ r ≤ w + 45 ⌝ }
 {
-    let t = g.table;
-    let a = g.answer;
-    write_table(desk, t);
-    put_got(text, w, a)
+    let handle = h.handle;
+    if h.reason != 0 {
+        return put_no(text, w, h.reason);
+    }
+    put_held(text, w, handle)
+}
+
+pub fn put_given(desk: &mut [u8], mem: &[u8], text: &mut [u8], w: usize, h: Handed) -> usize
+    requires { ⌜ (length (now desk) ≡ 4419) × (w + 45 ≤ length (now text)) ⌝ }
+    requires { ⌜ length (now mem) ≡ memorySize ⌝ }
+    ensures { λ r. ⌜ r ≤ w + 45 ⌝ }
+{
+    from_memory(desk, mem, h.reason);
+    put_handed(text, w, h)
 }
 
 // The end of a line: the sums over the arena and over the table's bytes.
@@ -257,9 +266,7 @@ pub fn put_sums(desk: &[u8], arena: &[u8], text: &mut [u8], w: usize) -> usize
     requires { ⌜ (length (now desk) ≡ 4419) × (w + 47 ≤ length (now text)) ⌝ }
     ensures { λ r. ⌜ r ≤ w + 47 ⌝ }
 {
-    let a = put_word(text, w, b" a ");
-    let b = put_number(text, a, sum(arena));
-    let c = put_word(text, b, b" t ");
-    let d = put_number(text, c, sum(&desk[..4402]));
-    put_word(text, d, b"\n")
+    let a = put_labelled(text, w, b" a", sum(arena));
+    let b = put_labelled(text, a, b" t", sum(&desk[..4402]));
+    put_word(text, b, b"\n")
 }

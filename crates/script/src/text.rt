@@ -51,6 +51,15 @@ pub fn put_value(text: &mut [u8], w: usize, n: u64) -> usize
     put_number(text, v, n)
 }
 
+// After a word.
+pub fn put_labelled(text: &mut [u8], w: usize, label: &[u8], n: u64) -> usize
+    requires { ⌜ w + (length (now label) + 21) ≤ length (now text) ⌝ }
+    ensures { λ r. ⌜ r ≤ w + (length (now (label .entry)) + 21) ⌝ }
+{
+    let v = put_word(text, w, label);
+    put_value(text, v, n)
+}
+
 pub fn put_signed(text: &mut [u8], w: usize, z: i64) -> usize
     requires { ⌜ w + 22 ≤ length (now text) ⌝ }
     ensures { λ r. ⌜ r ≤ w + 22 ⌝ }

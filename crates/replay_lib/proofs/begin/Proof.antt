@@ -12,17 +12,14 @@ returns c = search needs
 returns-2 : tie.Need-returns-2
 returns-2 c = search needs
 
-empty-requires : tie.Need-empty-requires
-empty-requires c κs = search needs
-
-write-table-requires : tie.Need-write-table-requires
-write-table-requires c κs = search needs
+put-empty-requires : tie.Need-put-empty-requires
+put-empty-requires c κs = search needs
 
 slice-relend-prefix-clear : tie.Need-slice-relend-prefix-clear
 slice-relend-prefix-clear c = search needs
 
 slice-aggregate-clear : tie.Need-slice-aggregate-clear
-slice-aggregate-clear c = sym (length-take-le 8192 (c .before .before .before .before .before .before .before .before .before .before .args .arena .now) (omega arith))
+slice-aggregate-clear c = sym (length-take-le 8192 (c .before .before .before .before .before .before .before .before .before .args .arena .now) (omega arith))
 
 clear-requires : tie.Need-clear-requires
 clear-requires c κs = search needs
@@ -48,8 +45,7 @@ begin-spec =
     (tie.spec
     returns
     returns-2
-    empty-requires
-    write-table-requires
+    put-empty-requires
     slice-relend-prefix-clear
     slice-aggregate-clear
     clear-requires

@@ -6,9 +6,6 @@ use borrow.Author.Needs.{needs}
 use Rattle.replay_reads.proofs.list_words.Statement.{statement}
 use Rattle.replay_reads.proofs.list_words.Tie as tie
 
-put-238-requires : tie.Need-put-238-requires
-put-238-requires c κs = search needs
-
 add-u16-at : tie.Need-add-u16-at
 add-u16-at c = search needs
 
@@ -22,7 +19,7 @@ slice-relend-prefix-list : tie.Need-slice-relend-prefix-list
 slice-relend-prefix-list c = search needs
 
 slice-aggregate-list : tie.Need-slice-aggregate-list
-slice-aggregate-list c = sym (length-take-le (c .before .index16 .result) (c .before .before .before .before .before .put-238 .last .0) (omega (arith, c .before .before .before .before .before .put-238 .kept .0)))
+slice-aggregate-list c = sym (length-take-le (c .before .index16 .result) (c .before .before .before .before .before .before .before .before .args .out .now) (omega arith))
 
 list-requires : tie.Need-list-requires
 list-requires c κs = search needs
@@ -43,7 +40,6 @@ pub list-words-spec : {M : Type 1} → statement M
 list-words-spec =
     tie.close
     (tie.spec
-    put-238-requires
     add-u16-at
     u16-at-requires
     index16-requires

@@ -6,9 +6,6 @@ use borrow.Author.Needs.{needs}
 use Rattle.replay_reads.proofs.shown_words.Statement.{statement}
 use Rattle.replay_reads.proofs.shown_words.Tie as tie
 
-put-238-requires : tie.Need-put-238-requires
-put-238-requires c κs = search needs
-
 add-u16-at : tie.Need-add-u16-at
 add-u16-at c = search needs
 
@@ -22,10 +19,12 @@ slice-relend-prefix-put-shown : tie.Need-slice-relend-prefix-put-shown
 slice-relend-prefix-put-shown c = search needs
 
 slice-aggregate-put-shown : tie.Need-slice-aggregate-put-shown
-slice-aggregate-put-shown c = sym (length-take-le (c .before .index16 .result) (c .before .before .before .before .before .put-238 .last .0) (omega (arith, c .before .before .before .before .before .put-238 .kept .0)))
+slice-aggregate-put-shown c = sym (length-take-le (c .before .index16 .result) (c .before .before .before .before .before .before .before .before .args .out .now) (omega arith))
 
 put-shown-requires : tie.Need-put-shown-requires
-put-shown-requires c κs = search needs
+put-shown-requires c κs =
+    let s = c .before .before .before .before .before .before .before .before .before in
+    (s .pre .0 .0, (omega (arith, s .pre .1 .0), s .pre .1 .1))
 
 put-output-requires : tie.Need-put-output-requires
 put-output-requires c κs = search needs
@@ -43,7 +42,6 @@ pub shown-words-spec : {M : Type 1} → statement M
 shown-words-spec =
     tie.close
     (tie.spec
-    put-238-requires
     add-u16-at
     u16-at-requires
     index16-requires

@@ -6,38 +6,32 @@ use borrow.Author.Needs.{needs}
 use Rattle.script.proofs.lines.put_sums.Statement.{statement}
 use Rattle.script.proofs.lines.put_sums.Tie as tie
 
+slice-aggregate-put-labelled : tie.Need-slice-aggregate-put-labelled
+slice-aggregate-put-labelled c = search needs
+
+sum-requires : tie.Need-sum-requires
+sum-requires c κs = search needs
+
+put-labelled-requires : tie.Need-put-labelled-requires
+put-labelled-requires c κs = search needs
+
+slice-aggregate-put-labelled-2 : tie.Need-slice-aggregate-put-labelled-2
+slice-aggregate-put-labelled-2 c = search needs
+
+slice-aggregate-sum : tie.Need-slice-aggregate-sum
+slice-aggregate-sum c = sym (length-take-le 4402 (c .before .before .before .before .before .before .before .before .before .before .before .before .args .desk .now) (omega arith))
+
+sum-requires-2 : tie.Need-sum-requires-2
+sum-requires-2 c κs = search needs
+
+put-labelled-requires-2 : tie.Need-put-labelled-requires-2
+put-labelled-requires-2 c κs = search needs
+
 slice-aggregate-put-word : tie.Need-slice-aggregate-put-word
 slice-aggregate-put-word c = search needs
 
 put-word-requires : tie.Need-put-word-requires
 put-word-requires c κs = search needs
-
-sum-requires : tie.Need-sum-requires
-sum-requires c κs = search needs
-
-put-number-requires : tie.Need-put-number-requires
-put-number-requires c κs = search needs
-
-slice-aggregate-put-word-2 : tie.Need-slice-aggregate-put-word-2
-slice-aggregate-put-word-2 c = search needs
-
-put-word-requires-2 : tie.Need-put-word-requires-2
-put-word-requires-2 c κs = search needs
-
-slice-aggregate-sum : tie.Need-slice-aggregate-sum
-slice-aggregate-sum c = sym (length-take-le 4402 (c .before .before .before .before .before .before .before .before .before .before .before .before .before .before .before .before .before .before .before .before .args .desk .now) (omega arith))
-
-sum-requires-2 : tie.Need-sum-requires-2
-sum-requires-2 c κs = search needs
-
-put-number-requires-2 : tie.Need-put-number-requires-2
-put-number-requires-2 c κs = search needs
-
-slice-aggregate-put-word-3 : tie.Need-slice-aggregate-put-word-3
-slice-aggregate-put-word-3 c = search needs
-
-put-word-requires-3 : tie.Need-put-word-requires-3
-put-word-requires-3 c κs = search needs
 
 same-length : tie.Need-same-length
 same-length c = search needs
@@ -49,16 +43,14 @@ pub put-sums-spec : {M : Type 1} → statement M
 put-sums-spec =
     tie.close
     (tie.spec
-    slice-aggregate-put-word
-    put-word-requires
+    slice-aggregate-put-labelled
     sum-requires
-    put-number-requires
-    slice-aggregate-put-word-2
-    put-word-requires-2
+    put-labelled-requires
+    slice-aggregate-put-labelled-2
     slice-aggregate-sum
     sum-requires-2
-    put-number-requires-2
-    slice-aggregate-put-word-3
-    put-word-requires-3
+    put-labelled-requires-2
+    slice-aggregate-put-word
+    put-word-requires
     same-length
     returns)
