@@ -1,4 +1,4 @@
-// Lines that several scenes print.
+// What several scenes tell, each after part k of the scene's story.
 use crate::world::ANN;
 use crate::world::create;
 use crate::world::get_entry;
@@ -10,41 +10,59 @@ use calls::Answer;
 use calls::Got;
 use calls::Told;
 use lesson_lib::say;
+use lesson_lib::say::part;
 use lesson_lib::say::stored;
 use lesson_lib::say::text;
 use table::Handle;
 
-// What a call answered, after what was asked.
-pub fn answer_line(asked: &[u8], a: Answer) {
-    text(asked);
+// What a call answered.
+pub fn answer(story: &[u8], k: u8, a: Answer) {
+    part(story, k);
     match a {
         Answer::Done => text(b"done"),
         Answer::Refused(r) => say::refusal(r),
     }
 }
 
-pub fn got_line(asked: &[u8], a: Got) {
-    text(asked);
+pub fn got(story: &[u8], k: u8, a: Got) {
+    part(story, k);
     match a {
         Got::Held(_) => text(b"done"),
         Got::Refused(r) => say::refusal(r),
     }
 }
 
-// What a handle tells who asks with it, after a text: its node's number and links.
-pub fn handle_line(arena: &[u8], table: &[u8; 4402], who: u8, h: Handle, before: &[u8]) {
-    text(before);
+// What a handle tells who asks with it: its node's number and links.
+pub fn node(arena: &[u8], table: &[u8; 4402], who: u8, h: Handle, story: &[u8], k: u8) {
+    part(story, k);
     let told = metadata(arena, table, who, h);
     match told {
         Told::Tells(m) => {
-            say::number(b"node ", m.inode as u64);
-            say::number(b", links ", m.nlinks as u64);
+            let pair = b"node %, links %";
+            say::number(pair, 0, m.inode as u64);
+            say::number(pair, 1, m.nlinks as u64);
         }
         Told::Refused(r) => say::refusal(r),
     }
 }
 
-// A new node in a folder, and what its handle tells.
+// What a node's own bytes say.
+pub fn outline(arena: &[u8], table: &[u8; 4402], who: u8, h: Handle, story: &[u8], k: u8) {
+    let mut out = [0u8; 64];
+    read(arena, table, who, h, 0, &mut out);
+    part(story, k);
+    stored(&out);
+}
+
+// The name in a slot of the root, by Ann's handle.
+pub fn slot(arena: &[u8], table: &[u8; 4402], root: Handle, i: u64, story: &[u8], k: u8) {
+    let mut entry = [0u8; 264];
+    get_entry(arena, table, ANN, root, i, &mut entry);
+    part(story, k);
+    stored(&entry[4..260]);
+}
+
+// A new node in a folder, and what its handle tells: a line of its own.
 pub fn create_line(
     arena: &mut [u8],
     table: &mut [u8; 4402],
@@ -54,42 +72,27 @@ pub fn create_line(
     kind: u32,
     n: u8,
 ) -> Handle {
-    text(b"  create ");
+    let story = b"  create %: %; it is %.\n";
+    part(story, 0);
     text(name);
     let a = create(arena, table, who, folder, name, kind, n);
-    got_line(b": ", a);
+    got(story, 1, a);
     let h = handle(a);
-    handle_line(&arena[..], table, who, h, b"; it is ");
-    text(b".\n");
+    node(&arena[..], table, who, h, story, 2);
+    part(story, 3);
     h
 }
 
 // An outline goes into a node's own bytes.
-pub fn save_line(
+pub fn save(
     arena: &mut [u8],
     table: &mut [u8; 4402],
     who: u8,
     h: Handle,
-    before: &[u8],
     outline: &[u8],
+    story: &[u8],
+    k: u8,
 ) {
     let a = write(arena, table, who, h, 0, outline);
-    answer_line(before, a);
-    text(b".\n");
-}
-
-// What a node's own bytes say, after a text.
-pub fn outline_line(arena: &[u8], table: &[u8; 4402], who: u8, h: Handle, before: &[u8]) {
-    let mut out = [0u8; 64];
-    read(arena, table, who, h, 0, &mut out);
-    text(before);
-    stored(&out);
-}
-
-// The name in a slot of the root, by Ann's handle, after a text.
-pub fn slot_line(arena: &[u8], table: &[u8; 4402], root: Handle, before: &[u8], k: u64) {
-    let mut slot = [0u8; 264];
-    get_entry(arena, table, ANN, root, k, &mut slot);
-    text(before);
-    stored(&slot[4..260]);
+    answer(story, k, a);
 }

@@ -1,8 +1,8 @@
 // The scenes in which names are linked, moved and removed.
-use crate::lines::answer_line;
+use crate::lines::answer;
 use crate::lines::create_line;
-use crate::lines::handle_line;
-use crate::lines::slot_line;
+use crate::lines::node;
+use crate::lines::slot;
 use crate::world::ANN;
 use crate::world::create;
 use crate::world::find;
@@ -15,6 +15,7 @@ use crate::world::remove_folder;
 use base::copy;
 use lesson_lib::image::root_length;
 use lesson_lib::say;
+use lesson_lib::say::part;
 use lesson_lib::say::text;
 use structs::DIR;
 use structs::FILE;
@@ -31,60 +32,65 @@ fn three_files(arena: &mut [u8; 8192], table: &mut [u8; 4402]) -> Handle {
 }
 
 fn first_removed(arena: &mut [u8; 8192], table: &mut [u8; 4402], root: Handle) {
+    let story = b".\n  remove-file a: %; slot 2 is %, slot 3 is %; the root's file has % bytes.\n  \
+        Who kept 2 as the slot of a now reads %.\n";
     let a = remove_file(arena, table, ANN, root, b"a");
-    answer_line(b".\n  remove-file a: ", a);
-    slot_line(arena, table, root, b"; slot 2 is ", 2);
-    slot_line(arena, table, root, b", slot 3 is ", 3);
-    say::number(b"; the root's file has ", root_length(arena));
-    let before = b" bytes.\n  Who kept 2 as the slot of a now reads ";
-    slot_line(arena, table, root, before, 2);
-    text(b".\n");
+    answer(story, 0, a);
+    slot(arena, table, root, 2, story, 1);
+    slot(arena, table, root, 3, story, 2);
+    say::number(story, 3, root_length(arena));
+    slot(arena, table, root, 2, story, 4);
+    part(story, 5);
 }
 
 pub fn slots(arena: &mut [u8; 8192], table: &mut [u8; 4402]) {
+    let story = b"\nA slot number does not stay put\n  \
+        create a, b, c: slot 2 is %, slot 3 is %, slot 4 is %";
     let root = three_files(arena, table);
-    text(b"\nA slot number does not stay put\n");
-    slot_line(arena, table, root, b"  create a, b, c: slot 2 is ", 2);
-    slot_line(arena, table, root, b", slot 3 is ", 3);
-    slot_line(arena, table, root, b", slot 4 is ", 4);
+    slot(arena, table, root, 2, story, 0);
+    slot(arena, table, root, 3, story, 1);
+    slot(arena, table, root, 4, story, 2);
     first_removed(arena, table, root);
 }
 
 // Moves old to new, which is another name of its node.
-fn move_line(arena: &mut [u8; 8192], table: &mut [u8; 4402], root: Handle) {
+fn move_same(arena: &mut [u8; 8192], table: &mut [u8; 4402], root: Handle) {
+    let story = b"  move old to new: %; image and table are byte for byte what they were.\n\
+        %; image or table changed.\n";
     let mut image = [0u8; 8192];
     copy(&mut image, arena);
     let mut opened = [0u8; 4402];
     copy(&mut opened, table);
     let a = move_(arena, table, ANN, root, b"old", root, b"new");
-    answer_line(b"  move old to new: ", a);
-    say::whether(
-        equal(&image, arena) & equal(&opened, table),
-        b"; image and table are byte for byte what they were.\n",
-        b"; image or table changed.\n",
-    );
+    answer(story, 0, a);
+    let same = equal(&image, arena) & equal(&opened, table);
+    say::whether(same, story, 1, 2);
 }
 
+// Both names are there, before and after.
 pub fn same_node(arena: &mut [u8; 8192], table: &mut [u8; 4402]) {
-    text(b"\nA move onto another name of the same node\n");
+    let story = b"\nA move onto another name of the same node\n\
+        %  link it as new: %; it is %.\n\
+        %  Both names are there: slot 2 is %, slot 3 is %.\n";
+    part(story, 0);
     let root = fresh(arena, table);
     let h = create_line(arena, table, ANN, root, b"old", FILE, 2);
     let a = link(arena, table, ANN, root, b"new", h);
-    answer_line(b"  link it as new: ", a);
-    handle_line(arena, table, ANN, h, b"; it is ");
-    text(b".\n");
-    move_line(arena, table, root);
-    slot_line(arena, table, root, b"  Both names are there: slot 2 is ", 2);
-    slot_line(arena, table, root, b", slot 3 is ", 3);
-    text(b".\n");
+    answer(story, 1, a);
+    node(arena, table, ANN, h, story, 2);
+    part(story, 3);
+    move_same(arena, table, root);
+    slot(arena, table, root, 2, story, 4);
+    slot(arena, table, root, 3, story, 5);
+    part(story, 6);
 }
 
-// Where `..` of a folder leads, after a text. The table with that hold is not kept.
-fn parent_line(arena: &[u8; 8192], table: &[u8; 4402], h: Handle, before: &[u8]) {
+// Where `..` of a folder leads. The table with that hold is not kept.
+fn parent(arena: &[u8; 8192], table: &[u8; 4402], h: Handle, story: &[u8], k: u8) {
     let mut t = [0u8; 4402];
     copy(&mut t, table);
     let a = find(arena, &mut t, ANN, h, b"..");
-    handle_line(arena, &t, ANN, handle(a), before);
+    node(arena, &t, ANN, handle(a), story, k);
 }
 
 // A weight's folder goes to another family; then that family can't go below it.
@@ -96,13 +102,16 @@ fn reorganised(
     serif: Handle,
     bold: Handle,
 ) {
-    parent_line(arena, table, bold, b"  Bold's .. leads to ");
+    let story = b"  Bold's .. leads to %.\n  \
+        move Bold to Serif: %; its .. leads to %.\n  \
+        move Serif into Bold, which is in it: %.\n";
+    parent(arena, table, bold, story, 0);
     let a = move_(arena, table, ANN, sans, b"Bold", serif, b"Bold");
-    answer_line(b".\n  move Bold to Serif: ", a);
-    parent_line(arena, table, bold, b"; its .. leads to ");
+    answer(story, 1, a);
+    parent(arena, table, bold, story, 2);
     let a = move_(arena, table, ANN, root, b"Serif", bold, b"Serif");
-    answer_line(b".\n  move Serif into Bold, which is in it: ", a);
-    text(b".\n");
+    answer(story, 3, a);
+    part(story, 4);
 }
 
 pub fn families(arena: &mut [u8; 8192], table: &mut [u8; 4402]) {
@@ -116,13 +125,16 @@ pub fn families(arena: &mut [u8; 8192], table: &mut [u8; 4402]) {
 
 // The delete key has remove-file, the folder menu remove-folder.
 fn keys_pressed(arena: &mut [u8; 8192], table: &mut [u8; 4402], root: Handle) {
+    let story = b"  The delete key on Bold, which is empty: %.\n  \
+        The folder menu on a: %.\n  \
+        The folder menu on Bold: %.\n";
     let a = remove_file(arena, table, ANN, root, b"Bold");
-    answer_line(b"  The delete key on Bold, which is empty: ", a);
+    answer(story, 0, a);
     let a = remove_folder(arena, table, ANN, root, b"a");
-    answer_line(b".\n  The folder menu on a: ", a);
+    answer(story, 1, a);
     let a = remove_folder(arena, table, ANN, root, b"Bold");
-    answer_line(b".\n  The folder menu on Bold: ", a);
-    text(b".\n");
+    answer(story, 2, a);
+    part(story, 3);
 }
 
 pub fn two_keys(arena: &mut [u8; 8192], table: &mut [u8; 4402]) {

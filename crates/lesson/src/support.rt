@@ -1,10 +1,10 @@
 // The scene in which two have one glyph open: the support call.
-use crate::lines::answer_line;
+use crate::lines::answer;
 use crate::lines::create_line;
-use crate::lines::got_line;
-use crate::lines::handle_line;
-use crate::lines::outline_line;
-use crate::lines::save_line;
+use crate::lines::got;
+use crate::lines::node;
+use crate::lines::outline;
+use crate::lines::save;
 use crate::world::ANN;
 use crate::world::BEN;
 use crate::world::close;
@@ -14,63 +14,71 @@ use crate::world::handle;
 use crate::world::remove_file;
 use crate::world::root;
 use lesson_lib::say;
+use lesson_lib::say::part;
 use lesson_lib::say::text;
 use structs::FILE;
 use table::Handle;
 
 // A handle is a hold and a stamp, and not a node's number.
-fn hold_line(before: &[u8], h: Handle) {
-    say::number(before, h.hold as u64);
-    say::number(b" and stamp ", h.stamp);
+fn holds(ann: Handle, ben: Handle) {
+    let story =
+        b".\n  One node, two handles: Ann has hold % and stamp %; Ben has hold % and stamp %";
+    say::number(story, 0, ann.hold as u64);
+    say::number(story, 1, ann.stamp);
+    say::number(story, 2, ben.hold as u64);
+    say::number(story, 3, ben.stamp);
 }
 
 // Ben opens the root for himself, and the glyph that Ann has made. Her handle does not work for him.
 fn shared(arena: &mut [u8; 8192], table: &mut [u8; 4402], own: Handle, ann: Handle) -> Handle {
+    let story = b"  That was Ann. Ben finds a: %; his a is %.\n  \
+        Ben asks with Ann's handle, which works for her alone: %.\n";
     let a = find(arena, table, BEN, own, b"a");
-    got_line(b"  That was Ann. Ben finds a: ", a);
+    got(story, 0, a);
     let ben = handle(a);
-    handle_line(arena, table, BEN, ben, b"; his a is ");
-    hold_line(b".\n  One node, two handles: Ann has hold ", ann);
-    hold_line(b"; Ben has hold ", ben);
-    let before = b".\n  Ben asks with Ann's handle, which works for her alone: ";
-    handle_line(arena, table, BEN, ann, before);
-    text(b".\n");
+    node(arena, table, BEN, ben, story, 1);
+    holds(ann, ben);
+    node(arena, table, BEN, ann, story, 2);
+    part(story, 3);
     ben
 }
 
 // Ann and Ben have a glyph open; Ben removes it and makes another.
 fn removed(arena: &mut [u8; 8192], table: &mut [u8; 4402], own: Handle, ann: Handle) -> Handle {
+    let story = b"  Ben removes a: %; Ann's a is %.\n";
     let a = remove_file(arena, table, BEN, own, b"a");
-    answer_line(b"  Ben removes a: ", a);
-    handle_line(arena, table, ANN, ann, b"; Ann's a is ");
-    text(b".\n");
+    answer(story, 0, a);
+    node(arena, table, ANN, ann, story, 1);
+    part(story, 2);
     create_line(arena, table, BEN, own, b"b", FILE, 3)
 }
 
 // Ann saves in the a that she has open, Ben in his new b.
 fn saved(arena: &mut [u8; 8192], table: &mut [u8; 4402], ann: Handle, ben: Handle) {
-    text(
-        b"  A number stays taken while a handle is open, so b has another, and a file of its own.\n",
-    );
-    let before = b"  Ann saves her curve: ";
-    save_line(arena, table, ANN, ann, before, b"M0 0 C1 9 4 9 5 0");
-    let before = b"  Ben saves his corner: ";
-    save_line(arena, table, BEN, ben, before, b"M0 0 L5 0 L5 7");
-    outline_line(arena, table, ANN, ann, b"  Ann's a reads ");
-    outline_line(arena, table, BEN, ben, b"; Ben's b reads ");
-    text(b".\n");
+    let story =
+        b"  A number stays taken while a handle is open, so b has another, and a file of its own.\n  \
+        Ann saves her curve: %.\n  \
+        Ben saves his corner: %.\n  \
+        Ann's a reads %; Ben's b reads %.\n";
+    save(arena, table, ANN, ann, b"M0 0 C1 9 4 9 5 0", story, 0);
+    save(arena, table, BEN, ben, b"M0 0 L5 0 L5 7", story, 1);
+    outline(arena, table, ANN, ann, story, 2);
+    outline(arena, table, BEN, ben, story, 3);
+    part(story, 4);
 }
 
 // Ben closes his handle and asks with it once more; then Ann closes hers.
 fn closed(arena: &mut [u8; 8192], table: &mut [u8; 4402], ann: Handle, ben: Handle) {
+    let story = b"  Ben closes his a: %; Ann's a is %.\n  \
+        Ben asks with his closed handle: %.\n  \
+        Ann closes hers, the last: %; now the number is free.\n";
     let a = close(arena, table, BEN, ben);
-    answer_line(b"  Ben closes his a: ", a);
-    handle_line(arena, table, ANN, ann, b"; Ann's a is ");
-    let before = b".\n  Ben asks with his closed handle: ";
-    handle_line(arena, table, BEN, ben, before);
+    answer(story, 0, a);
+    node(arena, table, ANN, ann, story, 1);
+    node(arena, table, BEN, ben, story, 2);
     let a = close(arena, table, ANN, ann);
-    answer_line(b".\n  Ann closes hers, the last: ", a);
-    text(b"; now the number is free.\n");
+    answer(story, 3, a);
+    part(story, 4);
 }
 
 pub fn support_call(arena: &mut [u8; 8192], table: &mut [u8; 4402]) {

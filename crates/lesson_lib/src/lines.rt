@@ -3,6 +3,7 @@ use crate::image;
 use crate::image::FIRST_MAP;
 use crate::image::SECOND_MAP;
 use crate::say;
+use crate::say::part;
 use crate::say::text;
 
 // One letter for a block, by its first byte: free, a file's head, data.
@@ -24,27 +25,25 @@ fn marks(arena: &[u8; 8192]) {
 
 // How many blocks are in use, and which.
 pub fn blocks_line(arena: &[u8; 8192]) {
-    say::number(b"  ", image::used(arena));
-    text(b" blocks are in use: ");
+    let story = b"  % blocks are in use: %\n";
+    say::number(story, 0, image::used(arena));
+    part(story, 1);
     marks(arena);
-    text(b"\n");
+    part(story, 2);
 }
 
 pub fn numbers_line(arena: &[u8; 8192]) {
-    say::number(b"  ", image::unused(arena));
-    say::number(
-        b" node numbers are free; the first map byte is ",
-        image::meta_byte(arena, FIRST_MAP) as u64,
-    );
-    text(b".\n");
+    let story = b"  % node numbers are free; the first map byte is %.\n";
+    say::number(story, 0, image::unused(arena));
+    say::number(story, 1, image::meta_byte(arena, FIRST_MAP) as u64);
+    part(story, 2);
 }
 
-pub fn second_map_line(arena: &[u8; 8192]) {
-    say::number(b"  A second group came: ", image::unused(arena));
-    say::number(
-        b" node numbers are free; its map's first byte is ",
-        image::meta_byte(arena, SECOND_MAP) as u64,
-    );
-    say::number(b";\n  the metadata file has ", image::meta_length(arena));
-    text(b" bytes.\n");
+pub fn second_group_line(arena: &[u8; 8192]) {
+    let story = b"  A second group came: % node numbers are free; its map's first byte is %;\n  \
+        the metadata file has % bytes.\n";
+    say::number(story, 0, image::unused(arena));
+    say::number(story, 1, image::meta_byte(arena, SECOND_MAP) as u64);
+    say::number(story, 2, image::meta_length(arena));
+    part(story, 3);
 }

@@ -1,4 +1,6 @@
 // Words and numbers, written to standard output.
+ghost use Prim.Native.Nat.{_≤_};
+ghost use lib.ListN.{length};
 use le::to_bits;
 use libc::STDOUT_FILENO;
 use utf8::first_zero;
@@ -13,21 +15,62 @@ pub fn stored(name: &[u8]) {
     text(&name[..n]);
 }
 
-// A number, after a text.
-pub fn number(before: &[u8], n: u64) {
-    text(before);
+// ---- a story: a text with blanks, each written %. Part k stands before blank k. (A scene with one text costs its proof a third of one with many.)
+
+fn part_start(story: &[u8], k: u8) -> usize
+    ensures { λ r. ⌜ r ≤ length (now (story .entry)) ⌝ }
+{
+    let mut left = k;
+    let mut i: usize = 0;
+    while i < story.len() {
+        if left == 0 {
+            return i;
+        }
+        if story[i] == b'%' {
+            left = left - 1;
+        }
+        i = i + 1;
+    }
+    i
+}
+
+fn part_end(story: &[u8], from: usize) -> usize
+    requires { ⌜ from ≤ length (now story) ⌝ }
+    ensures { λ r. ⌜ (from ≤ r) × (r ≤ length (now (story .entry))) ⌝ }
+{
+    let mut i = from;
+    while i < story.len() {
+        if story[i] == b'%' {
+            return i;
+        }
+        i = i + 1;
+    }
+    i
+}
+
+pub fn part(story: &[u8], k: u8) {
+    let a = part_start(story, k);
+    let e = part_end(story, a);
+    text(&story[a..e]);
+}
+
+// ---- what fills a blank, after the part before it
+
+pub fn number(story: &[u8], k: u8, n: u64) {
+    part(story, k);
     io::print_decimal(STDOUT_FILENO, n);
 }
 
 // The same for a number that may be negative. What is missing to 0 is one more than what is missing to -1.
-pub fn signed(before: &[u8], z: i64) {
+pub fn signed(story: &[u8], k: u8, z: i64) {
+    part(story, k);
     if z >= 0 {
-        number(before, to_bits(z));
+        io::print_decimal(STDOUT_FILENO, to_bits(z));
         return;
     }
     let below = 18446744073709551615 - to_bits(z);
-    text(before);
-    number(b"-", std::num::wrapping_add_u64(below, 1));
+    text(b"-");
+    io::print_decimal(STDOUT_FILENO, std::num::wrapping_add_u64(below, 1));
 }
 
 // Document 01's words for the reasons that the lesson meets: here those that a name has.
@@ -50,14 +93,15 @@ fn words(reason: u8) {
 }
 
 pub fn refusal(reason: u8) {
-    number(b"refused, reason ", reason as u64);
+    number(b"refused, reason %", 0, reason as u64);
     words(reason);
 }
 
-pub fn whether(b: bool, yes: &[u8], no: &[u8]) {
+// One of two parts.
+pub fn whether(b: bool, story: &[u8], yes: u8, no: u8) {
     if b {
-        text(yes);
+        part(story, yes);
     } else {
-        text(no);
+        part(story, no);
     }
 }
