@@ -1,4 +1,6 @@
 // What several scenes tell, each after part k of the scene's story.
+ghost use Prim.Native.Nat.{_≤_};
+ghost use lib.ListN.{length};
 use crate::world::ANN;
 use crate::world::create;
 use crate::world::get_entry;
@@ -33,9 +35,11 @@ pub fn got(story: &[u8], k: u8, a: Got) {
 }
 
 // What a handle tells who asks with it: its node's number and links.
-pub fn node(arena: &[u8], table: &[u8; 4402], who: u8, h: Handle, story: &[u8], k: u8) {
+pub fn node(world: &[u8], who: u8, h: Handle, story: &[u8], k: u8)
+    requires { ⌜ 4402 ≤ length (now world) ⌝ }
+{
     part(story, k);
-    let told = metadata(arena, table, who, h);
+    let told = metadata(world, who, h);
     match told {
         Told::Tells(m) => {
             let pair = b"node %, links %";
@@ -47,52 +51,51 @@ pub fn node(arena: &[u8], table: &[u8; 4402], who: u8, h: Handle, story: &[u8], 
 }
 
 // What a node's own bytes say.
-pub fn outline(arena: &[u8], table: &[u8; 4402], who: u8, h: Handle, story: &[u8], k: u8) {
+pub fn outline(world: &[u8], who: u8, h: Handle, story: &[u8], k: u8)
+    requires { ⌜ 4402 ≤ length (now world) ⌝ }
+{
     let mut out = [0u8; 64];
-    read(arena, table, who, h, 0, &mut out);
+    read(world, who, h, 0, &mut out);
     part(story, k);
     stored(&out);
 }
 
 // The name in a slot of the root, by Ann's handle.
-pub fn slot(arena: &[u8], table: &[u8; 4402], root: Handle, i: u64, story: &[u8], k: u8) {
+pub fn slot(world: &[u8], root: Handle, i: u64, story: &[u8], k: u8)
+    requires { ⌜ 4402 ≤ length (now world) ⌝ }
+{
     let mut entry = [0u8; 264];
-    get_entry(arena, table, ANN, root, i, &mut entry);
+    get_entry(world, ANN, root, i, &mut entry);
     part(story, k);
     stored(&entry[4..260]);
 }
 
 // A new node in a folder, and what its handle tells: a line of its own.
 pub fn create_line(
-    arena: &mut [u8],
-    table: &mut [u8; 4402],
+    world: &mut [u8],
     who: u8,
     folder: Handle,
     name: &[u8],
     kind: u32,
     n: u8,
-) -> Handle {
-    let story = b"  create %: %; it is %.\n";
+) -> Handle
+    requires { ⌜ 4402 ≤ length (now world) ⌝ }
+{
+    let story: &[u8] = b"  create %: %; it is %.\n";
     part(story, 0);
     text(name);
-    let a = create(arena, table, who, folder, name, kind, n);
+    let a = create(world, who, folder, name, kind, n);
     got(story, 1, a);
     let h = handle(a);
-    node(&arena[..], table, who, h, story, 2);
+    node(&world[..], who, h, story, 2);
     part(story, 3);
     h
 }
 
 // An outline goes into a node's own bytes.
-pub fn save(
-    arena: &mut [u8],
-    table: &mut [u8; 4402],
-    who: u8,
-    h: Handle,
-    outline: &[u8],
-    story: &[u8],
-    k: u8,
-) {
-    let a = write(arena, table, who, h, 0, outline);
+pub fn save(world: &mut [u8], who: u8, h: Handle, outline: &[u8], story: &[u8], k: u8)
+    requires { ⌜ 4402 ≤ length (now world) ⌝ }
+{
+    let a = write(world, who, h, 0, outline);
     answer(story, k, a);
 }

@@ -8,18 +8,17 @@ mod support;
 mod world;
 
 fn main() {
-    let mut arena = [0u8; 8192];
-    let mut table = [0u8; 4402];
-    made::fresh_image(&mut arena);
-    made::file_a(&mut arena, &mut table);
-    made::folder_b(&mut arena, &mut table);
-    slots::slots(&mut arena, &mut table);
-    made::second_group(&mut arena, &mut table);
+    let mut world = [0u8; 12594];
+    made::fresh_image(&mut world);
+    made::file_a(&mut world);
+    made::folder_b(&mut world);
+    slots::slots(&mut world);
+    made::second_group(&mut world);
     made::numbers();
-    made::names(&mut arena, &mut table);
-    slots::same_node(&mut arena, &mut table);
-    slots::families(&mut arena, &mut table);
-    paths::masters(&mut table);
-    slots::two_keys(&mut arena, &mut table);
-    support::support_call(&mut arena, &mut table);
+    made::names(&mut world);
+    slots::same_node(&mut world);
+    slots::families(&mut world);
+    paths::masters();
+    slots::two_keys(&mut world);
+    support::support_call(&mut world);
 }

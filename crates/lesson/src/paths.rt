@@ -19,60 +19,54 @@ use table::Handle;
 const SYMLINK: u32 = 3;
 
 // A symlink a in a folder: what is written in it is its target.
-fn symlink_line(
-    arena: &mut [u8; 16384],
-    table: &mut [u8; 4402],
-    folder: Handle,
-    n: u8,
-    target: &[u8],
-) {
-    let story = b"  a symlink a there, with the target %: %.\n";
+fn symlink_line(world: &mut [u8; 20786], folder: Handle, n: u8, target: &[u8]) {
+    let story: &[u8] = b"  a symlink a there, with the target %: %.\n";
     part(story, 0);
     text(target);
-    let a = create(arena, table, ANN, folder, b"a", SYMLINK, n);
-    save(arena, table, ANN, handle(a), target, story, 1);
+    let a = create(world, ANN, folder, b"a", SYMLINK, n);
+    save(world, ANN, handle(a), target, story, 1);
     part(story, 2);
 }
 
 // A walk from the root, and the targets that it has read.
-fn walk_line(arena: &[u8; 16384], table: &mut [u8; 4402], root: Handle, path: &[u8]) -> Handle {
-    let story = b"  walk to %: %; the link buffer has %";
+fn walk_line(world: &mut [u8; 20786], root: Handle, path: &[u8]) -> Handle {
+    let story: &[u8] = b"  walk to %: %; the link buffer has %";
     part(story, 0);
     text(path);
     let mut links = [0u8; 64];
-    let a = walk(arena, table, ANN, root, path, &mut links);
+    let a = walk(world, ANN, root, path, &mut links);
     got(story, 1, a);
     part(story, 2);
     stored(&links);
     handle(a)
 }
 
-fn by_path(arena: &mut [u8; 16384], table: &mut [u8; 4402], root: Handle) {
-    let story = b"; it is %.\n  Ann saves her curve there: %.\n%; it reads %.\n";
-    let h = walk_line(arena, table, root, b"Sans/a");
-    node(arena, table, ANN, h, story, 0);
-    save(arena, table, ANN, h, b"M0 0 C1 9 4 9 5 0", story, 1);
+fn by_path(world: &mut [u8; 20786], root: Handle) {
+    let story: &[u8] = b"; it is %.\n  Ann saves her curve there: %.\n%; it reads %.\n";
+    let h = walk_line(world, root, b"Sans/a");
+    node(world, ANN, h, story, 0);
+    save(world, ANN, h, b"M0 0 C1 9 4 9 5 0", story, 1);
     part(story, 2);
-    let h = walk_line(arena, table, root, b"Serif/a");
-    outline(arena, table, ANN, h, story, 3);
+    let h = walk_line(world, root, b"Serif/a");
+    outline(world, ANN, h, story, 3);
     part(story, 4);
-    walk_line(arena, table, root, b"Serif/a/b");
+    walk_line(world, root, b"Serif/a/b");
     part(story, 4);
 }
 
-fn master(arena: &mut [u8; 16384], table: &mut [u8; 4402]) {
-    let root = fresh(arena, table);
-    create_line(arena, table, ANN, root, b"a", FILE, 2);
-    let sans = create_line(arena, table, ANN, root, b"Sans", DIR, 3);
-    symlink_line(arena, table, sans, 4, b"../a");
-    let serif = create_line(arena, table, ANN, root, b"Serif", DIR, 5);
-    symlink_line(arena, table, serif, 6, b"/a");
-    by_path(arena, table, root);
+fn master(world: &mut [u8; 20786]) {
+    let root = fresh(world);
+    create_line(world, ANN, root, b"a", FILE, 2);
+    let sans = create_line(world, ANN, root, b"Sans", DIR, 3);
+    symlink_line(world, sans, 4, b"../a");
+    let serif = create_line(world, ANN, root, b"Serif", DIR, 5);
+    symlink_line(world, serif, 6, b"/a");
+    by_path(world, root);
 }
 
 // It takes more than 16 blocks.
-pub fn masters(table: &mut [u8; 4402]) {
+pub fn masters() {
     text(b"\nOne master glyph in two families, by path\n");
-    let mut arena = [0u8; 16384];
-    master(&mut arena, table);
+    let mut world = [0u8; 20786];
+    master(&mut world);
 }

@@ -23,124 +23,115 @@ use table::Handle;
 use utf8::equal;
 
 // Three files in the root, in slots 2 to 4.
-fn three_files(arena: &mut [u8; 8192], table: &mut [u8; 4402]) -> Handle {
-    let root = fresh(arena, table);
-    create(arena, table, ANN, root, b"a", FILE, 2);
-    create(arena, table, ANN, root, b"b", FILE, 3);
-    create(arena, table, ANN, root, b"c", FILE, 4);
+fn three_files(world: &mut [u8; 12594]) -> Handle {
+    let root = fresh(world);
+    create(world, ANN, root, b"a", FILE, 2);
+    create(world, ANN, root, b"b", FILE, 3);
+    create(world, ANN, root, b"c", FILE, 4);
     root
 }
 
-fn first_removed(arena: &mut [u8; 8192], table: &mut [u8; 4402], root: Handle) {
-    let story = b".\n  remove-file a: %; slot 2 is %, slot 3 is %; the root's file has % bytes.\n  \
+fn first_removed(world: &mut [u8; 12594], root: Handle) {
+    let story: &[u8] =
+        b".\n  remove-file a: %; slot 2 is %, slot 3 is %; the root's file has % bytes.\n  \
         Who kept 2 as the slot of a now reads %.\n";
-    let a = remove_file(arena, table, ANN, root, b"a");
+    let a = remove_file(world, ANN, root, b"a");
     answer(story, 0, a);
-    slot(arena, table, root, 2, story, 1);
-    slot(arena, table, root, 3, story, 2);
-    say::number(story, 3, root_length(arena));
-    slot(arena, table, root, 2, story, 4);
+    slot(world, root, 2, story, 1);
+    slot(world, root, 3, story, 2);
+    say::number(story, 3, root_length(world));
+    slot(world, root, 2, story, 4);
     part(story, 5);
 }
 
-pub fn slots(arena: &mut [u8; 8192], table: &mut [u8; 4402]) {
-    let story = b"\nA slot number does not stay put\n  \
+pub fn slots(world: &mut [u8; 12594]) {
+    let story: &[u8] = b"\nA slot number does not stay put\n  \
         create a, b, c: slot 2 is %, slot 3 is %, slot 4 is %";
-    let root = three_files(arena, table);
-    slot(arena, table, root, 2, story, 0);
-    slot(arena, table, root, 3, story, 1);
-    slot(arena, table, root, 4, story, 2);
-    first_removed(arena, table, root);
+    let root = three_files(world);
+    slot(world, root, 2, story, 0);
+    slot(world, root, 3, story, 1);
+    slot(world, root, 4, story, 2);
+    first_removed(world, root);
 }
 
 // Moves old to new, which is another name of its node.
-fn move_same(arena: &mut [u8; 8192], table: &mut [u8; 4402], root: Handle) {
-    let story = b"  move old to new: %; image and table are byte for byte what they were.\n\
+fn move_same(world: &mut [u8; 12594], root: Handle) {
+    let story: &[u8] = b"  move old to new: %; image and table are byte for byte what they were.\n\
         %; image or table changed.\n";
-    let mut image = [0u8; 8192];
-    copy(&mut image, arena);
-    let mut opened = [0u8; 4402];
-    copy(&mut opened, table);
-    let a = move_(arena, table, ANN, root, b"old", root, b"new");
+    let mut before = [0u8; 12594];
+    copy(&mut before, world);
+    let a = move_(world, ANN, root, b"old", root, b"new");
     answer(story, 0, a);
-    let same = equal(&image, arena) & equal(&opened, table);
-    say::whether(same, story, 1, 2);
+    say::whether(equal(&before, world), story, 1, 2);
 }
 
 // Both names are there, before and after.
-pub fn same_node(arena: &mut [u8; 8192], table: &mut [u8; 4402]) {
-    let story = b"\nA move onto another name of the same node\n\
+pub fn same_node(world: &mut [u8; 12594]) {
+    let story: &[u8] = b"\nA move onto another name of the same node\n\
         %  link it as new: %; it is %.\n\
         %  Both names are there: slot 2 is %, slot 3 is %.\n";
     part(story, 0);
-    let root = fresh(arena, table);
-    let h = create_line(arena, table, ANN, root, b"old", FILE, 2);
-    let a = link(arena, table, ANN, root, b"new", h);
+    let root = fresh(world);
+    let h = create_line(world, ANN, root, b"old", FILE, 2);
+    let a = link(world, ANN, root, b"new", h);
     answer(story, 1, a);
-    node(arena, table, ANN, h, story, 2);
+    node(world, ANN, h, story, 2);
     part(story, 3);
-    move_same(arena, table, root);
-    slot(arena, table, root, 2, story, 4);
-    slot(arena, table, root, 3, story, 5);
+    move_same(world, root);
+    slot(world, root, 2, story, 4);
+    slot(world, root, 3, story, 5);
     part(story, 6);
 }
 
-// Where `..` of a folder leads. The table with that hold is not kept.
-fn parent(arena: &[u8; 8192], table: &[u8; 4402], h: Handle, story: &[u8], k: u8) {
-    let mut t = [0u8; 4402];
-    copy(&mut t, table);
-    let a = find(arena, &mut t, ANN, h, b"..");
-    node(arena, &t, ANN, handle(a), story, k);
+// Where `..` of a folder leads. The world with that hold is not kept.
+fn parent(world: &[u8; 12594], h: Handle, story: &[u8], k: u8) {
+    let mut other = [0u8; 12594];
+    copy(&mut other, world);
+    let a = find(&mut other, ANN, h, b"..");
+    node(&other, ANN, handle(a), story, k);
 }
 
 // A weight's folder goes to another family; then that family can't go below it.
-fn reorganised(
-    arena: &mut [u8; 8192],
-    table: &mut [u8; 4402],
-    root: Handle,
-    sans: Handle,
-    serif: Handle,
-    bold: Handle,
-) {
-    let story = b"  Bold's .. leads to %.\n  \
+fn reorganised(world: &mut [u8; 12594], root: Handle, sans: Handle, serif: Handle, bold: Handle) {
+    let story: &[u8] = b"  Bold's .. leads to %.\n  \
         move Bold to Serif: %; its .. leads to %.\n  \
         move Serif into Bold, which is in it: %.\n";
-    parent(arena, table, bold, story, 0);
-    let a = move_(arena, table, ANN, sans, b"Bold", serif, b"Bold");
+    parent(world, bold, story, 0);
+    let a = move_(world, ANN, sans, b"Bold", serif, b"Bold");
     answer(story, 1, a);
-    parent(arena, table, bold, story, 2);
-    let a = move_(arena, table, ANN, root, b"Serif", bold, b"Serif");
+    parent(world, bold, story, 2);
+    let a = move_(world, ANN, root, b"Serif", bold, b"Serif");
     answer(story, 3, a);
     part(story, 4);
 }
 
-pub fn families(arena: &mut [u8; 8192], table: &mut [u8; 4402]) {
+pub fn families(world: &mut [u8; 12594]) {
     text(b"\nA weight's folder goes to another family\n");
-    let root = fresh(arena, table);
-    let sans = create_line(arena, table, ANN, root, b"Sans", DIR, 2);
-    let serif = create_line(arena, table, ANN, root, b"Serif", DIR, 3);
-    let bold = create_line(arena, table, ANN, sans, b"Bold", DIR, 4);
-    reorganised(arena, table, root, sans, serif, bold);
+    let root = fresh(world);
+    let sans = create_line(world, ANN, root, b"Sans", DIR, 2);
+    let serif = create_line(world, ANN, root, b"Serif", DIR, 3);
+    let bold = create_line(world, ANN, sans, b"Bold", DIR, 4);
+    reorganised(world, root, sans, serif, bold);
 }
 
 // The delete key has remove-file, the folder menu remove-folder.
-fn keys_pressed(arena: &mut [u8; 8192], table: &mut [u8; 4402], root: Handle) {
-    let story = b"  The delete key on Bold, which is empty: %.\n  \
+fn keys_pressed(world: &mut [u8; 12594], root: Handle) {
+    let story: &[u8] = b"  The delete key on Bold, which is empty: %.\n  \
         The folder menu on a: %.\n  \
         The folder menu on Bold: %.\n";
-    let a = remove_file(arena, table, ANN, root, b"Bold");
+    let a = remove_file(world, ANN, root, b"Bold");
     answer(story, 0, a);
-    let a = remove_folder(arena, table, ANN, root, b"a");
+    let a = remove_folder(world, ANN, root, b"a");
     answer(story, 1, a);
-    let a = remove_folder(arena, table, ANN, root, b"Bold");
+    let a = remove_folder(world, ANN, root, b"Bold");
     answer(story, 2, a);
     part(story, 3);
 }
 
-pub fn two_keys(arena: &mut [u8; 8192], table: &mut [u8; 4402]) {
+pub fn two_keys(world: &mut [u8; 12594]) {
     text(b"\nThe delete key and the folder menu\n");
-    let root = fresh(arena, table);
-    create_line(arena, table, ANN, root, b"a", FILE, 2);
-    create_line(arena, table, ANN, root, b"Bold", DIR, 3);
-    keys_pressed(arena, table, root);
+    let root = fresh(world);
+    create_line(world, ANN, root, b"a", FILE, 2);
+    create_line(world, ANN, root, b"Bold", DIR, 3);
+    keys_pressed(world, root);
 }

@@ -21,7 +21,7 @@ use table::Handle;
 
 // A handle is a hold and a stamp, and not a node's number.
 fn holds(ann: Handle, ben: Handle) {
-    let story =
+    let story: &[u8] =
         b".\n  One node, two handles: Ann has hold % and stamp %; Ben has hold % and stamp %";
     say::number(story, 0, ann.hold as u64);
     say::number(story, 1, ann.stamp);
@@ -30,65 +30,65 @@ fn holds(ann: Handle, ben: Handle) {
 }
 
 // Ben opens the root for himself, and the glyph that Ann has made. Her handle does not work for him.
-fn shared(arena: &mut [u8; 8192], table: &mut [u8; 4402], own: Handle, ann: Handle) -> Handle {
-    let story = b"  That was Ann. Ben finds a: %; his a is %.\n  \
+fn shared(world: &mut [u8; 12594], own: Handle, ann: Handle) -> Handle {
+    let story: &[u8] = b"  That was Ann. Ben finds a: %; his a is %.\n  \
         Ben asks with Ann's handle, which works for her alone: %.\n";
-    let a = find(arena, table, BEN, own, b"a");
+    let a = find(world, BEN, own, b"a");
     got(story, 0, a);
     let ben = handle(a);
-    node(arena, table, BEN, ben, story, 1);
+    node(world, BEN, ben, story, 1);
     holds(ann, ben);
-    node(arena, table, BEN, ann, story, 2);
+    node(world, BEN, ann, story, 2);
     part(story, 3);
     ben
 }
 
 // Ann and Ben have a glyph open; Ben removes it and makes another.
-fn removed(arena: &mut [u8; 8192], table: &mut [u8; 4402], own: Handle, ann: Handle) -> Handle {
-    let story = b"  Ben removes a: %; Ann's a is %.\n";
-    let a = remove_file(arena, table, BEN, own, b"a");
+fn removed(world: &mut [u8; 12594], own: Handle, ann: Handle) -> Handle {
+    let story: &[u8] = b"  Ben removes a: %; Ann's a is %.\n";
+    let a = remove_file(world, BEN, own, b"a");
     answer(story, 0, a);
-    node(arena, table, ANN, ann, story, 1);
+    node(world, ANN, ann, story, 1);
     part(story, 2);
-    create_line(arena, table, BEN, own, b"b", FILE, 3)
+    create_line(world, BEN, own, b"b", FILE, 3)
 }
 
 // Ann saves in the a that she has open, Ben in his new b.
-fn saved(arena: &mut [u8; 8192], table: &mut [u8; 4402], ann: Handle, ben: Handle) {
-    let story =
+fn saved(world: &mut [u8; 12594], ann: Handle, ben: Handle) {
+    let story: &[u8] =
         b"  A number stays taken while a handle is open, so b has another, and a file of its own.\n  \
         Ann saves her curve: %.\n  \
         Ben saves his corner: %.\n  \
         Ann's a reads %; Ben's b reads %.\n";
-    save(arena, table, ANN, ann, b"M0 0 C1 9 4 9 5 0", story, 0);
-    save(arena, table, BEN, ben, b"M0 0 L5 0 L5 7", story, 1);
-    outline(arena, table, ANN, ann, story, 2);
-    outline(arena, table, BEN, ben, story, 3);
+    save(world, ANN, ann, b"M0 0 C1 9 4 9 5 0", story, 0);
+    save(world, BEN, ben, b"M0 0 L5 0 L5 7", story, 1);
+    outline(world, ANN, ann, story, 2);
+    outline(world, BEN, ben, story, 3);
     part(story, 4);
 }
 
 // Ben closes his handle and asks with it once more; then Ann closes hers.
-fn closed(arena: &mut [u8; 8192], table: &mut [u8; 4402], ann: Handle, ben: Handle) {
-    let story = b"  Ben closes his a: %; Ann's a is %.\n  \
+fn closed(world: &mut [u8; 12594], ann: Handle, ben: Handle) {
+    let story: &[u8] = b"  Ben closes his a: %; Ann's a is %.\n  \
         Ben asks with his closed handle: %.\n  \
         Ann closes hers, the last: %; now the number is free.\n";
-    let a = close(arena, table, BEN, ben);
+    let a = close(world, BEN, ben);
     answer(story, 0, a);
-    node(arena, table, ANN, ann, story, 1);
-    node(arena, table, BEN, ben, story, 2);
-    let a = close(arena, table, ANN, ann);
+    node(world, ANN, ann, story, 1);
+    node(world, BEN, ben, story, 2);
+    let a = close(world, ANN, ann);
     answer(story, 3, a);
     part(story, 4);
 }
 
-pub fn support_call(arena: &mut [u8; 8192], table: &mut [u8; 4402]) {
+pub fn support_call(world: &mut [u8; 12594]) {
     text(b"\n\"My curve has my colleague's corner in it\"\n");
-    let first = fresh(arena, table);
-    let ann = create_line(arena, table, ANN, first, b"a", FILE, 2);
-    let own = handle(root(arena, table, BEN));
-    let ben = shared(arena, table, own, ann);
-    let other = removed(arena, table, own, ann);
-    saved(arena, table, ann, other);
-    closed(arena, table, ann, ben);
-    create_line(arena, table, BEN, own, b"c", FILE, 4);
+    let first = fresh(world);
+    let ann = create_line(world, ANN, first, b"a", FILE, 2);
+    let own = handle(root(world, BEN));
+    let ben = shared(world, own, ann);
+    let other = removed(world, own, ann);
+    saved(world, ann, other);
+    closed(world, ann, ben);
+    create_line(world, BEN, own, b"c", FILE, 4);
 }

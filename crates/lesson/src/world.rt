@@ -1,5 +1,7 @@
-// The calls as the scenes use them: the table of open nodes stands as its bytes, so that no scene hands a table on; no time but 1970's first
-// second, and file names of 16 equal bytes.
+// The calls as the scenes use them. A world is bytes: the 4,402 of the table of open nodes, and behind them the arena. So a scene hands on one
+// thing, and no table by value, which costs its proof the most. No time but 1970's first second, and file names of 16 equal bytes.
+ghost use Prim.Native.Nat.{_≤_};
+ghost use lib.ListN.{length};
 use calls::Answer;
 use calls::Got;
 use calls::HeldReply;
@@ -46,147 +48,144 @@ pub fn handle(a: Got) -> Handle {
 
 // ---- a reply is kept: its table's bytes
 
-fn keep(table: &mut [u8; 4402], r: Reply) -> Answer {
+fn keep(world: &mut [u8], r: Reply) -> Answer
+    requires { ⌜ 4402 ≤ length (now world) ⌝ }
+{
     let t = r.table;
-    write_table(table, t);
+    write_table(world, t);
     r.answer
 }
 
-fn keep_held(table: &mut [u8; 4402], r: HeldReply) -> Got {
+fn keep_held(world: &mut [u8], r: HeldReply) -> Got
+    requires { ⌜ 4402 ≤ length (now world) ⌝ }
+{
     let t = r.table;
-    write_table(table, t);
+    write_table(world, t);
     r.answer
 }
 
 // ---- the calls
 
-pub fn format(arena: &mut [u8]) -> Answer {
-    let f = calls_format::format(arena, epoch(), uuid(1));
+pub fn format(world: &mut [u8]) -> Answer
+    requires { ⌜ 4402 ≤ length (now world) ⌝ }
+{
+    let f = calls_format::format(&mut world[4402..], epoch(), uuid(1));
     f.answer
 }
 
-pub fn root(arena: &[u8], table: &mut [u8; 4402], who: u8) -> Got {
-    let g = calls_find::root(arena, read_table(table), who);
-    keep_held(table, g)
+pub fn root(world: &mut [u8], who: u8) -> Got
+    requires { ⌜ 4402 ≤ length (now world) ⌝ }
+{
+    let t = read_table(&world[..]);
+    let g = calls_find::root(&world[4402..], t, who);
+    keep_held(world, g)
 }
 
-pub fn find(arena: &[u8], table: &mut [u8; 4402], who: u8, h: Handle, name: &[u8]) -> Got {
-    let g = calls_find::find(arena, read_table(table), who, h, name);
-    keep_held(table, g)
+pub fn find(world: &mut [u8], who: u8, h: Handle, name: &[u8]) -> Got
+    requires { ⌜ 4402 ≤ length (now world) ⌝ }
+{
+    let t = read_table(&world[..]);
+    let g = calls_find::find(&world[4402..], t, who, h, name);
+    keep_held(world, g)
 }
 
-pub fn walk(
-    arena: &[u8],
-    table: &mut [u8; 4402],
-    who: u8,
-    h: Handle,
-    path: &[u8],
-    links: &mut [u8],
-) -> Got {
-    let g = calls_walk::walk(arena, read_table(table), who, h, path, links);
-    keep_held(table, g)
+pub fn walk(world: &mut [u8], who: u8, h: Handle, path: &[u8], links: &mut [u8]) -> Got
+    requires { ⌜ 4402 ≤ length (now world) ⌝ }
+{
+    let t = read_table(&world[..]);
+    let g = calls_walk::walk(&world[4402..], t, who, h, path, links);
+    keep_held(world, g)
 }
 
 // A new node in a folder; its file's name is 16 times n.
-pub fn create(
-    arena: &mut [u8],
-    table: &mut [u8; 4402],
-    who: u8,
-    folder: Handle,
-    name: &[u8],
-    kind: u32,
-    n: u8,
-) -> Got {
-    let g = calls_create::create(arena, read_table(table), who, folder, name, new(kind, n));
-    keep_held(table, g)
+pub fn create(world: &mut [u8], who: u8, folder: Handle, name: &[u8], kind: u32, n: u8) -> Got
+    requires { ⌜ 4402 ≤ length (now world) ⌝ }
+{
+    let t = read_table(&world[..]);
+    let g = calls_create::create(&mut world[4402..], t, who, folder, name, new(kind, n));
+    keep_held(world, g)
 }
 
-pub fn link(
-    arena: &mut [u8],
-    table: &mut [u8; 4402],
-    who: u8,
-    folder: Handle,
-    name: &[u8],
-    h: Handle,
-) -> Answer {
-    let r = calls_link::link(arena, read_table(table), who, folder, name, h);
-    keep(table, r)
+pub fn link(world: &mut [u8], who: u8, folder: Handle, name: &[u8], h: Handle) -> Answer
+    requires { ⌜ 4402 ≤ length (now world) ⌝ }
+{
+    let t = read_table(&world[..]);
+    let r = calls_link::link(&mut world[4402..], t, who, folder, name, h);
+    keep(world, r)
 }
 
-pub fn remove_file(
-    arena: &mut [u8],
-    table: &mut [u8; 4402],
-    who: u8,
-    folder: Handle,
-    name: &[u8],
-) -> Answer {
-    let r = calls_remove::remove_file(arena, read_table(table), who, folder, name);
-    keep(table, r)
+pub fn remove_file(world: &mut [u8], who: u8, folder: Handle, name: &[u8]) -> Answer
+    requires { ⌜ 4402 ≤ length (now world) ⌝ }
+{
+    let t = read_table(&world[..]);
+    let r = calls_remove::remove_file(&mut world[4402..], t, who, folder, name);
+    keep(world, r)
 }
 
-pub fn remove_folder(
-    arena: &mut [u8],
-    table: &mut [u8; 4402],
-    who: u8,
-    folder: Handle,
-    name: &[u8],
-) -> Answer {
-    let r = calls_remove::remove_folder(arena, read_table(table), who, folder, name);
-    keep(table, r)
+pub fn remove_folder(world: &mut [u8], who: u8, folder: Handle, name: &[u8]) -> Answer
+    requires { ⌜ 4402 ≤ length (now world) ⌝ }
+{
+    let t = read_table(&world[..]);
+    let r = calls_remove::remove_folder(&mut world[4402..], t, who, folder, name);
+    keep(world, r)
 }
 
-pub fn move_(
-    arena: &mut [u8],
-    table: &mut [u8; 4402],
-    who: u8,
-    from: Handle,
-    old: &[u8],
-    to: Handle,
-    new: &[u8],
-) -> Answer {
-    let r = calls_move::move_(arena, read_table(table), who, from, old, to, new);
-    keep(table, r)
+pub fn move_(world: &mut [u8], who: u8, from: Handle, old: &[u8], to: Handle, new: &[u8]) -> Answer
+    requires { ⌜ 4402 ≤ length (now world) ⌝ }
+{
+    let t = read_table(&world[..]);
+    let r = calls_move::move_(&mut world[4402..], t, who, from, old, to, new);
+    keep(world, r)
 }
 
-pub fn close(arena: &mut [u8], table: &mut [u8; 4402], who: u8, h: Handle) -> Answer {
-    let r = calls_close::close(arena, read_table(table), who, h);
-    keep(table, r)
+pub fn close(world: &mut [u8], who: u8, h: Handle) -> Answer
+    requires { ⌜ 4402 ≤ length (now world) ⌝ }
+{
+    let t = read_table(&world[..]);
+    let r = calls_close::close(&mut world[4402..], t, who, h);
+    keep(world, r)
 }
 
-pub fn write(
-    arena: &mut [u8],
-    table: &mut [u8; 4402],
-    who: u8,
-    h: Handle,
-    place: u64,
-    src: &[u8],
-) -> Answer {
-    let r = calls_write::write(arena, read_table(table), who, h, place, src);
-    keep(table, r)
+pub fn write(world: &mut [u8], who: u8, h: Handle, place: u64, src: &[u8]) -> Answer
+    requires { ⌜ 4402 ≤ length (now world) ⌝ }
+{
+    let t = read_table(&world[..]);
+    let r = calls_write::write(&mut world[4402..], t, who, h, place, src);
+    keep(world, r)
 }
 
-pub fn read(arena: &[u8], table: &[u8; 4402], who: u8, h: Handle, place: u64, out: &mut [u8]) {
-    calls_read::read(arena, read_table(table), who, h, place, out);
+pub fn read(world: &[u8], who: u8, h: Handle, place: u64, out: &mut [u8])
+    requires { ⌜ 4402 ≤ length (now world) ⌝ }
+{
+    calls_read::read(&world[4402..], read_table(world), who, h, place, out);
 }
 
-pub fn metadata(arena: &[u8], table: &[u8; 4402], who: u8, h: Handle) -> Told {
-    calls_metadata::metadata(arena, read_table(table), who, h)
+pub fn metadata(world: &[u8], who: u8, h: Handle) -> Told
+    requires { ⌜ 4402 ≤ length (now world) ⌝ }
+{
+    calls_metadata::metadata(&world[4402..], read_table(world), who, h)
 }
 
-pub fn get_entry(arena: &[u8], table: &[u8; 4402], who: u8, h: Handle, k: u64, out: &mut [u8]) {
-    calls_entry::get_entry(arena, read_table(table), who, h, k, out);
+pub fn get_entry(world: &[u8], who: u8, h: Handle, k: u64, out: &mut [u8])
+    requires { ⌜ 4402 ≤ length (now world) ⌝ }
+{
+    calls_entry::get_entry(&world[4402..], read_table(world), who, h, k, out);
 }
 
 // ---- where a scene begins
 
 // Nothing is open but the root, by Ann: her handle on it.
-pub fn begin(arena: &[u8], table: &mut [u8; 4402]) -> Handle {
-    put_empty(table);
-    handle(root(arena, table, ANN))
+pub fn begin(world: &mut [u8]) -> Handle
+    requires { ⌜ 4402 ≤ length (now world) ⌝ }
+{
+    put_empty(world);
+    handle(root(world, ANN))
 }
 
 // The same on a fresh image.
-pub fn fresh(arena: &mut [u8], table: &mut [u8; 4402]) -> Handle {
-    format(arena);
-    begin(&arena[..], table)
+pub fn fresh(world: &mut [u8]) -> Handle
+    requires { ⌜ 4402 ≤ length (now world) ⌝ }
+{
+    format(world);
+    begin(world)
 }

@@ -1,4 +1,4 @@
-// What the bytes of an image of 16 blocks tell, where no call tells it.
+// What the bytes of an image of 16 blocks tell, where no call tells it. It stands in a world, behind the 4,402 bytes of the table.
 ghost use mathlib.Core.Path.{_≡_};
 ghost use Prim.Native.Nat.{_+_, _<_, _≤_};
 ghost use lib.ListN.{length};
@@ -11,6 +11,7 @@ use base::index;
 use le::put_u32;
 use le::u32_at;
 use structs::super_block_at;
+use utf8::equal;
 
 // Where the maps of the first two groups begin in the metadata file.
 pub const FIRST_MAP: u32 = 128;
@@ -58,39 +59,56 @@ fn block_of(arena: &[u8], which: u8, name: &[u8], p: Piece) -> usize
 }
 
 // How long a file is, by its head.
-fn length_of(arena: &[u8; 8192], which: u8, name: &[u8; 16]) -> u64 {
-    let o = 512 * block_of(arena, which, name, Piece::Head);
-    u32_at(arena, o + 20) as u64
+fn length_of(world: &[u8], which: u8, name: &[u8; 16]) -> u64
+    requires { ⌜ length (now world) ≡ 12594 ⌝ }
+{
+    let o = 512 * block_of(&world[4402..], which, name, Piece::Head);
+    u32_at(world, o + 4422) as u64
 }
 
-pub fn meta_length(arena: &[u8; 8192]) -> u64 {
-    length_of(arena, 0, &[0u8; 16])
+pub fn meta_length(world: &[u8]) -> u64
+    requires { ⌜ length (now world) ≡ 12594 ⌝ }
+{
+    length_of(world, 0, &[0u8; 16])
 }
 
 // The root's file is named by 16 ones.
-pub fn root_length(arena: &[u8; 8192]) -> u64 {
-    length_of(arena, 1, &[1u8; 16])
+pub fn root_length(world: &[u8]) -> u64
+    requires { ⌜ length (now world) ≡ 12594 ⌝ }
+{
+    length_of(world, 1, &[1u8; 16])
 }
 
 // Where a block of the metadata file's data begins.
-fn meta_at(arena: &[u8], number: u32) -> usize
-    requires { ⌜ length (now arena) ≡ 8192 ⌝ }
-    ensures { λ r. ⌜ r + 512 ≤ 8192 ⌝ }
+fn meta_at(world: &[u8], number: u32) -> usize
+    requires { ⌜ length (now world) ≡ 12594 ⌝ }
+    ensures { λ r. ⌜ r + 512 ≤ 12594 ⌝ }
 {
-    512 * block_of(arena, 0, &[0u8; 16], Piece::Data(number))
+    4402 + 512 * block_of(&world[4402..], 0, &[0u8; 16], Piece::Data(number))
 }
 
 // The superblock's count of free node numbers.
-pub fn unused(arena: &[u8; 8192]) -> u64 {
-    let o = meta_at(arena, 0);
-    let b = super_block_at(arena, o + 24);
+pub fn unused(world: &[u8]) -> u64
+    requires { ⌜ length (now world) ≡ 12594 ⌝ }
+{
+    let o = meta_at(world, 0);
+    let b = super_block_at(world, o + 24);
     b.unused as u64
 }
 
 // A byte of the metadata file.
-pub fn meta_byte(arena: &[u8; 8192], pos: u32) -> u8 {
-    let o = meta_at(arena, pos / 480);
-    arena[o + 24 + index(pos % 480)]
+pub fn meta_byte(world: &[u8], pos: u32) -> u8
+    requires { ⌜ length (now world) ≡ 12594 ⌝ }
+{
+    let o = meta_at(world, pos / 480);
+    world[o + 24 + index(pos % 480)]
+}
+
+// Whether two worlds have the same image.
+pub fn same_image(a: &[u8], b: &[u8]) -> bool
+    requires { ⌜ (4402 ≤ length (now a)) × (4402 ≤ length (now b)) ⌝ }
+{
+    equal(&a[4402..], &b[4402..])
 }
 
 // The metadata file's first block, with unused 0 and no bit set in the first map.
@@ -103,9 +121,9 @@ fn use_all(block: &mut [u8])
 }
 
 // The first group has no number left.
-pub fn fill_group(arena: &mut [u8])
-    requires { ⌜ length (now arena) ≡ 8192 ⌝ }
+pub fn fill_group(world: &mut [u8])
+    requires { ⌜ length (now world) ≡ 12594 ⌝ }
 {
-    let o = meta_at(&arena[..], 0);
-    use_all(&mut arena[o..o + 512]);
+    let o = meta_at(&world[..], 0);
+    use_all(&mut world[o..o + 512]);
 }

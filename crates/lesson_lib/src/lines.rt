@@ -1,4 +1,6 @@
 // Lines that tell what an image's bytes say.
+ghost use mathlib.Core.Path.{_≡_};
+ghost use lib.ListN.{length};
 use crate::image;
 use crate::image::FIRST_MAP;
 use crate::image::SECOND_MAP;
@@ -15,7 +17,9 @@ fn mark(tag: u8) {
     }
 }
 
-fn marks(arena: &[u8; 8192]) {
+fn marks(arena: &[u8])
+    requires { ⌜ length (now arena) ≡ 8192 ⌝ }
+{
     let mut k: usize = 0;
     while k < 16 {
         mark(arena[512 * k]);
@@ -24,26 +28,34 @@ fn marks(arena: &[u8; 8192]) {
 }
 
 // How many blocks are in use, and which.
-pub fn blocks_line(arena: &[u8; 8192]) {
-    let story = b"  % blocks are in use: %\n";
+pub fn blocks_line(world: &[u8])
+    requires { ⌜ length (now world) ≡ 12594 ⌝ }
+{
+    let arena = &world[4402..];
+    let story: &[u8] = b"  % blocks are in use: %\n";
     say::number(story, 0, image::used(arena));
     part(story, 1);
     marks(arena);
     part(story, 2);
 }
 
-pub fn numbers_line(arena: &[u8; 8192]) {
-    let story = b"  % node numbers are free; the first map byte is %.\n";
-    say::number(story, 0, image::unused(arena));
-    say::number(story, 1, image::meta_byte(arena, FIRST_MAP) as u64);
+pub fn numbers_line(world: &[u8])
+    requires { ⌜ length (now world) ≡ 12594 ⌝ }
+{
+    let story: &[u8] = b"  % node numbers are free; the first map byte is %.\n";
+    say::number(story, 0, image::unused(world));
+    say::number(story, 1, image::meta_byte(world, FIRST_MAP) as u64);
     part(story, 2);
 }
 
-pub fn second_group_line(arena: &[u8; 8192]) {
-    let story = b"  A second group came: % node numbers are free; its map's first byte is %;\n  \
+pub fn second_group_line(world: &[u8])
+    requires { ⌜ length (now world) ≡ 12594 ⌝ }
+{
+    let story: &[u8] =
+        b"  A second group came: % node numbers are free; its map's first byte is %;\n  \
         the metadata file has % bytes.\n";
-    say::number(story, 0, image::unused(arena));
-    say::number(story, 1, image::meta_byte(arena, SECOND_MAP) as u64);
-    say::number(story, 2, image::meta_length(arena));
+    say::number(story, 0, image::unused(world));
+    say::number(story, 1, image::meta_byte(world, SECOND_MAP) as u64);
+    say::number(story, 2, image::meta_length(world));
     part(story, 3);
 }

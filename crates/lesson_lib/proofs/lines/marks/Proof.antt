@@ -16,8 +16,8 @@ loop-holds c = search needs
 mul-mark : tie.Need-mul-mark Inv-loop μ-loop
 mul-mark c = search needs
 
-element-copy-out-mark : tie.Need-element-copy-out-mark Inv-loop μ-loop
-element-copy-out-mark c = search needs
+shared-slice-read-mark : tie.Need-shared-slice-read-mark Inv-loop μ-loop
+shared-slice-read-mark c = search needs
 
 mark-requires : tie.Need-mark-requires Inv-loop μ-loop
 mark-requires c κs = search needs
@@ -42,7 +42,7 @@ marks-spec =
     μ-loop
     loop-holds
     mul-mark
-    element-copy-out-mark
+    shared-slice-read-mark
     mark-requires
     add-k
     loop-less
