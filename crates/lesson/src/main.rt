@@ -1,11 +1,9 @@
 // The lesson of the course: document 01's examples, run on the calls. Each scene is a function, and each line that it prints says what was
 // done and what came out.
-mod lines;
 mod made;
 mod paths;
 mod slots;
 mod support;
-mod world;
 
 fn main() {
     let mut world = [0u8; 12594];

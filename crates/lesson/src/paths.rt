@@ -1,17 +1,17 @@
 // The scene in which a glyph is opened by path, through symlinks.
-use crate::lines::create_line;
-use crate::lines::got;
-use crate::lines::node;
-use crate::lines::outline;
-use crate::lines::save;
-use crate::world::ANN;
-use crate::world::create;
-use crate::world::fresh;
-use crate::world::handle;
-use crate::world::walk;
 use lesson_lib::say::part;
 use lesson_lib::say::stored;
 use lesson_lib::say::text;
+use lesson_world::lines::create_line;
+use lesson_world::lines::got;
+use lesson_world::lines::node;
+use lesson_world::lines::outline;
+use lesson_world::lines::save;
+use lesson_world::world::ANN;
+use lesson_world::world::create;
+use lesson_world::world::fresh;
+use lesson_world::world::handle;
+use lesson_world::world::walk;
 use structs::DIR;
 use structs::FILE;
 use table::Handle;

@@ -1,21 +1,21 @@
 // The scene in which two have one glyph open: the support call.
-use crate::lines::answer;
-use crate::lines::create_line;
-use crate::lines::got;
-use crate::lines::node;
-use crate::lines::outline;
-use crate::lines::save;
-use crate::world::ANN;
-use crate::world::BEN;
-use crate::world::close;
-use crate::world::find;
-use crate::world::fresh;
-use crate::world::handle;
-use crate::world::remove_file;
-use crate::world::root;
 use lesson_lib::say;
 use lesson_lib::say::part;
 use lesson_lib::say::text;
+use lesson_world::lines::answer;
+use lesson_world::lines::create_line;
+use lesson_world::lines::got;
+use lesson_world::lines::node;
+use lesson_world::lines::outline;
+use lesson_world::lines::save;
+use lesson_world::world::ANN;
+use lesson_world::world::BEN;
+use lesson_world::world::close;
+use lesson_world::world::find;
+use lesson_world::world::fresh;
+use lesson_world::world::handle;
+use lesson_world::world::remove_file;
+use lesson_world::world::root;
 use structs::FILE;
 use table::Handle;
 
