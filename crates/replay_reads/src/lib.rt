@@ -389,7 +389,7 @@ fn call_walk(
     walk_words(script, at, desk, arena, mem, &mut out, text, w)
 }
 
-// ---- the command by its byte, in two parts: a match of ten calls takes more than twice as long to prove as one of five
+// ---- the command by its byte, in two parts, since a match takes longer to prove than its arms are many
 
 // 26, 27, 32, 35, and 30.
 fn do_shown(
