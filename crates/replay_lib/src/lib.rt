@@ -1,7 +1,6 @@
 // The call script (docs/REPLAY.md): a script, a lent arena and a lent text buffer; one line for each call.
 // What is kept between two runs stands in a lent desk (script/src/lib.rt).
 mod perform;
-mod writes;
 
 ghost use mathlib.Core.Path.{_≡_};
 ghost use mathlib.Core.Bool.{false};

@@ -6,12 +6,12 @@ ghost use Rattle.mem.specs.Mem.{Whole};
 ghost use Rattle.script.specs.Shape.{There};
 ghost use Rattle.replay_lib.specs.Steps.{Primed, Gone};
 use crate::Step;
-use crate::writes::call_change;
-use crate::writes::call_create;
-use crate::writes::call_format;
-use crate::writes::call_move;
 use mem::MEMORY;
 use replay_reads::do_read;
+use replay_writes::call_change;
+use replay_writes::call_create;
+use replay_writes::call_format;
+use replay_writes::call_move;
 use script::desk::arena_len;
 use script::desk::do_quiet;
 use script::desk::to_memory;
@@ -19,7 +19,7 @@ use script::lines::put_name;
 use script::lines::put_sums;
 use script::shape::size_at;
 
-// Those of writes.rt: 16, 20, 23, and 21, 28, 29, 33, 34, 36, 37. The others leave the arena as it is.
+// Those of `replay_writes`: 16, 20, 23, and 21, 28, 29, 33, 34, 36, 37. The others leave the arena as it is.
 fn do_call(
     script: &[u8],
     at: usize,

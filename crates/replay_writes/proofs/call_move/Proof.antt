@@ -4,8 +4,8 @@ use Prim.Native.Nat.{ℕ, _+_}
 use native.Mathlib.Omega.{arith}
 use Rattle.le.specs.Le.{leAt}
 use borrow.Author.Needs.{needs}
-use Rattle.replay_lib.proofs.writes.call_move.Statement.{statement}
-use Rattle.replay_lib.proofs.writes.call_move.Tie as tie
+use Rattle.replay_writes.proofs.call_move.Statement.{statement}
+use Rattle.replay_writes.proofs.call_move.Tie as tie
 
 add-name-end : tie.Need-add-name-end
 add-name-end c = search needs

@@ -2,8 +2,8 @@
 use Rattle.script.specs.Shape.{sizeBy}
 use Rattle.script.proofs.Sizes.{bytes-there}
 use borrow.Author.Needs.{needs}
-use Rattle.replay_lib.proofs.writes.change.Statement.{statement}
-use Rattle.replay_lib.proofs.writes.change.Tie as tie
+use Rattle.replay_writes.proofs.change.Statement.{statement}
+use Rattle.replay_writes.proofs.change.Tie as tie
 
 shared-slice-read-match : tie.Need-shared-slice-read-match
 shared-slice-read-match c = search needs
