@@ -15,7 +15,8 @@ pub fn stored(name: &[u8]) {
     text(&name[..n]);
 }
 
-// ---- a story: a text with blanks, each written %. Part k stands before blank k. (A scene with one text costs its proof a third of one with many.)
+// ---- a story: a text with blanks, each written %. Part k stands before blank k. So a scene's words stand together, and its proof has one
+// array for them.
 
 fn part_start(story: &[u8], k: u8) -> usize
     ensures { λ r. ⌜ r ≤ length (now (story .entry)) ⌝ }
