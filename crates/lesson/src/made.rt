@@ -76,23 +76,22 @@ fn make(world: &mut [u8; 12594], root: Handle, name: &[u8], story: &[u8], k: u8)
     got(story, k, a);
 }
 
-// Names that create refuses, and the image after them.
-fn refused_names(world: &mut [u8; 12594], root: Handle) {
+// Names that create refuses, and the image after them. The world as it was is kept beside it.
+fn refused_names(world: &mut [u8; 12594], kept: &mut [u8; 12594], root: Handle) {
     let story: &[u8] = b".\n  create with a name of 256 bytes: %.\n  \
         create with the empty name, which means the folder itself: %.\n\
         %  The two refusals left every byte of the image as it was.\n\
         %  The two refusals changed the image.\n";
-    let mut before = [0u8; 12594];
-    copy(&mut before, world);
+    copy(kept, world);
     make(world, root, &[b'n'; 256], story, 0);
     make(world, root, b"", story, 1);
     part(story, 2);
-    say::whether(same_image(&before, world), story, 3, 4);
+    say::whether(same_image(kept, world), story, 3, 4);
 }
 
-pub fn names(world: &mut [u8; 12594]) {
+pub fn names(world: &mut [u8; 12594], kept: &mut [u8; 12594]) {
     let root = fresh(world);
     let story: &[u8] = b"\nNames\n  create with a name of 255 bytes: %";
     make(world, root, &[b'n'; 255], story, 0);
-    refused_names(world, root);
+    refused_names(world, kept, root);
 }

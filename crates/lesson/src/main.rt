@@ -7,14 +7,15 @@ mod support;
 
 fn main() {
     let mut world = [0u8; 12594];
+    let mut kept = [0u8; 12594];
     made::fresh_image(&mut world);
     made::file_a(&mut world);
     made::folder_b(&mut world);
     slots::slots(&mut world);
     made::second_group(&mut world);
     made::numbers();
-    made::names(&mut world);
-    slots::same_node(&mut world);
+    made::names(&mut world, &mut kept);
+    slots::same_node(&mut world, &mut kept);
     slots::families(&mut world);
     paths::masters();
     slots::two_keys(&mut world);

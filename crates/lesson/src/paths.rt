@@ -1,45 +1,17 @@
 // The scene in which a glyph is opened by path, through symlinks.
 use lesson_lib::say::part;
-use lesson_lib::say::stored;
 use lesson_lib::say::text;
 use lesson_world::lines::create_line;
-use lesson_world::lines::got;
 use lesson_world::lines::node;
 use lesson_world::lines::outline;
 use lesson_world::lines::save;
+use lesson_world::lines::symlink_line;
+use lesson_world::lines::walk_line;
 use lesson_world::world::ANN;
-use lesson_world::world::create;
 use lesson_world::world::fresh;
-use lesson_world::world::handle;
-use lesson_world::world::walk;
 use structs::DIR;
 use structs::FILE;
 use table::Handle;
-
-const SYMLINK: u32 = 3;
-
-// A symlink a in a folder: what is written in it is its target.
-fn symlink_line(world: &mut [u8; 20786], folder: Handle, n: u8, target: &[u8]) {
-    let story: &[u8] = b"  a symlink a there, with the target %: %.\n";
-    part(story, 0);
-    text(target);
-    let a = create(world, ANN, folder, b"a", SYMLINK, n);
-    save(world, ANN, handle(a), target, story, 1);
-    part(story, 2);
-}
-
-// A walk from the root, and the targets that it has read.
-fn walk_line(world: &mut [u8; 20786], root: Handle, path: &[u8]) -> Handle {
-    let story: &[u8] = b"  walk to %: %; the link buffer has %";
-    part(story, 0);
-    text(path);
-    let mut links = [0u8; 64];
-    let a = walk(world, ANN, root, path, &mut links);
-    got(story, 1, a);
-    part(story, 2);
-    stored(&links);
-    handle(a)
-}
 
 fn by_path(world: &mut [u8; 20786], root: Handle) {
     let story: &[u8] = b"; it is %.\n  Ann saves her curve there: %.\n%; it reads %.\n";

@@ -9,6 +9,7 @@ use lesson_world::lines::create_line;
 use lesson_world::lines::node;
 use lesson_world::lines::slot;
 use lesson_world::world::ANN;
+use lesson_world::world::close;
 use lesson_world::world::create;
 use lesson_world::world::find;
 use lesson_world::world::fresh;
@@ -54,19 +55,18 @@ pub fn slots(world: &mut [u8; 12594]) {
     first_removed(world, root);
 }
 
-// Moves old to new, which is another name of its node.
-fn move_same(world: &mut [u8; 12594], root: Handle) {
+// Moves old to new, which is another name of its node. The world as it was is kept beside it.
+fn move_same(world: &mut [u8; 12594], kept: &mut [u8; 12594], root: Handle) {
     let story: &[u8] = b"  move old to new: %; image and table are byte for byte what they were.\n\
         %; image or table changed.\n";
-    let mut before = [0u8; 12594];
-    copy(&mut before, world);
+    copy(kept, world);
     let a = move_(world, ANN, root, b"old", root, b"new");
     answer(story, 0, a);
-    say::whether(equal(&before, world), story, 1, 2);
+    say::whether(equal(kept, world), story, 1, 2);
 }
 
 // Both names are there, before and after.
-pub fn same_node(world: &mut [u8; 12594]) {
+pub fn same_node(world: &mut [u8; 12594], kept: &mut [u8; 12594]) {
     let story: &[u8] = b"\nA move onto another name of the same node\n\
         %  link it as new: %; it is %.\n\
         %  Both names are there: slot 2 is %, slot 3 is %.\n";
@@ -77,18 +77,17 @@ pub fn same_node(world: &mut [u8; 12594]) {
     answer(story, 1, a);
     node(world, ANN, h, story, 2);
     part(story, 3);
-    move_same(world, root);
+    move_same(world, kept, root);
     slot(world, root, 2, story, 4);
     slot(world, root, 3, story, 5);
     part(story, 6);
 }
 
-// Where `..` of a folder leads. The world with that hold is not kept.
-fn parent(world: &[u8; 12594], h: Handle, story: &[u8], k: u8) {
-    let mut other = [0u8; 12594];
-    copy(&mut other, world);
-    let a = find(&mut other, ANN, h, b"..");
-    node(&other, ANN, handle(a), story, k);
+// Where `..` of a folder leads.
+fn parent(world: &mut [u8; 12594], h: Handle, story: &[u8], k: u8) {
+    let a = find(world, ANN, h, b"..");
+    node(world, ANN, handle(a), story, k);
+    close(world, ANN, handle(a));
 }
 
 // A weight's folder goes to another family; then that family can't go below it.

@@ -7,6 +7,7 @@ use crate::world::get_entry;
 use crate::world::handle;
 use crate::world::metadata;
 use crate::world::read;
+use crate::world::walk;
 use crate::world::write;
 use calls::Answer;
 use calls::Got;
@@ -16,6 +17,8 @@ use lesson_lib::say::part;
 use lesson_lib::say::stored;
 use lesson_lib::say::text;
 use table::Handle;
+
+const SYMLINK: u32 = 3;
 
 // What a call answered.
 pub fn answer(story: &[u8], k: u8, a: Answer) {
@@ -98,4 +101,31 @@ pub fn save(world: &mut [u8], who: u8, h: Handle, outline: &[u8], story: &[u8], 
 {
     let a = write(world, who, h, 0, outline);
     answer(story, k, a);
+}
+
+// A symlink a in a folder, by Ann: what is written in it is its target.
+pub fn symlink_line(world: &mut [u8], folder: Handle, n: u8, target: &[u8])
+    requires { ⌜ 4402 ≤ length (now world) ⌝ }
+{
+    let story: &[u8] = b"  a symlink a there, with the target %: %.\n";
+    part(story, 0);
+    text(target);
+    let a = create(world, ANN, folder, b"a", SYMLINK, n);
+    save(world, ANN, handle(a), target, story, 1);
+    part(story, 2);
+}
+
+// Her walk from the root, and the targets that it has read.
+pub fn walk_line(world: &mut [u8], root: Handle, path: &[u8]) -> Handle
+    requires { ⌜ 4402 ≤ length (now world) ⌝ }
+{
+    let story: &[u8] = b"  walk to %: %; the link buffer has %";
+    part(story, 0);
+    text(path);
+    let mut links = [0u8; 64];
+    let a = walk(world, ANN, root, path, &mut links);
+    got(story, 1, a);
+    part(story, 2);
+    stored(&links);
+    handle(a)
 }
