@@ -1,3 +1,2 @@
-pub mod Clears
 pub mod Formats
 pub mod Ones

@@ -3,12 +3,12 @@ ghost use mathlib.Core.Path.{_≡_};
 ghost use mathlib.Core.Bool.{true};
 ghost use mathlib.Core.List.{List};
 ghost use Prim.Native.Nat.{ℕ, _<_, _≤_};
-ghost use lib.ListN.{length, replicate};
+ghost use lib.ListN.{length};
 ghost use Rattle.base.specs.Out.{Went};
 ghost use Rattle.table.specs.Table.{emptyTable};
 ghost use Rattle.arena.specs.Blocks.{legal};
 ghost use Rattle.overlay.specs.View.{view, left, Fine, Empty};
-ghost use Rattle.overlay.specs.Steps.{Changed, Did};
+ghost use Rattle.overlay.specs.Steps.{Did};
 ghost use Rattle.sefs.specs.Create.{callFormat};
 ghost use Rattle.mem.specs.Mem.{Whole};
 ghost use Rattle.mem.specs.State.{fsOf, Ready, Stepped};
@@ -17,6 +17,7 @@ ghost use Rattle.calls_format.specs.Format.{makeMeta, nameTwice, syncBot
 use calls::Reply;
 use calls::done;
 use calls::refused;
+use clears::clear_all;
 use files::store::cut;
 use files::store::make;
 use folders::dirent_init;
@@ -29,19 +30,6 @@ use nodes::meta::sync_meta;
 use nodes::new_node;
 use nodes::sync_row;
 use structs::Timespec;
-
-// The storage is cleared.
-fn clear_all(arena: &[u8], work: &mut [u8])
-    requires { ⌜ Fine (now arena) (now work) ⌝ }
-    ensures { λ _. ⌜ Changed (now (arena .entry)) (now (work .entry)) (now (work .exit)) (replicate (length (now (arena .entry))) 0) 0 ⌝ }
-{
-    let n = arena.len() / 512;
-    let mut k: usize = 0;
-    while k < n {
-        overlay::free(work, k);
-        k = k + 1;
-    }
-}
 
 // The metadata file, as long as one group.
 fn make_meta(arena: &[u8], work: &mut [u8]) -> u8

@@ -1,6 +1,6 @@
 -- The call sync, in its parts.
 use mathlib.Core.Path.{_≡_, refl, sym, _∙_, ap}
-use mathlib.Core.Bool.{true, false, _&&_, _||_}
+use mathlib.Core.Bool.{true, false, _&&_}
 use mathlib.Core.List.{List}
 use Prim.Native.Nat.{ℕ, zero, suc, _+_, _-_, _/_, _%_, _<_, _≤_}
 use native.Mathlib.Omega.{arith}
@@ -14,7 +14,6 @@ use Rattle.base.proofs.Outs.{above-zero, bind-is-done, went-is, went-has}
 use Rattle.base.proofs.Searches.{found-at, found-nothing}
 use Rattle.table.specs.declared.Table.{Table}
 use Rattle.table.specs.Table.{rowAt, isNext, nextRow}
-use Rattle.table.proofs.Next.{Best, best-take, best-keep}
 use Rattle.arena.specs.Blocks.{legal}
 use Rattle.arena.specs.Places.{freeCount}
 use Rattle.overlay.specs.View.{view, Fine, Empty}
@@ -47,14 +46,6 @@ went-does (well e p) s d = refl
 went-does (ill l e) s d = absurd (let z : _≡_ {A = ℕ} 0 1 = cc in omega arith)
 
 -- ---- the next row
-
--- the id of row n is looked at: it is taken, or passed
-module _ (f : ℕ → ℕ) (after n best least id : ℕ) (q : id ≡ f n) (b : Best f after n best least) where
-  pub id-taken : n < 34 → (ltb after id && (eqb best 34 || ltb id least)) ≡ true → (k m : ℕ) → k ≡ n → m ≡ id → Best f after (n + 1) k m
-  id-taken l e k m x y = best-take f after n best least l b (rw q at e) k m x (y ∙ q)
-
-  pub id-passed : (ltb after id && (eqb best 34 || ltb id least)) ≡ false → (k m : ℕ) → k ≡ best → m ≡ least → Best f after (n + 1) k m
-  id-passed e k m x y = best-keep f after n best least b (rw q at e) k m x y
 
 -- its id lies above
 next-above : (t : Table) (low i : ℕ) → foundBelow i 34 ≡ nextRow t low → i < 34 → low < rowAt t i .id

@@ -8,11 +8,10 @@ ghost use Prim.Native.Nat.{ℕ, _+_, _*_, _<_, _≤_};
 ghost use lib.ListN.{length};
 ghost use Rattle.base.specs.Count.{bit};
 ghost use Rattle.base.specs.Out.{done as doneAs};
-ghost use Rattle.base.specs.Search.{foundBelow};
 ghost use Rattle.arena.specs.Blocks.{legal};
 ghost use Rattle.overlay.specs.View.{Empty};
 ghost use Rattle.files.specs.Store.{putFile};
-ghost use Rattle.table.specs.Table.{rowAt, nextRow};
+ghost use Rattle.table.specs.Table.{rowAt};
 ghost use Rattle.sefs.specs.Meta.{metaFile};
 ghost use Rattle.sefs.specs.Nodes.{syncRow};
 ghost use Rattle.sefs.specs.Close.{syncFrom, callSync};
@@ -35,26 +34,8 @@ use mem::put_dirty;
 use mem::put_table;
 use nodes::sync_row;
 use nodes_read::meta::load_meta;
+use rows::next_row;
 use table::Table;
-
-// The row with the lowest id above that one, or 34: `best` is it among the rows passed.
-fn next_row(mem: &[u8], after: u32) -> usize
-    requires { ⌜ Whole (now mem) ⌝ }
-    ensures { λ r. ⌜ foundBelow r 34 ≡ nextRow (tableIn (now (mem .entry))) after ⌝ }
-{
-    let mut best: usize = 34;
-    let mut least: u32 = 0;
-    let mut i: usize = 0;
-    while i < 34 {
-        let id = id_at(mem, i);
-        if (after < id) & ((best == 34) | (id < least)) {
-            best = i;
-            least = id;
-        }
-        i = i + 1;
-    }
-    best
-}
 
 // ---- whether all can be stored
 

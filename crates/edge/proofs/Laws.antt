@@ -39,7 +39,8 @@ use Rattle.walk.specs.Walk.{Walked, walked, mostLinks}
 use Rattle.calls_walk.proofs.Runs.{nothing-laid}
 use Rattle.fsck.specs.declared.Verdict.{Verdict}
 use Rattle.fsck.specs.declared.Verdict.the-variants.{Pass}
-use Rattle.edge_ends.specs.Words.{handleWords, toldWordsBy, listedWordsBy, takenWordsBy}
+use Rattle.edge_words.specs.Words.{handleWords}
+use Rattle.edge_ends.specs.Ends.{toldWordsBy, listedWordsBy, takenWordsBy}
 use Rattle.edge_ends.proofs.Laws.{passed-over, blocks-in}
 use Rattle.edge.specs.Edge.{sized, sizedWalk, Leaves, Makes, Holds, Walks, Sets, Tells, Shows, Lists, Takes, Counts, newOf, counted, courseNumber, courseTableBy}
 

@@ -24,7 +24,7 @@ use Rattle.calls_list.specs.Place.{startOf}
 use Rattle.walk.specs.Walk.{Walked, walked, mostLinks}
 use Rattle.fsck.specs.declared.Verdict.{Verdict}
 use Rattle.fsck.specs.declared.Verdict.the-variants.{Pass, Fail}
-use Rattle.edge_ends.specs.Words.{handleWords, metadataWords}
+use Rattle.edge_words.specs.Words.{handleWords, metadataWords}
 
 -- what create is to make, by its arguments
 abbrev pub newOf : ℕ → ℕ → Timespec → List ℕ → New

@@ -4,7 +4,7 @@ ghost use lib.ListN.{length};
 ghost use Rattle.mem.specs.Mem.{tableIn, memorySize};
 ghost use Rattle.edge.specs.Edge.{courseNumber, courseTableBy, counted, Counts};
 use calls_move::Course;
-use edge_ends::results::put_counts;
+use edge_words::results::put_counts;
 use fsck::Verdict;
 use mem::write_back;
 use table_bytes::settle_marks;

@@ -15,7 +15,7 @@ ghost use Rattle.sefs.specs.Remove.{callRemove, callRemoveFile, callRemoveFolde
 ghost use Rattle.walk.specs.Walk.{callWalk};
 ghost use Rattle.calls_format.specs.Format.{formatted};
 ghost use Rattle.fsck.specs.Verdicts.{verdictOf};
-ghost use Rattle.edge_ends.specs.Words.{handleOf, timeOf};
+ghost use Rattle.edge_words.specs.Words.{handleOf, timeOf};
 ghost use Rattle.edge.specs.Edge.{sized, sizedWalk, newOf, counted, Leaves, Makes, Holds, Walks, Sets, Tells, Counts};
 use calls_close::close_on;
 use calls_create::New;
@@ -31,32 +31,25 @@ use calls_open::open_on;
 use calls_remove::remove_on;
 use calls_sync::sync_on;
 use calls_walk::walk_on;
-use edge_ends::args::file_of;
-use edge_ends::args::handle;
-use edge_ends::args::time;
 use edge_ends::ends::end_after;
 use edge_ends::ends::end_fresh;
 use edge_ends::ends::end_held;
 use edge_ends::ends::end_told;
+use edge_words::COUNTS_WORDS;
+use edge_words::FILE_NAME;
+use edge_words::HANDLE_WORDS;
+use edge_words::METADATA_WORDS;
+use edge_words::TABLE;
+use edge_words::WRONG_SIZE;
+use edge_words::args::file_of;
+use edge_words::args::handle;
+use edge_words::args::time;
 use ends::end_course;
 use ends::end_verdict;
 use fsck::check_on;
 use mem::MEMORY;
 use mem::begin;
 use structs::Timespec;
-
-// Bytes, words, and what a slice of another size is answered with, as in the header.
-const TABLE: usize = 4402;
-
-const FILE_NAME: usize = 16;
-
-const HANDLE_WORDS: usize = 2;
-
-const METADATA_WORDS: usize = 14;
-
-const COUNTS_WORDS: usize = 3;
-
-const WRONG_SIZE: u32 = 255;
 
 // ---- the whole image
 

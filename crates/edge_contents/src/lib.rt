@@ -3,7 +3,7 @@ ghost use lib.ListN.{length};
 ghost use Rattle.table_bytes.specs.Layout.{tableOf};
 ghost use Rattle.sefs.specs.Contents.{callRead, callWrite, callResize};
 ghost use Rattle.sefs.specs.Read.{callEntry, callListing};
-ghost use Rattle.edge_ends.specs.Words.{handleOf};
+ghost use Rattle.edge_words.specs.Words.{handleOf};
 ghost use Rattle.edge.specs.Edge.{sized, startIn, Leaves, Shows, Lists, Takes};
 use calls_entry::entry_on;
 use calls_list::listing_on;
@@ -11,22 +11,17 @@ use calls_list::start_of;
 use calls_read::read_on;
 use calls_resize::resize_on;
 use calls_write::write_on;
-use edge_ends::args::handle;
 use edge_ends::ends::end_after;
 use edge_ends::ends::end_listed;
 use edge_ends::ends::end_taken;
 use edge_ends::ends::number;
+use edge_words::NEXT_WORDS;
+use edge_words::READ_WORDS;
+use edge_words::TABLE;
+use edge_words::WRONG_SIZE;
+use edge_words::args::handle;
 use mem::MEMORY;
 use mem::begin;
-
-// As in the header.
-const TABLE: usize = 4402;
-
-const NEXT_WORDS: usize = 1;
-
-const READ_WORDS: usize = 1;
-
-const WRONG_SIZE: u32 = 255;
 
 // ---- bytes
 

@@ -3,19 +3,14 @@ use mathlib.Core.Path.{_≡_, sym, _∙_, subst}
 use mathlib.Core.List.{List, [], _∷_}
 use Prim.Native.Nat.{ℕ, _+_, _*_, _<_}
 use native.Mathlib.Omega.{arith}
-use lib.IntN.{ℤ}
 use lib.Dec.{eqb}
 use lib.ListN.{length}
-use mir.Syntax.{w64}
-use mir.Val.{SFits, toZ, ofZ}
-use mir.ValLaws.{toZ-ofZ}
 use borrow.Author.Tests.{ne-eqb}
 use Rattle.base.specs.Parts.{part}
 use Rattle.base.specs.Search.{pick}
 use Rattle.base.proofs.Lists.{length-part}
 use Rattle.base.proofs.Parts.{part-all}
 use Rattle.le.specs.Le.{Bytes}
-use Rattle.structs.specs.declared.Timespec.{Timespec}
 use Rattle.structs.proofs.Layouts.{recordOf-fits}
 use Rattle.table.specs.declared.Row.{Row}
 use Rattle.table.specs.Table.{rowAt}
@@ -29,12 +24,8 @@ use Rattle.calls.specs.declared.Listed.the-variants.{Slots}
 use Rattle.calls.specs.declared.Taken.{Taken}
 use Rattle.calls.specs.declared.Taken.the-variants as takens
 use Rattle.calls.specs.Answers.{toldNumber, listedNumber, takenNumber}
-use Rattle.edge_ends.specs.Words.{timeOf, metadataWords, toldWordsBy, listedWordsBy, takenWordsBy}
-
--- ---- a time: a signed local holds bits, so what a callee is given is read back from them
-
-pub time-is : {t : Timespec} {sec nsec : ℤ} → SFits w64 sec → SFits w64 nsec → t ≡ timeOf (toZ w64 (ofZ w64 sec)) (toZ w64 (ofZ w64 nsec)) → t ≡ timeOf sec nsec
-time-is {sec = sec} {nsec = nsec} f g e = e ∙ (λ x. timeOf (toZ-ofZ w64 sec f x) (toZ-ofZ w64 nsec g x))
+use Rattle.edge_words.specs.Words.{metadataWords}
+use Rattle.edge_ends.specs.Ends.{toldWordsBy, listedWordsBy, takenWordsBy}
 
 -- ---- an answer, by its case
 

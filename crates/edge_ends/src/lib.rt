@@ -1,4 +1,2 @@
-// How a C function begins and ends: the words of its arguments and of its results, and the table's bytes written back.
-pub mod args;
+// How a C function ends: the words of its result, and the table's bytes written back.
 pub mod ends;
-pub mod results;

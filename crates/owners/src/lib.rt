@@ -10,7 +10,7 @@ ghost use Rattle.sefs.specs.Open.{callRoot, callFind};
 ghost use Rattle.sefs.specs.Read.{callMetadata, callSet};
 ghost use Rattle.sefs.specs.Remove.{callRemove, callRemoveFile, callRemoveFolder};
 ghost use Rattle.walk.specs.Walk.{callWalk};
-ghost use Rattle.edge_ends.specs.Words.{handleOf, timeOf};
+ghost use Rattle.edge_words.specs.Words.{handleOf, timeOf};
 ghost use Rattle.edge.specs.Edge.{sized, sizedWalk, Leaves, Makes, Holds, Walks, Sets, Tells};
 ghost use Rattle.owners_kept.specs.Owned.{Chained, Owned};
 ghost use Rattle.owners.specs.Builds.{Builds};
@@ -20,12 +20,17 @@ use calls_metadata::metadata_in;
 use calls_metadata::set_in;
 use calls_walk::walk_led;
 use edge::new_node;
-use edge_ends::args::file_of;
-use edge_ends::args::handle;
-use edge_ends::args::time;
 use edge_ends::ends::end_after;
 use edge_ends::ends::end_held;
 use edge_ends::ends::end_told;
+use edge_words::CHAINS;
+use edge_words::FILE_NAME;
+use edge_words::HANDLE_WORDS;
+use edge_words::METADATA_WORDS;
+use edge_words::WRONG_SIZE;
+use edge_words::args::file_of;
+use edge_words::args::handle;
+use edge_words::args::time;
 use mem::MEMORY;
 use mem::begin;
 use owners_kept::close_on;
@@ -35,17 +40,6 @@ use owners_names::link_on;
 use owners_names::move_on;
 use owners_names::remove_on;
 use sound::chain_all;
-
-// Words, and what a slice of another size is answered with, as in the header.
-const CHAINS: usize = 8192;
-
-const FILE_NAME: usize = 16;
-
-const HANDLE_WORDS: usize = 2;
-
-const METADATA_WORDS: usize = 14;
-
-const WRONG_SIZE: u32 = 255;
 
 // ---- the whole image
 

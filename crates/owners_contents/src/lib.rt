@@ -6,7 +6,7 @@ ghost use Rattle.sefs.specs.Contents.{callRead, callWrite, callResize};
 ghost use Rattle.sefs.specs.Read.{callEntry, callListing};
 ghost use Rattle.mem.specs.Mem.{tableIn};
 ghost use Rattle.steps.specs.Ends.{Ended};
-ghost use Rattle.edge_ends.specs.Words.{handleOf};
+ghost use Rattle.edge_words.specs.Words.{handleOf};
 ghost use Rattle.edge.specs.Edge.{sized, startIn, Leaves, Shows, Lists, Takes};
 ghost use Rattle.owners_kept.specs.Owned.{Chained, Owned, Kept};
 use calls_entry::entry_led;
@@ -17,21 +17,17 @@ use calls_resize::resize_led;
 use calls_resize::set_size;
 use calls_write::write_led;
 use calls_write::write_row;
-use edge_ends::args::handle;
 use edge_ends::ends::end_after;
 use edge_ends::ends::end_listed;
 use edge_ends::ends::end_taken;
+use edge_words::NEXT_WORDS;
+use edge_words::READ_WORDS;
+use edge_words::WRONG_SIZE;
+use edge_words::args::handle;
 use mem::MEMORY;
 use mem::begin;
 use sound::chain_all;
 use table::Handle;
-
-// As in the header.
-const NEXT_WORDS: usize = 1;
-
-const READ_WORDS: usize = 1;
-
-const WRONG_SIZE: u32 = 255;
 
 // ---- read
 

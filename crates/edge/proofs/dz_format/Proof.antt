@@ -2,7 +2,7 @@
 use mathlib.Core.Path.{sym, _∙_}
 use Rattle.sefs.specs.Create.{callFormat}
 use Rattle.calls_format.specs.Format.{formatted}
-use Rattle.edge_ends.proofs.Laws.{time-is}
+use Rattle.edge_words.proofs.Words.{time-is}
 use Rattle.edge.proofs.Laws.{sized-is, sized-not, leaves-not, leaves}
 use borrow.Author.Needs.{needs}
 use Rattle.edge.proofs.dz_format.Statement.{statement}

@@ -1,7 +1,7 @@
 -- `owners::dz_own_create`: 255 where a size is wrong; else the call on the table in memory; the chains are its own.
 use mathlib.Core.Path.{sym, _∙_}
 use Rattle.sefs.specs.Create.{callCreate}
-use Rattle.edge_ends.proofs.Laws.{time-is}
+use Rattle.edge_words.proofs.Words.{time-is}
 use Rattle.edge.proofs.Laws.{sized-is, sized-not, new-is, makes-not, makes}
 use Rattle.owners_kept.proofs.Laws.{keeps}
 use borrow.Author.Needs.{needs}

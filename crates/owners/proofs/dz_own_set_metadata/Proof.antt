@@ -3,7 +3,7 @@ use mathlib.Core.Path.{sym, _∙_}
 use Rattle.mem.specs.Mem.{tableIn}
 use Rattle.sefs.specs.Read.{callSet}
 use Rattle.calls_metadata.proofs.Tells.{set-admitted}
-use Rattle.edge_ends.proofs.Laws.{time-is}
+use Rattle.edge_words.proofs.Words.{time-is}
 use Rattle.edge.proofs.Laws.{sets}
 use Rattle.owners_kept.proofs.Laws.{not-refused}
 use borrow.Author.Needs.{needs}
