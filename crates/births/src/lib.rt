@@ -1,18 +1,10 @@
-// What create can make, and what a new node is born with, before it is named.
-ghost use mathlib.Core.Path.{_≡_};
+// What a new node is born with, before it is named.
 ghost use Prim.Native.Nat.{_<_, _≤_};
 ghost use Rattle.overlay.specs.View.{left};
-ghost use Rattle.sefs.specs.Create.{canMake, birth as bornOf};
+ghost use Rattle.sefs.specs.Create.{birth as bornOf};
 ghost use Rattle.mem.specs.State.{fsOf, Ready, Stepped};
 use folders::dirent_init;
 use mem::id_at;
-
-// A file, a folder or a symlink; no socket.
-pub fn can_make(kind: u32) -> bool
-    ensures { λ r. ⌜ r ≡ canMake kind ⌝ }
-{
-    (0 < kind) & (kind <= 3)
-}
 
 // A folder is born with its two slots.
 pub fn birth(arena: &[u8], work: &mut [u8], mem: &mut [u8], i: usize, c: usize, kind: u32) -> u8

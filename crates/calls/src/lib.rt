@@ -21,9 +21,9 @@ use holds::live;
 use mem::table_at;
 use sefs::Metadata;
 use structs::DiskINode;
-use structs::is_type;
 use table::Handle;
 use table::Table;
+use verdicts::is_type;
 
 // The answer of a call that gives nothing else.
 pub enum Answer {

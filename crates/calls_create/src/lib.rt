@@ -16,7 +16,6 @@ ghost use Rattle.calls.specs.Answers.{addedAs};
 ghost use Rattle.calls_create.specs.Create.{createAsk, createFree, createSync, createRest, createMoves, createWork, Asked};
 ghost use Rattle.calls_create.specs.Held.{holding, EndedOpen, EndedHeld, ReturnedHeld};
 use births::birth;
-use births::can_make;
 use calls::ByHandle;
 use calls::Handed;
 use calls::HeldReply;
@@ -44,6 +43,7 @@ use structs::DiskINode;
 use structs::Timespec;
 use table::Handle;
 use table::Table;
+use verdicts::can_make;
 
 // What a new node is to be.
 #[repr(C)]

@@ -10,7 +10,8 @@ use Rattle.sefs.specs.Read.{callListing}
 use Rattle.calls.specs.Answers.{listedOf, Lays}
 use Rattle.calls.specs.declared.Listed.{Listed}
 use Rattle.calls.proofs.Answers.{lays-one}
-use Rattle.calls_list.specs.Place.{startOf, listAt, movedAs, ListsAt}
+use Rattle.verdicts.specs.Starts.{startOf}
+use Rattle.calls_list.specs.Place.{listAt, movedAs, ListsAt}
 use Rattle.calls_list.specs.declared.Place.{Place}
 use Rattle.calls_list.specs.declared.Moved.{Moved}
 

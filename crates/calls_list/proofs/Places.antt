@@ -27,7 +27,8 @@ use Rattle.calls.specs.declared.Listed.the-variants as listeds
 use Rattle.calls.proofs.Asks.{handle-below}
 use Rattle.list_slots.proofs.Turns.{list-bytes}
 use Rattle.calls_list.specs.declared.Moved.{Moved}
-use Rattle.calls_list.specs.Place.{startOf, movedAs}
+use Rattle.verdicts.specs.Starts.{startOf}
+use Rattle.calls_list.specs.Place.{movedAs}
 
 -- ---- the bytes of slots
 

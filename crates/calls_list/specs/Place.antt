@@ -1,22 +1,17 @@
 -- The listing by a place: "the call moves it on by the slots written", and a refusal leaves it.
 use mathlib.Core.Path.{_≡_}
-use mathlib.Core.Bool.{Bool, not, _&&_}
+use mathlib.Core.Bool.{Bool}
 use mathlib.Core.List.{List}
 use Prim.Native.Nat.{ℕ, _+_, _/_}
 use lib.ListN.{length}
-use lib.Dec.{ltb}
-use Rattle.base.specs.Search.{pick}
 use Rattle.base.specs.Out.{Out, done, refused}
 use Rattle.table.specs.declared.Table.{Table}
 use Rattle.sefs.specs.Read.{callListing}
 use Rattle.calls.specs.Answers.{listedOf, Lays}
 use Rattle.calls.specs.declared.Listed.{Listed}
+use Rattle.verdicts.specs.Starts.{startOf}
 use Rattle.calls_list.specs.declared.Place.{Place}
 use Rattle.calls_list.specs.declared.Moved.{Moved}
-
--- order 6: "A listing now starts at slot 2 unless the lent place asks for the dots"; "A place below slot 2 without that request is read as slot 2"
-abbrev pub startOf : Bool → ℕ → ℕ
-startOf dots next = pick (not dots && ltb next 2) 2 next
 
 -- what is written for a place at the start of an output of `room` bytes
 abbrev pub listAt : List ℕ → Table → ℕ → Place → ℕ → Out (List ℕ)

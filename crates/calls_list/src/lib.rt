@@ -7,7 +7,8 @@ ghost use Rattle.sefs.specs.Read.{callListing};
 ghost use Rattle.mem.specs.Mem.{tableIn, Whole};
 ghost use Rattle.calls.specs.Answers.{listedOf, Lays};
 ghost use Rattle.calls.specs.Asked.{Admitted};
-ghost use Rattle.calls_list.specs.Place.{startOf, movedAs, ListsAt};
+ghost use Rattle.verdicts.specs.Starts.{startOf};
+ghost use Rattle.calls_list.specs.Place.{movedAs, ListsAt};
 use calls::Listed;
 use calls::by_handle;
 use calls::led::admit;
@@ -17,6 +18,7 @@ use mem::put_table;
 use mem::rec_at;
 use table::Handle;
 use table::Table;
+use verdicts::start_of;
 
 // What follows the tests of arena and table, by the chains that they left.
 pub fn list_led(
@@ -77,16 +79,6 @@ pub struct Place {
 pub struct Moved {
     pub answer: Listed,
     pub next: u64,
-}
-
-// Below slot 2 a listing starts only where the dots are asked for.
-pub fn start_of(dots: bool, next: u64) -> u64
-    ensures { λ r. ⌜ r ≡ startOf dots next ⌝ }
-{
-    if !dots & (next < 2) {
-        return 2;
-    }
-    next
 }
 
 // The listing, with the place's fields by value.

@@ -22,7 +22,7 @@ use nodes_read::Noted;
 use nodes_read::record_on;
 use structs::DiskINode;
 use structs::MoveVerdict;
-use structs::move_verdict;
+use verdicts::move_verdict;
 
 // ---- type rules
 

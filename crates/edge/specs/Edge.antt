@@ -20,7 +20,7 @@ use Rattle.calls_create.specs.Held.{arenaHeld}
 use Rattle.calls_create.specs.declared.New.{New}
 use Rattle.calls_move.specs.declared.Course.{Course}
 use Rattle.calls_move.specs.declared.Course.the-variants.{Made, Same, Refused}
-use Rattle.calls_list.specs.Place.{startOf}
+use Rattle.verdicts.specs.Starts.{startOf}
 use Rattle.walk.specs.Walk.{Walked, walked, mostLinks}
 use Rattle.fsck.specs.declared.Verdict.{Verdict}
 use Rattle.fsck.specs.declared.Verdict.the-variants.{Pass, Fail}

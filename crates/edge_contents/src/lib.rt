@@ -7,7 +7,6 @@ ghost use Rattle.edge_words.specs.Words.{handleOf};
 ghost use Rattle.edge.specs.Edge.{sized, startIn, Leaves, Shows, Lists, Takes};
 use calls_entry::entry_on;
 use calls_list::listing_on;
-use calls_list::start_of;
 use calls_read::read_on;
 use calls_resize::resize_on;
 use calls_write::write_on;
@@ -22,6 +21,7 @@ use edge_words::WRONG_SIZE;
 use edge_words::args::handle;
 use mem::MEMORY;
 use mem::begin;
+use verdicts::start_of;
 
 // ---- bytes
 

@@ -22,13 +22,13 @@ use nodes::Opened;
 use nodes_read::get_node;
 use nodes_read::meta::load_meta;
 use structs::DiskINode;
-use utf8::is_dots;
+use verdicts::is_orphan;
 
 // 8, for exactly `..`.
 fn not_orphan(rec: DiskINode, name: &[u8]) -> u8
     ensures { λ r. ⌜ r ≡ answer (notOrphan rec (now (name .entry))) ⌝ }
 {
-    if is_dots(name) & (rec.nlinks == 0) {
+    if is_orphan(rec, name) {
         return 8;
     }
     0

@@ -18,7 +18,7 @@ use fsck_read::is_node;
 use fsck_read::rec_of;
 use sound::chain::find;
 use structs::DiskINode;
-use structs::is_type;
+use verdicts::is_type;
 
 // The head of the node's file is marked; false where it is not there, or marked already.
 fn claim(arena: &[u8], first: &[u16], next: &[u16], rec: DiskINode, claimed: &mut [u8]) -> bool

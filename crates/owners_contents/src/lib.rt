@@ -11,7 +11,6 @@ ghost use Rattle.edge.specs.Edge.{sized, startIn, Leaves, Shows, Lists, Takes};
 ghost use Rattle.owners_kept.specs.Owned.{Chained, Owned, Kept};
 use calls_entry::entry_led;
 use calls_list::list_led;
-use calls_list::start_of;
 use calls_read::read_led;
 use calls_resize::resize_led;
 use calls_resize::set_size;
@@ -28,6 +27,7 @@ use mem::MEMORY;
 use mem::begin;
 use sound::chain_all;
 use table::Handle;
+use verdicts::start_of;
 
 // ---- read
 

@@ -1,4 +1,3 @@
 pub mod Joins
 pub mod Layouts
 pub mod Places
-pub mod Verdicts

@@ -4,7 +4,6 @@ ghost use Prim.Native.Nat.{_+_, _≤_};
 ghost use lib.ListN.{length, take, drop};
 ghost use Rattle.base.specs.Parts.{part, paste};
 ghost use Rattle.structs.specs.Layout.{join, superOf, superBytes, timeOf, timeBytes, recordOf, recordFields, recordBytes};
-ghost use Rattle.structs.specs.Types.{isType, moveVerdictOf};
 
 pub const SEFS_MAGIC: u32 = 0x2f8d_be2a;
 
@@ -174,29 +173,4 @@ fn put_rest(s: &mut [u8], at: usize, r: DiskINode)
     put_timespec(s, at + 32, r.ctime);
     put_bytes(s, at + 48, &r.file);
     put_bytes(s, at + 64, &r.mac);
-}
-
-// The verdicts by moved type (a row each: file, folder, symlink, socket) and replaced type: 0 allowed, 1 NotDir, 2 IsDir, 3 if empty.
-const VERDICTS: [u8; 16] = [0, 2, 0, 0, 1, 3, 1, 1, 0, 2, 0, 0, 0, 2, 0, 0];
-
-// One of the four types.
-pub fn is_type(kind: u32) -> bool
-    ensures { λ r. ⌜ r ≡ isType kind ⌝ }
-{
-    (0 < kind) & (kind <= 4)
-}
-
-pub fn move_verdict(moved: u32, replaced: u32) -> MoveVerdict
-    requires { ⌜ (1 ≤ moved) × (moved ≤ 4) ⌝ }
-    requires { ⌜ (1 ≤ replaced) × (replaced ≤ 4) ⌝ }
-    ensures { λ r. ⌜ r ≡ moveVerdictOf moved replaced ⌝ }
-{
-    let k = base::index((moved - 1) * 4 + (replaced - 1));
-    let v = VERDICTS[k];
-    match v {
-        0 => MoveVerdict::Allowed,
-        1 => MoveVerdict::NotDir,
-        2 => MoveVerdict::IsDir,
-        _ => MoveVerdict::IfEmpty,
-    }
 }

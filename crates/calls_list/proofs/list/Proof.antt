@@ -56,7 +56,8 @@ use Rattle.calls.specs.Answers.{Lays}
 use Rattle.calls.specs.declared.Listed.{Listed}
 use Rattle.calls.proofs.Listed as Li
 use Rattle.calls.proofs.Listed.Laws as Li′
-use Rattle.calls_list.specs.Place.{startOf, movedAs, ListsAt}
+use Rattle.verdicts.specs.Starts.{startOf}
+use Rattle.calls_list.specs.Place.{movedAs, ListsAt}
 use Rattle.calls_list.specs.declared.Place.{Place}
 use Rattle.calls_list.specs.declared.Moved.{Moved}
 use Rattle.calls_list.proofs.Place as P

@@ -12,7 +12,7 @@ use Rattle.table.specs.Table.{offRow, rowAt}
 use Rattle.mem.proofs.Owned.{each-at, row-fits}
 use Rattle.sefs.specs.Read.{callListing}
 use Rattle.calls.specs.Answers.{listedOf, laid}
-use Rattle.calls_list.specs.Place.{startOf}
+use Rattle.verdicts.specs.Starts.{startOf}
 use Rattle.calls_list.proofs.Places.{listing-left, listed-slots, slots-moved, refused-moved}
 use Rattle.calls_list.proofs.list_on.Statement.{statement}
 use Rattle.calls_list.proofs.list_on.Tie as tie

@@ -1,11 +1,11 @@
--- `structs::move_verdict`: the entry that is looked up means what the rule says (Verdicts), and each arm is one meaning.
+-- `verdicts::move_verdict`: the entry that is looked up means what the rule says (Verdicts), and each arm is one meaning.
 use mathlib.Core.Path.{_≡_, sym, ap, _∙_}
 use lib.ListN.{getD}
 use Rattle.structs.specs.Types.{moveVerdictOf}
-use Rattle.structs.proofs.Verdicts.{verdicts, meant, meant-rest, verdict-at}
+use Rattle.verdicts.proofs.Verdicts.{verdicts, meant, meant-rest, verdict-at}
 use borrow.Author.Needs.{needs}
-use Rattle.structs.proofs.move_verdict.Statement.{statement}
-use Rattle.structs.proofs.move_verdict.Tie as tie
+use Rattle.verdicts.proofs.move_verdict.Statement.{statement}
+use Rattle.verdicts.proofs.move_verdict.Tie as tie
 
 -- what the entry means
 entry : (c : tie.After-index) → meant (getD verdicts (c .index .result) 0) ≡ moveVerdictOf (c .before .args .moved) (c .before .args .replaced)

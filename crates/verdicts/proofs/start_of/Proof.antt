@@ -1,6 +1,6 @@
--- `calls_list::start_of`: the test that its definition makes.
-use Rattle.calls_list.proofs.start_of.Statement.{statement}
-use Rattle.calls_list.proofs.start_of.Tie as tie
+-- `verdicts::start_of`: the test that its definition makes.
+use Rattle.verdicts.proofs.start_of.Statement.{statement}
+use Rattle.verdicts.proofs.start_of.Tie as tie
 
 returns : tie.Need-returns
 returns c = rw (c .if1 .taken)
