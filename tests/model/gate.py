@@ -1,8 +1,8 @@
 #!/usr/bin/env python3
-"""gate.py [--write | --plain]: crates/replay/stdin and stdout, the scripts that the gate runs and their lines; docs/REPLAY.md names the parts.
+"""gate.py [--write]: crates/replay/stdin and stdout, the script that the gate runs and its lines; docs/REPLAY.md names the parts.
 
 No line is the port's own: the Rust's calls have the Rust's lines, all else the independent model's (replay_model.py). Without --write it says
-whether both files stand as made here (exit status 1 where not). --plain writes the parts to standard output as one script, for other replayers.
+whether both files stand as made here (exit status 1 where not).
 """
 import pathlib
 import struct
@@ -10,13 +10,15 @@ import sys
 
 import images
 import refusals
-from replay_model import BLOCK, TABLE_BYTES, Script, lines
+from replay_model import BLOCK, TABLE_BYTES, lines
 
 TOP = pathlib.Path(__file__).resolve().parent.parent.parent
 GATE = TOP / "crates" / "replay"
 SAMPLE = TOP / "tests" / "beside_rust" / "sample"
+# The course examples stand in stdin alone, in front.
+COURSE = 2_897
 # The longest script that crates/replay takes.
-MOST = 65_536
+MOST = 262_144
 
 
 def told(script):
@@ -36,50 +38,24 @@ def rules():
 
 
 def parts():
-    # the course examples stand in stdin alone, as its first script
-    data = (GATE / "stdin").read_bytes()
-    yield told(data[4:4 + int.from_bytes(data[:4], "little")])
+    yield told((GATE / "stdin").read_bytes()[:COURSE])
     for n in (1, 2, 3):
         yield tuple((SAMPLE / f"rust-{n}.{kind}").read_bytes() for kind in ("script", "expected"))
     yield told(b"".join(rules()))
     yield refusals.made()
 
 
-def starts(script):
-    """Where an arena is set and formatted: what came before leaves nothing, where the format succeeds."""
-    reader = Script(script)
-    at = before = 0
-    last = ""
-    for name, _ in reader.commands():
-        if (last, name) == ("arena", "format"):
-            yield before
-        last, before, at = name, at, reader.at
-
-
-def pieces(script):
-    """The script in pieces that the program takes, each from a fresh start."""
-    while len(script) > MOST:
-        cut = max(at for at in starts(script) if at <= MOST)
-        yield script[:cut]
-        script = script[cut:]
-    yield script
-
-
 def main():
     made = list(parts())
-    if "--plain" in sys.argv:
-        sys.stdout.buffer.write(b"".join(script for script, _ in made))
-        return 0
-    rows = [piece for script, _ in made for piece in pieces(script)]
-    new = b"".join(struct.pack("<I", len(piece)) + piece for piece in rows), b"".join(text for _, text in made)
-    assert b"".join(told(piece)[1] for piece in rows) == new[1]
+    new = [b"".join(texts) for texts in zip(*made)]
+    assert len(new[0]) <= MOST, len(new[0])
     files = GATE / "stdin", GATE / "stdout"
     if "--write" in sys.argv:
         for file, data in zip(files, new):
             file.write_bytes(data)
     same = all(file.read_bytes() == data for file, data in zip(files, new))
     print("lines of the parts:", *(text.count(b"\n") for _, text in made))
-    print(f"{len(rows)} scripts, {len(new[0])} bytes, {new[1].count(bytes([10]))} lines: crates/replay {'has' if same else 'does not have'} them")
+    print(f"{len(new[0])} bytes, {new[1].count(bytes([10]))} lines: crates/replay {'has' if same else 'does not have'} them")
     return 0 if same else 1
 
 

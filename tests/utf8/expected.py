@@ -1,9 +1,9 @@
 #!/usr/bin/env python3
-"""What crates/utf8_run must write, by Python's own strict UTF-8 decoder.
+"""crates/utf8_run/stdin and stdout: blocks of sequences from RFC 3629, and what Python's own strict UTF-8 decoder says of them.
 
-The blocks are named here once more, from RFC 3629, and the answers come from bytes.decode alone.
-    expected.py            print the lines
-    expected.py --check    compare them with crates/utf8_run/stdout
+The answers come from bytes.decode alone.
+    expected.py            say whether both files stand as made here (exit status 1 where not)
+    expected.py --write    make them
 """
 import itertools
 import pathlib
@@ -65,15 +65,25 @@ def line(label: str, places: list) -> str:
     return f"{label} {count} {alone} {inside} {check}\n"
 
 
+def record(label: str, places: list) -> bytes:
+    """24 bytes: the length, the lowest and the highest byte of each of four places (the edges: above and below), the name."""
+    four = [[ord("a")]] * (4 - len(places)) + places
+    ends = [(1, 0) if place is EDGES else (place[0], place[-1]) for place in four]
+    return bytes([len(places), *itertools.chain(*ends)]) + label.encode().ljust(15, b"\0")
+
+
 def main() -> int:
-    text = "".join(line(label, places) for label, places in BLOCKS)
-    if sys.argv[1:] == ["--check"]:
-        stored = pathlib.Path(__file__).resolve().parents[2] / "crates" / "utf8_run" / "stdout"
-        same = stored.read_text() == text
-        print("the same" if same else "not the same")
-        return 0 if same else 1
-    sys.stdout.write(text)
-    return 0
+    made = {
+        "stdin": b"".join(record(label, places) for label, places in BLOCKS),
+        "stdout": "".join(line(label, places) for label, places in BLOCKS).encode(),
+    }
+    stored = pathlib.Path(__file__).resolve().parents[2] / "crates" / "utf8_run"
+    if sys.argv[1:] == ["--write"]:
+        for name, data in made.items():
+            (stored / name).write_bytes(data)
+    same = all((stored / name).read_bytes() == data for name, data in made.items())
+    print("the same" if same else "not the same")
+    return 0 if same else 1
 
 
 if __name__ == "__main__":

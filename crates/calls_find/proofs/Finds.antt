@@ -1,15 +1,14 @@
 -- Root and find: from their parts to the calls, and from what the code answers to the answers.
 use mathlib.Core.Path.{_≡_, refl, sym, _∙_, ap}
-use mathlib.Core.Bool.{true, false, not, _&&_}
+use mathlib.Core.Bool.{true, false}
 use mathlib.Core.List.{List}
 use Prim.Native.Nat.{ℕ, _<_}
 use native.Mathlib.Omega.{arith}
-use lib.ListN.{length}
-use lib.Dec.{eqb, ltb, leb}
+use lib.Dec.{eqb}
 use Rattle.base.specs.Out.{Out, done, refused, bind, ensure, answer, Went, well, ill}
 use Rattle.base.proofs.Outs.{went-is, went-not, above-zero}
 use Rattle.structs.specs.declared.DiskINode.{DiskINode}
-use Rattle.utf8.specs.Names.{isDots, nameVerdict, earlyReason}
+use Rattle.utf8.specs.Names.{nameVerdict, earlyReason}
 use Rattle.table.specs.declared.Table.{Table}
 use Rattle.table.specs.declared.Handle.{Handle}
 use Rattle.table.specs.declared.Added.{Added}
@@ -22,8 +21,9 @@ use Rattle.calls.specs.declared.HeldReply.{HeldReply}
 use Rattle.calls.specs.declared.Handed.{Handed}
 use Rattle.calls.proofs.Answers.{given-held, given-refused}
 use Rattle.calls.proofs.Asks.{Asks, asks-ensure, asks-then, asks-owner, asked-not, asked-done, call-stop, call-next, answer-stop, answer-next}
-use Rattle.finds.specs.Parts.{notOrphan, findId}
-use Rattle.calls_find.specs.Finds.{Gives, giveNode, giveNamed, findName, findFolder, findAsk, findIn}
+use Rattle.finds.specs.Parts.{notOrphan, findFolder, findId}
+use Rattle.finds.proofs.Asks.{asks-folder, found-is}
+use Rattle.calls_find.specs.Finds.{Gives, giveNode, giveNamed, findAsk, findIn}
 
 -- ---- answers
 
@@ -73,44 +73,12 @@ module _ (a : List ℕ) (t : Table) (who : ℕ) {n : ℕ} where
 -- ---- find
 
 -- no reason's number is 0
-asks-name : (r : DiskINode) (name : List ℕ) → Asks (findName r name)
-unfolding findName
-asks-name r name = asks-then (asks-ensure (leb (length name) 255) 10 (omega arith)) (λ _. asks-ensure (not (isDots name && eqb (r .nlinks) 0)) 8 (omega arith))
-
-pub asks-folder : (r : DiskINode) (name : List ℕ) → Asks (findFolder r name)
-unfolding findFolder
-asks-folder r name =
-    asks-then (asks-ensure (ltb 0 (r .kind) && leb (r .kind) 4) 19 (omega arith))
-    (λ _. asks-then (asks-ensure (eqb (r .kind) 2) 7 (omega arith)) (λ _. asks-name r name))
-
 asks-find : (r : DiskINode) (name : List ℕ) → Asks (findAsk r name)
 unfolding findAsk
 asks-find r name = asks-then (asks-ensure (eqb (earlyReason (nameVerdict name)) 0) 5 (omega arith)) (λ _. asks-folder r name)
 
 -- the questions in turn: a number n that the question before answered
 module _ (r : DiskINode) (name : List ℕ) (n : ℕ) where
-  pub long-stop : n ≡ answer (notLong name) → (n ≡ 0 → ⊥) → n ≡ answer (findName r name)
-  unfolding findName
-  long-stop e z = answer-stop (notLong name) (λ _. notOrphan r name) n e z
-
-  pub long-next : n ≡ answer (notLong name) → n ≡ 0 → answer (notOrphan r name) ≡ answer (findName r name)
-  unfolding findName
-  long-next e z = answer-next (notLong name) (λ _. notOrphan r name) (asks-ensure (leb (length name) 255) 10 (omega arith)) n e z
-
-  pub known-stop : n ≡ answer (known r) → (n ≡ 0 → ⊥) → n ≡ answer (findFolder r name)
-  unfolding findFolder
-  known-stop e z = answer-stop (known r) (λ _. bind (folder r) (λ _. findName r name)) n e z
-
-  pub known-next : n ≡ answer (known r) → n ≡ 0 → answer (bind (folder r) (λ _. findName r name)) ≡ answer (findFolder r name)
-  unfolding findFolder
-  known-next e z = answer-next (known r) (λ _. bind (folder r) (λ _. findName r name)) (asks-ensure (ltb 0 (r .kind) && leb (r .kind) 4) 19 (omega arith)) n e z
-
-  pub folder-stop : n ≡ answer (folder r) → (n ≡ 0 → ⊥) → n ≡ answer (bind (folder r) (λ _. findName r name))
-  folder-stop e z = answer-stop (folder r) (λ _. findName r name) n e z
-
-  pub folder-next : n ≡ answer (folder r) → n ≡ 0 → answer (findName r name) ≡ answer (bind (folder r) (λ _. findName r name))
-  folder-next e z = answer-next (folder r) (λ _. findName r name) (asks-ensure (eqb (r .kind) 2) 7 (omega arith)) n e z
-
   pub good-stop : n ≡ answer (goodName name) → (n ≡ 0 → ⊥) → n ≡ answer (findAsk r name)
   unfolding findAsk
   good-stop e z = answer-stop (goodName name) (λ _. findFolder r name) n e z
@@ -141,19 +109,17 @@ module _ (a : List ℕ) (t : Table) (who : ℕ) (r : DiskINode) (name : List ℕ
 abbrev rest : List ℕ → Table → ℕ → List ℕ → DiskINode → Out Added
 rest a t who name r = bind (goodName name) (λ _. bind (known r) (λ _. bind (folder r) (λ _. bind (notLong name) (λ _. bind (notOrphan r name) (λ _. bind (findSlot a r name) (λ s. bind (ensure (canHold t who) 16) (λ _. holdNode (start a t) who (s .entry .id))))))))
 
-grouped : {B : Type 0} (x : ℕ → Out B) (q k f l o : Out Unit) (s : Out Slot)
-    → bind q (λ _. bind k (λ _. bind f (λ _. bind l (λ _. bind o (λ _. bind s (λ s. x (s .entry .id))))))) ≡ bind (bind (bind q (λ _. bind k (λ _. bind f (λ _. bind l (λ _. o))))) (λ _. bind s (λ s. done (s .entry .id)))) x
-grouped x (refused n) k f l o s = refl
-grouped x (done u) (refused n) f l o s = refl
-grouped x (done u) (done v) (refused n) l o s = refl
-grouped x (done u) (done v) (done w) (refused n) o s = refl
-grouped x (done u) (done v) (done w) (done y) (refused n) s = refl
-grouped x (done u) (done v) (done w) (done y) (done z) (refused n) = refl
-grouped x (done u) (done v) (done w) (done y) (done z) (done s) = refl
+named : {B : Type 0} (x : ℕ → Out B) (q f : Out Unit) (i : Out ℕ) → bind q (λ _. bind f (λ _. bind i x)) ≡ bind (bind (bind q (λ _. f)) (λ _. i)) x
+named x (refused n) f i = refl
+named x (done u) (refused n) i = refl
+named x (done u) (done v) (refused n) = refl
+named x (done u) (done v) (done id) = refl
 
 rest-is : (a : List ℕ) (t : Table) (who : ℕ) (name : List ℕ) (r : DiskINode) → rest a t who name r ≡ giveNamed a t who r name
-unfolding giveNamed findIn findAsk findFolder findName findId giveNode
-rest-is a t who name r = grouped (λ id. bind (ensure (canHold t who) 16) (λ _. holdNode (start a t) who id)) (goodName name) (known r) (folder r) (notLong name) (notOrphan r name) (findSlot a r name)
+unfolding giveNamed findIn findAsk giveNode
+rest-is a t who name r =
+    (λ z. bind (goodName name) (λ _. found-is a r name (λ id. bind (ensure (canHold t who) 16) (λ _. holdNode (start a t) who id)) z))
+    ∙ named (λ id. bind (ensure (canHold t who) 16) (λ _. holdNode (start a t) who id)) (goodName name) (findFolder r name) (findId a r name)
 
 pub find-refused : (a : List ℕ) (t : Table) (who : ℕ) (h : Handle) (name : List ℕ) {n : ℕ} → admit a t ≡ refused n → callFind a t who h name ≡ refused n
 unfolding callFind

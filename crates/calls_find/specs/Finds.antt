@@ -8,11 +8,11 @@ use Rattle.structs.specs.declared.DiskINode.{DiskINode}
 use Rattle.table.specs.declared.Table.{Table}
 use Rattle.table.specs.declared.Added.{Added}
 use Rattle.table.specs.Table.{canHold}
-use Rattle.sefs.specs.Ask.{start, goodName, known, folder, notLong}
+use Rattle.sefs.specs.Ask.{start, goodName}
 use Rattle.sefs.specs.Open.{holdNode}
 use Rattle.calls.specs.Answers.{gotOf, heldTable}
 use Rattle.calls.specs.declared.HeldReply.{HeldReply}
-use Rattle.finds.specs.Parts.{notOrphan, findId}
+use Rattle.finds.specs.Parts.{findFolder, findId}
 
 -- a call that makes a hold answers what its outcome says, with the outcome's table
 abbrev pub Gives : Table → Out Added → HeldReply → Type 0
@@ -26,17 +26,6 @@ giveNode a t w id = do
   holdNode (start a t) w id
 
 -- ---- find, once the handle's row is known
-
-unfoldable pub findName : DiskINode → List ℕ → Out Unit
-findName r name = do
-  _ ← notLong name
-  notOrphan r name
-
-unfoldable pub findFolder : DiskINode → List ℕ → Out Unit
-findFolder r name = do
-  _ ← known r
-  _ ← folder r
-  findName r name
 
 unfoldable pub findAsk : DiskINode → List ℕ → Out Unit
 findAsk r name = do

@@ -8,23 +8,19 @@ ghost use Rattle.mem.specs.Mem.{tableIn, Whole};
 ghost use Rattle.table.specs.Table.{rowAt};
 ghost use Rattle.calls.specs.Answers.{addedAs};
 ghost use Rattle.calls.specs.Asked.{Admitted};
-ghost use Rattle.finds.specs.Parts.{findId};
-ghost use Rattle.calls_find.specs.Finds.{Gives, giveNode, giveNamed, findName, findFolder, findAsk, findIn};
+ghost use Rattle.calls_find.specs.Finds.{Gives, giveNode, giveNamed, findAsk, findIn};
 use calls::Handed;
 use calls::HeldReply;
 use calls::an_owner;
 use calls::by_handle;
-use calls::folder;
 use calls::good_name;
-use calls::known;
 use calls::led::admit;
 use calls::not_handed;
-use calls::not_long;
 use calls::settle_held;
 use finds::Named;
+use finds::find_folder;
+use finds::find_id;
 use finds::hold_node;
-use finds::id_in;
-use finds::not_orphan;
 use holds::can_hold;
 use mem::MEMORY;
 use mem::put_table;
@@ -91,30 +87,6 @@ pub fn root(arena: &[u8], t: Table, who: u8) -> HeldReply
 
 // ---- find
 
-fn find_name(rec: DiskINode, name: &[u8]) -> u8
-    ensures { λ r. ⌜ r ≡ answer (findName rec (now (name .entry))) ⌝ }
-{
-    let r = not_long(name);
-    if r != 0 {
-        return r;
-    }
-    not_orphan(rec, name)
-}
-
-pub fn find_folder(rec: DiskINode, name: &[u8]) -> u8
-    ensures { λ r. ⌜ r ≡ answer (findFolder rec (now (name .entry))) ⌝ }
-{
-    let r = known(rec);
-    if r != 0 {
-        return r;
-    }
-    let r = folder(rec);
-    if r != 0 {
-        return r;
-    }
-    find_name(rec, name)
-}
-
 fn find_ask(rec: DiskINode, name: &[u8]) -> u8
     ensures { λ r. ⌜ r ≡ answer (findAsk rec (now (name .entry))) ⌝ }
 {
@@ -123,14 +95,6 @@ fn find_ask(rec: DiskINode, name: &[u8]) -> u8
         return r;
     }
     find_folder(rec, name)
-}
-
-pub fn find_id(arena: &[u8], first: &[u16], next: &[u16], rec: DiskINode, name: &[u8]) -> Named
-    requires { ⌜ Led (now arena) (now first) (now next) ⌝ }
-    ensures { λ r. ⌜ Went (findId (now (arena .entry)) rec (now (name .entry))) (r .id) Unit (r .reason) ⌝ }
-{
-    let mut slot = [0u8; 264];
-    id_in(arena, first, next, &mut slot, rec, name)
 }
 
 fn find_in(arena: &[u8], first: &[u16], next: &[u16], rec: DiskINode, name: &[u8]) -> Named

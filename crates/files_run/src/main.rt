@@ -13,17 +13,12 @@ use base::least;
 use le::u32_at;
 use libc::STDIN_FILENO;
 use libc::STDOUT_FILENO;
+use ops::CUT;
+use ops::MAKE;
+use ops::PUT;
 use sums::sum;
 
 const ARENA: u8 = 1;
-
-const PUT: u8 = 2;
-
-const CUT: u8 = 3;
-
-const MAKE: u8 = 4;
-
-const DROP: u8 = 5;
 
 const READ: u8 = 6;
 
@@ -67,15 +62,36 @@ fn end_line(arena: &[u8]) {
 
 // ---- the operations
 
-fn put(arena: &mut [u8], work: &mut [u8], which: u8, name: &[u8], seed: u8, pos: usize, size: usize)
+// What a store answered, by its name.
+fn show_store(what: u8, n: u64) {
+    match what {
+        PUT => show(b"put ", n),
+        CUT => show(b"cut ", n),
+        MAKE => show(b"make ", n),
+        _ => show(b"drop ", n),
+    }
+}
+
+// What is put goes up from the seed; what is cut ends at the place after pos and size.
+fn store(
+    what: u8,
+    arena: &mut [u8],
+    work: &mut [u8],
+    which: u8,
+    name: &[u8],
+    seed: u8,
+    pos: usize,
+    size: usize,
+)
     requires { ⌜ (length (now arena) ≡ 512 * blocks (now arena)) × (blocks (now arena) ≤ 128) ⌝ }
     requires { ⌜ (length (now work) ≡ 9216) × (length (now name) ≡ 16) ⌝ }
+    requires { ⌜ (pos ≤ 4294967295) × (size ≤ 4294967295) ⌝ }
 {
     let n = least(size, 480);
     let mut buf = [0u8; 480];
     fill(&mut buf, seed, 37);
-    let r = ops::put(arena, work, which, name, pos, &buf[..n]);
-    show(b"put ", r as u64);
+    let r = ops::store(what, arena, work, which, name, pos, &buf[..n], pos + size);
+    show_store(what, r as u64);
 }
 
 fn read(arena: &[u8], work: &mut [u8], which: u8, name: &[u8], pos: usize, size: usize)
@@ -118,23 +134,8 @@ fn act(
     requires { ⌜ (length (now work) ≡ 9216) × (length (now name) ≡ 16) ⌝ }
     requires { ⌜ (pos ≤ 4294967295) × (size ≤ 4294967295) ⌝ }
 {
-    if what == PUT {
-        put(arena, work, which, name, seed, pos, size);
-        return;
-    }
-    if what == CUT {
-        show(
-            b"cut ",
-            ops::cut(arena, work, which, name, pos + size) as u64,
-        );
-        return;
-    }
-    if what == MAKE {
-        show(b"make ", ops::make(arena, work, which, name) as u64);
-        return;
-    }
-    if what == DROP {
-        show(b"drop ", ops::drop(arena, work, which, name) as u64);
+    if what < READ {
+        store(what, arena, work, which, name, seed, pos, size);
         return;
     }
     if what == READ {

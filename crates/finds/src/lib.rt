@@ -1,4 +1,5 @@
-// What find looks at, and what it hands out: whether `..` leads anywhere, the id in a name's slot, and a hold on the node.
+// What find asks and looks at, and what it hands out: whether the name may be looked for in the folder, the id in its slot, and a hold on the
+// node. A walk asks the same of each part.
 ghost use mathlib.Core.Path.{_≡_};
 ghost use Prim.Native.Nat.{ℕ, _<_};
 ghost use lib.ListN.{length};
@@ -9,9 +10,12 @@ ghost use Rattle.sefs.specs.Open.{holdNode};
 ghost use Rattle.chains.specs.Led.{Led};
 ghost use Rattle.mem.specs.Mem.{tableIn, Whole, memorySize};
 ghost use Rattle.calls.specs.Answers.{addedAs};
-ghost use Rattle.finds.specs.Parts.{notOrphan, findId};
+ghost use Rattle.finds.specs.Parts.{notOrphan, findName, findFolder, findId};
 use calls::Handed;
+use calls::folder;
 use calls::hand;
+use calls::known;
+use calls::not_long;
 use chains::slots::find_slot;
 use le::u32_at;
 use nodes::Opened;
@@ -21,7 +25,7 @@ use structs::DiskINode;
 use utf8::is_dots;
 
 // 8, for exactly `..`.
-pub fn not_orphan(rec: DiskINode, name: &[u8]) -> u8
+fn not_orphan(rec: DiskINode, name: &[u8]) -> u8
     ensures { λ r. ⌜ r ≡ answer (notOrphan rec (now (name .entry))) ⌝ }
 {
     if is_dots(name) & (rec.nlinks == 0) {
@@ -30,13 +34,37 @@ pub fn not_orphan(rec: DiskINode, name: &[u8]) -> u8
     0
 }
 
+fn find_name(rec: DiskINode, name: &[u8]) -> u8
+    ensures { λ r. ⌜ r ≡ answer (findName rec (now (name .entry))) ⌝ }
+{
+    let r = not_long(name);
+    if r != 0 {
+        return r;
+    }
+    not_orphan(rec, name)
+}
+
+pub fn find_folder(rec: DiskINode, name: &[u8]) -> u8
+    ensures { λ r. ⌜ r ≡ answer (findFolder rec (now (name .entry))) ⌝ }
+{
+    let r = known(rec);
+    if r != 0 {
+        return r;
+    }
+    let r = folder(rec);
+    if r != 0 {
+        return r;
+    }
+    find_name(rec, name)
+}
+
 // The id in the slot with that name, where the reason is 0.
 pub struct Named {
     pub reason: u8,
     pub id: u32,
 }
 
-pub fn id_in(
+fn id_in(
     arena: &[u8],
     first: &[u16],
     next: &[u16],
@@ -53,6 +81,14 @@ pub fn id_in(
         reason: p.reason,
         id: u32_at(&slot[..], 0),
     }
+}
+
+pub fn find_id(arena: &[u8], first: &[u16], next: &[u16], rec: DiskINode, name: &[u8]) -> Named
+    requires { ⌜ Led (now arena) (now first) (now next) ⌝ }
+    ensures { λ r. ⌜ Went (findId (now (arena .entry)) rec (now (name .entry))) (r .id) Unit (r .reason) ⌝ }
+{
+    let mut slot = [0u8; 264];
+    id_in(arena, first, next, &mut slot, rec, name)
 }
 
 // Whoever has the hold then.

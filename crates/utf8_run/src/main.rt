@@ -1,9 +1,16 @@
-// RFC 3629's sequences, run. Each line is a block of sequences: its name, how many there are, how many of them are UTF-8 alone, how many
-// inside a longer name, and a check over all answers in their order. tests/utf8/expected.py makes the lines that are expected.
+// RFC 3629's sequences, run. Standard input has blocks of sequences, 24 bytes each: how long a sequence is; for each of its four places the
+// lowest and the highest byte that comes there; and the block's name, up to a zero. A place that a shorter sequence does not have has the
+// letter a, as the name around it. For each block comes a line: its name, how many sequences there are, how many of them are UTF-8 alone,
+// how many inside a longer name, and a check over all answers in their order. tests/utf8/expected.py makes the blocks and the lines.
+ghost use mathlib.Core.Path.{_≡_};
+ghost use Prim.Native.Nat.{_<_, _≤_};
+ghost use lib.ListN.{length};
+use libc::STDIN_FILENO;
 use libc::STDOUT_FILENO;
-ghost use Prim.Native.Nat.{_≤_};
+use utf8::first_zero;
+use utf8::valid;
 
-// Bytes on both sides of each border of what may come second, third or fourth.
+// Bytes on both sides of each border of what may come second, third or fourth: what comes where the lowest byte is above the highest.
 const EDGES: [u8; 12] = [
     0x00,
     0x7F,
@@ -19,12 +26,6 @@ const EDGES: [u8; 12] = [
     0xFF,
 ];
 
-// What one place of a sequence goes through: numbers, each of which stands for a byte.
-struct Span {
-    from: usize,
-    end: usize,
-}
-
 struct Tally {
     count: u64,
     alone: u64,
@@ -32,39 +33,43 @@ struct Tally {
     check: u64,
 }
 
-// A number below 256 stands for itself; the edges come after.
-fn byte(k: usize) -> u8 {
-    if k < 256 {
-        return k as u8;
+// How many bytes come at a place, and one of them.
+fn choices(low: u8, high: u8) -> u64
+    ensures { λ r. ⌜ 0 < r ⌝ }
+{
+    if low > high {
+        return 12;
     }
-    let e = k - 256;
-    if e < 12 {
-        return EDGES[e];
-    }
-    0
+    (high - low) as u64 + 1
 }
 
-fn range(low: u8, high: u8) -> Span {
-    Span {
-        from: low as usize,
-        end: high as usize + 1,
+fn choice(low: u8, high: u8, k: u64) -> u8 {
+    if low > high {
+        return EDGES[(k % 12) as usize];
     }
+    std::num::wrapping_add_u8(low, (k % 256) as u8)
 }
 
-fn edges() -> Span {
-    Span {
-        from: 256,
-        end: 268,
-    }
+// Place i of the sequence with number n. What is left of the number is for the place before.
+fn place(name: &mut [u8], block: &[u8], i: usize, n: u64) -> u64
+    requires { ⌜ (length (now name) ≡ 11) × (length (now block) ≡ 24) ⌝ }
+    requires { ⌜ i < 4 ⌝ }
+{
+    let low = block[2 * i + 1];
+    let high = block[2 * i + 2];
+    let c = choices(low, high);
+    name[i + 3] = choice(low, high, n % c);
+    n / c
 }
 
-fn tails() -> Span {
-    range(0x80, 0xBF)
-}
-
-// A place that a shorter sequence does not have belongs to the name around it.
-fn outside() -> Span {
-    range(b'a', b'a')
+// The last place goes fastest. Nothing is left of a sequence's number.
+fn sequence(name: &mut [u8], block: &[u8], n: u64) -> u64
+    requires { ⌜ (length (now name) ≡ 11) × (length (now block) ≡ 24) ⌝ }
+{
+    let d = place(name, block, 3, n);
+    let c = place(name, block, 2, d);
+    let b = place(name, block, 1, c);
+    place(name, block, 0, b)
 }
 
 fn bit(b: bool) -> u64
@@ -86,71 +91,40 @@ fn noted(t: Tally, alone: bool, inside: bool) -> Tally {
 }
 
 // The sequence is the last of the four places; the name is all of it.
-fn judge(name: &[u8; 11], size: usize, t: Tally) -> Tally
-    requires { ⌜ size ≤ 4 ⌝ }
+fn judge(name: &[u8], size: usize, t: Tally) -> Tally
+    requires { ⌜ (length (now name) ≡ 11) × (size ≤ 4) ⌝ }
 {
     let from = 7 - size;
-    let all = &name[..];
-    let alone = utf8::valid(&all[from..7]);
-    let inside = utf8::valid(all);
+    let alone = valid(&name[from..7]);
+    let inside = valid(name);
     noted(t, alone, inside)
 }
 
-fn fourth(name: &mut [u8; 11], size: usize, d: Span, t: Tally) -> Tally
+fn judge_all(name: &mut [u8], block: &[u8], size: usize) -> Tally
+    requires { ⌜ (length (now name) ≡ 11) × (length (now block) ≡ 24) ⌝ }
     requires { ⌜ size ≤ 4 ⌝ }
 {
-    let from = d.from;
-    let end = d.end;
-    let mut u = t;
-    for k in from..end {
-        name[6] = byte(k);
-        u = judge(name, size, u);
-    }
-    u
-}
-
-fn third(name: &mut [u8; 11], size: usize, c: Span, d: Span, t: Tally) -> Tally
-    requires { ⌜ size ≤ 4 ⌝ }
-{
-    let from = c.from;
-    let end = c.end;
-    let mut u = t;
-    for k in from..end {
-        name[5] = byte(k);
-        u = fourth(name, size, d, u);
-    }
-    u
-}
-
-fn second(name: &mut [u8; 11], size: usize, b: Span, c: Span, d: Span, t: Tally) -> Tally
-    requires { ⌜ size ≤ 4 ⌝ }
-{
-    let from = b.from;
-    let end = b.end;
-    let mut u = t;
-    for k in from..end {
-        name[4] = byte(k);
-        u = third(name, size, c, d, u);
-    }
-    u
-}
-
-fn first(name: &mut [u8; 11], size: usize, a: Span, b: Span, c: Span, d: Span) -> Tally
-    requires { ⌜ size ≤ 4 ⌝ }
-{
-    let from = a.from;
-    let end = a.end;
-    let mut u = Tally {
+    let mut t = Tally {
         count: 0,
         alone: 0,
         inside: 0,
         check: 1,
     };
-    for k in from..end {
-        name[3] = byte(k);
-        u = second(name, size, b, c, d, u);
+    let mut n: u64 = 0;
+    while n < 4294967296 {
+        if sequence(name, block, n) > 0 {
+            return t;
+        }
+        t = judge(&name[..], size, t);
+        n = n + 1;
     }
-    u
+    t
+}
+
+// Up to its zero.
+fn show_name(name: &[u8]) {
+    let end = first_zero(name);
+    io::write_all(STDOUT_FILENO, &name[..end]);
 }
 
 fn show(n: u64) {
@@ -158,13 +132,7 @@ fn show(n: u64) {
     io::print_decimal(STDOUT_FILENO, n);
 }
 
-fn block(label: &[u8], size: usize, a: Span, b: Span, c: Span, d: Span)
-    requires { ⌜ size ≤ 4 ⌝ }
-{
-    // e with an accent, an a, four places, the euro sign, a z
-    let mut name: [u8; 11] = [0xC3, 0xA9, 0x61, 0, 0, 0, 0, 0xE2, 0x82, 0xAC, 0x7A];
-    let t = first(&mut name, size, a, b, c, d);
-    io::write_all(STDOUT_FILENO, label);
+fn show_tally(t: Tally) {
     show(t.count);
     show(t.alone);
     show(t.inside);
@@ -172,107 +140,26 @@ fn block(label: &[u8], size: usize, a: Span, b: Span, c: Span, d: Span)
     io::write_all(STDOUT_FILENO, b"\n");
 }
 
-fn one(label: &[u8], d: Span) {
-    block(label, 1, outside(), outside(), outside(), d);
+fn run_block(block: &[u8])
+    requires { ⌜ length (now block) ≡ 24 ⌝ }
+{
+    // e with an accent, an a, four places, the euro sign, a z
+    let mut name: [u8; 11] = [0xC3, 0xA9, 0x61, 0, 0, 0, 0, 0xE2, 0x82, 0xAC, 0x7A];
+    let t = judge_all(&mut name, block, (block[0] % 5) as usize);
+    show_name(&block[9..24]);
+    show_tally(t);
 }
 
-fn two(label: &[u8], c: Span, d: Span) {
-    block(label, 2, outside(), outside(), c, d);
-}
-
-fn three(label: &[u8], b: Span, c: Span, d: Span) {
-    block(label, 3, outside(), b, c, d);
-}
-
-fn four(label: &[u8], a: Span, b: Span, c: Span, d: Span) {
-    block(label, 4, a, b, c, d);
-}
-
-// Every byte, every two bytes, and every lead with every edge after it.
-fn every_lead() {
-    one(b"every-byte", range(0x00, 0xFF));
-    two(b"every-two", range(0x00, 0xFF), range(0x00, 0xFF));
-    three(b"edges-three", range(0x00, 0xFF), edges(), edges());
-    four(b"edges-four", range(0x00, 0xFF), edges(), edges(), edges());
-}
-
-// Every character of two and of three bytes.
-fn characters() {
-    two(b"two-C2-DF", range(0xC2, 0xDF), tails());
-    three(b"three-E0", range(0xE0, 0xE0), range(0xA0, 0xBF), tails());
-    three(b"three-E1-EC", range(0xE1, 0xEC), tails(), tails());
-    three(b"three-ED", range(0xED, 0xED), range(0x80, 0x9F), tails());
-    three(b"three-EE-EF", range(0xEE, 0xEF), tails(), tails());
-}
-
-// Every character of four bytes.
-fn long_characters() {
-    four(
-        b"four-F0",
-        range(0xF0, 0xF0),
-        range(0x90, 0xBF),
-        tails(),
-        tails(),
-    );
-    four(b"four-F1-F3", range(0xF1, 0xF3), tails(), tails(), tails());
-    four(
-        b"four-F4",
-        range(0xF4, 0xF4),
-        range(0x80, 0x8F),
-        tails(),
-        tails(),
-    );
-}
-
-// More bytes than a character needs.
-fn overlong() {
-    two(b"overlong-two", range(0xC0, 0xC1), tails());
-    three(
-        b"overlong-three",
-        range(0xE0, 0xE0),
-        range(0x80, 0x9F),
-        tails(),
-    );
-    four(
-        b"overlong-four",
-        range(0xF0, 0xF0),
-        range(0x80, 0x8F),
-        tails(),
-        tails(),
-    );
-}
-
-// Numbers that are no characters: surrogates, and those past U+10FFFF.
-fn beyond() {
-    three(b"surrogates", range(0xED, 0xED), range(0xA0, 0xBF), tails());
-    four(
-        b"beyond-F4",
-        range(0xF4, 0xF4),
-        range(0x90, 0xBF),
-        tails(),
-        tails(),
-    );
-    four(
-        b"beyond-F5-FF",
-        range(0xF5, 0xFF),
-        tails(),
-        edges(),
-        edges(),
-    );
-}
-
-// Characters whose last bytes are missing.
-fn cut() {
-    one(b"cut-to-one", range(0xC2, 0xF4));
-    two(b"cut-to-two", range(0xE0, 0xF4), tails());
-    three(b"cut-to-three", range(0xF0, 0xF4), tails(), tails());
+fn run(blocks: &[u8]) {
+    let mut at: usize = 0;
+    while blocks.len() - at >= 24 {
+        run_block(&blocks[at..at + 24]);
+        at = at + 24;
+    }
 }
 
 fn main() {
-    every_lead();
-    characters();
-    long_characters();
-    overlong();
-    beyond();
-    cut();
+    let mut blocks = [0u8; 1024];
+    let n = io::read_full(STDIN_FILENO, &mut blocks);
+    run(&blocks[..n]);
 }

@@ -1,5 +1,5 @@
 -- Nodes on the way: from what the code asks and answers to the definition's steps.
-use mathlib.Core.Path.{_≡_, refl, sym, _∙_}
+use mathlib.Core.Path.{_≡_, sym, _∙_}
 use mathlib.Core.Bool.{Bool, true, false}
 use mathlib.Core.List.{List}
 use Prim.Native.Nat.{ℕ, _<_, _≤_}
@@ -17,14 +17,11 @@ use Rattle.table_laws.proofs.Rules.{well-formed}
 use Rattle.files.specs.Read.{there}
 use Rattle.sefs.specs.State.{Fs}
 use Rattle.sefs.specs.Nodes.{nodeFile}
-use Rattle.sefs.specs.Slots.{Slot, findSlot}
-use Rattle.sefs.specs.Ask.{notLong, known, folder}
 use Rattle.sefs.specs.Move.{recordOn}
 use Rattle.calls.proofs.Asks.{asks-ensure, asked-not, asked-done}
 use Rattle.calls.proofs.General.{went-last}
-use Rattle.finds.specs.Parts.{notOrphan, findId}
-use Rattle.calls_find.specs.Finds.{findName, findFolder}
-use Rattle.calls_find.proofs.Finds.{asks-folder}
+use Rattle.finds.specs.Parts.{findFolder, findId}
+use Rattle.finds.proofs.Asks.{asks-folder, found-is}
 use Rattle.walk.specs.Walk.{lookAt, Spot, spot, atRoot, partIn, goodText, fromRoot, enter}
 use Rattle.walk.proofs.Looks.{look-stop, look-row, look-stored}
 use Rattle.walk_parts.specs.States.{standOn}
@@ -78,19 +75,10 @@ module _ (s : Fs) (id : ℕ) {v : DiskINode} {n : ℕ} (g : Went (lookAt s id) v
 
 -- ---- a part
 
-grouped : {B : Type 0} (x : ℕ → Out B) (k f l o : Out Unit) (s : Out Slot)
-    → bind k (λ _. bind f (λ _. bind l (λ _. bind o (λ _. bind s (λ s. x (s .entry .id)))))) ≡ bind (bind k (λ _. bind f (λ _. bind l (λ _. o)))) (λ _. bind (bind s (λ s. done (s .entry .id))) x)
-grouped x (refused n) f l o s = refl
-grouped x (done u) (refused n) l o s = refl
-grouped x (done u) (done v) (refused n) o s = refl
-grouped x (done u) (done v) (done w) (refused n) s = refl
-grouped x (done u) (done v) (done w) (done y) (refused n) = refl
-grouped x (done u) (done v) (done w) (done y) (done s) = refl
-
 module _ (s : Fs) (r : DiskINode) (name : List ℕ) where
   part-is : partIn s r name ≡ bind (findFolder r name) (λ _. bind (findId (s .arena) r name) (standOn s))
-  unfolding partIn findFolder findName findId standOn
-  part-is = grouped (standOn s) (known r) (folder r) (notLong name) (notOrphan r name) (findSlot (s .arena) r name)
+  unfolding partIn standOn
+  part-is = found-is (s .arena) r name (standOn s)
 
   module _ {n : ℕ} (e : n ≡ answer (findFolder r name)) where
     pub part-not : (w : Spot) {q : ℕ} → (n ≡ 0 → ⊥) → q ≡ n → Went (partIn s r name) w Unit q

@@ -1,9 +1,9 @@
--- `calls_find::find_name`: question after question.
+-- `finds::find_name`: question after question.
 use mathlib.Core.Path.{_∙_}
-use Rattle.calls_find.proofs.Finds.{long-stop, long-next}
+use Rattle.finds.proofs.Asks.{long-stop, long-next}
 use borrow.Author.Needs.{needs}
-use Rattle.calls_find.proofs.find_name.Statement.{statement}
-use Rattle.calls_find.proofs.find_name.Tie as tie
+use Rattle.finds.proofs.find_name.Statement.{statement}
+use Rattle.finds.proofs.find_name.Tie as tie
 
 not-long-requires : tie.Need-not-long-requires
 not-long-requires c κs = search needs

@@ -1,9 +1,9 @@
--- `calls_find::find_folder`: question after question.
+-- `finds::find_folder`: question after question.
 use mathlib.Core.Path.{_∙_}
-use Rattle.calls_find.proofs.Finds.{known-stop, known-next, folder-stop, folder-next}
+use Rattle.finds.proofs.Asks.{known-stop, known-next, folder-stop, folder-next}
 use borrow.Author.Needs.{needs}
-use Rattle.calls_find.proofs.find_folder.Statement.{statement}
-use Rattle.calls_find.proofs.find_folder.Tie as tie
+use Rattle.finds.proofs.find_folder.Statement.{statement}
+use Rattle.finds.proofs.find_folder.Tie as tie
 
 known-requires : tie.Need-known-requires
 known-requires c κs = search needs
