@@ -4,13 +4,14 @@ mod perform;
 
 ghost use mathlib.Core.Path.{_≡_};
 ghost use mathlib.Core.Bool.{false};
-ghost use Prim.Native.Nat.{_<_, _≤_};
+ghost use Prim.Native.Nat.{_+_, _<_, _≤_};
 ghost use lib.ListN.{length, getD};
 ghost use Rattle.le.specs.Le.{leAt};
-ghost use Rattle.replay_lib.specs.Steps.{Primed, Gone, endedIn, toGo};
+ghost use Rattle.replay_lib.specs.Steps.{endedIn, toGo};
 use le::put_u64;
 use le::u64_at;
 use perform::perform;
+use script::shape::size_of;
 use script::text::put_word;
 use table_bytes::put_empty;
 
@@ -19,7 +20,7 @@ pub const DESK: usize = 4419;
 // Room for the longest line.
 pub const LINE: usize = 512;
 
-// Where a run stands in the script, and where its text ends.
+// How far a run has come in the script, and where its text ends.
 pub struct Step {
     pub at: usize,
     pub w: usize,
@@ -50,36 +51,30 @@ pub fn begin(desk: &mut [u8], arena: &mut [u8]) {
         return;
     }
     put_empty(desk);
-    base::clear(&mut arena[..8192]);
+    base::clear(&mut arena[0..8192]);
     put_u64(desk, 4402, 8192);
     stand(desk, 0, 1);
 }
 
-// A broken format ends the run with a line of its own, and so do the byte 0 and the script's end with none.
-fn advance(
-    script: &[u8],
-    at: usize,
-    desk: &mut [u8],
-    arena: &mut [u8],
-    text: &mut [u8],
-    w: usize,
-) -> Step
-    requires { ⌜ Primed (now script) at (now desk) (now text) w ⌝ }
-    ensures { λ r. ⌜ (at < r .at) × Gone 512 (length (now (script .entry))) at (r .at) w (r .w) ⌝ }
+// The command that `rest` begins with. The byte 0 ends the run, and so does a broken format, with a line of its own.
+fn advance(rest: &[u8], desk: &mut [u8], arena: &mut [u8], text: &mut [u8], w: usize) -> Step
+    requires { ⌜ (0 < length (now rest)) × ((length (now desk) ≡ 4419) × (w + 512 ≤ length (now text))) ⌝ }
+    ensures { λ r. ⌜ (0 < r .at) × ((r .at ≤ length (now (rest .entry))) × (r .w ≤ w + 512)) ⌝ }
 {
-    if script[at] == 0 {
+    let end = rest.len();
+    if rest[0] == 0 {
+        return Step { at: end, w: w };
+    }
+    let n = size_of(rest, arena.len());
+    if n == 0 {
         return Step {
-            at: script.len(),
-            w: w,
+            at: end,
+            w: put_word(text, w, b"bad script\n"),
         };
     }
-    let s = perform(script, at, desk, arena, text, w);
-    if s.at != at {
-        return s;
-    }
     Step {
-        at: script.len(),
-        w: put_word(text, w, b"bad script\n"),
+        at: n,
+        w: perform(&rest[0..n], desk, arena, text, w),
     }
 }
 
@@ -95,8 +90,8 @@ fn run_from(script: &[u8], from: usize, desk: &mut [u8], arena: &mut [u8], text:
         if text.len() - w < LINE {
             return Step { at: at, w: w };
         }
-        let s = advance(script, at, desk, arena, text, w);
-        at = s.at;
+        let s = advance(&script[at..], desk, arena, text, w);
+        at = at + s.at;
         w = s.w;
     }
     Step { at: at, w: w }

@@ -1,10 +1,10 @@
-// The arguments of a command, all of whose bytes are there.
+// The arguments of a command, which `shape` has seen to be whole. What a reader needs is the room of a command's place, and no more.
 ghost use mathlib.Core.Path.{_≡_};
 ghost use Prim.Native.Nat.{_+_, _≤_};
 ghost use lib.ListN.{length};
-ghost use Rattle.le.specs.Le.{leAt};
 use base::copy;
 use base::index16;
+use base::least;
 use le::i64_at;
 use le::u16_at;
 use le::u32_at;
@@ -12,36 +12,59 @@ use le::u64_at;
 use structs::Timespec;
 use table::Handle;
 
-pub fn handle_at(script: &[u8], at: usize) -> Handle
-    requires { ⌜ at + 12 ≤ length (now script) ⌝ }
+pub fn handle_at(command: &[u8], at: usize) -> Handle
+    requires { ⌜ at + 12 ≤ length (now command) ⌝ }
 {
     Handle {
-        hold: u32_at(script, at),
-        stamp: u64_at(script, at + 4),
+        hold: u32_at(command, at),
+        stamp: u64_at(command, at + 4),
     }
 }
 
-pub fn time_at(script: &[u8], at: usize) -> Timespec
-    requires { ⌜ at + 16 ≤ length (now script) ⌝ }
+pub fn time_at(command: &[u8], at: usize) -> Timespec
+    requires { ⌜ at + 16 ≤ length (now command) ⌝ }
 {
     Timespec {
-        sec: i64_at(script, at),
-        nsec: i64_at(script, at + 8),
+        sec: i64_at(command, at),
+        nsec: i64_at(command, at + 8),
     }
 }
 
-pub fn file_at(script: &[u8], at: usize) -> [u8; 16]
-    requires { ⌜ at + 16 ≤ length (now script) ⌝ }
+pub fn file_at(command: &[u8], at: usize) -> [u8; 16]
+    requires { ⌜ at + 16 ≤ length (now command) ⌝ }
 {
     let mut file = [0u8; 16];
-    copy(&mut file, &script[at..at + 16]);
+    copy(&mut file, &command[at..at + 16]);
     file
 }
 
-// Where the name ends whose length stands at `at`.
-pub fn name_end(script: &[u8], at: usize) -> usize
-    requires { ⌜ at + 2 + leAt (now script) at 2 ≤ length (now script) ⌝ }
-    ensures { λ r. ⌜ r ≡ at + 2 + leAt (now (script .entry)) at 2 ⌝ }
+// A length within its limit.
+fn length_at(command: &[u8], at: usize, longest: usize) -> usize
+    requires { ⌜ at + 2 ≤ length (now command) ⌝ }
+    ensures { λ r. ⌜ r ≤ longest ⌝ }
 {
-    at + 2 + index16(u16_at(script, at))
+    least(index16(u16_at(command, at)), longest)
+}
+
+// A name, a path, or what is written: its length, and as many bytes.
+pub fn name_at(command: &[u8], at: usize, longest: usize) -> &[u8]
+    requires { ⌜ at + 2 + longest ≤ length (now command) ⌝ }
+    ensures { λ r. ⌜ length (now r) ≤ longest ⌝ }
+{
+    let s = at + 2;
+    let e = s + length_at(command, at, longest);
+    &command[s..e]
+}
+
+// How long an output the command asks for.
+pub fn output_of(command: &[u8]) -> usize
+    requires { ⌜ length (now command) ≡ 8218 ⌝ }
+    ensures { λ r. ⌜ r ≤ 8192 ⌝ }
+{
+    match command[0] {
+        26 | 32 => length_at(command, 22, 8192),
+        27 => length_at(command, 23, 8192),
+        35 => length_at(command, 16 + length_at(command, 14, 8192), 8192),
+        _ => 0,
+    }
 }

@@ -1,13 +1,12 @@
 // Commands 1 to 4, which set the arena and the table; how much of the arena is there; and the table on its way to a call and back.
 ghost use mathlib.Core.Path.{_≡_};
-ghost use Prim.Native.Nat.{_+_, _<_, _≤_};
-ghost use lib.ListN.{length, getD};
-ghost use Rattle.le.specs.Le.{leAt};
+ghost use Prim.Native.Nat.{_≤_};
+ghost use lib.ListN.{length};
 ghost use Rattle.mem.specs.Mem.{Whole, memorySize};
-ghost use Rattle.script.specs.Shape.{There, arenaOf};
 use base::clear;
 use base::copy;
 use base::index;
+use base::least;
 use le::put_u64;
 use le::u32_at;
 use le::u64_at;
@@ -28,54 +27,57 @@ pub fn arena_len(desk: &[u8], limit: usize) -> usize
     limit
 }
 
-fn set_arena(script: &[u8], at: usize, desk: &mut [u8], arena: &mut [u8])
-    requires { ⌜ at + (5 + leAt (now script) (at + 1) 4) ≤ length (now script) ⌝ }
-    requires { ⌜ (length (now desk) ≡ 4419) × (leAt (now script) (at + 1) 4 ≤ length (now arena)) ⌝ }
+// The arena's length that a command sets, within the limit.
+fn arena_asked(command: &[u8], limit: usize) -> usize
+    requires { ⌜ 5 ≤ length (now command) ⌝ }
+    ensures { λ r. ⌜ r ≤ limit ⌝ }
 {
-    let n = index(u32_at(script, at + 1));
-    let s = at + 5;
-    let e = s + n;
-    copy(&mut arena[..n], &script[s..e]);
+    least(index(u32_at(command, 1)), limit)
+}
+
+// The last bytes of the command.
+fn set_arena(command: &[u8], bytes: &[u8], desk: &mut [u8], arena: &mut [u8])
+    requires { ⌜ (5 ≤ length (now command)) × (length (now desk) ≡ 4419) ⌝ }
+{
+    let n = least(arena_asked(command, arena.len()), bytes.len());
+    let s = bytes.len() - n;
+    copy(&mut arena[0..n], &bytes[s..]);
     put_u64(desk, 4402, n as u64);
 }
 
-fn clear_arena(script: &[u8], at: usize, desk: &mut [u8], arena: &mut [u8])
-    requires { ⌜ at + 5 ≤ length (now script) ⌝ }
-    requires { ⌜ (length (now desk) ≡ 4419) × (leAt (now script) (at + 1) 4 ≤ length (now arena)) ⌝ }
+fn clear_arena(command: &[u8], desk: &mut [u8], arena: &mut [u8])
+    requires { ⌜ (5 ≤ length (now command)) × (length (now desk) ≡ 4419) ⌝ }
 {
-    let n = index(u32_at(script, at + 1));
-    clear(&mut arena[..n]);
+    let n = arena_asked(command, arena.len());
+    clear(&mut arena[0..n]);
     put_u64(desk, 4402, n as u64);
 }
 
 // A place past the arena's end changes nothing.
-fn set_byte(script: &[u8], at: usize, desk: &[u8], arena: &mut [u8])
-    requires { ⌜ (at + 6 ≤ length (now script)) × (length (now desk) ≡ 4419) ⌝ }
+fn set_byte(command: &[u8], desk: &[u8], arena: &mut [u8])
+    requires { ⌜ (6 ≤ length (now command)) × (length (now desk) ≡ 4419) ⌝ }
 {
-    let p = index(u32_at(script, at + 1));
+    let p = index(u32_at(command, 1));
     if p < arena_len(desk, arena.len()) {
-        arena[p] = script[at + 5];
+        arena[p] = command[5];
     }
 }
 
-fn set_table(script: &[u8], at: usize, desk: &mut [u8])
-    requires { ⌜ (at + 4403 ≤ length (now script)) × (length (now desk) ≡ 4419) ⌝ }
+fn set_table(command: &[u8], desk: &mut [u8])
+    requires { ⌜ (4403 ≤ length (now command)) × (length (now desk) ≡ 4419) ⌝ }
 {
-    let s = at + 1;
-    let e = at + 4403;
-    write_table(desk, read_table(&script[s..e]));
+    write_table(desk, read_table(&command[1..4403]));
 }
 
-// They print nothing.
-pub fn do_quiet(script: &[u8], at: usize, desk: &mut [u8], arena: &mut [u8])
-    requires { ⌜ There (now script) at × (arenaOf (now script) at ≤ length (now arena)) ⌝ }
-    requires { ⌜ (length (now desk) ≡ 4419) × ((0 < getD (now script) at 0) × (getD (now script) at 0 ≤ 4)) ⌝ }
+// They print nothing. `bytes` are the command's, however many.
+pub fn do_quiet(command: &[u8], bytes: &[u8], desk: &mut [u8], arena: &mut [u8])
+    requires { ⌜ (length (now command) ≡ 8218) × (length (now desk) ≡ 4419) ⌝ }
 {
-    match script[at] {
-        1 => set_arena(script, at, desk, arena),
-        2 => clear_arena(script, at, desk, arena),
-        3 => set_byte(script, at, &desk[..], arena),
-        _ => set_table(script, at, desk),
+    match command[0] {
+        1 => set_arena(command, bytes, desk, arena),
+        2 => clear_arena(command, desk, arena),
+        3 => set_byte(command, &desk[..], arena),
+        _ => set_table(command, desk),
     }
 }
 
@@ -85,15 +87,15 @@ pub fn to_memory(desk: &[u8], mem: &mut [u8])
     requires { ⌜ (length (now desk) ≡ 4419) × (length (now mem) ≡ memorySize) ⌝ }
     ensures { λ _. ⌜ Whole (now (mem .exit)) ⌝ }
 {
-    begin(mem, &desk[..4402]);
+    begin(mem, &desk[0..4402]);
 }
 
-// A refusal leaves the desk's table as it is.
+// Only where the call is done, and its table is another.
 pub fn from_memory(desk: &mut [u8], mem: &[u8], reason: u8)
     requires { ⌜ (length (now desk) ≡ 4419) × (length (now mem) ≡ memorySize) ⌝ }
 {
     if reason != 0 {
         return;
     }
-    write_back(&mut desk[..4402], mem);
+    write_back(&mut desk[0..4402], mem);
 }

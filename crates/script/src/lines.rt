@@ -1,23 +1,13 @@
-// A line's words: the call's name, by its byte in the script, and what the call answered. The longest answer, metadata's, has 303 bytes.
+// A line's words: the call's name, by its byte c in the script, and what the call said (`answers`).
 ghost use mathlib.Core.Path.{_≡_};
 ghost use Prim.Native.Nat.{_+_, _≤_};
 ghost use lib.ListN.{length};
-ghost use Rattle.mem.specs.Mem.{memorySize};
-use crate::desk::from_memory;
+use crate::answers::KEPT;
 use crate::text::put_labelled;
-use crate::text::put_signed;
+use crate::text::put_negative;
 use crate::text::put_value;
 use crate::text::put_word;
-use calls::Answer;
-use calls::Handed;
-use calls::Listed;
-use calls::Taken;
-use calls::Told;
-use sefs::Metadata;
-use structs::Timespec;
 use sums::sum;
-use table::Handle;
-use table_bytes::put_empty;
 
 // ---- the call's name
 
@@ -38,7 +28,7 @@ fn put_row(text: &mut [u8], w: usize, names: &[u8], s: usize) -> usize
 }
 
 // By the byte's remainder, as bytes from 16 to 47 have one each. (One table: a match with an arm for each name takes half a minute to prove.)
-pub fn put_name(text: &mut [u8], w: usize, c: u8) -> usize
+fn put_name(text: &mut [u8], w: usize, c: u8) -> usize
     requires { ⌜ w + 13 ≤ length (now text) ⌝ }
     ensures { λ r. ⌜ r ≤ w + 13 ⌝ }
 {
@@ -57,216 +47,126 @@ pub fn put_name(text: &mut [u8], w: usize, c: u8) -> usize
     )
 }
 
-// ---- what it answered
+// ---- what it said
 
-pub fn put_no(text: &mut [u8], w: usize, reason: u8) -> usize
-    requires { ⌜ w + 24 ≤ length (now text) ⌝ }
-    ensures { λ r. ⌜ r ≤ w + 24 ⌝ }
+// From the sixth on they may be below 0: metadata's times.
+fn put_said(text: &mut [u8], w: usize, i: usize, n: u64) -> usize
+    requires { ⌜ w + 22 ≤ length (now text) ⌝ }
+    ensures { λ r. ⌜ r ≤ w + 22 ⌝ }
 {
-    put_labelled(text, w, b" no", reason as u64)
+    if (i > 4) & (n > 9223372036854775807) {
+        return put_negative(text, w, n);
+    }
+    put_value(text, w, n)
 }
 
-pub fn put_ok(text: &mut [u8], w: usize) -> usize
-    requires { ⌜ w + 3 ≤ length (now text) ⌝ }
-    ensures { λ r. ⌜ r ≤ w + 3 ⌝ }
+// The first n numbers.
+fn put_values(text: &mut [u8], w: usize, said: &[u64; 14], n: usize) -> usize
+    requires { ⌜ (n ≤ 14) × (w + 308 ≤ length (now text)) ⌝ }
+    ensures { λ r. ⌜ r ≤ w + 308 ⌝ }
 {
-    put_word(text, w, b" ok")
+    let mut i: usize = 0;
+    let mut v = w;
+    while i < n {
+        v = put_said(text, v, i, said[i]);
+        i = i + 1;
+    }
+    v
 }
 
-pub fn put_answer(text: &mut [u8], w: usize, a: Answer) -> usize
-    requires { ⌜ w + 24 ≤ length (now text) ⌝ }
-    ensures { λ r. ⌜ r ≤ w + 24 ⌝ }
+// How many numbers stand after `ok`.
+fn values_of(c: u8) -> usize
+    ensures { λ r. ⌜ r ≤ 14 ⌝ }
 {
-    match a {
-        Answer::Done => put_ok(text, w),
-        Answer::Refused(r) => put_no(text, w, r),
+    match c {
+        18 | 19 | 20 | 35 => 2,
+        24 => 14,
+        27 | 32 => 1,
+        _ => 0,
     }
 }
 
-fn put_held(text: &mut [u8], w: usize, h: Handle) -> usize
-    requires { ⌜ w + 45 ≤ length (now text) ⌝ }
-    ensures { λ r. ⌜ r ≤ w + 45 ⌝ }
+fn put_answer(text: &mut [u8], w: usize, c: u8, reason: u8, said: &[u64; 14]) -> usize
+    requires { ⌜ w + 311 ≤ length (now text) ⌝ }
+    ensures { λ r. ⌜ r ≤ w + 311 ⌝ }
 {
-    let v = put_labelled(text, w, b" ok", h.hold as u64);
-    put_value(text, v, h.stamp)
-}
-
-// ---- metadata
-
-fn put_time(text: &mut [u8], w: usize, t: Timespec) -> usize
-    requires { ⌜ w + 44 ≤ length (now text) ⌝ }
-    ensures { λ r. ⌜ r ≤ w + 44 ⌝ }
-{
-    let v = put_signed(text, w, t.sec);
-    put_signed(text, v, t.nsec)
-}
-
-fn put_times(text: &mut [u8], w: usize, m: Metadata) -> usize
-    requires { ⌜ w + 132 ≤ length (now text) ⌝ }
-    ensures { λ r. ⌜ r ≤ w + 132 ⌝ }
-{
-    let atime = m.atime;
-    let mtime = m.mtime;
-    let ctime = m.ctime;
-    let u = put_time(text, w, atime);
-    let v = put_time(text, u, mtime);
-    put_time(text, v, ctime)
-}
-
-fn put_node(text: &mut [u8], w: usize, m: Metadata) -> usize
-    requires { ⌜ w + 105 ≤ length (now text) ⌝ }
-    ensures { λ r. ⌜ r ≤ w + 105 ⌝ }
-{
-    let a = put_value(text, w, m.inode as u64);
-    let b = put_value(text, a, m.size);
-    let c = put_value(text, b, m.mode as u64);
-    let d = put_value(text, c, m.kind as u64);
-    put_value(text, d, m.blocks as u64)
-}
-
-fn put_owner(text: &mut [u8], w: usize, m: Metadata) -> usize
-    requires { ⌜ w + 63 ≤ length (now text) ⌝ }
-    ensures { λ r. ⌜ r ≤ w + 63 ⌝ }
-{
-    let a = put_value(text, w, m.nlinks as u64);
-    let b = put_value(text, a, m.uid as u64);
-    put_value(text, b, m.gid as u64)
-}
-
-fn put_metadata(text: &mut [u8], w: usize, m: Metadata) -> usize
-    requires { ⌜ w + 303 ≤ length (now text) ⌝ }
-    ensures { λ r. ⌜ r ≤ w + 303 ⌝ }
-{
-    let a = put_ok(text, w);
-    let b = put_node(text, a, m);
-    let c = put_times(text, b, m);
-    put_owner(text, c, m)
-}
-
-pub fn put_told(text: &mut [u8], w: usize, t: Told) -> usize
-    requires { ⌜ w + 303 ≤ length (now text) ⌝ }
-    ensures { λ r. ⌜ r ≤ w + 303 ⌝ }
-{
-    match t {
-        Told::Tells(m) => put_metadata(text, w, m),
-        Told::Refused(r) => put_no(text, w, r),
+    if (reason != 0) & (reason != KEPT) {
+        return put_labelled(text, w, b" no", reason as u64);
     }
+    let v = put_word(text, w, b" ok");
+    put_values(text, v, said, values_of(c))
 }
 
-// ---- listing, read, and the output's sum
-
-fn put_count(text: &mut [u8], w: usize, n: usize) -> usize
-    requires { ⌜ w + 24 ≤ length (now text) ⌝ }
-    ensures { λ r. ⌜ r ≤ w + 24 ⌝ }
+// The check's.
+fn put_verdict(text: &mut [u8], w: usize, reason: u8, said: &[u64; 14]) -> usize
+    requires { ⌜ w + 86 ≤ length (now text) ⌝ }
+    ensures { λ r. ⌜ r ≤ w + 86 ⌝ }
 {
-    put_labelled(text, w, b" ok", n as u64)
-}
-
-pub fn put_listed(text: &mut [u8], w: usize, l: Listed) -> usize
-    requires { ⌜ w + 24 ≤ length (now text) ⌝ }
-    ensures { λ r. ⌜ r ≤ w + 24 ⌝ }
-{
-    match l {
-        Listed::Slots(n) => put_count(text, w, n),
-        Listed::Refused(r) => put_no(text, w, r),
+    if reason != KEPT {
+        return put_labelled(text, w, b" fail rule", reason as u64);
     }
+    let a = put_labelled(text, w, b" pass nodes", said[0]);
+    let b = put_labelled(text, a, b" unused", said[1]);
+    put_labelled(text, b, b" free", said[2])
 }
 
-pub fn put_taken(text: &mut [u8], w: usize, t: Taken) -> usize
-    requires { ⌜ w + 24 ≤ length (now text) ⌝ }
-    ensures { λ r. ⌜ r ≤ w + 24 ⌝ }
-{
-    match t {
-        Taken::Bytes(n) => put_count(text, w, n),
-        Taken::Refused(r) => put_no(text, w, r),
-    }
-}
+// ---- the output's sum, over all its bytes, also where the call refused
 
-// Over all bytes of the output, also where the call refused.
-pub fn put_output(text: &mut [u8], w: usize, out: &[u8]) -> usize
+fn put_output(text: &mut [u8], w: usize, out: &[u8]) -> usize
     requires { ⌜ w + 23 ≤ length (now text) ⌝ }
     ensures { λ r. ⌜ r ≤ w + 23 ⌝ }
 {
     put_labelled(text, w, b" o", sum(out))
 }
 
-// ---- the check's verdict
-
-pub fn put_pass(text: &mut [u8], w: usize, nodes: u32, unused: u32, free: u32) -> usize
-    requires { ⌜ w + 86 ≤ length (now text) ⌝ }
-    ensures { λ r. ⌜ r ≤ w + 86 ⌝ }
+// And the listing's next slot.
+fn put_listed(text: &mut [u8], w: usize, next: u64, out: &[u8]) -> usize
+    requires { ⌜ w + 46 ≤ length (now text) ⌝ }
+    ensures { λ r. ⌜ r ≤ w + 46 ⌝ }
 {
-    let a = put_labelled(text, w, b" pass nodes", nodes as u64);
-    let b = put_labelled(text, a, b" unused", unused as u64);
-    put_labelled(text, b, b" free", free as u64)
+    let v = put_output(text, w, out);
+    put_labelled(text, v, b" p", next)
 }
 
-pub fn put_fail(text: &mut [u8], w: usize, rule: u8) -> usize
-    requires { ⌜ w + 31 ≤ length (now text) ⌝ }
-    ensures { λ r. ⌜ r ≤ w + 31 ⌝ }
+fn put_shown(text: &mut [u8], w: usize, c: u8, said: &[u64; 14], out: &[u8]) -> usize
+    requires { ⌜ w + 46 ≤ length (now text) ⌝ }
+    ensures { λ r. ⌜ r ≤ w + 46 ⌝ }
 {
-    put_labelled(text, w, b" fail rule", rule as u64)
-}
-
-// ---- answers of calls that change the table: by the reason, 0 on success
-
-fn put_reason(text: &mut [u8], w: usize, reason: u8) -> usize
-    requires { ⌜ w + 24 ≤ length (now text) ⌝ }
-    ensures { λ r. ⌜ r ≤ w + 24 ⌝ }
-{
-    if reason == 0 {
-        return put_ok(text, w);
+    match c {
+        26 | 32 | 35 => put_output(text, w, out),
+        27 => put_listed(text, w, said[1], out),
+        _ => w,
     }
-    put_no(text, w, reason)
 }
 
-pub fn put_after(desk: &mut [u8], mem: &[u8], text: &mut [u8], w: usize, reason: u8) -> usize
-    requires { ⌜ (length (now desk) ≡ 4419) × (w + 24 ≤ length (now text)) ⌝ }
-    requires { ⌜ length (now mem) ≡ memorySize ⌝ }
-    ensures { λ r. ⌜ r ≤ w + 24 ⌝ }
-{
-    from_memory(desk, mem, reason);
-    put_reason(text, w, reason)
-}
+// ---- the line
 
-// Format and open set the empty table on success only.
-pub fn put_fresh(desk: &mut [u8], text: &mut [u8], w: usize, reason: u8) -> usize
-    requires { ⌜ (length (now desk) ≡ 4419) × (w + 24 ≤ length (now text)) ⌝ }
-    ensures { λ r. ⌜ r ≤ w + 24 ⌝ }
+fn put_words(text: &mut [u8], w: usize, c: u8, reason: u8, said: &[u64; 14]) -> usize
+    requires { ⌜ w + 324 ≤ length (now text) ⌝ }
+    ensures { λ r. ⌜ r ≤ w + 324 ⌝ }
 {
-    if reason != 0 {
-        return put_no(text, w, reason);
+    let v = put_name(text, w, c);
+    if c == 30 {
+        return put_verdict(text, v, reason, said);
     }
-    put_empty(desk);
-    put_ok(text, w)
+    put_answer(text, v, c, reason, said)
 }
 
-fn put_handed(text: &mut [u8], w: usize, h: Handed) -> usize
-    requires { ⌜ w + 45 ≤ length (now text) ⌝ }
-    ensures { λ r. ⌜ r ≤ w + 45 ⌝ }
+// But for its end.
+pub fn put_call(text: &mut [u8], w: usize, c: u8, reason: u8, said: &[u64; 14], out: &[u8]) -> usize
+    requires { ⌜ w + 370 ≤ length (now text) ⌝ }
+    ensures { λ r. ⌜ r ≤ w + 370 ⌝ }
 {
-    let handle = h.handle;
-    if h.reason != 0 {
-        return put_no(text, w, h.reason);
-    }
-    put_held(text, w, handle)
+    let v = put_words(text, w, c, reason, said);
+    put_shown(text, v, c, said, out)
 }
 
-pub fn put_given(desk: &mut [u8], mem: &[u8], text: &mut [u8], w: usize, h: Handed) -> usize
-    requires { ⌜ (length (now desk) ≡ 4419) × (w + 45 ≤ length (now text)) ⌝ }
-    requires { ⌜ length (now mem) ≡ memorySize ⌝ }
-    ensures { λ r. ⌜ r ≤ w + 45 ⌝ }
-{
-    from_memory(desk, mem, h.reason);
-    put_handed(text, w, h)
-}
-
-// The end of a line: the sums over the arena and over the table's bytes.
+// The end: the sums over the arena and over the table's bytes.
 pub fn put_sums(desk: &[u8], arena: &[u8], text: &mut [u8], w: usize) -> usize
     requires { ⌜ (length (now desk) ≡ 4419) × (w + 47 ≤ length (now text)) ⌝ }
     ensures { λ r. ⌜ r ≤ w + 47 ⌝ }
 {
     let a = put_labelled(text, w, b" a", sum(arena));
-    let b = put_labelled(text, a, b" t", sum(&desk[..4402]));
+    let b = put_labelled(text, a, b" t", sum(&desk[0..4402]));
     put_word(text, b, b"\n")
 }

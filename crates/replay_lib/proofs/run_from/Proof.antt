@@ -1,8 +1,8 @@
 -- `run_from`: each turn moves on, and writes no more than a line.
-use mathlib.Core.Path.{_≡_, refl, _∙_}
+use mathlib.Core.Path.{_≡_}
 use Prim.Native.Nat.{_*_, _-_, _≤_}
-use native.Mathlib.Omega.{arith}
 use lib.ListN.{length}
+use borrow.Author.Needs.{needs}
 use Rattle.replay_lib.proofs.run_from.Statement.{statement}
 use Rattle.replay_lib.proofs.run_from.Tie as tie
 
@@ -13,47 +13,55 @@ abbrev μ-loop : tie.MeasureT-loop
 μ-loop script from desk₀ arena₀ text₀ at₀ w₀ desk arena text at w = length script - at
 
 loop-holds : tie.Need-loop-holds Inv-loop μ-loop
-loop-holds c = (omega arith, omega arith, omega arith, refl, refl, refl)
+loop-holds c = search needs
 
 sub-if1 : tie.Need-sub-if1 Inv-loop μ-loop
-sub-if1 c = omega (arith, c .before .loop .inv .5)
+sub-if1 c = search needs
 
 same-length : tie.Need-same-length Inv-loop μ-loop
-same-length c = c .before .before .loop .inv .3
+same-length c = search needs
 
 same-length-2 : tie.Need-same-length-2 Inv-loop μ-loop
-same-length-2 c = c .before .before .loop .inv .4
+same-length-2 c = search needs
 
 same-length-3 : tie.Need-same-length-3 Inv-loop μ-loop
-same-length-3 c = c .before .before .loop .inv .5
+same-length-3 c = search needs
 
 returns : tie.Need-returns Inv-loop μ-loop
-returns c = ((omega arith, omega arith), λ h g. omega (arith, c .before .before .loop .inv .5))
+returns c = search needs
+
+sub-advance : tie.Need-sub-advance Inv-loop μ-loop
+sub-advance c = search needs
+
+part-advance-start : tie.Need-part-advance-start Inv-loop μ-loop
+part-advance-start c = search needs
+
+part-advance-end : tie.Need-part-advance-end Inv-loop μ-loop
+part-advance-end c = search needs
 
 advance-requires : tie.Need-advance-requires Inv-loop μ-loop
-advance-requires c κs = (omega arith, (c .before .before .before .before .before .loop .inv .3 ∙ c .before .before .before .before .before .before .before .before .before .before .pre, omega (arith, c .before .before .before .before .before .loop .inv .5)))
+advance-requires c κs = search needs
+
+add-at : tie.Need-add-at Inv-loop μ-loop
+add-at c = search needs
 
 loop-less : tie.Need-loop-less Inv-loop μ-loop
-loop-less c = omega (arith, c .before .before .before .before .before .before .advance .ensures .0, c .before .before .before .before .before .before .advance .ensures .1 .1 .0)
+loop-less c = search needs
 
 loop-again : tie.Need-loop-again Inv-loop μ-loop
-loop-again c =
-    let l = c .before .before .before .before .before .before .before .before .before .before .before .before .loop .inv in
-    let e = c .before .before .before .before .before .before .advance .ensures in
-    let k = c .before .before .before .before .before .before .advance .kept in
-    (omega (arith, l .0, e .0), omega (arith, l .0, l .1, e .0, e .1 .1 .1), omega (arith, l .5, e .1 .1 .1, c .before .before .before .before .before .before .before .before .before .before .if1 .left), k .1 .1 .0 ∙ l .3, k .1 .1 .1 .0 ∙ l .4, k .1 .1 .1 .1 .0 ∙ l .5)
+loop-again c = search needs
 
 same-length-4 : tie.Need-same-length-4 Inv-loop μ-loop
-same-length-4 c = c .before .loop .inv .3
+same-length-4 c = search needs
 
 same-length-5 : tie.Need-same-length-5 Inv-loop μ-loop
-same-length-5 c = c .before .loop .inv .4
+same-length-5 c = search needs
 
 same-length-6 : tie.Need-same-length-6 Inv-loop μ-loop
-same-length-6 c = c .before .loop .inv .5
+same-length-6 c = search needs
 
 returns-2 : tie.Need-returns-2 Inv-loop μ-loop
-returns-2 c = ((omega arith, omega arith), λ h g. omega arith)
+returns-2 c = search needs
 
 pub run-from-spec : {M : Type 1} → statement M
 run-from-spec =
@@ -67,7 +75,11 @@ run-from-spec =
     same-length-2
     same-length-3
     returns
+    sub-advance
+    part-advance-start
+    part-advance-end
     advance-requires
+    add-at
     loop-less
     loop-again
     same-length-4
