@@ -1,9 +1,7 @@
 // The call close: a row's last hold stores a dirty record; at links 0 the node is freed.
 ghost use mathlib.Core.Path.{_≡_};
 ghost use Prim.Native.Nat.{_<_};
-ghost use mathlib.Core.Bool.{true, not, _&&_};
-ghost use lib.Dec.{ltb};
-ghost use Rattle.table.specs.Table.{rowAt};
+ghost use mathlib.Core.Bool.{true};
 ghost use Rattle.arena.specs.Blocks.{legal};
 ghost use Rattle.overlay.specs.View.{Empty};
 ghost use Rattle.sefs.specs.Nodes.{dropNode};
@@ -19,11 +17,10 @@ use calls::settle;
 use holds::close_hold;
 use mem::MEMORY;
 use mem::clear_row;
-use mem::dirty_at;
 use mem::put_table;
-use mem::rec_at;
 use nodes::drop_node;
 use nodes_read::meta::load_meta;
+use rows::is_stored;
 use table::Handle;
 use table::Table;
 
@@ -102,14 +99,6 @@ fn close_last(arena: &mut [u8], mem: &mut [u8], i: usize) -> u8
     let mut work = [0u8; 11776];
     overlay::begin(&mut work);
     drop_in(arena, &mut work, mem, i)
-}
-
-// A clean row that has a link: nothing of it is to be stored.
-pub fn is_stored(mem: &[u8], i: usize) -> bool
-    requires { ⌜ Whole (now mem) × (i < 34) ⌝ }
-    ensures { λ r. ⌜ r ≡ (not (rowAt (tableIn (now (mem .entry))) i .dirty) && ltb 0 (rowAt (tableIn (now (mem .entry))) i .rec .nlinks)) ⌝ }
-{
-    !dirty_at(mem, i) & (0 < rec_at(mem, i).nlinks)
 }
 
 // A row that is stored is cleared in memory, and no workspace is made for it.

@@ -1,10 +1,8 @@
 // What an owner keeps beside its arena: the chains of all blocks. Close and sync, on the table in memory: what they ask is read by the chains;
 // after their steps the chains are made again.
 ghost use mathlib.Core.Path.{_≡_};
-ghost use mathlib.Core.Bool.{true, not, _&&_};
+ghost use mathlib.Core.Bool.{true};
 ghost use Prim.Native.Nat.{_<_};
-ghost use lib.Dec.{ltb};
-ghost use Rattle.table.specs.Table.{rowAt};
 ghost use Rattle.arena.specs.Blocks.{legal};
 ghost use Rattle.sefs.specs.Close.{closeSteps, callClose, callSync};
 ghost use Rattle.mem.specs.Mem.{tableIn, Whole};
@@ -13,21 +11,13 @@ ghost use Rattle.steps.specs.Ends.{ending, Ended};
 ghost use Rattle.owners_kept.specs.Owned.{Chained, Kept};
 use calls_close::close_led;
 use calls_close::close_row;
-use calls_close::is_stored;
 use calls_sync::sync_in;
 use calls_sync::sync_led;
+use rows::stores;
 use sound::chain_all;
 use table::Handle;
 
 // ---- close
-
-// Whether closing row i stores anything: its last hold was closed, and it is dirty or has no link.
-fn stores(mem: &[u8], last: bool, i: usize) -> bool
-    requires { ⌜ Whole (now mem) × (i < 34) ⌝ }
-    ensures { λ r. ⌜ r ≡ (last && not (not (rowAt (tableIn (now (mem .entry))) i .dirty) && ltb 0 (rowAt (tableIn (now (mem .entry))) i .rec .nlinks))) ⌝ }
-{
-    last & !is_stored(mem, i)
-}
 
 // Where nothing is stored, the chains stay right.
 fn close_kept(arena: &mut [u8], chains: &mut [u16], mem: &mut [u8], last: bool, i: usize) -> u8

@@ -1,9 +1,9 @@
--- `owners_kept::stores`: the test that its contract has.
+-- `rows::stores`: the test that its contract has.
 use mathlib.Core.Path.{ap}
 use mathlib.Core.Bool.{Bool, not, _&&_}
 use borrow.Author.Needs.{needs}
-use Rattle.owners_kept.proofs.stores.Statement.{statement}
-use Rattle.owners_kept.proofs.stores.Tie as tie
+use Rattle.rows.proofs.stores.Statement.{statement}
+use Rattle.rows.proofs.stores.Tie as tie
 
 is-stored-requires : tie.Need-is-stored-requires
 is-stored-requires c κs = search needs
