@@ -16,18 +16,14 @@ fn say(text: &str) {
     io::stderr().write_all(format!("{text}\n").as_bytes()).unwrap();
 }
 
-/// How many lines there are; each is as expected.
-fn same(name: &str, text: &str, expected: &str) -> usize {
+/// How many lines a script has; each is as expected.
+fn compare(name: &str, script: &[u8], expected: &str) -> usize {
+    let text = replay(script);
     for (number, (got, want)) in text.lines().zip(expected.lines()).enumerate() {
         assert_eq!(got, want, "{name}, line {}", number + 1);
     }
     assert_eq!(text, expected, "{name}: the lines of one go on");
     expected.lines().count()
-}
-
-/// The same for what a script answers.
-fn compare(name: &str, script: &[u8], expected: &str) -> usize {
-    same(name, &replay(script), expected)
 }
 
 /// How many scripts and lines a folder of NAME.script and NAME.expected has; none where it is not there.
@@ -72,16 +68,7 @@ fn answers_of_the_rust() {
 #[test]
 fn script_of_the_gate() {
     let gate = top().join("crates/replay");
-    let stdin = fs::read(gate.join("stdin")).unwrap();
-    // each script behind its length
-    let mut rest = stdin.as_slice();
-    let mut text = String::new();
-    while let Some((length, after)) = rest.split_first_chunk() {
-        let (script, next) = after.split_at(u32::from_le_bytes(*length) as usize);
-        text += &replay(script);
-        rest = next;
-    }
-    let lines = same("crates/replay/stdin", &text, &fs::read_to_string(gate.join("stdout")).unwrap());
+    let lines = compare("crates/replay/stdin", &fs::read(gate.join("stdin")).unwrap(), &fs::read_to_string(gate.join("stdout")).unwrap());
     say(&format!("{lines} lines equal: {}", gate.display()));
     assert!(lines > 5_000);
 }
