@@ -1,95 +1,134 @@
-// What a call says for its line: a reason, and numbers beside it.
-//   0     done
-//   KEPT  done, and the table stays as it was
-//   else  the refusal's number; of the check, the rule's
-ghost use Prim.Native.Nat.{_+_, _≤_};
+// What a call answers, for its line:
+//   0     the output, all 238 before the call
+//   8192  its numbers, 14 of u64
+//   8304  the reason, u64: 0 where the call is done, KEPT where it is done and leaves the table alone, else the refusal's number (of the
+//         check, the rule's)
+//   8312  the command's byte, u64
+// A function here takes what the call returned, says its numbers and returns the reason.
+ghost use mathlib.Core.Path.{_≡_};
+ghost use Prim.Native.Nat.{_<_};
+ghost use lib.ListN.{length};
 use calls::Answer;
 use calls::Handed;
 use calls::Listed;
 use calls::Taken;
 use calls::Told;
+use le::put_u64;
 use le::to_bits;
 use sefs::Metadata;
 use structs::Timespec;
 
+pub const ANSWER: usize = 8320;
+
 pub const KEPT: u8 = 255;
 
-pub fn say_answer(a: Answer) -> u8 {
+pub fn say(answer: &mut [u8], k: usize, n: u64)
+    requires { ⌜ (length (now answer) ≡ 8320) × (k < 16) ⌝ }
+{
+    put_u64(answer, 8192 + 8 * k, n);
+}
+
+// What the line is about.
+pub fn end(answer: &mut [u8], c: u8, reason: u8)
+    requires { ⌜ length (now answer) ≡ 8320 ⌝ }
+{
+    say(answer, 14, reason as u64);
+    say(answer, 15, c as u64);
+}
+
+pub fn say_done(a: Answer) -> u8 {
     match a {
         Answer::Done => KEPT,
         Answer::Refused(r) => r,
     }
 }
 
-pub fn say_handed(h: Handed, said: &mut [u64; 14]) -> u8 {
+pub fn say_handed(answer: &mut [u8], h: Handed) -> u8
+    requires { ⌜ length (now answer) ≡ 8320 ⌝ }
+{
     let handle = h.handle;
-    said[0] = handle.hold as u64;
-    said[1] = handle.stamp;
+    say(answer, 0, handle.hold as u64);
+    say(answer, 1, handle.stamp);
     h.reason
 }
 
-pub fn say_taken(t: Taken, said: &mut [u64; 14]) -> u8 {
+fn say_count(answer: &mut [u8], n: usize) -> u8
+    requires { ⌜ length (now answer) ≡ 8320 ⌝ }
+{
+    say(answer, 0, n as u64);
+    KEPT
+}
+
+pub fn say_taken(answer: &mut [u8], t: Taken) -> u8
+    requires { ⌜ length (now answer) ≡ 8320 ⌝ }
+{
     match t {
-        Taken::Bytes(n) => {
-            said[0] = n as u64;
-            KEPT
-        }
+        Taken::Bytes(n) => say_count(answer, n),
         Taken::Refused(r) => r,
     }
 }
 
-pub fn say_listed(l: Listed, said: &mut [u64; 14]) -> u8 {
+pub fn say_listed(answer: &mut [u8], l: Listed) -> u8
+    requires { ⌜ length (now answer) ≡ 8320 ⌝ }
+{
     match l {
-        Listed::Slots(n) => {
-            said[0] = n as u64;
-            KEPT
-        }
+        Listed::Slots(n) => say_count(answer, n),
         Listed::Refused(r) => r,
     }
 }
 
-fn say_time(t: Timespec, said: &mut [u64; 14], k: usize)
-    requires { ⌜ k + 2 ≤ 14 ⌝ }
+// ---- metadata
+
+fn say_node(answer: &mut [u8], m: Metadata)
+    requires { ⌜ length (now answer) ≡ 8320 ⌝ }
 {
-    said[k] = to_bits(t.sec);
-    said[k + 1] = to_bits(t.nsec);
+    say(answer, 0, m.inode as u64);
+    say(answer, 1, m.size);
+    say(answer, 2, m.mode as u64);
+    say(answer, 3, m.kind as u64);
 }
 
-fn say_times(m: Metadata, said: &mut [u64; 14]) {
+fn say_time(answer: &mut [u8], k: usize, t: Timespec)
+    requires { ⌜ (length (now answer) ≡ 8320) × (k < 13) ⌝ }
+{
+    say(answer, k, to_bits(t.sec));
+    say(answer, k + 1, to_bits(t.nsec));
+}
+
+fn say_times(answer: &mut [u8], m: Metadata)
+    requires { ⌜ length (now answer) ≡ 8320 ⌝ }
+{
     let atime = m.atime;
     let mtime = m.mtime;
     let ctime = m.ctime;
-    say_time(atime, said, 5);
-    say_time(mtime, said, 7);
-    say_time(ctime, said, 9);
+    say_time(answer, 5, atime);
+    say_time(answer, 7, mtime);
+    say_time(answer, 9, ctime);
 }
 
-fn say_node(m: Metadata, said: &mut [u64; 14]) {
-    said[0] = m.inode as u64;
-    said[1] = m.size;
-    said[2] = m.mode as u64;
-    said[3] = m.kind as u64;
-    said[4] = m.blocks as u64;
+fn say_owner(answer: &mut [u8], m: Metadata)
+    requires { ⌜ length (now answer) ≡ 8320 ⌝ }
+{
+    say(answer, 11, m.nlinks as u64);
+    say(answer, 12, m.uid as u64);
+    say(answer, 13, m.gid as u64);
 }
 
-fn say_owner(m: Metadata, said: &mut [u64; 14]) {
-    said[11] = m.nlinks as u64;
-    said[12] = m.uid as u64;
-    said[13] = m.gid as u64;
+fn say_metadata(answer: &mut [u8], m: Metadata) -> u8
+    requires { ⌜ length (now answer) ≡ 8320 ⌝ }
+{
+    say_node(answer, m);
+    say(answer, 4, m.blocks as u64);
+    say_times(answer, m);
+    say_owner(answer, m);
+    KEPT
 }
 
-fn say_metadata(m: Metadata, said: &mut [u64; 14]) {
-    say_node(m, said);
-    say_times(m, said);
-    say_owner(m, said);
-}
-
-pub fn say_told(t: Told, said: &mut [u64; 14]) -> u8 {
+pub fn say_told(answer: &mut [u8], t: Told) -> u8
+    requires { ⌜ length (now answer) ≡ 8320 ⌝ }
+{
     match t {
-        Told::Tells(m) => {
-            say_metadata(m, said);
-            KEPT
-        }
+        Told::Tells(m) => say_metadata(answer, m),
         Told::Refused(r) => r,
     }
 }

@@ -1,5 +1,4 @@
 // The arguments of a command, which `shape` has seen to be whole. What a reader needs is the room of a command's place, and no more.
-ghost use mathlib.Core.Path.{_≡_};
 ghost use Prim.Native.Nat.{_+_, _≤_};
 ghost use lib.ListN.{length};
 use base::copy;
@@ -11,6 +10,12 @@ use le::u32_at;
 use le::u64_at;
 use structs::Timespec;
 use table::Handle;
+
+// A command in its place: as much as the place takes.
+pub fn lay(place: &mut [u8], bytes: &[u8]) {
+    let n = least(bytes.len(), place.len());
+    copy(&mut place[0..n], &bytes[0..n]);
+}
 
 pub fn handle_at(command: &[u8], at: usize) -> Handle
     requires { ⌜ at + 12 ≤ length (now command) ⌝ }
@@ -39,7 +44,7 @@ pub fn file_at(command: &[u8], at: usize) -> [u8; 16]
 }
 
 // A length within its limit.
-fn length_at(command: &[u8], at: usize, longest: usize) -> usize
+pub fn length_at(command: &[u8], at: usize, longest: usize) -> usize
     requires { ⌜ at + 2 ≤ length (now command) ⌝ }
     ensures { λ r. ⌜ r ≤ longest ⌝ }
 {
@@ -54,17 +59,4 @@ pub fn name_at(command: &[u8], at: usize, longest: usize) -> &[u8]
     let s = at + 2;
     let e = s + length_at(command, at, longest);
     &command[s..e]
-}
-
-// How long an output the command asks for.
-pub fn output_of(command: &[u8]) -> usize
-    requires { ⌜ length (now command) ≡ 8218 ⌝ }
-    ensures { λ r. ⌜ r ≤ 8192 ⌝ }
-{
-    match command[0] {
-        26 | 32 => length_at(command, 22, 8192),
-        27 => length_at(command, 23, 8192),
-        35 => length_at(command, 16 + length_at(command, 14, 8192), 8192),
-        _ => 0,
-    }
 }

@@ -27,28 +27,20 @@ pub fn arena_len(desk: &[u8], limit: usize) -> usize
     limit
 }
 
-// The arena's length that a command sets, within the limit.
-fn arena_asked(command: &[u8], limit: usize) -> usize
-    requires { ⌜ 5 ≤ length (now command) ⌝ }
-    ensures { λ r. ⌜ r ≤ limit ⌝ }
+// The bytes behind the length.
+pub fn set_arena(bytes: &[u8], desk: &mut [u8], arena: &mut [u8])
+    requires { ⌜ length (now desk) ≡ 4419 ⌝ }
 {
-    least(index(u32_at(command, 1)), limit)
-}
-
-// The last bytes of the command.
-fn set_arena(command: &[u8], bytes: &[u8], desk: &mut [u8], arena: &mut [u8])
-    requires { ⌜ (5 ≤ length (now command)) × (length (now desk) ≡ 4419) ⌝ }
-{
-    let n = least(arena_asked(command, arena.len()), bytes.len());
-    let s = bytes.len() - n;
-    copy(&mut arena[0..n], &bytes[s..]);
+    let s = least(bytes.len(), 5);
+    let n = least(bytes.len() - s, arena.len());
+    copy(&mut arena[0..n], &bytes[s..s + n]);
     put_u64(desk, 4402, n as u64);
 }
 
 fn clear_arena(command: &[u8], desk: &mut [u8], arena: &mut [u8])
     requires { ⌜ (5 ≤ length (now command)) × (length (now desk) ≡ 4419) ⌝ }
 {
-    let n = arena_asked(command, arena.len());
+    let n = least(index(u32_at(command, 1)), arena.len());
     clear(&mut arena[0..n]);
     put_u64(desk, 4402, n as u64);
 }
@@ -69,12 +61,11 @@ fn set_table(command: &[u8], desk: &mut [u8])
     write_table(desk, read_table(&command[1..4403]));
 }
 
-// They print nothing. `bytes` are the command's, however many.
-pub fn do_quiet(command: &[u8], bytes: &[u8], desk: &mut [u8], arena: &mut [u8])
+// 2 to 4. They print nothing, as 1.
+pub fn do_quiet(command: &[u8], desk: &mut [u8], arena: &mut [u8])
     requires { ⌜ (length (now command) ≡ 8218) × (length (now desk) ≡ 4419) ⌝ }
 {
     match command[0] {
-        1 => set_arena(command, bytes, desk, arena),
         2 => clear_arena(command, desk, arena),
         3 => set_byte(command, &desk[..], arena),
         _ => set_table(command, desk),

@@ -51,12 +51,3 @@ pub fn put_negative(text: &mut [u8], w: usize, bits: u64) -> usize
     put_word(text, w, b" -");
     e
 }
-
-// After a word.
-pub fn put_labelled(text: &mut [u8], w: usize, label: &[u8], n: u64) -> usize
-    requires { ⌜ w + (length (now label) + 21) ≤ length (now text) ⌝ }
-    ensures { λ r. ⌜ r ≤ w + (length (now (label .entry)) + 21) ⌝ }
-{
-    let v = put_word(text, w, label);
-    put_value(text, v, n)
-}

@@ -7,10 +7,10 @@ use Rattle.script.proofs.lines.put_row.Statement.{statement}
 use Rattle.script.proofs.lines.put_row.Tie as tie
 
 abbrev Inv-loop : tie.InvT-loop
-Inv-loop text₀ w names s i₀ text i = (i ≤ 13) × (length text ≡ length text₀)
+Inv-loop text₀ w words s i₀ text i = (i ≤ 13) × (length text ≡ length text₀)
 
 abbrev μ-loop : tie.MeasureT-loop
-μ-loop text₀ w names s i₀ text i = 13 - i
+μ-loop text₀ w words s i₀ text i = 13 - i
 
 loop-holds : tie.Need-loop-holds Inv-loop μ-loop
 loop-holds c = search needs

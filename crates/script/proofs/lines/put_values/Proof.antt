@@ -7,19 +7,22 @@ use Rattle.script.proofs.lines.put_values.Statement.{statement}
 use Rattle.script.proofs.lines.put_values.Tie as tie
 
 abbrev Inv-loop : tie.InvT-loop
-Inv-loop text₀ w said n i₀ v₀ text i v = (i ≤ n) × (v ≤ w + 22 * i) × (length text ≡ length text₀)
+Inv-loop text₀ w answer n i₀ v₀ text i v = (i ≤ n) × (v ≤ w + 22 * i) × (length text ≡ length text₀)
 
 abbrev μ-loop : tie.MeasureT-loop
-μ-loop text₀ w said n i₀ v₀ text i v = n - i
+μ-loop text₀ w answer n i₀ v₀ text i v = n - i
 
 loop-holds : tie.Need-loop-holds Inv-loop μ-loop
 loop-holds c = search needs
 
-mul-put-said : tie.Need-mul-put-said Inv-loop μ-loop
-mul-put-said c = search needs
+mul-u64-at : tie.Need-mul-u64-at Inv-loop μ-loop
+mul-u64-at c = search needs
 
-element-copy-out-put-said : tie.Need-element-copy-out-put-said Inv-loop μ-loop
-element-copy-out-put-said c = search needs
+add-u64-at : tie.Need-add-u64-at Inv-loop μ-loop
+add-u64-at c = search needs
+
+u64-at-requires : tie.Need-u64-at-requires Inv-loop μ-loop
+u64-at-requires c κs = search needs
 
 put-said-requires : tie.Need-put-said-requires Inv-loop μ-loop
 put-said-requires c κs = search needs
@@ -46,8 +49,9 @@ put-values-spec =
     Inv-loop
     μ-loop
     loop-holds
-    mul-put-said
-    element-copy-out-put-said
+    mul-u64-at
+    add-u64-at
+    u64-at-requires
     put-said-requires
     add-i
     loop-less
