@@ -1,23 +1,24 @@
-// The calls of a script, on the table in memory: those of `script::reads`, and here those that change the arena. Each takes its arguments
-// from the command, whose second byte is who asks, and answers a reason, with output and numbers beside it (`script::answers`).
+// The calls of a script, on the table in memory: those of `script::reads`, and here open, check, and those that change the arena. Each
+// takes its arguments from the command, whose second byte is who asks, and answers a reason, with output and numbers beside it
+// (`script::answers`).
 ghost use mathlib.Core.Path.{_≡_};
 ghost use Prim.Native.Nat.{_+_, _≤_};
 ghost use lib.ListN.{length};
 ghost use Rattle.mem.specs.Mem.{Whole};
-use calls::Handed;
 use calls_create::New;
 use calls_move::Course;
+use fsck::Verdict;
 use le::u16_at;
 use le::u32_at;
 use le::u64_at;
 use mem::put_empty;
 use script::answers::KEPT;
 use script::answers::say_handed;
+use script::answers::say_pass;
 use script::args::file_at;
 use script::args::handle_at;
 use script::args::name_at;
 use script::args::time_at;
-use script::reads::check;
 use script::reads::look;
 use script::reads::reach;
 use script::reads::set;
@@ -46,7 +47,7 @@ fn start_empty(command: &[u8], arena: &mut [u8], mem: &mut [u8]) -> u8
     r
 }
 
-// ---- those that answer a handle: create, and root, find, walk
+// ---- create
 
 // What create makes, 38 bytes.
 fn new_at(command: &[u8], at: usize) -> New
@@ -60,32 +61,42 @@ fn new_at(command: &[u8], at: usize) -> New
     }
 }
 
-fn create(command: &[u8], arena: &mut [u8], mem: &mut [u8]) -> Handed
-    requires { ⌜ length (now command) ≡ 8218 ⌝ }
+fn create(command: &[u8], arena: &mut [u8], mem: &mut [u8], answer: &mut [u8]) -> u8
+    requires { ⌜ (length (now command) ≡ 8218) × (length (now answer) ≡ 8320) ⌝ }
     requires { ⌜ Whole (now mem) ⌝ }
 {
     let h = handle_at(command, 2);
     let name = name_at(command, 14, 1024);
     let new = new_at(command, 16 + name.len());
-    calls_create::create_on(arena, mem, command[1], h, name, new)
+    let made = calls_create::create_on(arena, mem, command[1], h, name, new);
+    say_handed(answer, made)
 }
 
-fn hold(command: &[u8], arena: &mut [u8], mem: &mut [u8], answer: &mut [u8]) -> Handed
+fn make(command: &[u8], arena: &mut [u8], mem: &mut [u8], answer: &mut [u8]) -> u8
     requires { ⌜ (length (now command) ≡ 8218) × (length (now answer) ≡ 8320) ⌝ }
     requires { ⌜ Whole (now mem) ⌝ }
 {
     if command[0] == 20 {
-        return create(command, arena, mem);
+        return create(command, arena, mem, answer);
     }
-    reach(command, &arena[..], mem, answer)
+    start_empty(command, arena, mem)
 }
 
-fn handed(command: &[u8], arena: &mut [u8], mem: &mut [u8], answer: &mut [u8]) -> u8
-    requires { ⌜ (length (now command) ≡ 8218) × (length (now answer) ≡ 8320) ⌝ }
+// ---- check
+
+fn check(arena: &[u8], mem: &mut [u8], answer: &mut [u8]) -> u8
+    requires { ⌜ length (now answer) ≡ 8320 ⌝ }
     requires { ⌜ Whole (now mem) ⌝ }
 {
-    let h = hold(command, arena, mem, answer);
-    say_handed(answer, h)
+    let v = fsck::check_on(arena, mem);
+    match v {
+        Verdict::Pass {
+            nodes,
+            unused,
+            free,
+        } => say_pass(answer, nodes, unused, free),
+        Verdict::Fail(rule) => rule,
+    }
 }
 
 // ---- those that answer a reason alone: link, move, remove-file and remove-folder
@@ -193,8 +204,8 @@ pub fn do_call(command: &[u8], arena: &mut [u8], mem: &mut [u8], answer: &mut [u
     requires { ⌜ Whole (now mem) ⌝ }
 {
     match command[0] {
-        16 | 17 => start_empty(command, arena, mem),
-        18 | 19 | 20 | 35 => handed(command, arena, mem, answer),
+        16 | 17 | 20 => make(command, arena, mem, answer),
+        18 | 19 | 35 => reach(command, &arena[..], mem, answer),
         24 | 26 | 27 | 32 => look(command, &arena[..], &mem[..], answer),
         30 => check(&arena[..], mem, answer),
         _ => change(command, arena, mem),

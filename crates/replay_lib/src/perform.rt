@@ -11,56 +11,43 @@ use script::args::lay;
 use script::desk::arena_len;
 use script::desk::do_quiet;
 use script::desk::from_memory;
-use script::desk::set_arena;
 use script::desk::to_memory;
 use script::lines::put_call;
 use script::lines::put_sums;
 
-// With memory of its own.
-fn do_fresh(command: &[u8], desk: &mut [u8], arena: &mut [u8], answer: &mut [u8])
-    requires { ⌜ (length (now command) ≡ 8218) × ((length (now desk) ≡ 4419) × (length (now answer) ≡ 8320)) ⌝ }
+// With a place for the command and memory of its own.
+fn do_fresh(bytes: &[u8], desk: &mut [u8], arena: &mut [u8], answer: &mut [u8])
+    requires { ⌜ (length (now desk) ≡ 4419) × (length (now answer) ≡ 8320) ⌝ }
 {
+    let mut command = [0u8; COMMAND];
     let mut mem = [0u8; MEMORY];
+    lay(&mut command, bytes);
     to_memory(&desk[..], &mut mem);
-    let r = do_call(command, arena, &mut mem, answer);
+    let r = do_call(&command, arena, &mut mem, answer);
     from_memory(desk, &mem, r);
     end(answer, command[0], r);
 }
 
 // A call and its line.
-fn do_line(command: &[u8], desk: &mut [u8], arena: &mut [u8], text: &mut [u8], w: usize) -> usize
-    requires { ⌜ (length (now command) ≡ 8218) × ((length (now desk) ≡ 4419) × (w + 512 ≤ length (now text))) ⌝ }
+fn do_line(bytes: &[u8], desk: &mut [u8], arena: &mut [u8], text: &mut [u8], w: usize) -> usize
+    requires { ⌜ (length (now desk) ≡ 4419) × (w + 512 ≤ length (now text)) ⌝ }
     ensures { λ r. ⌜ r ≤ w + 512 ⌝ }
 {
     let mut answer = [238u8; ANSWER];
-    do_fresh(command, desk, arena, &mut answer);
+    do_fresh(bytes, desk, arena, &mut answer);
     let v = put_call(text, w, &answer);
     put_sums(text, v, &desk[..], &arena[..])
 }
 
 // Calls are lent as much of the arena as is there.
-fn do_command(command: &[u8], desk: &mut [u8], arena: &mut [u8], text: &mut [u8], w: usize) -> usize
-    requires { ⌜ (length (now command) ≡ 8218) × ((length (now desk) ≡ 4419) × (w + 512 ≤ length (now text))) ⌝ }
-    ensures { λ r. ⌜ r ≤ w + 512 ⌝ }
-{
-    if command[0] <= 4 {
-        do_quiet(command, desk, arena);
-        return w;
-    }
-    let n = arena_len(&desk[..], arena.len());
-    do_line(command, desk, &mut arena[0..n], text, w)
-}
-
-// In a place of its own; an arena's bytes need none.
 pub fn perform(bytes: &[u8], desk: &mut [u8], arena: &mut [u8], text: &mut [u8], w: usize) -> usize
     requires { ⌜ (0 < length (now bytes)) × ((length (now desk) ≡ 4419) × (w + 512 ≤ length (now text))) ⌝ }
     ensures { λ r. ⌜ r ≤ w + 512 ⌝ }
 {
-    if bytes[0] == 1 {
-        set_arena(bytes, desk, arena);
+    if bytes[0] <= 4 {
+        do_quiet(bytes, desk, arena);
         return w;
     }
-    let mut command = [0u8; COMMAND];
-    lay(&mut command, bytes);
-    do_command(&command, desk, arena, text, w)
+    let n = arena_len(&desk[..], arena.len());
+    do_line(bytes, desk, &mut arena[0..n], text, w)
 }

@@ -77,6 +77,15 @@ pub fn say_listed(answer: &mut [u8], l: Listed) -> u8
     }
 }
 
+pub fn say_pass(answer: &mut [u8], nodes: u32, unused: u32, free: u32) -> u8
+    requires { ⌜ length (now answer) ≡ 8320 ⌝ }
+{
+    say(answer, 0, nodes as u64);
+    say(answer, 1, unused as u64);
+    say(answer, 2, free as u64);
+    KEPT
+}
+
 // ---- metadata
 
 fn say_node(answer: &mut [u8], m: Metadata)

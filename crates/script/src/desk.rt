@@ -1,8 +1,10 @@
 // Commands 1 to 4, which set the arena and the table; how much of the arena is there; and the table on its way to a call and back.
 ghost use mathlib.Core.Path.{_≡_};
-ghost use Prim.Native.Nat.{_≤_};
+ghost use Prim.Native.Nat.{_<_, _≤_};
 ghost use lib.ListN.{length};
 ghost use Rattle.mem.specs.Mem.{Whole, memorySize};
+use crate::COMMAND;
+use crate::args::lay;
 use base::clear;
 use base::copy;
 use base::index;
@@ -28,7 +30,7 @@ pub fn arena_len(desk: &[u8], limit: usize) -> usize
 }
 
 // The bytes behind the length.
-pub fn set_arena(bytes: &[u8], desk: &mut [u8], arena: &mut [u8])
+fn set_arena(bytes: &[u8], desk: &mut [u8], arena: &mut [u8])
     requires { ⌜ length (now desk) ≡ 4419 ⌝ }
 {
     let s = least(bytes.len(), 5);
@@ -61,8 +63,8 @@ fn set_table(command: &[u8], desk: &mut [u8])
     write_table(desk, read_table(&command[1..4403]));
 }
 
-// 2 to 4. They print nothing, as 1.
-pub fn do_quiet(command: &[u8], desk: &mut [u8], arena: &mut [u8])
+// 2 to 4.
+fn set_by(command: &[u8], desk: &mut [u8], arena: &mut [u8])
     requires { ⌜ (length (now command) ≡ 8218) × (length (now desk) ≡ 4419) ⌝ }
 {
     match command[0] {
@@ -70,6 +72,19 @@ pub fn do_quiet(command: &[u8], desk: &mut [u8], arena: &mut [u8])
         3 => set_byte(command, &desk[..], arena),
         _ => set_table(command, desk),
     }
+}
+
+// They print nothing.
+pub fn do_quiet(bytes: &[u8], desk: &mut [u8], arena: &mut [u8])
+    requires { ⌜ (0 < length (now bytes)) × (length (now desk) ≡ 4419) ⌝ }
+{
+    if bytes[0] == 1 {
+        set_arena(bytes, desk, arena);
+        return;
+    }
+    let mut command = [0u8; COMMAND];
+    lay(&mut command, bytes);
+    set_by(&command, desk, arena);
 }
 
 // ---- a call has the table in memory of its own, and no table by value is made

@@ -1,11 +1,10 @@
-// The calls that change no byte of the arena, on the table in memory. Each takes its arguments from the command, whose second byte is who
-// asks.
+// Calls that change no byte of the arena, on the table in memory. Each takes its arguments from the command, whose second byte is who asks.
 ghost use mathlib.Core.Path.{_≡_};
 ghost use lib.ListN.{length};
 ghost use Rattle.mem.specs.Mem.{Whole};
-use crate::answers::KEPT;
 use crate::answers::say;
 use crate::answers::say_done;
+use crate::answers::say_handed;
 use crate::answers::say_listed;
 use crate::answers::say_taken;
 use crate::answers::say_told;
@@ -15,7 +14,6 @@ use crate::args::name_at;
 use crate::args::time_at;
 use calls::Handed;
 use calls_list::Moved;
-use fsck::Verdict;
 use le::u16_at;
 use le::u64_at;
 use mem::table_at;
@@ -109,7 +107,7 @@ fn walk(command: &[u8], arena: &[u8], mem: &mut [u8], answer: &mut [u8]) -> Hand
     calls_walk::walk_on(arena, mem, command[1], h, path, &mut answer[0..n])
 }
 
-pub fn reach(command: &[u8], arena: &[u8], mem: &mut [u8], answer: &mut [u8]) -> Handed
+fn hold(command: &[u8], arena: &[u8], mem: &mut [u8], answer: &mut [u8]) -> Handed
     requires { ⌜ (length (now command) ≡ 8218) × (length (now answer) ≡ 8320) ⌝ }
     requires { ⌜ Whole (now mem) ⌝ }
 {
@@ -118,6 +116,14 @@ pub fn reach(command: &[u8], arena: &[u8], mem: &mut [u8], answer: &mut [u8]) ->
         19 => find(command, arena, mem),
         _ => walk(command, arena, mem, answer),
     }
+}
+
+pub fn reach(command: &[u8], arena: &[u8], mem: &mut [u8], answer: &mut [u8]) -> u8
+    requires { ⌜ (length (now command) ≡ 8218) × (length (now answer) ≡ 8320) ⌝ }
+    requires { ⌜ Whole (now mem) ⌝ }
+{
+    let h = hold(command, arena, mem, answer);
+    say_handed(answer, h)
 }
 
 // ---- set metadata
@@ -138,30 +144,4 @@ pub fn set(command: &[u8], arena: &[u8], mem: &mut [u8]) -> u8
         time_at(command, 48),
         time_at(command, 64),
     )
-}
-
-// ---- check
-
-fn say_pass(answer: &mut [u8], nodes: u32, unused: u32, free: u32) -> u8
-    requires { ⌜ length (now answer) ≡ 8320 ⌝ }
-{
-    say(answer, 0, nodes as u64);
-    say(answer, 1, unused as u64);
-    say(answer, 2, free as u64);
-    KEPT
-}
-
-pub fn check(arena: &[u8], mem: &mut [u8], answer: &mut [u8]) -> u8
-    requires { ⌜ length (now answer) ≡ 8320 ⌝ }
-    requires { ⌜ Whole (now mem) ⌝ }
-{
-    let v = fsck::check_on(arena, mem);
-    match v {
-        Verdict::Pass {
-            nodes,
-            unused,
-            free,
-        } => say_pass(answer, nodes, unused, free),
-        Verdict::Fail(rule) => rule,
-    }
 }
