@@ -1,9 +1,10 @@
 // The lesson of the course: document 01's examples, run on the calls. Each scene is a function, and each line that it prints says what was
 // done and what came out.
-mod made;
-mod paths;
 mod slots;
 mod support;
+
+use lesson_made::made;
+use lesson_made::paths;
 
 fn main() {
     let mut world = [0u8; 12594];

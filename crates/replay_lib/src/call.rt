@@ -1,27 +1,25 @@
-// The calls of a script, on the table in memory: those of `script::reads`, and here open, check, and those that change the arena. Each
-// takes its arguments from the command, whose second byte is who asks, and answers a reason, with output and numbers beside it
-// (`script::answers`).
+// The calls of a script, on the table in memory: those of `replay_reads`, and here open and those that change the arena. Each takes its
+// arguments from the command, whose second byte is who asks, and answers a reason, with output and numbers beside it (`script::answers`).
 ghost use mathlib.Core.Path.{_≡_};
 ghost use Prim.Native.Nat.{_+_, _≤_};
 ghost use lib.ListN.{length};
 ghost use Rattle.mem.specs.Mem.{Whole};
 use calls_create::New;
 use calls_move::Course;
-use fsck::Verdict;
 use le::u16_at;
 use le::u32_at;
 use le::u64_at;
 use mem::put_empty;
+use replay_reads::check;
+use replay_reads::look;
+use replay_reads::reach;
+use replay_reads::set;
 use script::answers::KEPT;
 use script::answers::say_handed;
-use script::answers::say_pass;
 use script::args::file_at;
 use script::args::handle_at;
 use script::args::name_at;
 use script::args::time_at;
-use script::reads::look;
-use script::reads::reach;
-use script::reads::set;
 
 // ---- format, open: the empty table
 
@@ -80,23 +78,6 @@ fn make(command: &[u8], arena: &mut [u8], mem: &mut [u8], answer: &mut [u8]) -> 
         return create(command, arena, mem, answer);
     }
     start_empty(command, arena, mem)
-}
-
-// ---- check
-
-fn check(arena: &[u8], mem: &mut [u8], answer: &mut [u8]) -> u8
-    requires { ⌜ length (now answer) ≡ 8320 ⌝ }
-    requires { ⌜ Whole (now mem) ⌝ }
-{
-    let v = fsck::check_on(arena, mem);
-    match v {
-        Verdict::Pass {
-            nodes,
-            unused,
-            free,
-        } => say_pass(answer, nodes, unused, free),
-        Verdict::Fail(rule) => rule,
-    }
 }
 
 // ---- those that answer a reason alone: link, move, remove-file and remove-folder

@@ -1,4 +1,4 @@
-// The call script (docs/REPLAY.md): a command's size and its parts, the calls that leave the arena as it is, what a call answers, its line.
+// The call script (docs/REPLAY.md) without its calls: a command's size and its parts, what a call answers, its line.
 //
 // A command is read in a place of COMMAND bytes, the length of the longest but for those that bring an arena; zeros stand behind it.
 //
@@ -11,7 +11,6 @@ pub mod answers;
 pub mod args;
 pub mod desk;
 pub mod lines;
-pub mod reads;
 pub mod shape;
 pub mod text;
 

@@ -1,22 +1,25 @@
-// Calls that change no byte of the arena, on the table in memory. Each takes its arguments from the command, whose second byte is who asks.
+// The calls of a script that leave the arena as it is, on the table in memory, but for open. Each takes its arguments from the command, whose
+// second byte is who asks, and answers a reason, with output and numbers beside it (`script::answers`).
 ghost use mathlib.Core.Path.{_≡_};
 ghost use lib.ListN.{length};
 ghost use Rattle.mem.specs.Mem.{Whole};
-use crate::answers::say;
-use crate::answers::say_done;
-use crate::answers::say_handed;
-use crate::answers::say_listed;
-use crate::answers::say_taken;
-use crate::answers::say_told;
-use crate::args::handle_at;
-use crate::args::length_at;
-use crate::args::name_at;
-use crate::args::time_at;
 use calls::Handed;
 use calls_list::Moved;
+use fsck::Verdict;
 use le::u16_at;
 use le::u64_at;
 use mem::table_at;
+use script::answers::say;
+use script::answers::say_done;
+use script::answers::say_handed;
+use script::answers::say_listed;
+use script::answers::say_pass;
+use script::answers::say_taken;
+use script::answers::say_told;
+use script::args::handle_at;
+use script::args::length_at;
+use script::args::name_at;
+use script::args::time_at;
 
 // ---- those that change nothing but the answer: metadata, get entry, listing, read
 
@@ -144,4 +147,21 @@ pub fn set(command: &[u8], arena: &[u8], mem: &mut [u8]) -> u8
         time_at(command, 48),
         time_at(command, 64),
     )
+}
+
+// ---- check
+
+pub fn check(arena: &[u8], mem: &mut [u8], answer: &mut [u8]) -> u8
+    requires { ⌜ length (now answer) ≡ 8320 ⌝ }
+    requires { ⌜ Whole (now mem) ⌝ }
+{
+    let v = fsck::check_on(arena, mem);
+    match v {
+        Verdict::Pass {
+            nodes,
+            unused,
+            free,
+        } => say_pass(answer, nodes, unused, free),
+        Verdict::Fail(rule) => rule,
+    }
 }
