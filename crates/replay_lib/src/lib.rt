@@ -1,6 +1,5 @@
 // The call script (docs/REPLAY.md): a script, a lent arena and a lent text buffer; one line for each call.
 // What is kept between two runs stands in a lent desk (script/src/lib.rt).
-mod call;
 mod perform;
 
 ghost use mathlib.Core.Path.{_≡_};

@@ -2,8 +2,13 @@
 ghost use mathlib.Core.Path.{_≡_};
 ghost use Prim.Native.Nat.{_+_, _<_, _≤_};
 ghost use lib.ListN.{length};
-use crate::call::do_call;
+ghost use Rattle.mem.specs.Mem.{Whole};
 use mem::MEMORY;
+use replay_calls::change;
+use replay_calls::make;
+use replay_calls::reads::check;
+use replay_calls::reads::look;
+use replay_calls::reads::reach;
 use script::COMMAND;
 use script::answers::ANSWER;
 use script::answers::end;
@@ -14,6 +19,20 @@ use script::desk::from_memory;
 use script::desk::to_memory;
 use script::lines::put_call;
 use script::lines::put_sums;
+
+// A call by its byte.
+fn do_call(command: &[u8], arena: &mut [u8], mem: &mut [u8], answer: &mut [u8]) -> u8
+    requires { ⌜ (length (now command) ≡ 8218) × (length (now answer) ≡ 8320) ⌝ }
+    requires { ⌜ Whole (now mem) ⌝ }
+{
+    match command[0] {
+        16 | 17 | 20 => make(command, arena, mem, answer),
+        18 | 19 | 35 => reach(command, &arena[..], mem, answer),
+        24 | 26 | 27 | 32 => look(command, &arena[..], &mem[..], answer),
+        30 => check(&arena[..], mem, answer),
+        _ => change(command, arena, mem),
+    }
+}
 
 // With a place for the command and memory of its own.
 fn do_fresh(bytes: &[u8], desk: &mut [u8], arena: &mut [u8], answer: &mut [u8])

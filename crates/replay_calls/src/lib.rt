@@ -1,5 +1,7 @@
-// The calls of a script, on the table in memory: those of `replay_reads`, and here open and those that change the arena. Each takes its
+// The calls of a script, on the table in memory: those of `reads`, and here open and those that change the arena. Each takes its
 // arguments from the command, whose second byte is who asks, and answers a reason, with output and numbers beside it (`script::answers`).
+pub mod reads;
+
 ghost use mathlib.Core.Path.{_≡_};
 ghost use Prim.Native.Nat.{_+_, _≤_};
 ghost use lib.ListN.{length};
@@ -10,10 +12,7 @@ use le::u16_at;
 use le::u32_at;
 use le::u64_at;
 use mem::put_empty;
-use replay_reads::check;
-use replay_reads::look;
-use replay_reads::reach;
-use replay_reads::set;
+use reads::set;
 use script::answers::KEPT;
 use script::answers::say_handed;
 use script::args::file_at;
@@ -70,7 +69,7 @@ fn create(command: &[u8], arena: &mut [u8], mem: &mut [u8], answer: &mut [u8]) -
     say_handed(answer, made)
 }
 
-fn make(command: &[u8], arena: &mut [u8], mem: &mut [u8], answer: &mut [u8]) -> u8
+pub fn make(command: &[u8], arena: &mut [u8], mem: &mut [u8], answer: &mut [u8]) -> u8
     requires { ⌜ (length (now command) ≡ 8218) × (length (now answer) ≡ 8320) ⌝ }
     requires { ⌜ Whole (now mem) ⌝ }
 {
@@ -164,7 +163,7 @@ fn resize(command: &[u8], arena: &mut [u8], mem: &mut [u8]) -> u8
     calls_resize::resize_on(arena, mem, command[1], h, n)
 }
 
-fn change(command: &[u8], arena: &mut [u8], mem: &mut [u8]) -> u8
+pub fn change(command: &[u8], arena: &mut [u8], mem: &mut [u8]) -> u8
     requires { ⌜ length (now command) ≡ 8218 ⌝ }
     requires { ⌜ Whole (now mem) ⌝ }
 {
@@ -175,20 +174,5 @@ fn change(command: &[u8], arena: &mut [u8], mem: &mut [u8]) -> u8
         33 => write(command, arena, mem),
         34 => resize(command, arena, mem),
         _ => rename(command, arena, mem),
-    }
-}
-
-// ---- the command by its byte
-
-pub fn do_call(command: &[u8], arena: &mut [u8], mem: &mut [u8], answer: &mut [u8]) -> u8
-    requires { ⌜ (length (now command) ≡ 8218) × (length (now answer) ≡ 8320) ⌝ }
-    requires { ⌜ Whole (now mem) ⌝ }
-{
-    match command[0] {
-        16 | 17 | 20 => make(command, arena, mem, answer),
-        18 | 19 | 35 => reach(command, &arena[..], mem, answer),
-        24 | 26 | 27 | 32 => look(command, &arena[..], &mem[..], answer),
-        30 => check(&arena[..], mem, answer),
-        _ => change(command, arena, mem),
     }
 }
