@@ -1,11 +1,12 @@
 // The calls of a script, on the table in memory: those of `reads`, and here open and those that change the arena. Each takes its
-// arguments from the command, whose second byte is who asks, and answers a reason, with output and numbers beside it (`script::answers`).
+// arguments from the command, whose second byte is who asks, and answers a reason, with output and numbers beside it (`answers`).
 pub mod reads;
 
 ghost use mathlib.Core.Path.{_≡_};
 ghost use Prim.Native.Nat.{_+_, _≤_};
 ghost use lib.ListN.{length};
 ghost use Rattle.mem.specs.Mem.{Whole};
+use answers::say_handed;
 use calls_create::New;
 use calls_move::Course;
 use le::u16_at;
@@ -13,12 +14,11 @@ use le::u32_at;
 use le::u64_at;
 use mem::put_empty;
 use reads::set;
-use script::answers::KEPT;
-use script::answers::say_handed;
 use script::args::file_at;
 use script::args::handle_at;
 use script::args::name_at;
 use script::args::time_at;
+use script::record::KEPT;
 
 // ---- format, open: the empty table
 

@@ -1,25 +1,25 @@
 // The calls of a script that leave the arena as it is, on the table in memory, but for open. Each takes its arguments from the command, whose
-// second byte is who asks, and answers a reason, with output and numbers beside it (`script::answers`).
+// second byte is who asks, and answers a reason, with output and numbers beside it (`answers`).
 ghost use mathlib.Core.Path.{_≡_};
 ghost use lib.ListN.{length};
 ghost use Rattle.mem.specs.Mem.{Whole};
+use answers::say_done;
+use answers::say_handed;
+use answers::say_listed;
+use answers::say_pass;
+use answers::say_taken;
+use answers::say_told;
 use calls::Handed;
 use calls_list::Moved;
 use fsck::Verdict;
 use le::u16_at;
 use le::u64_at;
 use mem::table_at;
-use script::answers::say;
-use script::answers::say_done;
-use script::answers::say_handed;
-use script::answers::say_listed;
-use script::answers::say_pass;
-use script::answers::say_taken;
-use script::answers::say_told;
 use script::args::handle_at;
 use script::args::length_at;
 use script::args::name_at;
 use script::args::time_at;
+use script::record::say;
 
 // ---- those that change nothing but the answer: metadata, get entry, listing, read
 

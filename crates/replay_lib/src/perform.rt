@@ -10,8 +10,6 @@ use replay_calls::reads::check;
 use replay_calls::reads::look;
 use replay_calls::reads::reach;
 use script::COMMAND;
-use script::answers::ANSWER;
-use script::answers::end;
 use script::args::lay;
 use script::desk::arena_len;
 use script::desk::do_quiet;
@@ -19,6 +17,8 @@ use script::desk::from_memory;
 use script::desk::to_memory;
 use script::lines::put_call;
 use script::lines::put_sums;
+use script::record::ANSWER;
+use script::record::end;
 
 // A call by its byte.
 fn do_call(command: &[u8], arena: &mut [u8], mem: &mut [u8], answer: &mut [u8]) -> u8

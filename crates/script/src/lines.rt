@@ -1,8 +1,8 @@
-// A call's line, from what it answered (`answers`).
+// A call's line, from what it answered (`record`).
 ghost use mathlib.Core.Path.{_≡_};
 ghost use Prim.Native.Nat.{_+_, _<_, _≤_};
 ghost use lib.ListN.{length};
-use crate::answers::KEPT;
+use crate::record::KEPT;
 use crate::text::put_negative;
 use crate::text::put_value;
 use le::u64_at;
