@@ -53,7 +53,7 @@ extern "C" {
 #define DZ_BAD_TABLE 3        /* the table is not well formed */
 #define DZ_BAD_HANDLE 4       /* not a live hold with that stamp, or another owner's */
 #define DZ_BAD_NAME 5         /* a zero byte inside, or not UTF-8; in create, link and move's new name also a slash; a path or target: also an empty part */
-#define DZ_INVALID_PARAM 6    /* an owner or a type that is not 1 to 4, or a folder into itself or below */
+#define DZ_INVALID_PARAM 6    /* an owner that is not 1 to 4, a new node that is no file, folder or symlink, or a folder into itself or below */
 #define DZ_NOT_DIR 7
 #define DZ_DIR_REMOVED 8      /* the folder has no links left */
 #define DZ_IS_DIR 9

@@ -117,7 +117,7 @@ impl Image {
         self.pair.open()
     }
 
-    /// Stores all that stands in the table only, the superblock and the maps. A host calls it before it goes down.
+    /// Stores the record of each open node that stands changed in the table. A host calls it before it goes down.
     ///
     /// Reasons: `NoDeviceSpace`, `Stuck`.
     pub fn sync(&mut self) -> Result<(), Reason> {

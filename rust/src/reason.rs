@@ -18,7 +18,7 @@ pub enum Reason {
     BadHandle,
     /// 5: a name has a zero byte inside, or is not UTF-8; or a new one, of a create, link or rename, has a slash; or a path or target has an empty part.
     BadName,
-    /// 6: an owner or a type that is not 1 to 4, or a folder that would go into itself or below.
+    /// 6: an owner that is not 1 to 4, a new node that is no file, folder or symlink, or a folder that would go into itself or below.
     InvalidParam,
     /// 7: not a folder.
     NotDir,
@@ -65,7 +65,7 @@ const REASONS: [(Reason, &str, &str); 23] = [
     (Reason::BadTable, "BadTable", "the table of open nodes is not well formed"),
     (Reason::BadHandle, "BadHandle", "not a live hold with that stamp, or another owner's"),
     (Reason::BadName, "BadName", "a name has a zero byte inside, is not UTF-8, or is new and has a slash; or a path has an empty part"),
-    (Reason::InvalidParam, "InvalidParam", "an owner or a type that is not 1 to 4, or a folder into itself or below"),
+    (Reason::InvalidParam, "InvalidParam", "an owner that is not 1 to 4, a new node that is no file, folder or symlink, or a folder into itself or below"),
     (Reason::NotDir, "NotDir", "not a folder"),
     (Reason::DirRemoved, "DirRemoved", "the folder has no links left"),
     (Reason::IsDir, "IsDir", "a folder, where none may be"),
