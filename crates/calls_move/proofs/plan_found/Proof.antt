@@ -14,6 +14,9 @@ rec-at-requires c κs = search needs
 lookup-requires : tie.Need-lookup-requires
 lookup-requires c κs = search needs
 
+refuse-requires : tie.Need-refuse-requires
+refuse-requires c κs = search needs
+
 same-length : tie.Need-same-length
 same-length c = search needs
 
@@ -22,11 +25,11 @@ same-length-2 c = search needs
 
 returns : tie.Need-returns
 returns c =
-    let s = c .before .before .before .before .before .before .before .before .before .before .before .before .before .before .before in
-    let recat = c .before .before .before .before .before .before .rec-at in
-    let lookup = c .before .before .before .before .lookup in
-    let yes1 = c .if1 in
-    found-stop (s .args .arena .now) (s .args .mem .now) (s .args .i) (s .args .j) (s .args .old .now) (s .args .name .now) _ (recat .ensures) (lookup .ensures) (yes1 .taken)
+    let s = c .before .before .before .before .before .before .before .before .before .before .before .before .before .before .before .before in
+    let recat = c .before .before .before .before .before .before .before .rec-at in
+    let lookup = c .before .before .before .before .before .lookup in
+    let yes1 = c .before .if1 in
+    rw (c .refuse .ensures) (found-stop (s .args .arena .now) (s .args .mem .now) (s .args .i) (s .args .j) (s .args .old .now) (s .args .name .now) _ (recat .ensures) (lookup .ensures) (yes1 .taken))
 
 index-requires : tie.Need-index-requires
 index-requires c κs = search needs
@@ -78,6 +81,7 @@ plan-found-spec =
     (tie.spec
     rec-at-requires
     lookup-requires
+    refuse-requires
     same-length
     same-length-2
     returns

@@ -16,13 +16,16 @@ rec-at-requires-2 c κs = search needs
 move-ask-requires : tie.Need-move-ask-requires
 move-ask-requires c κs = search needs
 
+refuse-requires : tie.Need-refuse-requires
+refuse-requires c κs = search needs
+
 same-length : tie.Need-same-length
 same-length c = search needs
 
 returns : tie.Need-returns
 returns c =
-    let s = c .before .before .before .before .before .before .before .before .before .before .before .before .before in
-    work-stop (s .args .arena .now) (s .args .mem .now) (s .args .i) (s .args .j) (s .args .old .now) (s .args .name .now) _ _ (c .before .before .before .before .rec-at .ensures) (c .before .before .rec-at2 .ensures) (c .before .move-ask .ensures) (c .if1 .taken)
+    let s = c .before .before .before .before .before .before .before .before .before .before .before .before .before .before in
+    rw (c .refuse .ensures) (work-stop (s .args .arena .now) (s .args .mem .now) (s .args .i) (s .args .j) (s .args .old .now) (s .args .name .now) _ _ (c .before .before .before .before .before .rec-at .ensures) (c .before .before .before .rec-at2 .ensures) (c .before .before .move-ask .ensures) (c .before .if1 .taken))
 
 plan-found-requires : tie.Need-plan-found-requires
 plan-found-requires c κs =
@@ -47,6 +50,7 @@ plan-work-spec =
     rec-at-requires
     rec-at-requires-2
     move-ask-requires
+    refuse-requires
     same-length
     returns
     plan-found-requires
