@@ -77,7 +77,8 @@ returns-3 c =
     let u32at = c .before .before .before .before .before .u32-at in
     let getnode = c .before .before .before .before .get-node in
     let yes3 = c .if3 in
-    λ name. free-unopened _ _ (s .args .i) (s .args .j) (s .args .old .now) name _ _ (idat .ensures) (idat2 .ensures) (no1 .left) _ (recat .ensures) (findslot .last .1 .1 .1 .1 .1 .0) _ _ (findslot .ensures) (no2 .left) _ (u32at .ensures) (getnode .last .1 .1 .1 .0) _ (getnode .ensures) (yes3 .taken)
+    λ name. free-unopened _ _ (s .args .i) (s .args .j) (s .args .old .now) name _ _ (idat .ensures) (idat2 .ensures) (no1 .left) _ (recat .ensures) (findslot .last .1 .1 .1 .1 .1 .0) _ _
+    (findslot .ensures) (no2 .left) _ (u32at .ensures) (getnode .last .1 .1 .1 .0) _ (getnode .ensures) (yes3 .taken)
 
 kind-at-requires : tie.Need-kind-at-requires
 kind-at-requires c κs = went-has (c .before .before .before .before .before .get-node .ensures) (c .before .if3 .left)
@@ -102,7 +103,8 @@ returns-4 c =
     let no3 = c .before .before .before .if3 in
     let kindat = c .before .kind-at in
     let yes4 = c .if4 in
-    λ name. free-above _ _ (s .args .i) (s .args .j) (s .args .old .now) name _ _ (idat .ensures) (idat2 .ensures) (no1 .left) _ (recat .ensures) (findslot .last .1 .1 .1 .1 .1 .0) _ _ (findslot .ensures) (no2 .left) _ (u32at .ensures) (getnode .last .1 .1 .1 .0) _ (getnode .ensures) (no3 .left) _ (kindat .ensures) (omega (arith, yes4 .taken))
+    λ name. free-above _ _ (s .args .i) (s .args .j) (s .args .old .now) name _ _ (idat .ensures) (idat2 .ensures) (no1 .left) _ (recat .ensures) (findslot .last .1 .1 .1 .1 .1 .0) _ _
+    (findslot .ensures) (no2 .left) _ (u32at .ensures) (getnode .last .1 .1 .1 .0) _ (getnode .ensures) (no3 .left) _ (kindat .ensures) (omega (arith, yes4 .taken))
 
 not-below-requires : tie.Need-not-below-requires
 not-below-requires c κs =
@@ -133,7 +135,8 @@ returns-5 c =
     let kindat = c .before .before .before .kind-at in
     let no4 = c .before .before .if4 in
     let notbelow = c .not-below in
-    λ name. free-below _ _ (s .args .i) (s .args .j) (s .args .old .now) name _ _ (idat .ensures) (idat2 .ensures) (no1 .left) _ (recat .ensures) (findslot .last .1 .1 .1 .1 .1 .0) _ _ (findslot .ensures) (no2 .left) _ (u32at .ensures) (getnode .last .1 .1 .1 .0) _ (getnode .ensures) (no3 .left) _ (kindat .ensures) (omega (arith, no4 .left)) (notbelow .ensures) (went-has (getnode .ensures) (no3 .left) .0)
+    λ name. free-below _ _ (s .args .i) (s .args .j) (s .args .old .now) name _ _ (idat .ensures) (idat2 .ensures) (no1 .left) _ (recat .ensures) (findslot .last .1 .1 .1 .1 .1 .0) _ _
+    (findslot .ensures) (no2 .left) _ (u32at .ensures) (getnode .last .1 .1 .1 .0) _ (getnode .ensures) (no3 .left) _ (kindat .ensures) (omega (arith, no4 .left)) (notbelow .ensures) (went-has (getnode .ensures) (no3 .left) .0)
 
 pub open-moved-spec : {M : Type 1} → statement M
 open-moved-spec =

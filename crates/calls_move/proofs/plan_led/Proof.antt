@@ -38,7 +38,10 @@ returns-2 : tie.Need-returns-2
 returns-2 c =
     let s = c .before .before .before .before .before .before .before .before .before .before .before .before .before .before .before .before .before .before .before .before in
     let w = c .before .before .before .before .plan-work in
-    move-rows (s .args .arena .now) _ _ (s .args .mem .now) _ (s .args .who) (s .args .h) (s .args .target) (s .args .old .now) (s .args .name .now) (admitted (s .pre .0)) (c .before .before .before .before .before .before .before .before .before .before .before .reach-two-read .ensures) (λ z. planned z (fsAt (s .args .arena .now) (w .last .1 .1 .1 .0)) (w .result .way) (w .result .row) (w .result .other) (s .args .old .now) (s .args .name .now) (entryOf (w .last .1 .1 .1 .1 .0)) (w .result .place) (w .result .gone) (w .result .moved)) (c .before .before .before .before .before .before .before .if1 .left) (w .ensures)
+    move-rows (s .args .arena .now) _ _ (s .args .mem .now) _ (s .args .who) (s .args .h) (s .args .target) (s .args .old .now) (s .args .name .now) (admitted (s .pre .0))
+    (c .before .before .before .before .before .before .before .before .before .before .before .reach-two-read .ensures)
+    (λ z. planned z (fsAt (s .args .arena .now) (w .last .1 .1 .1 .0)) (w .result .way) (w .result .row) (w .result .other) (s .args .old .now) (s .args .name .now) (entryOf (w .last .1 .1 .1 .1 .0))
+    (w .result .place) (w .result .gone) (w .result .moved)) (c .before .before .before .before .before .before .before .if1 .left) (w .ensures)
 
 pub plan-led-spec : {M : Type 1} → statement M
 plan-led-spec =

@@ -55,7 +55,8 @@ returns-2 c =
     let u32at = c .before .before .before .u32-at in
     let no1 = c .before .before .before .before .before .before .if1 in
     let plannode = c .before .before .plan-node in
-    λ name e. named-next (s .args .arena .now) (s .args .mem .now) (s .args .i) (s .args .j) (s .args .old .now) name (findslot .last .1 .1 .1 .1 .1 .0) _ _ _ (recat .ensures) (findslot .ensures) (s .args .k) (s .args .new) _ (u32at .ensures) (no1 .left) ((plannode .ensures) (s .args .old .now) name e)
+    λ name e. named-next (s .args .arena .now) (s .args .mem .now) (s .args .i) (s .args .j) (s .args .old .now) name (findslot .last .1 .1 .1 .1 .1 .0) _ _ _ (recat .ensures) (findslot .ensures)
+    (s .args .k) (s .args .new) _ (u32at .ensures) (no1 .left) ((plannode .ensures) (s .args .old .now) name e)
 
 pub plan-named-spec : {M : Type 1} → statement M
 plan-named-spec =
