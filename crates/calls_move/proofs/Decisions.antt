@@ -4,7 +4,7 @@ use mathlib.Core.List.{List}
 use Prim.Native.Nat.{ℕ, _≤_, _<_}
 use native.Mathlib.Omega.{arith}
 use lib.ListN.{length}
-use borrow.Author.Tests.{eq-eqb, ne-eqb}
+use borrow.Author.Tests.{eq-eqb, ne-eqb, le-leb, lt-leb}
 use Rattle.base.specs.Out.{Out, done, refused, bind, Went, well, ill}
 use lib.Dec.{eqb}
 use Rattle.base.specs.Search.{pick, foundBelow}
@@ -172,10 +172,17 @@ module _ (a m : List ℕ) (i j : ℕ) (old name : List ℕ) (x y : ℕ) (p : x �
       unfolding moveFree entryOf
       free-unopened o = rest-off o (rw (ne-eqb (rowAt (tableIn m) i .id) (rowAt (tableIn m) j .id) apart, went-is slot-at z, went-not moved-at o))
 
-      pub free-below : {Q S : Type 0} {w : ℕ} → t ≡ 0 → Went (notBelow (fsAt a n) i j c) tt S w → Q → Rest (moveFree (fsAt a m) i j old name) (ending (moveNamed (fsAt a n) i j old name Free)) Q w
-      unfolding moveFree entryOf
-      free-below o (well b s) h = on (rw (ne-eqb (rowAt (tableIn m) i .id) (rowAt (tableIn m) j .id) apart, went-is slot-at z, went-is moved-at o, b) (steps-is (fsAt a n) i j old name Free)) h
-      free-below o (ill b s) h = off b (rw (ne-eqb (rowAt (tableIn m) i .id) (rowAt (tableIn m) j .id) apart, went-is slot-at z, went-is moved-at o, s))
+      -- and its type v
+      module _ (o : t ≡ 0) (v : ℕ) (d : v ≡ rowAt (tableIn n) c .rec .kind) where
+        pub free-above : {e : Out After} {Q : Type 0} → 4 < v → Rest (moveFree (fsAt a m) i j old name) e Q 19
+        unfolding moveFree entryOf
+        free-above y = rest-off {r = 19} (omega arith) (rw (ne-eqb (rowAt (tableIn m) i .id) (rowAt (tableIn m) j .id) apart, went-is slot-at z, went-is moved-at o, ← d, lt-leb v 4 y))
+
+        pub free-below : {Q S : Type 0} {w : ℕ} → v ≤ 4 → Went (notBelow (fsAt a n) i j c) tt S w → Q → Rest (moveFree (fsAt a m) i j old name) (ending (moveNamed (fsAt a n) i j old name Free)) Q w
+        unfolding moveFree entryOf
+        free-below y (well b s) h =
+            on (rw (ne-eqb (rowAt (tableIn m) i .id) (rowAt (tableIn m) j .id) apart, went-is slot-at z, went-is moved-at o, ← d, le-leb v 4 y, b) (steps-is (fsAt a n) i j old name Free)) h
+        free-below y (ill b s) h = off b (rw (ne-eqb (rowAt (tableIn m) i .id) (rowAt (tableIn m) j .id) apart, went-is slot-at z, went-is moved-at o, ← d, le-leb v 4 y, s))
 
 -- ---- the new name is looked for
 

@@ -43,6 +43,7 @@ use climbs::not_below;
 use le::u32_at;
 use mem::MEMORY;
 use mem::id_at;
+use mem::kind_at;
 use mem::put_table;
 use mem::rec_at;
 use mem::table_at;
@@ -125,6 +126,20 @@ pub struct Plan {
     pub moved: usize,
 }
 
+fn refuse(reason: u8) -> Plan
+    ensures { λ p. ⌜ p .reason ≡ reason ⌝ }
+{
+    Plan {
+        reason: reason,
+        way: 0,
+        row: 0,
+        other: 0,
+        place: 0,
+        gone: 0,
+        moved: 0,
+    }
+}
+
 // Type rules; and a folder does not go into itself or below.
 fn ask_onto(
     arena: &[u8],
@@ -202,15 +217,7 @@ fn plan_node(
 {
     let p = open_two(arena, first, next, mem, new, was);
     if p.reason != 0 {
-        return Plan {
-            reason: p.reason,
-            way: 0,
-            row: 0,
-            other: 0,
-            place: 0,
-            gone: 0,
-            moved: 0,
-        };
+        return refuse(p.reason);
     }
     let r = ask_two(
         arena,
@@ -254,20 +261,12 @@ fn plan_named(
 {
     let p = find_slot(arena, first, next, rec_at(&mem[..], i), old, slot);
     if p.reason != 0 {
-        return Plan {
-            reason: p.reason,
-            way: 0,
-            row: 0,
-            other: 0,
-            place: 0,
-            gone: 0,
-            moved: 0,
-        };
+        return refuse(p.reason);
     }
     plan_node(arena, first, next, mem, i, j, k, new, u32_at(&slot[..], 0))
 }
 
-// The new name is free. Between two folders the moved node is opened, and a folder does not go into itself or below.
+// The new name is free. Between two folders the moved node is opened and its type looked at, and a folder does not go into itself or below.
 fn open_moved(
     arena: &[u8],
     first: &[u16],
@@ -293,6 +292,9 @@ fn open_moved(
     if o.reason != 0 {
         return o.reason;
     }
+    if kind_at(&mem[..], o.row) > 4 {
+        return 19;
+    }
     not_below(arena, first, next, &mem[..], i, j, o.row)
 }
 
@@ -314,15 +316,7 @@ fn plan_slot(
 {
     let p = find_slot(arena, first, next, rec_at(mem, i), old, slot);
     if p.reason != 0 {
-        return Plan {
-            reason: p.reason,
-            way: 0,
-            row: 0,
-            other: 0,
-            place: 0,
-            gone: 0,
-            moved: 0,
-        };
+        return refuse(p.reason);
     }
     rename(slot, name);
     Plan {
@@ -354,15 +348,7 @@ fn plan_free(
 {
     let r = open_moved(arena, first, next, mem, slot, i, j, old);
     if r != 0 {
-        return Plan {
-            reason: r,
-            way: 0,
-            row: 0,
-            other: 0,
-            place: 0,
-            gone: 0,
-            moved: 0,
-        };
+        return refuse(r);
     }
     plan_slot(arena, first, next, &mem[..], slot, i, j, old, name)
 }
@@ -385,15 +371,7 @@ fn plan_found(
     let rec = rec_at(&mem[..], j);
     let l = lookup(arena, first, next, rec, name, slot);
     if l.reason != 0 {
-        return Plan {
-            reason: l.reason,
-            way: 0,
-            row: 0,
-            other: 0,
-            place: 0,
-            gone: 0,
-            moved: 0,
-        };
+        return refuse(l.reason);
     }
     if l.place < index(rec.blocks) {
         let new = u32_at(&slot[..], 0);
@@ -478,15 +456,7 @@ fn plan_work(
 {
     let r = move_ask(rec_at(&mem[..], i), rec_at(&mem[..], j), old, name);
     if r != 0 {
-        return Plan {
-            reason: r,
-            way: 0,
-            row: 0,
-            other: 0,
-            place: 0,
-            gone: 0,
-            moved: 0,
-        };
+        return refuse(r);
     }
     plan_found(arena, first, next, mem, slot, i, j, old, name)
 }
@@ -509,15 +479,7 @@ pub fn plan_led(
 {
     let b = reach_two_read(arena, first, next, mem, who, h, target);
     if b.reason != 0 {
-        return Plan {
-            reason: b.reason,
-            way: 0,
-            row: 0,
-            other: 0,
-            place: 0,
-            gone: 0,
-            moved: 0,
-        };
+        return refuse(b.reason);
     }
     let i = b.row;
     let j = b.other;
@@ -541,15 +503,7 @@ fn decide(
     let mut chains = [0u16; 8192];
     let r = admit(arena, &mut chains, &mem[..]);
     if r != 0 {
-        return Plan {
-            reason: r,
-            way: 0,
-            row: 0,
-            other: 0,
-            place: 0,
-            gone: 0,
-            moved: 0,
-        };
+        return refuse(r);
     }
     let c = &chains[..];
     plan_led(

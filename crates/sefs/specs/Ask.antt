@@ -67,6 +67,10 @@ notSpecial name = ensure (not (isSpecial name)) isDir
 abbrev pub known : DiskINode → Out Unit
 known r = ensure (isType (r .kind)) stuck
 
+-- 000 looks at the type alone: one above 4 sticks, and type 0 goes on
+abbrev pub typeInRange : DiskINode → Out Unit
+typeInRange r = ensure (leb (r .kind) 4) stuck
+
 -- reason 7, once the type is known
 abbrev pub folder : DiskINode → Out Unit
 folder r = ensure (isFolder (r .kind)) notDir

@@ -23,7 +23,7 @@ use Rattle.sefs.specs.Meta.{metaFile, isUsed}
 use Rattle.sefs.specs.Nodes.{recAt, idAt, getNode, syncRow, release}
 use Rattle.sefs.specs.Slots.{slotBytes, lookup, slotAt, Slot, findSlot}
 use Rattle.sefs.specs.Folders.{entry, dotsEntry, putSlot, direntAppend, direntRemove, direntNodeRemove, nlinksInc, nlinksDec}
-use Rattle.sefs.specs.Ask.{admit, byHandle, goodName, newName, notLong, notSpecial, known, liveFolder, start}
+use Rattle.sefs.specs.Ask.{admit, byHandle, goodName, newName, notLong, notSpecial, known, typeInRange, liveFolder, start}
 use Rattle.sefs.specs.Create.{After, after}
 
 -- the first n slots can be read
@@ -104,9 +104,11 @@ moveDots s i j = do
   s ← nlinksDec s i
   nlinksInc s j
 
--- (000 looks at the moved node's type: one above 4 sticks)
+-- (000 looks at the moved node's type)
 unfoldable pub moveLinks : Fs → ℕ → ℕ → ℕ → Out Fs
-moveLinks s i j c = guard (leb (recAt s c .kind) 4) stuck (pick (isFolder (recAt s c .kind)) (moveDots s i j) (done s))
+moveLinks s i j c = do
+  _ ← typeInRange (recAt s c)
+  pick (isFolder (recAt s c .kind)) (moveDots s i j) (done s)
 
 -- order 2: "`..` must name the new parent". "Slot 1 is stored last before the syncs", whole
 unfoldable pub moveParent : Fs → ℕ → ℕ → Out Fs
@@ -150,12 +152,13 @@ replace s i j old name k = do
   _ ← known (recAt (c .state) (d .row))
   pick (eqb (was .entry .id) (new .id)) (done (after s)) (moveOnto (c .state) i j old name (c .row) (d .row) k)
 
--- no node has the new name. Between two folders the moved node is opened first, since its type decides whether there is a climb; the opening
--- stays to the end
+-- no node has the new name. Between two folders the moved node is opened first and its type is looked at, since it decides whether there is a
+-- climb; the opening stays to the end
 unfoldable pub moveFree : Fs → ℕ → ℕ → List ℕ → List ℕ → Out After
 moveFree s i j old name = pick (eqb (idAt s i) (idAt s j)) (moveSteps s i j old name none) (do
   was ← findSlot (s .arena) (recAt s i) old
   c ← getNode s (was .entry .id)
+  _ ← typeInRange (recAt (c .state) (c .row))
   _ ← notBelow (c .state) i j (c .row)
   moveSteps (c .state) i j old name none)
 

@@ -16,7 +16,7 @@ use Rattle.sefs.specs.State.{Fs}
 use Rattle.sefs.specs.Nodes.{recAt, getNode, syncRow}
 use Rattle.sefs.specs.Slots.{findSlot}
 use Rattle.sefs.specs.Folders.{direntNodeRemove}
-use Rattle.sefs.specs.Ask.{admit, byHandle, goodName, notLong, notSpecial, folder, liveFolder, start}
+use Rattle.sefs.specs.Ask.{admit, byHandle, goodName, notLong, notSpecial, typeInRange, folder, liveFolder, start}
 use Rattle.sefs.specs.Create.{After, after}
 
 -- "9 from remove-file on a folder"
@@ -33,7 +33,7 @@ emptyFolder r = do
 -- 000 looks at the type, so one above 4 sticks; then each call's own question, remove-folder's where `dir`
 unfoldable pub removable : Bool → DiskINode → Out Unit
 removable dir r = do
-  _ ← ensure (leb (r .kind) 4) stuck
+  _ ← typeInRange r
   pick dir (emptyFolder r) (notFolder r)
 
 -- 000's unlink: "The child of unlink .. that nobody else holds is stored and, at links 0, freed inside the removal, before the folder's own record"

@@ -298,7 +298,7 @@ module _ (P : List ℕ → Table → Type 0) (change : Changes P) where
   leaves-links : (s : Fs) (i j c : ℕ) → P (s .arena) (s .table) → Leaves P (moveLinks s i j c)
   unfolding moveLinks
   leaves-links s i j c h =
-      any-guard (leb (recAt s c .kind) 4) 19 (λ _. any-pick (isFolder (recAt s c .kind)) (moveDots s i j) (done s) (λ _. leaves-dots s i j h) (λ _. went h))
+      ok-bind (says-ensure (leb (recAt s c .kind) 4) 19 tt) λ _ _. any-pick (isFolder (recAt s c .kind)) (moveDots s i j) (done s) (λ _. leaves-dots s i j h) (λ _. went h)
 
   leaves-unlink-folder : (s : Fs) (i c : ℕ) → P (s .arena) (s .table) → Leaves P (unlinkFolder s i c)
   unfolding unlinkFolder
@@ -431,6 +431,7 @@ module _ (P : List ℕ → Table → Type 0) (change : Changes P) where
               any-pick (eqb (idAt s i) (idAt s j)) (moveSteps s i j old name none) _ (λ _. leaves-move-steps s old name none h) λ _.
               ok-bind (says-find Any tt tt _ _ _) λ was _.
               ok-bind (leaves-node P take s (was .entry .id) h) λ c g.
+              ok-bind (says-ensure (leb (recAt (c .state) (c .row) .kind) 4) 19 tt) λ _ _.
               ok-bind (any (notBelow (c .state) i j (c .row))) λ _ _. leaves-move-steps (c .state) old name none g
 
           pub leaves-move : (s : Fs) (old name : List ℕ) (f : Found) → P (s .arena) (s .table) → LeavesAfter P (moveTo s i j old name f)

@@ -6,12 +6,12 @@ use mathlib.Core.List.{List}
 use mathlib.Core.Logic.{_≢_, ⊎-elim}
 use Prim.Native.Nat.{ℕ, zero, suc, _≤_, _<_}
 use native.Mathlib.Omega.{arith}
-use lib.Dec.{eqb}
+use lib.Dec.{eqb, ltb, leb}
 use lib.ListN.{length}
 use borrow.Author.Tests.{ne-eqb, eqb-true, eqb-false}
 use Rattle.base.specs.Out.{Out, done, bind, Ok, went, said}
 use Rattle.base.proofs.Outs.{ok-bind}
-use Rattle.base.proofs.Bools.{true-T}
+use Rattle.base.proofs.Bools.{true-T, and-parts}
 use Rattle.base.specs.Search.{pick}
 use Rattle.le.specs.Le.{Bytes}
 use Rattle.structs.specs.Types.{isFolder}
@@ -25,7 +25,7 @@ use Rattle.table.specs.Table.{rowAt}
 use Rattle.sefs.specs.State.{Fs}
 use Rattle.sefs.specs.Nodes.{Opened, recAt, getNode, release}
 use Rattle.sefs.specs.Slots.{Slot, slotAt, findSlot}
-use Rattle.sefs.specs.Ask.{start, known}
+use Rattle.sefs.specs.Ask.{start, known, typeInRange}
 use Rattle.sefs.specs.Create.{After, after}
 use Rattle.sefs.specs.Move.{Replaced, none, node, notBelow, moveWithin, moveBetween, moveSteps, moveOnto, replace, moveFree}
 use Rattle.rules.specs.Image.{isNode, recOf, slotIn}
@@ -157,9 +157,10 @@ module _ {style : Spelling} (a : List ℕ) (t : Table) (A : Allowed a t) (y : Sp
     free-to : LiveFolder (start a (W .table)) j
     free-to = live-u j free-j to
 
-    free-law : P a (W .table) → Ok Q Clear (bind (notBelow (start a (W .table)) i j (W .row)) (λ _. moveSteps (start a (W .table)) i j old name none))
+    free-law : P a (W .table) → Ok Q Clear (bind (typeInRange (rowAt (W .table) (W .row) .rec)) (λ _. bind (notBelow (start a (W .table)) i j (W .row)) (λ _. moveSteps (start a (W .table)) i j old name none)))
     unfolding moveSteps
     free-law p =
+        ok-bind (ensure-yes 19 (and-parts (ltb 0 (rowAt (W .table) (W .row) .rec .kind)) (leb (rowAt (W .table) (W .row) .rec .kind) 4) (mid-type a (W .table) (W .mid) (W .row) (W .used)) .1)) λ _ _.
         ok-bind (below-law (start a (W .table)) (W .mid .fair) (meta-is a (W .table) (W .mid .fair)) i j (W .row) (λ q. not-root e hit (sym (W .same) ∙ q)) (live-lives (start a (W .table)) (W .mid) j free-to) (live-rec (start a (W .table)) (W .mid) j free-to)) λ _ h.
         rw (ap (λ (x : Row). findSlot a (x .rec) old) free-i ∙ found, ne-eqb (rowAt (W .table) i .id) (rowAt (W .table) j .id) free-apart)
         (between (W .row) (λ m o. ⊎-elim (λ z. absurd z) (λ z. z) o) none (W .table) (W .mid) free-i free-j (W .recs) e
@@ -173,12 +174,12 @@ module _ {style : Spelling} (a : List ℕ) (t : Table) (A : Allowed a t) (y : Sp
     where
       go : (b : Bool) → eqb (rowAt t i .id) (rowAt t j .id) ≡ b
           → Ok Q Clear (pick b (bind (findSlot a (rowAt t i .rec) old) (λ e. pick (eqb (rowAt t i .id) (rowAt t j .id)) (moveWithin (start a t) i e name none) (moveBetween (start a t) i j e name none)))
-          (bind (findSlot a (rowAt t i .rec) old) (λ was. bind (getNode (start a t) (was .entry .id)) (λ c. bind (notBelow (c .state) i j (c .row)) (λ _. moveSteps (c .state) i j old name none)))))
+          (bind (findSlot a (rowAt t i .rec) old) (λ was. bind (getNode (start a t) (was .entry .id)) (λ c. bind (typeInRange (recAt (c .state) (c .row))) (λ _. bind (notBelow (c .state) i j (c .row)) (λ _. moveSteps (c .state) i j old name none))))))
       go true q = ok-bind hits λ e h. rw q (within none t (spelled-midway a t y) refl refl (λ k n. refl) e (h .0) N start-p (eqb-true (rowAt t i .id) (rowAt t j .id) q))
       go false q =
           ok-bind hits λ e h.
           ok-bind (ok-and (get-law a t (spelled-midway a t y) (e .entry .id) (hit-node e (h .0))) (leaves-node P (K .takes) (start a t) (e .entry .id) start-p)) λ w g.
-          subst (λ (z : Opened). P (z .state .arena) (z .state .table) → Ok Q Clear (bind (notBelow (z .state) i j (z .row)) (λ _. moveSteps (z .state) i j old name none))) (sym (g .0 .is))
+          subst (λ (z : Opened). P (z .state .arena) (z .state .table) → Ok Q Clear (bind (typeInRange (recAt (z .state) (z .row))) (λ _. bind (notBelow (z .state) i j (z .row)) (λ _. moveSteps (z .state) i j old name none)))) (sym (g .0 .is))
           (free-law (eqb-false (rowAt t i .id) (rowAt t j .id) q) N e (h .0) (h .1) w (g .0)) (g .1)
 
   -- ---- onto a node

@@ -7,7 +7,7 @@ use lib.Dec.{eqb, ltb, leb}
 use Rattle.base.specs.Out.{Out, done, refused, ensure, _>>=_}
 use Rattle.base.specs.Count.{allTo, bit}
 use Rattle.base.specs.Decides.{same}
-use Rattle.base.specs.Reasons.{badName, dirRemoved, tableFull, outFull, stuck, symLoop}
+use Rattle.base.specs.Reasons.{badName, dirRemoved, tableFull, outFull, symLoop}
 use Rattle.base.specs.Search.{pick}
 use Rattle.structs.specs.Constants.{typeSymlink}
 use Rattle.structs.specs.declared.DiskINode.{DiskINode}
@@ -19,7 +19,7 @@ use Rattle.table.specs.Table.{rowAt, canHold}
 use Rattle.sefs.specs.State.{Fs}
 use Rattle.sefs.specs.Nodes.{nodeFile, recAt, getNode}
 use Rattle.sefs.specs.Slots.{findSlot}
-use Rattle.sefs.specs.Ask.{admit, byHandle, notLong, known, folder, start}
+use Rattle.sefs.specs.Ask.{admit, byHandle, notLong, known, typeInRange, folder, start}
 use Rattle.sefs.specs.Open.{holdNode}
 use Rattle.sefs.specs.Contents.{readBytes}
 
@@ -92,7 +92,7 @@ partIn s r name = do
   _ ← ensure (not (isDots name && eqb (r .nlinks) 0)) dirRemoved
   e ← findSlot (s .arena) r name
   n ← lookAt s (e .entry .id)
-  _ ← ensure (leb (n .kind) 4) stuck
+  _ ← typeInRange n
   done (spot (e .entry .id) n)
 
 -- ---- along parts, to their end or to the first link

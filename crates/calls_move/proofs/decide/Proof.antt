@@ -16,13 +16,16 @@ slice-aggregate-admit c = search needs
 admit-requires : tie.Need-admit-requires
 admit-requires c κs = (blank, c .before .before .before .before .before .before .before .pre .0)
 
+refuse-requires : tie.Need-refuse-requires
+refuse-requires c κs = search needs
+
 same-length : tie.Need-same-length
 same-length c = search needs
 
 returns : tie.Need-returns
 returns c =
-    let s = c .before .before .before .before .before .before .before .before .before .before .args in
-    rest-off (c .if1 .taken) (move-refused (s .arena .now) (tableIn (s .mem .now)) (s .who) (s .h) (s .old .now) (s .target) (s .name .now) (went-not (c .before .before .admit .ensures) (c .if1 .taken)))
+    let s = c .before .before .before .before .before .before .before .before .before .before .before .args in
+    rw (c .refuse .ensures) (rest-off (c .before .if1 .taken) (move-refused (s .arena .now) (tableIn (s .mem .now)) (s .who) (s .h) (s .old .now) (s .target) (s .name .now) (went-not (c .before .before .before .admit .ensures) (c .before .if1 .taken))))
 
 slice-aggregate-c : tie.Need-slice-aggregate-c
 slice-aggregate-c c = search needs
@@ -57,6 +60,7 @@ decide-spec =
     (tie.spec
     slice-aggregate-admit
     admit-requires
+    refuse-requires
     same-length
     returns
     slice-aggregate-c

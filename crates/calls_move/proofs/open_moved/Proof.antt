@@ -1,6 +1,6 @@
--- `calls_move::open_moved`: the folders' ids, the old name, the moved node, then the climb.
+-- `calls_move::open_moved`: the folders' ids, the old name, the moved node, its type, then the climb.
 use Rattle.base.proofs.Outs.{went-has}
-use Rattle.calls_move.proofs.Decisions.{free-within, free-missing, free-unopened, free-below}
+use Rattle.calls_move.proofs.Decisions.{free-within, free-missing, free-unopened, free-above, free-below}
 use mathlib.Core.Path.{_∙_}
 use borrow.Author.Needs.{needs}
 use native.Mathlib.Omega.{arith}
@@ -77,15 +77,11 @@ returns-3 c =
     let u32at = c .before .before .before .before .before .u32-at in
     let getnode = c .before .before .before .before .get-node in
     let yes3 = c .if3 in
-    λ name. free-unopened _ _ (s .args .i) (s .args .j) (s .args .old .now) name _ _ (idat .ensures) (idat2 .ensures) (no1 .left) _ (recat .ensures) (findslot .last .1 .1 .1 .1 .1 .0) _ _ (findslot .ensures) (no2 .left) _ (u32at .ensures) (getnode .last .1 .1 .1 .0) _ (getnode .ensures) (yes3 .taken)
+    λ name. free-unopened _ _ (s .args .i) (s .args .j) (s .args .old .now) name _ _ (idat .ensures) (idat2 .ensures) (no1 .left) _ (recat .ensures) (findslot .last .1 .1 .1 .1 .1 .0) _ _
+    (findslot .ensures) (no2 .left) _ (u32at .ensures) (getnode .last .1 .1 .1 .0) _ (getnode .ensures) (yes3 .taken)
 
-not-below-requires : tie.Need-not-below-requires
-not-below-requires c κs =
-    let s = c .before .before .before .before .before .before .before .before .before .before .before .before .before .before .before .before .before .before .before .before .before .before .before .before .before .before .before .before in
-    let getnode = c .before .before .before .before .before .get-node in
-    let no3 = c .before .if3 in
-    let k = went-has (getnode .ensures) (no3 .left) in
-    (s .pre .0, (k .0, (s .pre .1 .1 .0, (s .pre .1 .1 .1 .0, k .1))))
+kind-at-requires : tie.Need-kind-at-requires
+kind-at-requires c κs = went-has (c .before .before .before .before .before .get-node .ensures) (c .before .if3 .left)
 
 same-length-6 : tie.Need-same-length-6
 same-length-6 c = search needs
@@ -95,18 +91,52 @@ same-length-7 c = search needs
 
 returns-4 : tie.Need-returns-4
 returns-4 c =
-    let s = c .before .before .before .before .before .before .before .before .before .before .before .before .before .before .before .before .before .before .before .before .before .before .before .before .before .before .before .before .before in
-    let idat = c .before .before .before .before .before .before .before .before .before .before .before .before .before .before .before .before .before .before .before .before .before .id-at in
-    let idat2 = c .before .before .before .before .before .before .before .before .before .before .before .before .before .before .before .before .before .before .before .id-at2 in
-    let no1 = c .before .before .before .before .before .before .before .before .before .before .before .before .before .before .before .before .before .before .if1 in
-    let recat = c .before .before .before .before .before .before .before .before .before .before .before .before .before .before .before .before .rec-at in
-    let findslot = c .before .before .before .before .before .before .before .before .before .before .before .before .before .before .find-slot in
-    let no2 = c .before .before .before .before .before .before .before .before .before .before .if2 in
-    let u32at = c .before .before .before .before .before .before .before .u32-at in
-    let getnode = c .before .before .before .before .before .before .get-node in
-    let no3 = c .before .before .if3 in
+    let s = c .before .before .before .before .before .before .before .before .before .before .before .before .before .before .before .before .before .before .before .before .before .before .before .before .before .before .before .before .before .before in
+    let idat = c .before .before .before .before .before .before .before .before .before .before .before .before .before .before .before .before .before .before .before .before .before .before .id-at in
+    let idat2 = c .before .before .before .before .before .before .before .before .before .before .before .before .before .before .before .before .before .before .before .before .id-at2 in
+    let no1 = c .before .before .before .before .before .before .before .before .before .before .before .before .before .before .before .before .before .before .before .if1 in
+    let recat = c .before .before .before .before .before .before .before .before .before .before .before .before .before .before .before .before .before .rec-at in
+    let findslot = c .before .before .before .before .before .before .before .before .before .before .before .before .before .before .before .find-slot in
+    let no2 = c .before .before .before .before .before .before .before .before .before .before .before .if2 in
+    let u32at = c .before .before .before .before .before .before .before .before .u32-at in
+    let getnode = c .before .before .before .before .before .before .before .get-node in
+    let no3 = c .before .before .before .if3 in
+    let kindat = c .before .kind-at in
+    let yes4 = c .if4 in
+    λ name. free-above _ _ (s .args .i) (s .args .j) (s .args .old .now) name _ _ (idat .ensures) (idat2 .ensures) (no1 .left) _ (recat .ensures) (findslot .last .1 .1 .1 .1 .1 .0) _ _
+    (findslot .ensures) (no2 .left) _ (u32at .ensures) (getnode .last .1 .1 .1 .0) _ (getnode .ensures) (no3 .left) _ (kindat .ensures) (omega (arith, yes4 .taken))
+
+not-below-requires : tie.Need-not-below-requires
+not-below-requires c κs =
+    let s = c .before .before .before .before .before .before .before .before .before .before .before .before .before .before .before .before .before .before .before .before .before .before .before .before .before .before .before .before .before .before .before in
+    let getnode = c .before .before .before .before .before .before .before .before .get-node in
+    let no3 = c .before .before .before .before .if3 in
+    let k = went-has (getnode .ensures) (no3 .left) in
+    (s .pre .0, (k .0, (s .pre .1 .1 .0, (s .pre .1 .1 .1 .0, k .1))))
+
+same-length-8 : tie.Need-same-length-8
+same-length-8 c = search needs
+
+same-length-9 : tie.Need-same-length-9
+same-length-9 c = search needs
+
+returns-5 : tie.Need-returns-5
+returns-5 c =
+    let s = c .before .before .before .before .before .before .before .before .before .before .before .before .before .before .before .before .before .before .before .before .before .before .before .before .before .before .before .before .before .before .before .before in
+    let idat = c .before .before .before .before .before .before .before .before .before .before .before .before .before .before .before .before .before .before .before .before .before .before .before .before .id-at in
+    let idat2 = c .before .before .before .before .before .before .before .before .before .before .before .before .before .before .before .before .before .before .before .before .before .before .id-at2 in
+    let no1 = c .before .before .before .before .before .before .before .before .before .before .before .before .before .before .before .before .before .before .before .before .before .if1 in
+    let recat = c .before .before .before .before .before .before .before .before .before .before .before .before .before .before .before .before .before .before .before .rec-at in
+    let findslot = c .before .before .before .before .before .before .before .before .before .before .before .before .before .before .before .before .before .find-slot in
+    let no2 = c .before .before .before .before .before .before .before .before .before .before .before .before .before .if2 in
+    let u32at = c .before .before .before .before .before .before .before .before .before .before .u32-at in
+    let getnode = c .before .before .before .before .before .before .before .before .before .get-node in
+    let no3 = c .before .before .before .before .before .if3 in
+    let kindat = c .before .before .before .kind-at in
+    let no4 = c .before .before .if4 in
     let notbelow = c .not-below in
-    λ name. free-below _ _ (s .args .i) (s .args .j) (s .args .old .now) name _ _ (idat .ensures) (idat2 .ensures) (no1 .left) _ (recat .ensures) (findslot .last .1 .1 .1 .1 .1 .0) _ _ (findslot .ensures) (no2 .left) _ (u32at .ensures) (getnode .last .1 .1 .1 .0) _ (getnode .ensures) (no3 .left) (notbelow .ensures) (went-has (getnode .ensures) (no3 .left) .0)
+    λ name. free-below _ _ (s .args .i) (s .args .j) (s .args .old .now) name _ _ (idat .ensures) (idat2 .ensures) (no1 .left) _ (recat .ensures) (findslot .last .1 .1 .1 .1 .1 .0) _ _
+    (findslot .ensures) (no2 .left) _ (u32at .ensures) (getnode .last .1 .1 .1 .0) _ (getnode .ensures) (no3 .left) _ (kindat .ensures) (omega (arith, no4 .left)) (notbelow .ensures) (went-has (getnode .ensures) (no3 .left) .0)
 
 pub open-moved-spec : {M : Type 1} → statement M
 open-moved-spec =
@@ -126,7 +156,11 @@ open-moved-spec =
     same-length-4
     same-length-5
     returns-3
-    not-below-requires
+    kind-at-requires
     same-length-6
     same-length-7
-    returns-4)
+    returns-4
+    not-below-requires
+    same-length-8
+    same-length-9
+    returns-5)

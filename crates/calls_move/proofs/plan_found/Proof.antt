@@ -14,6 +14,9 @@ rec-at-requires c κs = search needs
 lookup-requires : tie.Need-lookup-requires
 lookup-requires c κs = search needs
 
+refuse-requires : tie.Need-refuse-requires
+refuse-requires c κs = search needs
+
 same-length : tie.Need-same-length
 same-length c = search needs
 
@@ -22,11 +25,11 @@ same-length-2 c = search needs
 
 returns : tie.Need-returns
 returns c =
-    let s = c .before .before .before .before .before .before .before .before .before .before .before .before .before .before .before in
-    let recat = c .before .before .before .before .before .before .rec-at in
-    let lookup = c .before .before .before .before .lookup in
-    let yes1 = c .if1 in
-    found-stop (s .args .arena .now) (s .args .mem .now) (s .args .i) (s .args .j) (s .args .old .now) (s .args .name .now) _ (recat .ensures) (lookup .ensures) (yes1 .taken)
+    let s = c .before .before .before .before .before .before .before .before .before .before .before .before .before .before .before .before in
+    let recat = c .before .before .before .before .before .before .before .rec-at in
+    let lookup = c .before .before .before .before .before .lookup in
+    let yes1 = c .before .if1 in
+    rw (c .refuse .ensures) (found-stop (s .args .arena .now) (s .args .mem .now) (s .args .i) (s .args .j) (s .args .old .now) (s .args .name .now) _ (recat .ensures) (lookup .ensures) (yes1 .taken))
 
 index-requires : tie.Need-index-requires
 index-requires c κs = search needs
@@ -51,8 +54,12 @@ same-length-4 c = search needs
 returns-2 : tie.Need-returns-2
 returns-2 c =
     let s = c .before .before .before .before .before .before .before .before .before .before .before .before .before .before .before .before .before .before .before .before .before .before .before .before .before .before .before in
-    let b : (c .before .before .before .before .before .before .before .before .before .before .before .before .before .before .before .before .lookup .result .place) < (c .before .before .before .before .before .before .before .before .before .before .before .before .before .before .before .before .before .before .rec-at .result .blocks) = omega (arith, (c .before .before .before .before .before .before .before .before .before .if2 .taken), (c .before .before .before .before .before .before .before .before .before .before .before .index .ensures)) in
-    found-there (s .args .arena .now) (s .args .mem .now) (s .args .i) (s .args .j) (s .args .old .now) (s .args .name .now) _ (c .before .before .before .before .before .before .before .before .before .before .before .before .before .before .before .before .before .before .rec-at .ensures) (c .before .before .before .before .before .before .before .before .before .before .before .before .before .before .before .before .lookup .ensures) (c .before .before .before .before .before .before .before .before .before .before .before .before .before .before .before .before .lookup .last .1 .1 .1 .1 .1 .0) _ (c .before .before .before .before .before .before .before .before .before .before .before .before .if1 .left) b (went-has (c .before .before .before .before .before .before .before .before .before .before .before .before .before .before .before .before .lookup .ensures) (c .before .before .before .before .before .before .before .before .before .before .before .before .if1 .left) .0 b) (c .before .before .before .before .before .before .before .u32-at .ensures) ((c .before .before .before .before .plan-named .ensures) (s .args .name .now) _)
+    let recat = c .before .before .before .before .before .before .before .before .before .before .before .before .before .before .before .before .before .before .rec-at in
+    let lookup = c .before .before .before .before .before .before .before .before .before .before .before .before .before .before .before .before .lookup in
+    let no1 = c .before .before .before .before .before .before .before .before .before .before .before .before .if1 in
+    let b : lookup .result .place < recat .result .blocks = omega (arith, (c .before .before .before .before .before .before .before .before .before .if2 .taken), (c .before .before .before .before .before .before .before .before .before .before .before .index .ensures)) in
+    found-there (s .args .arena .now) (s .args .mem .now) (s .args .i) (s .args .j) (s .args .old .now) (s .args .name .now) _ (recat .ensures) (lookup .ensures)
+    (lookup .last .1 .1 .1 .1 .1 .0) _ (no1 .left) b (went-has (lookup .ensures) (no1 .left) .0 b) (c .before .before .before .before .before .before .before .u32-at .ensures) ((c .before .before .before .before .plan-named .ensures) (s .args .name .now) _)
 
 plan-free-requires : tie.Need-plan-free-requires
 plan-free-requires c κs =
@@ -70,7 +77,10 @@ same-length-6 c = search needs
 returns-3 : tie.Need-returns-3
 returns-3 c =
     let s = c .before .before .before .before .before .before .before .before .before .before .before .before .before .before .before .before .before .before .before .before .before .before .before .before .before in
-    found-free (s .args .arena .now) (s .args .mem .now) (s .args .i) (s .args .j) (s .args .old .now) (s .args .name .now) _ (c .before .before .before .before .before .before .before .before .before .before .before .before .before .before .before .before .rec-at .ensures) (c .before .before .before .before .before .before .before .before .before .before .before .before .before .before .lookup .ensures) (c .before .before .before .before .before .before .before .before .before .before .if1 .left) (omega (arith, (c .before .before .before .before .before .before .before .if2 .left), (c .before .before .before .before .before .before .before .before .before .index .ensures))) (c .before .before .before .before .plan-free .ensures)
+    let recat = c .before .before .before .before .before .before .before .before .before .before .before .before .before .before .before .before .rec-at in
+    let lookup = c .before .before .before .before .before .before .before .before .before .before .before .before .before .before .lookup in
+    found-free (s .args .arena .now) (s .args .mem .now) (s .args .i) (s .args .j) (s .args .old .now) (s .args .name .now) _ (recat .ensures) (lookup .ensures) (c .before .before .before .before .before .before .before .before .before .before .if1 .left)
+    (omega (arith, (c .before .before .before .before .before .before .before .if2 .left), (c .before .before .before .before .before .before .before .before .before .index .ensures))) (c .before .before .before .before .plan-free .ensures)
 
 pub plan-found-spec : {M : Type 1} → statement M
 plan-found-spec =
@@ -78,6 +88,7 @@ plan-found-spec =
     (tie.spec
     rec-at-requires
     lookup-requires
+    refuse-requires
     same-length
     same-length-2
     returns

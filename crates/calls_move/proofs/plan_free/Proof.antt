@@ -10,6 +10,9 @@ open-moved-requires c κs =
     let s = c .before .before .before .before .before .before .before .before .before in
     (s .pre .0, (s .pre .1 .0, (s .pre .1 .1 .0, (s .pre .1 .1 .1 .0, s .pre .1 .1 .1 .1 .1))))
 
+refuse-requires : tie.Need-refuse-requires
+refuse-requires c κs = search needs
+
 same-length : tie.Need-same-length
 same-length c = search needs
 
@@ -18,10 +21,10 @@ same-length-2 c = search needs
 
 returns : tie.Need-returns
 returns c =
-    let s = c .before .before .before .before .before .before .before .before .before .before .before .before .before .before .before in
-    let yes1 = c .if1 in
-    let openmoved = c .before .before .before .before .before .open-moved in
-    rest-off (yes1 .taken) (rest-not ((openmoved .ensures) (s .args .name .now)) (yes1 .taken))
+    let s = c .before .before .before .before .before .before .before .before .before .before .before .before .before .before .before .before in
+    let yes1 = c .before .if1 in
+    let openmoved = c .before .before .before .before .before .before .open-moved in
+    rw (c .refuse .ensures) (rest-off (yes1 .taken) (rest-not ((openmoved .ensures) (s .args .name .now)) (yes1 .taken)))
 
 plan-slot-requires : tie.Need-plan-slot-requires
 plan-slot-requires c κs =
@@ -49,6 +52,7 @@ plan-free-spec =
     tie.close
     (tie.spec
     open-moved-requires
+    refuse-requires
     same-length
     same-length-2
     returns

@@ -14,6 +14,9 @@ find-slot-requires c κs =
     let s = c .before .before .before .before .before .before .before .before .before in
     (s .pre .0, s .pre .1 .1 .1 .1)
 
+refuse-requires : tie.Need-refuse-requires
+refuse-requires c κs = search needs
+
 same-length : tie.Need-same-length
 same-length c = search needs
 
@@ -22,11 +25,11 @@ same-length-2 c = search needs
 
 returns : tie.Need-returns
 returns c =
-    let s = c .before .before .before .before .before .before .before .before .before .before .before .before .before .before in
-    let findslot = c .before .before .before .before .find-slot in
-    let recat = c .before .before .before .before .before .before .rec-at in
-    let yes1 = c .if1 in
-    λ name e. named-stop (s .args .arena .now) (s .args .mem .now) (s .args .i) (s .args .j) (s .args .old .now) name (findslot .last .1 .1 .1 .1 .1 .0) _ _ _ (recat .ensures) (findslot .ensures) (s .args .k) (s .args .new) (yes1 .taken)
+    let s = c .before .before .before .before .before .before .before .before .before .before .before .before .before .before .before in
+    let findslot = c .before .before .before .before .before .find-slot in
+    let recat = c .before .before .before .before .before .before .before .rec-at in
+    let yes1 = c .before .if1 in
+    λ name e. rw (c .refuse .ensures) (named-stop (s .args .arena .now) (s .args .mem .now) (s .args .i) (s .args .j) (s .args .old .now) name (findslot .last .1 .1 .1 .1 .1 .0) _ _ _ (recat .ensures) (findslot .ensures) (s .args .k) (s .args .new) (yes1 .taken))
 
 u32-at-requires : tie.Need-u32-at-requires
 u32-at-requires c κs =
@@ -52,7 +55,8 @@ returns-2 c =
     let u32at = c .before .before .before .u32-at in
     let no1 = c .before .before .before .before .before .before .if1 in
     let plannode = c .before .before .plan-node in
-    λ name e. named-next (s .args .arena .now) (s .args .mem .now) (s .args .i) (s .args .j) (s .args .old .now) name (findslot .last .1 .1 .1 .1 .1 .0) _ _ _ (recat .ensures) (findslot .ensures) (s .args .k) (s .args .new) _ (u32at .ensures) (no1 .left) ((plannode .ensures) (s .args .old .now) name e)
+    λ name e. named-next (s .args .arena .now) (s .args .mem .now) (s .args .i) (s .args .j) (s .args .old .now) name (findslot .last .1 .1 .1 .1 .1 .0) _ _ _ (recat .ensures) (findslot .ensures)
+    (s .args .k) (s .args .new) _ (u32at .ensures) (no1 .left) ((plannode .ensures) (s .args .old .now) name e)
 
 pub plan-named-spec : {M : Type 1} → statement M
 plan-named-spec =
@@ -60,6 +64,7 @@ plan-named-spec =
     (tie.spec
     rec-at-requires
     find-slot-requires
+    refuse-requires
     same-length
     same-length-2
     returns
