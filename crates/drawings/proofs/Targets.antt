@@ -1,0 +1,175 @@
+-- A followed link, said of the calls: what is read of the symlink is the target, and the call goes on with it.
+use mathlib.Core.Path.{_≡_, refl, sym, ap, _∙_, subst}
+use mathlib.Core.Bool.{true, false, not, _&&_}
+use mathlib.Core.List.{List, [], _∷_, _++_}
+use mathlib.Core.Logic.{_≢_}
+use Prim.Native.Nat.{ℕ, _-_, _≤_, _<_}
+use native.Mathlib.Omega.{arith}
+use lib.Dec.{eqb, leb}
+use lib.ListN.{length}
+use borrow.Author.Tests.{eqb-true, eqb-false, le-leb}
+use Rattle.base.specs.Out.{Out, done, refused, bind, ensure, answer, kept, Ok, said}
+use Rattle.base.specs.Parts.{tab}
+use Rattle.base.proofs.Outs.{bind-is-done, ok-done}
+use Rattle.base.proofs.Lists.{length-tab}
+use Rattle.base.specs.declared.Found.the-variants.{At}
+use Rattle.structs.specs.Types.{isFolder}
+use Rattle.structs.specs.declared.DiskINode.{DiskINode}
+use Rattle.utf8.specs.Names.{isDots}
+use Rattle.arena.specs.Fields.{file}
+use Rattle.files.specs.Read.{lengthOf, byteAt}
+use Rattle.table.specs.declared.Table.{Table}
+use Rattle.table.specs.declared.Handle.{Handle}
+use Rattle.table.specs.declared.Added.{Added}
+use Rattle.table.specs.Table.{rowAt, liveRow, canHold}
+use Rattle.sefs.specs.State.{Fs}
+use Rattle.sefs.specs.Nodes.{nodeFile}
+use Rattle.sefs.specs.Slots.{findSlot}
+use Rattle.sefs.specs.Ask.{notLong, known, folder, start}
+use Rattle.sefs.specs.Open.{holdNode}
+use Rattle.sefs.specs.Contents.{readCount, readBytes, callRead}
+use Rattle.sefs_laws.proofs.Says.{Says, says-then, says-ensure}
+use Rattle.sefs_laws.proofs.Handles.{live-owns, handle-done}
+use Rattle.walk.specs.Walk.{Spot, lookAt, partIn, isLink, targetOf, mostLinks, walkIn, holdEnd, callWalk}
+use Rattle.walk.proofs.Ways.{walk-is}
+use Rattle.rules.specs.Image.{recOf, isNode}
+use Rattle.image.proofs.Handles.{admitted, formed, row-node, row-rec}
+use Rattle.sequences.specs.Pairs.{Pair, Passed}
+use Rattle.sequences.specs.Chains.{rowSpot}
+use Rattle.sequences.proofs.Passing.{allowed, spelled-any}
+use Rattle.sequences.proofs.Walks.{look-law}
+use Rattle.sequences.proofs.Reasons.{says-hold}
+use Rattle.drawings.specs.Links.{textOn, PathIsText, FollowsText, FollowsName, FollowsRoot, ContentIsTarget, FollowsCall, FollowsNameCall, FollowsRootCall, NinthLink, NinthLinkCall}
+use Rattle.drawings.proofs.Handles.{OnAs}
+use Rattle.drawings.proofs.Links.{path-is-text, follows-text, follows-name, follows-root, ninth-link}
+use Rattle.drawings.proofs.Saved.{used, long-is, there-is, read-file}
+
+-- what a part has led to was looked at
+part-looks : (s : Fs) (r : DiskINode) (name : List ℕ) (n : Spot) → partIn s r name ≡ done n → lookAt s (n .id) ≡ done (n .rec)
+unfolding partIn
+part-looks s r name n e =
+    let a = bind-is-done (known r) _ n e in
+    let b = bind-is-done (folder r) _ n (a .2) in
+    let c = bind-is-done (notLong name) _ n (b .2) in
+    let d = bind-is-done (ensure (not (isDots name && eqb (r .nlinks) 0)) 8) _ n (c .2) in
+    let f = bind-is-done (findSlot (s .arena) r name) _ n (d .2) in
+    let g = bind-is-done (lookAt s (f .0 .entry .id)) _ n (f .2) in
+    let h = bind-is-done (ensure (leb (g .0 .kind) 4) 19) _ n (g .2) in
+    let q : _ ≡ n = ap (kept n) (h .2) in
+    subst (λ (x : Spot). lookAt s (x .id) ≡ done (x .rec)) q (g .1)
+
+module _ (p : Pair) (y : Passed p) (v : ℕ) (g : Handle) (i : ℕ) (live : liveRow (p .table) v g ≡ At i) where
+  abbrev a : List ℕ
+  a = p .arena
+
+  abbrev t : Table
+  t = p .table
+
+  abbrev here : OnAs v g (rowAt (p .table) i .id) (rowAt (p .table) i .rec .file) (rowAt (p .table) i .rec .kind) (p .table)
+  here = record { row = i; live = live; node = refl; file = refl; kind = refl }
+
+  -- the node that was met has the record of that row
+  same-rec : (n : Spot) → lookAt (start (p .arena) (p .table)) (n .id) ≡ done (n .rec) → rowAt (p .table) i .id ≡ n .id → rowAt (p .table) i .rec ≡ n .rec
+  same-rec n e q =
+      let A = allowed p y in
+      let node : isNode (p .arena) (n .id) ≡ true = ap (isNode a) (sym q) ∙ row-node a t A i (used p y here) in
+      sym (row-rec a t A i (used p y here)) ∙ ap (recOf a t) q
+      ∙ ok-done (subst (Ok (λ (r : DiskINode). recOf (p .arena) (p .table) (n .id) ≡ r) (λ _. Unit)) e (look-law p (spelled-any p y) (n .id) node))
+
+  -- read as order 1 reads
+  module _ (no-dir : isFolder (rowAt (p .table) i .rec .kind) ≡ false) (target : List ℕ) (all : ℕ) (reads : callRead (p .arena) (p .table) v g 0 all ≡ done target) (spare : length target < all) where
+    target-is : target ≡ tab (byteAt (p .arena) (nodeFile (rowAt (p .table) i .rec))) 0 (readCount (lengthOf (p .arena) (nodeFile (rowAt (p .table) i .rec))) 0 all)
+    target-is = ap (kept target) (sym reads ∙ read-file p y here no-dir 0 all)
+
+    target-long : length target ≡ rowAt (p .table) i .rec .size
+    target-long =
+        let m : ℕ = lengthOf (p .arena) (nodeFile (rowAt (p .table) i .rec)) in
+        let e : length target ≡ readCount (lengthOf (p .arena) (nodeFile (rowAt (p .table) i .rec))) 0 all =
+        ap (λ (l : List ℕ). length l) target-is ∙ length-tab (byteAt (p .arena) (nodeFile (rowAt (p .table) i .rec))) 0 (readCount m 0 all) in
+        omega (arith, long-is p y here no-dir)
+
+    whole : (m : ℕ) → m ≡ length target → tab (byteAt (p .arena) (nodeFile (rowAt (p .table) i .rec))) 0 m ≡ target
+    whole m e =
+        let f : ℕ → ℕ = byteAt (p .arena) (nodeFile (rowAt (p .table) i .rec)) in
+        let q : length target ≡ readCount (lengthOf (p .arena) (nodeFile (rowAt (p .table) i .rec))) 0 all = ap (λ (l : List ℕ). length l) target-is ∙ length-tab f 0 _ in
+        ap (tab f 0) (e ∙ q) ∙ sym target-is
+
+    target-read : (room : ℕ) → length target ≤ room → targetOf (p .arena) (rowAt (p .table) i .rec) room ≡ done target
+    unfolding targetOf readBytes
+    target-read room l =
+        rw (le-leb (rowAt t i .rec .size) room (omega (arith, target-long)), there-is p y here no-dir)
+        (ap done (whole (rowAt (p .table) i .rec .size) (sym target-long)))
+
+link-kind : (r : DiskINode) → isLink r ≡ true → isFolder (r .kind) ≡ false
+link-kind r e = ap isFolder (eqb-true (r .kind) 3 e)
+
+pub content-is-target : ContentIsTarget
+unfolding ContentIsTarget
+content-is-target p v g i room b at node l target all y e link live q reads spare fits =
+    let same : rowAt (p .table) i .rec ≡ node .rec = same-rec p y v g i live node (part-looks (start (p .arena) (p .table)) (at .rec) l node e) q in
+    let no-dir : isFolder (rowAt (p .table) i .rec .kind) ≡ false = ap (λ (r : DiskINode). isFolder (r .kind)) same ∙ link-kind (node .rec) link in
+    record {
+      node = node;
+      named = e;
+      link = link;
+      holds = ap (λ (r : DiskINode). targetOf (p .arena) r (room - length b)) (sym same) ∙ target-read p y v g i live no-dir target all reads spare (room - length b) fits;
+    }
+
+-- the call from a live handle: the walk of its path as a text, and the hold
+walk-text : (p : Pair) (w : ℕ) (h : Handle) (i room : ℕ) (path : List ℕ) → Passed p → liveRow (p .table) w h ≡ At i
+    → callWalk (p .arena) (p .table) w h path room ≡ holdEnd (p .arena) (p .table) w (textOn (start (p .arena) (p .table)) room mostLinks [] (rowSpot (p .table) i) path)
+unfolding PathIsText callWalk
+walk-text p w h i room path y live =
+    let A = allowed p y in
+    rw (admitted (p .arena) (p .table) A, handle-done (p .table) w h i (live-owns (p .table) w h i (formed (p .arena) (p .table) A) live))
+    (ap (holdEnd (p .arena) (p .table) w) (path-is-text (start (p .arena) (p .table)) (rowSpot (p .table) i) path room))
+
+pub follows-call : FollowsCall
+unfolding FollowsCall FollowsText
+follows-call p w h i room l q target y live L some bare g good lone =
+    walk-text p w h i room (l ++ (47 ∷ q)) y live
+    ∙ ap (holdEnd (p .arena) (p .table) w) (follows-text (start (p .arena) (p .table)) room 7 [] (rowSpot (p .table) i) l q target L some bare g good lone)
+
+pub follows-name-call : FollowsNameCall
+unfolding FollowsNameCall FollowsName
+follows-name-call p w h i room l target y live L some bare g =
+    walk-text p w h i room l y live ∙ ap (holdEnd (p .arena) (p .table) w) (follows-name (start (p .arena) (p .table)) room 7 [] (rowSpot (p .table) i) l target L some bare g)
+
+pub follows-root-call : FollowsRootCall
+unfolding FollowsRootCall FollowsRoot
+follows-root-call p w h i room l q y live L some bare g =
+    walk-text p w h i room (l ++ (47 ∷ q)) y live ∙ ap (holdEnd (p .arena) (p .table) w) (follows-root (start (p .arena) (p .table)) room 7 [] (rowSpot (p .table) i) l q L some bare g)
+
+-- ---- the ninth link
+
+refuses : {A : Type 0} {Q : A → Type 0} {R : ℕ → Type 0} {n : ℕ} → Ok Q R (refused n) → R n
+refuses (said r) = r
+
+pub ninth-link-call : NinthLinkCall
+unfolding NinthLinkCall NinthLink
+ninth-link-call p w h i path room y live =
+    let N = ninth-link a t (rowSpot t i) path room in (
+      λ e. N .0 (only (walkIn (start a t) (rowSpot t i) path room .end) (sym ends ∙ e)),
+      λ x. ends ∙ ap (λ (o : Out Spot). bind o rest) (N .1 x),
+    )
+  where
+    a : List ℕ
+    a = p .arena
+
+    t : Table
+    t = p .table
+
+    rest : Spot → Out Added
+    rest at = bind (ensure (canHold (p .table) w) 16) (λ _. holdNode (start (p .arena) (p .table)) w (at .id))
+
+    ends : callWalk (p .arena) (p .table) w h path room .end ≡ bind (walkIn (start (p .arena) (p .table)) (rowSpot (p .table) i) path room .end) rest
+    ends =
+        let A = allowed p y in
+        walk-is a t w h path room ∙ rw (admitted a t A, handle-done t w h i (live-owns t w h i (formed a t A) live)) refl
+
+    -- the hold gives 16 or 19
+    only : (o : Out Spot) → bind o rest ≡ refused 23 → o ≡ refused 23
+    only (refused m) e = ap refused (ap answer e)
+    only (done at) e =
+        absurd (refuses (subst (Says (λ n. n ≢ 23)) e
+        (says-then (says-ensure (canHold t w) 16 (eqb-false 16 23 refl)) λ _. says-hold (eqb-false 19 23 refl) a t w (at .id))) refl)
