@@ -25,7 +25,7 @@ use Rattle.sefs.specs.Nodes.{Opened, getNode, recAt}
 use Rattle.sefs.specs.Slots.{Slot, findSlot}
 use Rattle.sefs.specs.Ask.{admit, byHandle, notLong, known, folder, start}
 use Rattle.sefs.specs.Open.{holdNode, callFind}
-use Rattle.walk.specs.Walk.{isSlash, fromRoot, partAt, split, goodText, cut, partsOf, Spot, spot, lookAt, partIn, ended, along, enter, Walked, mostLinks, walkOn, walkIn}
+use Rattle.walk.specs.Walk.{slash, isSlash, fromRoot, partAt, split, goodText, cut, partsOf, Spot, spot, lookAt, partIn, ended, along, enter, Walked, mostLinks, walkOn, walkIn}
 use Rattle.walk.specs.Laws.{Chain, here, on, Leads, Halts, NoLink, PartFinds, WalkFinds}
 use Rattle.walk.proofs.Ways.{walk-is}
 
@@ -115,15 +115,15 @@ part-shows s r name =
 -- ---- a path that is a name
 
 -- it is its own only part
-plain-cut : (b : ℕ) (l : List ℕ) → NoSlash (b ∷ l) → cut (b ∷ l) ≡ (b ∷ l) ∷ []
+pub plain-cut : (b : ℕ) (l : List ℕ) → NoSlash (b ∷ l) → cut (b ∷ l) ≡ (b ∷ l) ∷ []
 unfolding cut
-plain-cut b [] bare = rw (ne-eqb b 47 (λ e. bare 0 (omega arith) e)) refl
-plain-cut b (c ∷ l) bare = rw (ne-eqb b 47 (λ e. bare 0 (omega arith) e), plain-cut c l (λ j h e. bare (suc j) (omega arith) e)) refl
+plain-cut b [] bare = rw (ne-eqb b slash (λ e. bare 0 (omega arith) e)) refl
+plain-cut b (c ∷ l) bare = rw (ne-eqb b slash (λ e. bare 0 (omega arith) e), plain-cut c l (λ j h e. bare (suc j) (omega arith) e)) refl
 
-plain-parts : (name : List ℕ) → name ≢ [] → NoSlash name → (fromRoot name ≡ false) × (partsOf name ≡ name ∷ [])
+pub plain-parts : (name : List ℕ) → name ≢ [] → NoSlash name → (fromRoot name ≡ false) × (partsOf name ≡ name ∷ [])
 plain-parts [] some bare = absurd (some refl)
 plain-parts (b ∷ l) some bare =
-    let q : eqb b 47 ≡ false = ne-eqb b 47 (λ e. bare 0 (omega arith) e) in
+    let q : eqb b slash ≡ false = ne-eqb b slash (λ e. bare 0 (omega arith) e) in
     (q, rw q (plain-cut b l bare))
 
 some-long : (name : List ℕ) → name ≢ [] → 0 < length name
@@ -133,14 +133,14 @@ some-long (b ∷ l) some = omega arith
 plain-split : (name : List ℕ) → name ≢ [] → NoSlash name → split name ≡ true
 unfolding split
 plain-split name some bare =
-    let off : (i : ℕ) → i < length name → not (isSlash (getD name i 0)) ≡ true = λ i l. ap not (ne-eqb (getD name i 0) 47 (bare i l)) in
+    let off : (i : ℕ) → i < length name → not (isSlash (getD name i 0)) ≡ true = λ i l. ap not (ne-eqb (getD name i 0) slash (bare i l)) in
     and-both (and-both (lt-ltb 0 (length name) (some-long name some)) (off 0 (some-long name some)))
     (allTo-all (λ i. not (isSlash (getD name i 0)) || partAt name (suc i)) (length name) (λ i l. or-first (partAt name (suc i)) (off i l)))
 
 -- and good exactly where it is good as a name
 plain-text : (name : List ℕ) → name ≢ [] → NoSlash name → goodText name ≡ eqb (earlyReason (nameVerdict name)) 0
 unfolding goodText
-plain-text name some bare = rw (plain-parts name some bare .0, or-second (same name (47 ∷ [])) (plain-split name some bare)) (and-true (eqb (earlyReason (nameVerdict name)) 0))
+plain-text name some bare = rw (plain-parts name some bare .0, or-second (same name (slash ∷ [])) (plain-split name some bare)) (and-true (eqb (earlyReason (nameVerdict name)) 0))
 
 text-bad : (s : Fs) (at : Spot) (l : List ℕ) (room : ℕ) → goodText l ≡ false → walkIn s at l room .end ≡ refused 5
 unfolding walkIn enter
