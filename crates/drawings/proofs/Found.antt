@@ -45,9 +45,9 @@ use Rattle.sequences.specs.Promises.{On, Through, writes, resizes}
 use Rattle.sequences.proofs.Passing.{allowed, spelled-any, spelled-midway}
 use Rattle.sequences.proofs.Corner.{on-used}
 use Rattle.drawings.specs.Saved.{led}
-use Rattle.drawings.specs.Full.{findTo}
+use Rattle.sequences.specs.TableFull.{findTo}
 use Rattle.drawings.specs.Rests.{Rested, NamedAt, NodeNamed, FoundAndKept}
-use Rattle.drawings.proofs.Full.{part-find}
+use Rattle.sequences.proofs.TableFull.{part-find}
 use Rattle.drawings.proofs.Saved.{never}
 use Rattle.drawings.proofs.Rests.{one-more, along, node-named, saved-rests}
 

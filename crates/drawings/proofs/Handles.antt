@@ -42,8 +42,8 @@ use Rattle.image.proofs.Holds.{rows-at, add-rows}
 use Rattle.sequences.specs.Pairs.{Pair}
 use Rattle.sequences.specs.Calls.{Call, root, find, walk, create, link, removeFile, removeFolder, move, metadata, setMetadata, getEntry, listing, read, write, resize, sync, close, check, does, next}
 use Rattle.sequences.proofs.Corner.{at-put}
-use Rattle.drawings.specs.Full.{rootTo, findTo, walkTo, createTo}
-use Rattle.drawings.proofs.Full.{part-root, part-find, part-walk, part-create}
+use Rattle.sequences.specs.TableFull.{rootTo, findTo, walkTo, createTo}
+use Rattle.sequences.proofs.TableFull.{part-root, part-find, part-walk, part-create}
 use Rattle.drawings.proofs.Steps.{Changes, LeavesAfter, append, resize-steps, write-steps, born, is-named, sync-row, link-steps, sync-all, open-node, new-node, drop-node, remove-steps, moves}
 
 -- the row of a last hold is nobody's

@@ -67,8 +67,8 @@ use Rattle.sequences.specs.Promises.{Through, writes, resizes}
 use Rattle.sequences.proofs.Passing.{allowed}
 use Rattle.sequences.proofs.Closes.{close-rows}
 use Rattle.sequences.proofs.Corner.{at-put}
-use Rattle.drawings.specs.Full.{rootTo, findTo, walkTo}
-use Rattle.drawings.proofs.Full.{part-root, part-find, part-walk}
+use Rattle.sequences.specs.TableFull.{rootTo, findTo, walkTo}
+use Rattle.sequences.proofs.TableFull.{part-root, part-find, part-walk}
 use Rattle.drawings.proofs.Works.{Changes, Loads, Frees, Stores, Metas, Drops, Fills, opens, sync-row, sync-all, drop-node, metas-put, append, resize-steps, write-steps, born, is-named, link-steps, remove-steps}
 use Rattle.drawings.proofs.Tracks.{Tracks, tracks-rows, tracks-changes, tracks-loads, tracks-frees, tracks-stores, tracks-metas, tracks-drops}
 use Rattle.drawings.proofs.Calms.{Stays, stays-kept, stays-drop, Calm, some-of, small-of, off-of, tracks-start, calm-start, calm-changes, calm-loads, calm-frees, calm-stores, calm-metas, calm-drops, calm-new, calm-fill, calm-fills, live-row, live-firm, apart-row, folder-row}

@@ -54,16 +54,16 @@ halts s room (suc k) b at to ps p qs n c r = rw (along-halts s p qs n c r) refl
 -- ---- a part is a find
 
 -- the outcome o is m, and then k
-data Then {B C : Type 0} (k : B → Out C) : Out C → Out B → Type 0 where
+pub data Then {B C : Type 0} (k : B → Out C) : Out C → Out B → Type 0 where
   is : {o : Out C} {m : Out B} → o ≡ bind m k → Then k o m
 
-then-is : {B C : Type 0} {k : B → Out C} {o : Out C} {m : Out B} → Then k o m → o ≡ bind m k
+pub then-is : {B C : Type 0} {k : B → Out C} {o : Out C} {m : Out B} → Then k o m → o ≡ bind m k
 then-is (is e) = e
 
 -- a step of both
-step : {A B C : Type 0} {f : A → Out C} {g : A → Out B} {k : B → Out C} (m : Out A) → ((x : A) → m ≡ done x → Then k (f x) (g x)) → Then k (bind m f) (bind m g)
-step (done x) h = h x refl
-step (refused n) h = is refl
+pub then-step : {A B C : Type 0} {f : A → Out C} {g : A → Out B} {k : B → Out C} (m : Out A) → ((x : A) → m ≡ done x → Then k (f x) (g x)) → Then k (bind m f) (bind m g)
+then-step (done x) h = h x refl
+then-step (refused n) h = is refl
 
 -- a node that can't be looked at can't be opened with a hold
 look-hold : (s : Fs) (w id n : ℕ) → lookAt s id ≡ refused n → holdNode s w id ≡ refused n
@@ -89,11 +89,11 @@ unfolding PartFinds callFind partIn
 part-finds a t w h name i e l g can plain =
     rw (e, l, g)
     (then-is
-    (step (known (rowAt t i .rec)) λ _ _.
-    step (folder (rowAt t i .rec)) λ _ _.
-    step (notLong name) λ _ _.
-    step (ensure (not (isDots name && eqb (rowAt t i .rec .nlinks) 0)) 8) λ _ _.
-    step (findSlot a (rowAt t i .rec) name) λ x q.
+    (then-step (known (rowAt t i .rec)) λ _ _.
+    then-step (folder (rowAt t i .rec)) λ _ _.
+    then-step (notLong name) λ _ _.
+    then-step (ensure (not (isDots name && eqb (rowAt t i .rec .nlinks) 0)) 8) λ _ _.
+    then-step (findSlot a (rowAt t i .rec) name) λ x q.
     is (look-then (start a t) w (x .entry .id) (canHold t w) can (λ n r. plain x n q r .0))))
 
 -- where a part has led, in the words of find

@@ -29,15 +29,15 @@ abbrev pub Begins : List ℕ → ℕ → Type 0
 Begins l i = (i < length l) × (isSlash (getD l i 0) ≡ false)
 
 -- and after each slash
-abbrev pub Apart : List ℕ → Type 0
-Apart l = (j : ℕ) → j < length l → isSlash (getD l j 0) ≡ true → Begins l (suc j)
+abbrev pub SingleSlashes : List ℕ → Type 0
+SingleSlashes l = (j : ℕ) → j < length l → isSlash (getD l j 0) ≡ true → Begins l (suc j)
 
 part-begins : (l : List ℕ) (i : ℕ) → partAt l i ≡ true → Begins l i
 part-begins l i e =
     let h = and-parts (ltb i (length l)) (not (isSlash (getD l i 0))) e in
     (ltb-true i (length l) (h .0), test-fails (isSlash (getD l i 0)) (λ t. true≢false (sym (h .1) ∙ ap not t)))
 
-pub split-says : (l : List ℕ) → split l ≡ true → Begins l 0 × Apart l
+pub split-says : (l : List ℕ) → split l ≡ true → Begins l 0 × SingleSlashes l
 unfolding split
 split-says l e =
     let h = and-parts (partAt l 0) _ e in
@@ -139,15 +139,15 @@ after-slash : (b c : ℕ) (l : List ℕ) → isSlash b ≡ false → isSlash c �
 unfolding cut
 after-slash b c l e f ns = rw (e, f) (names-cons (b ∷ []) (cut l) (byte-name b [] e (λ j h. absurd (omega arith))) ns)
 
-pub apart-tail : (b : ℕ) (l : List ℕ) → Apart (b ∷ l) → Apart l
-apart-tail b l a j h t = let s = a (suc j) (omega arith) t in (omega arith, s .1)
+pub single-tail : (b : ℕ) (l : List ℕ) → SingleSlashes (b ∷ l) → SingleSlashes l
+single-tail b l a j h t = let s = a (suc j) (omega arith) t in (omega arith, s .1)
 
-cut-names : (l : List ℕ) → Begins l 0 → Apart l → Names (cut l)
+cut-names : (l : List ℕ) → Begins l 0 → SingleSlashes l → Names (cut l)
 cut-names [] s a = absurd (omega (arith, s .0))
 cut-names (b ∷ []) s a = after-byte b [] (s .1) names-none
 cut-names (b ∷ c ∷ l) s a =
-    ⊎-elim (λ t. after-slash b c l (s .1) t (let u = a 1 (omega arith) t in cut-names l (omega arith, u .1) (apart-tail c l (apart-tail b (c ∷ l) a))))
-    (λ f. after-byte b (c ∷ l) (s .1) (cut-names (c ∷ l) (omega arith, f) (apart-tail b (c ∷ l) a)))
+    ⊎-elim (λ t. after-slash b c l (s .1) t (let u = a 1 (omega arith) t in cut-names l (omega arith, u .1) (single-tail c l (single-tail b (c ∷ l) a))))
+    (λ f. after-byte b (c ∷ l) (s .1) (cut-names (c ∷ l) (omega arith, f) (single-tail b (c ∷ l) a)))
     (bool-cases (isSlash c))
 
 pub parts-good : PartsGood

@@ -27,7 +27,7 @@ use Rattle.walk.specs.Walk.{slash, isSlash, fromRoot, afterRoot, partAt,
 use Rattle.walk.specs.Laws.{IsPart}
 use Rattle.walk.specs.Symlinks.{GoodJoins}
 use Rattle.walk.proofs.Chains.{plain-cut}
-use Rattle.walk.proofs.Joins.{Begins, Apart, split-says, good-says, apart-tail}
+use Rattle.walk.proofs.Joins.{Begins, SingleSlashes, split-says, good-says, single-tail}
 
 -- ---- a part, and what comes after it
 
@@ -144,7 +144,7 @@ join-good p m g h = good-by (p ++ m) (join-zero p m (g .no-zero) (h .no-zero)) (
 
 -- ---- its parts: one begins after each slash
 
-split-is : (l : List ℕ) → Begins l 0 → Apart l → split l ≡ true
+split-is : (l : List ℕ) → Begins l 0 → SingleSlashes l → split l ≡ true
 unfolding split
 split-is l b a =
     and-both (part-is l 0 b)
@@ -159,14 +159,14 @@ split-is l b a =
 front-begins : (p m : List ℕ) (i : ℕ) → Begins p i → Begins (p ++ m) i
 front-begins p m i b = (omega (arith, length-append p m, b .0), ap isSlash (List·getD-append p m 0 i (b .0)) ∙ b .1)
 
-tail-apart : (p m : List ℕ) → Apart (p ++ m) → Apart m
-tail-apart [] m a = a
-tail-apart (b ∷ p) m a = tail-apart p m (apart-tail b (p ++ m) a)
+tail-single : (p m : List ℕ) → SingleSlashes (p ++ m) → SingleSlashes m
+tail-single [] m a = a
+tail-single (b ∷ p) m a = tail-single p m (single-tail b (p ++ m) a)
 
-join-apart : (p m : List ℕ) → Apart p → Apart m → Apart (p ++ m)
-join-apart [] m a c j h t = c j h t
-join-apart (b ∷ p) m a c zero h t = front-begins (b ∷ p) m 1 (a 0 (omega arith) t)
-join-apart (b ∷ p) m a c (suc j) h t = let x = join-apart p m (apart-tail b p a) c j (omega arith) t in (omega (arith, x .0), x .1)
+join-single : (p m : List ℕ) → SingleSlashes p → SingleSlashes m → SingleSlashes (p ++ m)
+join-single [] m a c j h t = c j h t
+join-single (b ∷ p) m a c zero h t = front-begins (b ∷ p) m 1 (a 0 (omega arith) t)
+join-single (b ∷ p) m a c (suc j) h t = let x = join-single p m (single-tail b p a) c j (omega arith) t in (omega (arith, x .0), x .1)
 
 -- ---- a good text
 
@@ -183,14 +183,14 @@ good-is l g e = and-both (ap (λ (v : NameVerdict). eqb (earlyReason v) 0) (verd
     by false long = refl
 
 -- after its first slash, if it is not the first byte
-rest-apart : (p q : List ℕ) → p ≢ [] → goodText (p ++ (slash ∷ q)) ≡ true → Apart (slash ∷ q)
-rest-apart [] q some g = absurd (some refl)
-rest-apart (c ∷ p) q some g =
+rest-single : (p q : List ℕ) → p ≢ [] → goodText (p ++ (slash ∷ q)) ≡ true → SingleSlashes (slash ∷ q)
+rest-single [] q some g = absurd (some refl)
+rest-single (c ∷ p) q some g =
     ⊎-elim (λ e. let z : suc (length (p ++ (slash ∷ q))) ≡ 1 = ap length e in absurd (omega (arith, length-append p (slash ∷ q)))) (go (isSlash c)) (good-says ((c ∷ p) ++ (slash ∷ q)) g)
   where
-    go : (t : Bool) → split (drop (bit t) (c ∷ (p ++ (slash ∷ q)))) ≡ true → Apart (slash ∷ q)
-    go true e = tail-apart p (slash ∷ q) (split-says (p ++ (slash ∷ q)) e .1)
-    go false e = tail-apart (c ∷ p) (slash ∷ q) (split-says ((c ∷ p) ++ (slash ∷ q)) e .1)
+    go : (t : Bool) → split (drop (bit t) (c ∷ (p ++ (slash ∷ q)))) ≡ true → SingleSlashes (slash ∷ q)
+    go true e = tail-single p (slash ∷ q) (split-says (p ++ (slash ∷ q)) e .1)
+    go false e = tail-single (c ∷ p) (slash ∷ q) (split-says ((c ∷ p) ++ (slash ∷ q)) e .1)
 
 after-root-join : (p m : List ℕ) → split (afterRoot p) ≡ true → afterRoot (p ++ m) ≡ afterRoot p ++ m
 after-root-join [] m e = absurd (omega (arith, split-says [] e .0 .0))
@@ -212,11 +212,11 @@ good-joins p q target some g h lone =
     let a = split-says (afterRoot target) s in
     good-is (target ++ (slash ∷ q)) (join-good target (slash ∷ q) (good-name target h) (tail-good p q (good-name (p ++ (slash ∷ q)) g)))
     (ap split (after-root-join target (slash ∷ q) s)
-    ∙ split-is (afterRoot target ++ (slash ∷ q)) (front-begins (afterRoot target) (slash ∷ q) 0 (a .0)) (join-apart (afterRoot target) (slash ∷ q) (a .1) (rest-apart p q some g)))
+    ∙ split-is (afterRoot target ++ (slash ∷ q)) (front-begins (afterRoot target) (slash ∷ q) 0 (a .0)) (join-single (afterRoot target) (slash ∷ q) (a .1) (rest-single p q some g)))
 
 -- and `/q` is good
 pub root-good : (p q : List ℕ) → p ≢ [] → goodText (p ++ (slash ∷ q)) ≡ true → goodText (slash ∷ q) ≡ true
 root-good p q some g =
-    let a = rest-apart p q some g in
+    let a = rest-single p q some g in
     let b = a 0 (omega arith) refl in
-    good-is (slash ∷ q) (tail-good p q (good-name (p ++ (slash ∷ q)) g)) (split-is q (omega (arith, b .0), b .1) (apart-tail slash q a))
+    good-is (slash ∷ q) (tail-good p q (good-name (p ++ (slash ∷ q)) g)) (split-is q (omega (arith, b .0), b .1) (single-tail slash q a))
