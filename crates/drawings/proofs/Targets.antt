@@ -1,31 +1,29 @@
 -- What is read of a symlink is the target that a walk finds there.
 use mathlib.Core.Path.{_≡_, refl, sym, ap, _∙_, subst}
-use mathlib.Core.Bool.{true, false, not, _&&_}
+use mathlib.Core.Bool.{true, false}
 use mathlib.Core.List.{List}
 use Prim.Native.Nat.{ℕ, _-_, _≤_, _<_}
 use native.Mathlib.Omega.{arith}
-use lib.Dec.{eqb, leb}
 use lib.ListN.{length}
 use borrow.Author.Tests.{eqb-true, le-leb}
-use Rattle.base.specs.Out.{done, ensure, kept, Ok}
+use Rattle.base.specs.Out.{done, kept, Ok}
 use Rattle.base.specs.Parts.{tab}
-use Rattle.base.proofs.Outs.{bind-is-done, ok-done}
+use Rattle.base.proofs.Outs.{ok-done}
 use Rattle.base.proofs.Lists.{length-tab}
 use Rattle.base.specs.declared.Found.the-variants.{At}
+use Rattle.structs.specs.Constants.{typeSymlink}
 use Rattle.structs.specs.Types.{isFolder}
 use Rattle.structs.specs.declared.DiskINode.{DiskINode}
-use Rattle.utf8.specs.Names.{isDots}
 use Rattle.arena.specs.Fields.{file}
 use Rattle.files.specs.Read.{lengthOf, byteAt}
 use Rattle.table.specs.declared.Table.{Table}
 use Rattle.table.specs.declared.Handle.{Handle}
 use Rattle.table.specs.Table.{rowAt, liveRow}
-use Rattle.sefs.specs.State.{Fs}
 use Rattle.sefs.specs.Nodes.{nodeFile}
-use Rattle.sefs.specs.Slots.{findSlot}
-use Rattle.sefs.specs.Ask.{notLong, known, folder, start}
+use Rattle.sefs.specs.Ask.{start}
 use Rattle.sefs.specs.Contents.{readCount, readBytes, callRead}
-use Rattle.walk.specs.Walk.{Spot, lookAt, partIn, isLink, targetOf}
+use Rattle.walk.specs.Walk.{Spot, lookAt, isLink, targetOf}
+use Rattle.walk.proofs.Chains.{part-shows}
 use Rattle.rules.specs.Image.{recOf, isNode}
 use Rattle.image.proofs.Handles.{row-node, row-rec}
 use Rattle.sequences.specs.Pairs.{Pair, Passed}
@@ -34,20 +32,6 @@ use Rattle.sequences.proofs.Walks.{look-law}
 use Rattle.drawings.specs.Targets.{ContentIsTarget}
 use Rattle.drawings.proofs.Handles.{OnAs}
 use Rattle.drawings.proofs.Saved.{used, long-is, there-is, read-file}
-
--- what a part has led to was looked at
-part-looks : (s : Fs) (r : DiskINode) (name : List ℕ) (n : Spot) → partIn s r name ≡ done n → lookAt s (n .id) ≡ done (n .rec)
-unfolding partIn
-part-looks s r name n e =
-    let a = bind-is-done (known r) _ n e in
-    let b = bind-is-done (folder r) _ n (a .2) in
-    let c = bind-is-done (notLong name) _ n (b .2) in
-    let d = bind-is-done (ensure (not (isDots name && eqb (r .nlinks) 0)) 8) _ n (c .2) in
-    let f = bind-is-done (findSlot (s .arena) r name) _ n (d .2) in
-    let g = bind-is-done (lookAt s (f .0 .entry .id)) _ n (f .2) in
-    let h = bind-is-done (ensure (leb (g .0 .kind) 4) 19) _ n (g .2) in
-    let q : _ ≡ n = ap (kept n) (h .2) in
-    subst (λ (x : Spot). lookAt s (x .id) ≡ done (x .rec)) q (g .1)
 
 module _ (p : Pair) (y : Passed p) (v : ℕ) (g : Handle) (i : ℕ) (live : liveRow (p .table) v g ≡ At i) where
   abbrev a : List ℕ
@@ -92,12 +76,12 @@ module _ (p : Pair) (y : Passed p) (v : ℕ) (g : Handle) (i : ℕ) (live : live
         (ap done (whole (rowAt (p .table) i .rec .size) (sym target-long)))
 
 link-kind : (r : DiskINode) → isLink r ≡ true → isFolder (r .kind) ≡ false
-link-kind r e = ap isFolder (eqb-true (r .kind) 3 e)
+link-kind r e = ap isFolder (eqb-true (r .kind) typeSymlink e)
 
 pub content-is-target : ContentIsTarget
 unfolding ContentIsTarget
 content-is-target p v g i room b at node l target all y e link live q reads spare fits =
-    let same : rowAt (p .table) i .rec ≡ node .rec = same-rec p y v g i live node (part-looks (start (p .arena) (p .table)) (at .rec) l node e) q in
+    let same : rowAt (p .table) i .rec ≡ node .rec = same-rec p y v g i live node (ok-done (subst (Ok _ _) e (part-shows (start (p .arena) (p .table)) (at .rec) l)) .3) q in
     let no-dir : isFolder (rowAt (p .table) i .rec .kind) ≡ false = ap (λ (r : DiskINode). isFolder (r .kind)) same ∙ link-kind (node .rec) link in
     record {
       node = node;

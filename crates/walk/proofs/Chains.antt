@@ -96,8 +96,9 @@ part-finds a t w h name i e l g can plain =
     then-step (findSlot a (rowAt t i .rec) name) λ x q.
     is (look-then (start a t) w (x .entry .id) (canHold t w) can (λ n r. plain x n q r .0))))
 
--- where a part has led, in the words of find
-part-shows : (s : Fs) (r : DiskINode) (name : List ℕ) → Ok (λ (n : Spot). (e : Slot) × (findSlot (s .arena) r name ≡ done e) × (lookAt s (e .entry .id) ≡ done (n .rec))) (λ _. Unit) (partIn s r name)
+-- where a part has led, in the words of find; and it was looked at
+pub part-shows : (s : Fs) (r : DiskINode) (name : List ℕ)
+    → Ok (λ (n : Spot). (e : Slot) × (findSlot (s .arena) r name ≡ done e) × (lookAt s (e .entry .id) ≡ done (n .rec)) × (lookAt s (n .id) ≡ done (n .rec))) (λ _. Unit) (partIn s r name)
 unfolding partIn
 part-shows s r name =
     ok-bind (own (known r)) λ _ _.
@@ -106,7 +107,7 @@ part-shows s r name =
     ok-bind (own (ensure (not (isDots name && eqb (r .nlinks) 0)) 8)) λ _ _.
     ok-bind (own (findSlot (s .arena) r name)) λ e q.
     ok-bind (own (lookAt s (e .entry .id))) λ n l.
-    ok-bind (own (ensure (leb (n .kind) 4) 19)) λ _ _. went (e, q, l)
+    ok-bind (own (ensure (leb (n .kind) 4) 19)) λ _ _. went (e, q, l, l)
   where
     own : {A : Type 0} (m : Out A) → Ok (λ x. m ≡ done x) (λ _. Unit) m
     own (done x) = went refl

@@ -10,7 +10,7 @@ use Rattle.base.specs.Search.{pick}
 use Rattle.sefs.specs.State.{Fs}
 use Rattle.walk.specs.Walk.{slash, goodText, fromRoot, cut, partsOf, Spot, atRoot, met, along, enter, Walked, walked, orStop, walkOn, walkText}
 use Rattle.walk.specs.Laws.{Chain, here, on, andThen, IsPart}
-use Rattle.walk.specs.Symlinks.{LinkAt, FollowsParts, FollowsLast, Front, empty, root, folder, FollowsText, FollowsRoot, FollowsName, GoodJoins}
+use Rattle.walk.specs.Symlinks.{LinkAt, FollowsParts, FollowsLast, Front, no-front, root-front, text-front, FollowsText, FollowsRoot, FollowsName, GoodJoins}
 use Rattle.walk.proofs.Cuts.{cut-none}
 use Rattle.walk.proofs.Chains.{plain-parts}
 use Rattle.walk.proofs.Walks.{along-none, along-link, along-on, walk-end, walk-bad, walk-follow, walk-join}
@@ -68,9 +68,9 @@ record Goes (s : Fs) (from at : Spot) (text rest : List ℕ) : Type 0 where
 
 front-goes : (s : Fs) (from : Spot) {p : List ℕ} {at : Spot} (rest : List ℕ) → fromRoot rest ≡ false → Front s from p at → goodText (p ++ rest) ≡ true → Goes s from at (p ++ rest) rest
 unfolding enter
-front-goes s from rest rel empty g = record { start = from; parts = []; chain = here; goes = λ room k b. rw (g, rel) refl }
-front-goes s from {at = at} rest rel (root e) g = record { start = at; parts = []; chain = here; goes = λ room k b. rw (g, e) refl }
-front-goes s from rest rel (folder d {to = to} e c) g =
+front-goes s from rest rel no-front g = record { start = from; parts = []; chain = here; goes = λ room k b. rw (g, rel) refl }
+front-goes s from {at = at} rest rel (root-front e) g = record { start = at; parts = []; chain = here; goes = λ room k b. rw (g, e) refl }
+front-goes s from rest rel (text-front d {to = to} e c) g =
     let j : (d ++ (slash ∷ [])) ++ rest ≡ d ++ (slash ∷ rest) = append-assoc d (slash ∷ []) rest in
     let h : goodText (d ++ (slash ∷ rest)) ≡ true = ap goodText (sym j) ∙ g in
     let x : goodText d ≡ true = entered s from d to e in

@@ -37,9 +37,9 @@ FollowsLast = (s : Fs) (room k : ℕ) (b : List ℕ) (from at : Spot) (ps : List
 -- the front of a text, up to the part that names the link: of `l/q` it is empty, of `/l/q` a slash, of `d/l/q` it is `d/`. It leads from where the
 -- walk stands to the link's folder, with no link on the way
 pub data Front (s : Fs) (from : Spot) : List ℕ → Spot → Type 0 where
-  empty : Front s from [] from
-  root : {at : Spot} → atRoot s ≡ done at → Front s from (slash ∷ []) at
-  folder : (d : List ℕ) {to at : Spot} → enter s from d ≡ done to → Chain s to (partsOf d) at → Front s from (d ++ (slash ∷ [])) at
+  no-front : Front s from [] from
+  root-front : {at : Spot} → atRoot s ≡ done at → Front s from (slash ∷ []) at
+  text-front : (d : List ℕ) {to at : Spot} → enter s from d ≡ done to → Chain s to (partsOf d) at → Front s from (d ++ (slash ∷ [])) at
 
 -- walking `l/q`, `/l/q` or `d/l/q` is walking `t/q` from the folder in which l was found, with one link less and t in the buffer
 unfoldable pub FollowsText : Type 0
