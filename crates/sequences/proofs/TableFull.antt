@@ -222,10 +222,7 @@ module _ (p : Pair) where
   never c e z =
       ⊎-elim (λ (q : reasonOf c p ≡ 0). omega (arith, q)) (λ (q : T (has (reasonsOf c) (reasonOf c p))). true-false (T-true _ q) (ap (has (reasonsOf c)) z ∙ e)) (reasons c p)
 
-  abbrev Full : Call → Type 0
-  Full c = ReachesCheck p c × (canHold (p .table) (asker c) ≡ false)
-
-  full-says : (c : Call) → reasonOf c p ≡ 16 → Full c
+  full-says : (c : Call) → reasonOf c p ≡ 16 → ReachesCheck p c × (canHold (p .table) (asker c) ≡ false)
   full-says (root w) e = let m = meets-root w in (root-to (m .arrives e .1), m .fails e)
   full-says (find w h name) e = let m = meets-find w h name in (find-to (m .arrives e .1), m .fails e)
   full-says (walk w h path room) e = let m = meets-walk w h path room in (walk-to (m .arrives e .1), m .fails e)

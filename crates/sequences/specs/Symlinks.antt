@@ -1,6 +1,6 @@
 -- Order 7, where a symlink is met, said of the calls; and "23 SymLoop at the ninth link".
 use mathlib.Core.Path.{_≡_}
-use mathlib.Core.Bool.{true}
+use mathlib.Core.Bool.{true, false}
 use mathlib.Core.List.{List, [], _∷_, _++_}
 use mathlib.Core.Logic.{_≢_, _↔_}
 use Prim.Native.Nat.{ℕ, suc, _-_}
@@ -11,14 +11,30 @@ use Rattle.base.specs.declared.Found.the-variants.{At}
 use Rattle.structs.specs.declared.DiskINode.{DiskINode}
 use Rattle.table.specs.declared.Table.{Table}
 use Rattle.table.specs.declared.Handle.{Handle}
+use Rattle.table.specs.declared.Added.{Added}
 use Rattle.table.specs.Table.{liveRow}
 use Rattle.sefs.specs.State.{Fs}
 use Rattle.sefs.specs.Ask.{start}
-use Rattle.walk.specs.Walk.{slash, goodText, partsOf, Spot, met, along, targetOf, enter, mostLinks, walkText, walkIn, holdEnd, callWalk}
+use Rattle.sefs.specs.Open.{callRoot}
+use Rattle.walk.specs.Walk.{slash, goodText, fromRoot, partsOf, Spot, met, along, targetOf, enter, mostLinks, walkText, walkIn, holdEnd, callWalk}
 use Rattle.walk.specs.Laws.{IsPart}
 use Rattle.walk.specs.Symlinks.{LinkAt, Front}
-use Rattle.sequences.specs.Pairs.{Pair, Passed}
-use Rattle.sequences.specs.Chains.{rowSpot}
+use Rattle.sequences.specs.Pairs.{Pair, pair, Passed}
+use Rattle.sequences.specs.Chains.{Finds, rowSpot}
+
+-- ---- a front, by calls
+
+-- from a passed pair: where w's finds lead from h to g along the parts of d, and none of them to a link, `d/` is the front of a path from h's folder
+-- to g's
+unfoldable pub FrontByFinds : Type 0
+FrontByFinds = (a : List ℕ) (t u : Table) (w : ℕ) (h g : Handle) (i j : ℕ) (d : List ℕ) → Passed (pair a t) → liveRow t w h ≡ At i → liveRow u w g ≡ At j
+    → goodText d ≡ true → fromRoot d ≡ false → Finds a w t h (partsOf d) u g
+    → Front (start a t) (rowSpot t i) (d ++ (slash ∷ [])) (rowSpot u j)
+
+-- and a slash is one to the folder that root gives
+unfoldable pub FrontByRoot : Type 0
+FrontByRoot = (a : List ℕ) (t : Table) (w : ℕ) (g : Added) (i j : ℕ) → Passed (pair a t) → callRoot a t w ≡ done g → liveRow (g .table) w (g .handle) ≡ At j
+    → Front (start a t) (rowSpot t i) (slash ∷ []) (rowSpot (g .table) j)
 
 -- ---- a link is followed
 

@@ -60,13 +60,13 @@ entered s from d to = go (goodText d)
     go false e = absurd (let z : _≡_ {A = ℕ} 0 1 = cc in omega arith)
 
 -- the front's parts lead to the folder, and then come the parts of what is after it
-record Goes (s : Fs) (from at : Spot) (text rest : List ℕ) : Type 0 where
+record PastFront (s : Fs) (from at : Spot) (text rest : List ℕ) : Type 0 where
   start : Spot
   parts : List (List ℕ)
   chain : Chain s start parts at
   goes : (room k : ℕ) (b : List ℕ) → walkText s room k b from text ≡ walkOn s room k b start (parts ++ cut rest)
 
-front-goes : (s : Fs) (from : Spot) {p : List ℕ} {at : Spot} (rest : List ℕ) → fromRoot rest ≡ false → Front s from p at → goodText (p ++ rest) ≡ true → Goes s from at (p ++ rest) rest
+front-goes : (s : Fs) (from : Spot) {p : List ℕ} {at : Spot} (rest : List ℕ) → fromRoot rest ≡ false → Front s from p at → goodText (p ++ rest) ≡ true → PastFront s from at (p ++ rest) rest
 unfolding enter
 front-goes s from rest rel no-front g = record { start = from; parts = []; chain = here; goes = λ room k b. rw (g, rel) refl }
 front-goes s from {at = at} rest rel (root-front e) g = record { start = at; parts = []; chain = here; goes = λ room k b. rw (g, e) refl }
