@@ -58,6 +58,7 @@ root-full p w y o =
 
 -- ---- two tables that are the same for the asker
 
+-- the same step, and then the same
 same-then : {A B : Type 0} {f g : A → Out B} {m n : Out A} → m ≡ n → ((x : A) → m ≡ done x → f x ≡ g x) → bind m f ≡ bind n g
 same-then {f = f} {g = g} {m = m} e k = go m k ∙ ap (λ (o : Out _). bind o g) e
   where

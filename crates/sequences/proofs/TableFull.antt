@@ -167,7 +167,7 @@ record Meets {A : Type 0} (o : Out Pair) (m : Out A) (b : Bool) : Type 0 where
   full : (x : A) → m ≡ done x → b ≡ false → answer o ≡ 16
   none-made : (p : Pair) → b ≡ false → kept p o ≡ p
 
--- what is made of the outcome doesn't matter
+-- steps that give no 16, and the pair that is made of their outcome
 still : {A : Type 0} (g : A → Pair) {o : Out A} → Says Not16 o → answer (bind o (λ x. done (g x))) ≢ 16
 still g (went _) e = omega arith
 still g (said r) e = r e

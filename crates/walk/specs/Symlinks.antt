@@ -59,7 +59,7 @@ FollowsName = (s : Fs) (room k : ℕ) (b : List ℕ) (from at : Spot) (p l targe
     → goodText (p ++ l) ≡ true
     → walkText s room (suc k) b from (p ++ l) ≡ walkText s room k (b ++ target) at target
 
--- `t/q` is good where t is, and is no lone slash, and q comes after another text
+-- where q may come after one text, it may after every good one but a lone slash: there `t/q` is good
 unfoldable pub GoodJoins : Type 0
 GoodJoins = (p q target : List ℕ) → p ≢ [] → goodText (p ++ (slash ∷ q)) ≡ true → goodText target ≡ true → target ≢ slash ∷ []
     → goodText (target ++ (slash ∷ q)) ≡ true
