@@ -37,7 +37,7 @@ module _ {k : Look} (a : List ℕ) (t : Table) (A : Fairly k a t) where
   pub meta-read : (pos n : ℕ) → pos + n ≤ 131072 * storedSuper a .groups → readFile a metaFile pos n ≡ done (run a metaFile pos n)
   meta-read pos n l = read-done a metaFile pos n there-meta (omega (arith, A .rule3 .length))
 
-  maps-is : (n : ℕ) → n ≤ storedSuper a .groups → loadMaps a n ≡ done (mapsTo a n)
+  pub maps-is : (n : ℕ) → n ≤ storedSuper a .groups → loadMaps a n ≡ done (mapsTo a n)
   unfolding loadMaps mapsTo
   maps-is zero l = refl
   maps-is (suc n) l =

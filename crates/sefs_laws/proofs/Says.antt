@@ -93,7 +93,7 @@ module _ (R : ℕ → Type 0) (stuck : R 19) where
       why (laws.missing _) = stuck
       why (laws.short _ _) = stuck
 
-  says-maps : (a : List ℕ) (n : ℕ) → Says R (loadMaps a n)
+  pub says-maps : (a : List ℕ) (n : ℕ) → Says R (loadMaps a n)
   unfolding loadMaps
   says-maps a zero = says-done
   says-maps a (suc n) = says-then (says-maps a n) λ m. says-then (says-read a _ _ _) λ l. says-done

@@ -7,7 +7,7 @@ use Prim.Native.Nat.{ℕ, _≤_}
 use native.Mathlib.Omega.{arith}
 use lib.Dec.{eqb, leb}
 use Rattle.base.specs.Out.{Out, done, refused, bind, ensure, answer, kept, Ok, went}
-use Rattle.base.proofs.Outs.{ok-bind, ok-done, ok-does}
+use Rattle.base.proofs.Outs.{ok-bind, ok-weaken, ok-done, ok-does}
 use Rattle.base.proofs.Tests.{decides-leb}
 use Rattle.base.proofs.Sames.{decided-yes}
 use Rattle.base.specs.declared.Found.the-variants.{At}
@@ -24,20 +24,24 @@ use Rattle.table_laws.proofs.Handles.{live-means, live-used, add-live}
 use Rattle.sefs.specs.Nodes.{Opened}
 use Rattle.sefs.specs.Slots.{findSlot}
 use Rattle.sefs.specs.Ask.{notLong, known, folder, start}
-use Rattle.sefs.specs.Open.{holdNode, callFind}
+use Rattle.sefs.specs.Open.{holdNode, callRoot, callFind}
 use Rattle.rules.specs.Image.{isNode, recOf}
 use Rattle.rules.specs.Rules.{Allowed}
-use Rattle.walk.specs.Walk.{partsOf, lookAt, Spot, spot, partIn, Walked, mostLinks, walkOn}
+use Rattle.walk.specs.Walk.{partsOf, lookAt, Spot, spot, atRoot, partIn, enter, Walked, mostLinks, walkOn}
 use Rattle.walk.specs.Laws.{Chain, here, on, Leads, Halts}
+use Rattle.walk.specs.Symlinks.{root-front, text-front}
 use Rattle.walk.proofs.Chains.{leads, halts, text-good}
-use Rattle.sefs_laws.proofs.Handles.{Owns, live-owns, handle-done}
+use Rattle.sefs_laws.proofs.Says.{says-is, ensure-asks}
+use Rattle.sefs_laws.proofs.Handles.{Owns, owner-asks, live-owns, handle-done}
 use Rattle.image.specs.Midway.{Used}
 use Rattle.image.proofs.Handles.{admitted, formed}
+use Rattle.image.proofs.Images.{fair, root-node}
 use Rattle.image.proofs.Takes.{get-law}
 use Rattle.image.proofs.Drops.{mid-rec}
 use Rattle.image.proofs.Holds.{hold-mid, rows-at, rows-rec, add-rows}
 use Rattle.sequences.specs.Pairs.{pair, Passed}
 use Rattle.sequences.specs.Chains.{Finds, none, next, rowSpot, WalkAsFinds, HaltsAsFind}
+use Rattle.sequences.specs.Symlinks.{FrontByFinds, FrontByRoot}
 use Rattle.sequences.proofs.Passing.{allowed, spelled-any, spelled-midway, midway-spelled}
 use Rattle.sequences.proofs.Finds.{not-both, row-find}
 use Rattle.sequences.proofs.Walks.{look-law}
@@ -177,3 +181,31 @@ halts-as-find a t u w h g i path room ps p qs n y l good rel parts c e b f =
     (text-good (start a t) (rowSpot t i) path room good rel ∙ ap (walkOn (start a t) room mostLinks [] (rowSpot t i)) parts
     ∙ halts (start a t) room mostLinks [] (rowSpot t i) (rowSpot u (R .row)) ps p qs n (R .chain)
     (by-refused a t w (alike-find a t w y u (R .follows) g (R .row) (R .live) p) n e b f))
+
+-- ---- the front of a path
+
+pub front-by-finds : FrontByFinds
+unfolding FrontByFinds enter
+front-by-finds a t u w h g i j d y l m good rel c =
+    let R = reaches a t w y c (begins a t w y) i l in
+    let q : R .row ≡ j = cc in
+    text-front d {to = rowSpot t i} (rw (good, rel) refl) (subst (λ (k : ℕ). Chain (start a t) (rowSpot t i) (partsOf d) (rowSpot u k)) q (R .chain))
+
+-- root is looked at as it is opened
+root-gives : (a : List ℕ) (t : Table) (w : ℕ) → Passed (pair a t) → Ok (λ (x : Added). Gives a t w x (spot 2 (recOf a t 2))) (λ _. Unit) (callRoot a t w)
+unfolding callRoot
+root-gives a t w y =
+    let A = allowed (pair a t) y in
+    ok-bind (says-is (admitted a t A)) λ _ _.
+    ok-bind (owner-asks {R = λ _. Unit} tt w) λ _ who.
+    ok-bind (ensure-asks {R = λ _. Unit} (canHold t w) 16 tt) λ _ can.
+    ok-weaken (λ _ g. g) (λ _ z. tt) (hold-gives a t w t (begins a t w y) who can 2 (root-node a t (fair a t A)))
+
+pub front-by-root : FrontByRoot
+unfolding FrontByRoot atRoot
+front-by-root a t w x i j y e l =
+    let A = allowed (pair a t) y in
+    let G = ok-done (subst (Ok (λ (z : Added). Gives a t w z (spot 2 (recOf a t 2))) (λ _. Unit)) e (root-gives a t w y)) in
+    let L = ok-does (look-law (pair a t) (spelled-any (pair a t) y) 2 (root-node a t (fair a t A))) (λ _ z. z) in
+    let q : G .row ≡ j = cc in
+    root-front {at = rowSpot (x .table) j} (rw (L .1) (ap (λ (r : DiskINode). done (spot 2 r)) (sym (L .2)) ∙ ap done (sym (G .is)) ∙ ap (λ (k : ℕ). done (rowSpot (x .table) k)) q))

@@ -25,7 +25,7 @@ use Rattle.sefs.specs.Nodes.{Opened, getNode, recAt}
 use Rattle.sefs.specs.Slots.{Slot, findSlot}
 use Rattle.sefs.specs.Ask.{admit, byHandle, notLong, known, folder, start}
 use Rattle.sefs.specs.Open.{holdNode, callFind}
-use Rattle.walk.specs.Walk.{isSlash, fromRoot, partAt, split, goodText, cut, partsOf, Spot, spot, lookAt, partIn, ended, along, enter, Walked, mostLinks, walkOn, walkIn}
+use Rattle.walk.specs.Walk.{slash, isSlash, fromRoot, partAt, split, goodText, cut, partsOf, Spot, spot, lookAt, partIn, ended, along, enter, Walked, mostLinks, walkOn, walkIn}
 use Rattle.walk.specs.Laws.{Chain, here, on, Leads, Halts, NoLink, PartFinds, WalkFinds}
 use Rattle.walk.proofs.Ways.{walk-is}
 
@@ -54,16 +54,16 @@ halts s room (suc k) b at to ps p qs n c r = rw (along-halts s p qs n c r) refl
 -- ---- a part is a find
 
 -- the outcome o is m, and then k
-data Then {B C : Type 0} (k : B → Out C) : Out C → Out B → Type 0 where
+pub data Then {B C : Type 0} (k : B → Out C) : Out C → Out B → Type 0 where
   is : {o : Out C} {m : Out B} → o ≡ bind m k → Then k o m
 
-then-is : {B C : Type 0} {k : B → Out C} {o : Out C} {m : Out B} → Then k o m → o ≡ bind m k
+pub then-is : {B C : Type 0} {k : B → Out C} {o : Out C} {m : Out B} → Then k o m → o ≡ bind m k
 then-is (is e) = e
 
 -- a step of both
-step : {A B C : Type 0} {f : A → Out C} {g : A → Out B} {k : B → Out C} (m : Out A) → ((x : A) → m ≡ done x → Then k (f x) (g x)) → Then k (bind m f) (bind m g)
-step (done x) h = h x refl
-step (refused n) h = is refl
+pub then-step : {A B C : Type 0} {f : A → Out C} {g : A → Out B} {k : B → Out C} (m : Out A) → ((x : A) → m ≡ done x → Then k (f x) (g x)) → Then k (bind m f) (bind m g)
+then-step (done x) h = h x refl
+then-step (refused n) h = is refl
 
 -- a node that can't be looked at can't be opened with a hold
 look-hold : (s : Fs) (w id n : ℕ) → lookAt s id ≡ refused n → holdNode s w id ≡ refused n
@@ -89,15 +89,16 @@ unfolding PartFinds callFind partIn
 part-finds a t w h name i e l g can plain =
     rw (e, l, g)
     (then-is
-    (step (known (rowAt t i .rec)) λ _ _.
-    step (folder (rowAt t i .rec)) λ _ _.
-    step (notLong name) λ _ _.
-    step (ensure (not (isDots name && eqb (rowAt t i .rec .nlinks) 0)) 8) λ _ _.
-    step (findSlot a (rowAt t i .rec) name) λ x q.
+    (then-step (known (rowAt t i .rec)) λ _ _.
+    then-step (folder (rowAt t i .rec)) λ _ _.
+    then-step (notLong name) λ _ _.
+    then-step (ensure (not (isDots name && eqb (rowAt t i .rec .nlinks) 0)) 8) λ _ _.
+    then-step (findSlot a (rowAt t i .rec) name) λ x q.
     is (look-then (start a t) w (x .entry .id) (canHold t w) can (λ n r. plain x n q r .0))))
 
--- where a part has led, in the words of find
-part-shows : (s : Fs) (r : DiskINode) (name : List ℕ) → Ok (λ (n : Spot). (e : Slot) × (findSlot (s .arena) r name ≡ done e) × (lookAt s (e .entry .id) ≡ done (n .rec))) (λ _. Unit) (partIn s r name)
+-- where a part has led, in the words of find; and it was looked at
+pub part-shows : (s : Fs) (r : DiskINode) (name : List ℕ)
+    → Ok (λ (n : Spot). (e : Slot) × (findSlot (s .arena) r name ≡ done e) × (lookAt s (e .entry .id) ≡ done (n .rec)) × (lookAt s (n .id) ≡ done (n .rec))) (λ _. Unit) (partIn s r name)
 unfolding partIn
 part-shows s r name =
     ok-bind (own (known r)) λ _ _.
@@ -106,7 +107,7 @@ part-shows s r name =
     ok-bind (own (ensure (not (isDots name && eqb (r .nlinks) 0)) 8)) λ _ _.
     ok-bind (own (findSlot (s .arena) r name)) λ e q.
     ok-bind (own (lookAt s (e .entry .id))) λ n l.
-    ok-bind (own (ensure (leb (n .kind) 4) 19)) λ _ _. went (e, q, l)
+    ok-bind (own (ensure (leb (n .kind) 4) 19)) λ _ _. went (e, q, l, l)
   where
     own : {A : Type 0} (m : Out A) → Ok (λ x. m ≡ done x) (λ _. Unit) m
     own (done x) = went refl
@@ -115,15 +116,15 @@ part-shows s r name =
 -- ---- a path that is a name
 
 -- it is its own only part
-plain-cut : (b : ℕ) (l : List ℕ) → NoSlash (b ∷ l) → cut (b ∷ l) ≡ (b ∷ l) ∷ []
+pub plain-cut : (b : ℕ) (l : List ℕ) → NoSlash (b ∷ l) → cut (b ∷ l) ≡ (b ∷ l) ∷ []
 unfolding cut
-plain-cut b [] bare = rw (ne-eqb b 47 (λ e. bare 0 (omega arith) e)) refl
-plain-cut b (c ∷ l) bare = rw (ne-eqb b 47 (λ e. bare 0 (omega arith) e), plain-cut c l (λ j h e. bare (suc j) (omega arith) e)) refl
+plain-cut b [] bare = rw (ne-eqb b slash (λ e. bare 0 (omega arith) e)) refl
+plain-cut b (c ∷ l) bare = rw (ne-eqb b slash (λ e. bare 0 (omega arith) e), plain-cut c l (λ j h e. bare (suc j) (omega arith) e)) refl
 
-plain-parts : (name : List ℕ) → name ≢ [] → NoSlash name → (fromRoot name ≡ false) × (partsOf name ≡ name ∷ [])
+pub plain-parts : (name : List ℕ) → name ≢ [] → NoSlash name → (fromRoot name ≡ false) × (partsOf name ≡ name ∷ [])
 plain-parts [] some bare = absurd (some refl)
 plain-parts (b ∷ l) some bare =
-    let q : eqb b 47 ≡ false = ne-eqb b 47 (λ e. bare 0 (omega arith) e) in
+    let q : eqb b slash ≡ false = ne-eqb b slash (λ e. bare 0 (omega arith) e) in
     (q, rw q (plain-cut b l bare))
 
 some-long : (name : List ℕ) → name ≢ [] → 0 < length name
@@ -133,14 +134,14 @@ some-long (b ∷ l) some = omega arith
 plain-split : (name : List ℕ) → name ≢ [] → NoSlash name → split name ≡ true
 unfolding split
 plain-split name some bare =
-    let off : (i : ℕ) → i < length name → not (isSlash (getD name i 0)) ≡ true = λ i l. ap not (ne-eqb (getD name i 0) 47 (bare i l)) in
+    let off : (i : ℕ) → i < length name → not (isSlash (getD name i 0)) ≡ true = λ i l. ap not (ne-eqb (getD name i 0) slash (bare i l)) in
     and-both (and-both (lt-ltb 0 (length name) (some-long name some)) (off 0 (some-long name some)))
     (allTo-all (λ i. not (isSlash (getD name i 0)) || partAt name (suc i)) (length name) (λ i l. or-first (partAt name (suc i)) (off i l)))
 
 -- and good exactly where it is good as a name
 plain-text : (name : List ℕ) → name ≢ [] → NoSlash name → goodText name ≡ eqb (earlyReason (nameVerdict name)) 0
 unfolding goodText
-plain-text name some bare = rw (plain-parts name some bare .0, or-second (same name (47 ∷ [])) (plain-split name some bare)) (and-true (eqb (earlyReason (nameVerdict name)) 0))
+plain-text name some bare = rw (plain-parts name some bare .0, or-second (same name (slash ∷ [])) (plain-split name some bare)) (and-true (eqb (earlyReason (nameVerdict name)) 0))
 
 text-bad : (s : Fs) (at : Spot) (l : List ℕ) (room : ℕ) → goodText l ≡ false → walkIn s at l room .end ≡ refused 5
 unfolding walkIn enter

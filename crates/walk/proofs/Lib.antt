@@ -4,3 +4,5 @@ pub mod Walks
 pub mod Ways
 pub mod Chains
 pub mod Joins
+pub mod Texts
+pub mod Symlinks

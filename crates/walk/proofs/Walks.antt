@@ -122,7 +122,9 @@ module _ (s : Fs) (room : ℕ) where
       join-target (refused n) t = walk-unread b at (ps ++ qs) with-more k t ∙ sym (ap (after qs) (walk-unread b at ps m k t))
       join-target (done l) t = join-enter t (enter s f l) refl
 
-  join-by : (k : ℕ) (b : List ℕ) (at : Spot) (ps qs : List (List ℕ)) (w : Out Way) → along s at ps ≡ w → ((f : Spot) (r : DiskINode) (rs : List (List ℕ)) → along s at ps ≡ done (met f r rs) → walkOn s room k b at (ps ++ qs) ≡ after qs (walkOn s room k b at ps)) → walkOn s room k b at (ps ++ qs) ≡ after qs (walkOn s room k b at ps)
+  join-by : (k : ℕ) (b : List ℕ) (at : Spot) (ps qs : List (List ℕ)) (w : Out Way) → along s at ps ≡ w
+      → ((f : Spot) (r : DiskINode) (rs : List (List ℕ)) → along s at ps ≡ done (met f r rs) → walkOn s room k b at (ps ++ qs) ≡ after qs (walkOn s room k b at ps))
+      → walkOn s room k b at (ps ++ qs) ≡ after qs (walkOn s room k b at ps)
   join-by k b at ps qs (refused n) e h = join-stop k b at ps qs e
   join-by k b at ps qs (done (ended to)) e h = join-end k b at ps qs e
   join-by k b at ps qs (done (met f r rs)) e h = h f r rs e

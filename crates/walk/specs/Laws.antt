@@ -17,7 +17,7 @@ use Rattle.sefs.specs.State.{Fs}
 use Rattle.sefs.specs.Slots.{Slot, findSlot}
 use Rattle.sefs.specs.Ask.{admit, byHandle, goodName, start}
 use Rattle.sefs.specs.Open.{holdNode, callFind}
-use Rattle.walk.specs.Walk.{goodText, cut, partsOf, lookAt, Spot, partIn, isLink, Walked, walked, orStop, walkOn, walkIn, callWalk}
+use Rattle.walk.specs.Walk.{slash, goodText, cut, partsOf, lookAt, Spot, partIn, isLink, Walked, walked, orStop, walkOn, walkIn, callWalk}
 
 -- ---- a chain: parts that lead from one spot to another, each in the folder that the one before has led to, and none of them to a link
 
@@ -62,11 +62,14 @@ andThen x g = orStop (x .links) (x .left) (x .end) (g (x .links) (x .left))
 -- "walking `p/q` is walking p and then q from there, where p has no link at its end". It holds whatever p ends with: a link at its end is followed
 -- before q in both, and links and targets are counted through. (p is no lone slash, and q has no leading one: `//` is not good)
 unfoldable pub Joins : Type 0
-Joins = (s : Fs) (room : ℕ) (at : Spot) (p q : List ℕ) → goodText p ≡ true → goodText (p ++ (47 ∷ q)) ≡ true
-    → walkIn s at (p ++ (47 ∷ q)) room ≡ andThen (walkIn s at p room) (λ b k to. walkOn s room k b to (cut q))
+Joins = (s : Fs) (room : ℕ) (at : Spot) (p q : List ℕ) → goodText p ≡ true → goodText (p ++ (slash ∷ q)) ≡ true
+    → walkIn s at (p ++ (slash ∷ q)) room ≡ andThen (walkIn s at p room) (λ b k to. walkOn s room k b to (cut q))
 
 -- ---- the parts of a good text
 
 -- "with single slashes": no part is empty, and none has a slash
+abbrev pub IsPart : List ℕ → Type 0
+IsPart l = (l ≢ []) × NoSlash l
+
 unfoldable pub PartsGood : Type 0
-PartsGood = (l : List ℕ) → goodText l ≡ true → (i : ℕ) → i < length (partsOf l) → (getD (partsOf l) i [] ≢ []) × NoSlash (getD (partsOf l) i [])
+PartsGood = (l : List ℕ) → goodText l ≡ true → (i : ℕ) → i < length (partsOf l) → IsPart (getD (partsOf l) i [])

@@ -29,8 +29,11 @@ mostLinks = 8
 
 -- ---- a text: the caller's path, or a link's target
 
+abbrev pub slash : ℕ
+slash = 47
+
 abbrev pub isSlash : ℕ → Bool
-isSlash b = eqb b 47
+isSlash b = eqb b slash
 
 -- "a leading slash [starts] at root"
 abbrev pub fromRoot : List ℕ → Bool
@@ -49,7 +52,7 @@ split l = partAt l 0 && allTo (λ i. not (isSlash (getD l i 0)) || partAt l (suc
 
 -- "5 for a bad or empty path or target, or an empty part (a lone slash is root)"
 unfoldable pub goodText : List ℕ → Bool
-goodText l = eqb (earlyReason (nameVerdict l)) 0 && (same l (47 ∷ []) || split (afterRoot l))
+goodText l = eqb (earlyReason (nameVerdict l)) 0 && (same l (slash ∷ []) || split (afterRoot l))
 
 -- the parts of what is left of a text
 abbrev pub onto : ℕ → List (List ℕ) → List (List ℕ)
@@ -155,9 +158,13 @@ walkOn s room (suc k) b at ps = orStop b (suc k) (along s at ps) (λ w. orEnd b 
     orStop (b ++ l) k (enter s f l) (λ to.
     walkOn s room k (b ++ l) to (partsOf l ++ qs)))))
 
--- a path, from the folder at hand
+-- a text, from the folder at hand
+abbrev pub walkText : Fs → ℕ → ℕ → List ℕ → Spot → List ℕ → Walked Spot
+walkText s room k b at text = orStop b k (enter s at text) (λ to. walkOn s room k b to (partsOf text))
+
+-- a path: all links are still to be met, and the buffer is empty
 unfoldable pub walkIn : Fs → Spot → List ℕ → ℕ → Walked Spot
-walkIn s at path room = orStop [] mostLinks (enter s at path) (λ to. walkOn s room mostLinks [] to (partsOf path))
+walkIn s at path room = walkText s room mostLinks [] at path
 
 -- "the last node gets a hold"
 unfoldable pub holdEnd : List ℕ → Table → ℕ → Walked Spot → Walked Added
