@@ -1,4 +1,4 @@
--- What the steps do to table and arena: a row in use keeps its id and its file, a free row is taken, and a row that no live hold names is freed;
+-- What the steps do to table and arena: a row in use keeps its id, its file and its type, a free row is taken, and a row that no live hold names is freed;
 -- the metadata file is stored into, a node's file is removed, and the file of a row that the step works on is filled. So whatever such changes
 -- keep, the steps keep.
 use mathlib.Core.Path.{_≡_, refl, ap}
@@ -76,9 +76,9 @@ LeavesOpen P o = Ok (λ x. P (x .state .arena) (x .state .table)) Any o
 abbrev pub LeavesAfter : (List ℕ → Table → Type 0) → Out After → Type 0
 LeavesAfter P o = Ok (λ x. P (x .arena) (x .table)) Any o
 
--- a row keeps its id and its file
+-- a row keeps its id, its file and its type
 abbrev pub Changes : (List ℕ → Table → Type 0) → Type 0
-Changes P = (a : List ℕ) (t : Table) (i : ℕ) (r : Row) → r .id ≡ rowAt t i .id → r .rec .file ≡ rowAt t i .rec .file → P a t → P a (withRow t i r)
+Changes P = (a : List ℕ) (t : Table) (i : ℕ) (r : Row) → r .id ≡ rowAt t i .id → r .rec .file ≡ rowAt t i .rec .file → r .rec .kind ≡ rowAt t i .rec .kind → P a t → P a (withRow t i r)
 
 -- a free row is taken
 abbrev pub Takes : (List ℕ → Table → Type 0) → Type 0
@@ -241,11 +241,11 @@ module _ (P : List ℕ → Table → Type 0) (i : ℕ) (fills : Fills P i) where
     leaves-init : (s : Fs) (parent : ℕ) → P (s .arena) (s .table) → Leaves P (direntInit s i parent)
     unfolding direntInit
     leaves-init s parent h =
-        ok-bind (leaves-slot (setRec s i (withBlocks (recAt s i) 2)) 0 _ (change (s .arena) (s .table) i _ refl refl h)) λ u k. leaves-slot u 1 _ k
+        ok-bind (leaves-slot (setRec s i (withBlocks (recAt s i) 2)) 0 _ (change (s .arena) (s .table) i _ refl refl refl h)) λ u k. leaves-slot u 1 _ k
 
     pub leaves-append : (s : Fs) (e : DiskEntry) → P (s .arena) (s .table) → Leaves P (direntAppend s i e)
     unfolding direntAppend
-    leaves-append s e h = ok-bind (leaves-slot s _ _ h) λ u k. went (change (u .arena) (u .table) i _ refl refl k)
+    leaves-append s e h = ok-bind (leaves-slot s _ _ h) λ u k. went (change (u .arena) (u .table) i _ refl refl refl k)
 
     pub leaves-remove : (s : Fs) (k : ℕ) → P (s .arena) (s .table) → Leaves P (direntRemove s i k)
     unfolding direntRemove
@@ -253,11 +253,11 @@ module _ (P : List ℕ → Table → Type 0) (i : ℕ) (fills : Fills P i) where
         any-guard (ltb 0 (recAt s i .blocks)) 19 (λ _.
         ok-bind (says-slot-bytes Any tt _ _ _) λ l _.
         ok-bind {P = λ (u : Fs). P (u .arena) (u .table)} (any-pick (eqb k (recAt s i .blocks - 1)) (done s) (putSlot s i k l) (λ _. went h) (λ _. leaves-slot s k l h)) λ u g.
-        ok-bind (leaves-cut u _ g) λ a m. went (change a (u .table) i _ refl refl m))
+        ok-bind (leaves-cut u _ g) λ a m. went (change a (u .table) i _ refl refl refl m))
 
     pub leaves-resize : (s : Fs) (n : ℕ) → P (s .arena) (s .table) → Leaves P (resizeSteps s i n)
     unfolding resizeSteps
-    leaves-resize s n h = ok-bind (leaves-cut s n h) λ a k. went (change a (s .table) i _ refl refl k)
+    leaves-resize s n h = ok-bind (leaves-cut s n h) λ a k. went (change a (s .table) i _ refl refl refl k)
 
     pub leaves-write : (s : Fs) (place : ℕ) (bytes : List ℕ) → P (s .arena) (s .table) → Leaves P (writeSteps s i place bytes)
     unfolding writeSteps
@@ -276,11 +276,11 @@ module _ (P : List ℕ → Table → Type 0) (i : ℕ) (fills : Fills P i) where
 module _ (P : List ℕ → Table → Type 0) (change : Changes P) where
   leaves-inc : (s : Fs) (i : ℕ) → P (s .arena) (s .table) → Leaves P (nlinksInc s i)
   unfolding nlinksInc
-  leaves-inc s i h = any-guard (ltb (recAt s i .nlinks) 65535) 15 (λ _. went (change (s .arena) (s .table) i _ refl refl h))
+  leaves-inc s i h = any-guard (ltb (recAt s i .nlinks) 65535) 15 (λ _. went (change (s .arena) (s .table) i _ refl refl refl h))
 
   leaves-dec : (s : Fs) (i : ℕ) → P (s .arena) (s .table) → Leaves P (nlinksDec s i)
   unfolding nlinksDec
-  leaves-dec s i h = any-guard (ltb 0 (recAt s i .nlinks)) 19 (λ _. went (change (s .arena) (s .table) i _ refl refl h))
+  leaves-dec s i h = any-guard (ltb 0 (recAt s i .nlinks)) 19 (λ _. went (change (s .arena) (s .table) i _ refl refl refl h))
 
   leaves-name-folder : (s : Fs) (i c : ℕ) → P (s .arena) (s .table) → Leaves P (nameFolder s i c)
   unfolding nameFolder
@@ -309,7 +309,7 @@ module _ (P : List ℕ → Table → Type 0) (change : Changes P) where
   module _ (stores : Stores P) where
     leaves-store : (s : Fs) (i : ℕ) → P (s .arena) (s .table) → Leaves P (storeRow s i)
     unfolding storeRow
-    leaves-store s i h = ok-bind (leaves-put P stores (s .arena) (s .table) _ _ h) λ a k. went (change a (s .table) i _ refl refl k)
+    leaves-store s i h = ok-bind (leaves-put P stores (s .arena) (s .table) _ _ h) λ a k. went (change a (s .table) i _ refl refl refl k)
 
     pub leaves-sync : (s : Fs) (i : ℕ) → P (s .arena) (s .table) → Leaves P (syncRow s i)
     unfolding syncRow
@@ -348,7 +348,7 @@ module _ (P : List ℕ → Table → Type 0) (change : Changes P) where
         unfolding syncRow storeRow rowUsed
         drop-spare s i e h =
             any-pick (rowAt (s .table) i .dirty) (storeRow s i) (done s)
-            (λ _. ok-bind (leaves-put P stores (s .arena) (s .table) _ _ h) λ a k. went (change a (s .table) i _ refl refl k, e)) (λ _. went (h, e))
+            (λ _. ok-bind (leaves-put P stores (s .arena) (s .table) _ _ h) λ a k. went (change a (s .table) i _ refl refl refl k, e)) (λ _. went (h, e))
 
         pub leaves-drop : (s : Fs) (i : ℕ) → rowUsed (s .table) i ≡ false → P (s .arena) (s .table) → Leaves P (dropNode s i)
         unfolding dropNode

@@ -52,7 +52,7 @@ use Rattle.sequences.proofs.Passing.{allowed, spelled-any}
 use Rattle.sequences.proofs.Tables.{FillsFolders, keeps-create, keeps-link, keeps-remove, keeps-write, keeps-resize, keeps-sync, keeps-close}
 use Rattle.sequences.proofs.Bears.{Bears, Turns}
 use Rattle.sequences.proofs.Moves.{move-call}
-use Rattle.sequences.proofs.Corner.{at-put, Has, new-law, on-changes, on-takes, on-frees, on-used, on-there}
+use Rattle.sequences.proofs.Corner.{at-put, Has, has-put, OnAs, on-as, as-on, new-law, on-changes, on-takes, on-frees, on-used, on-there}
 
 -- where file f is there, it is as it was in arena o
 abbrev Stays : List ℕ → List ℕ → List ℕ → Type 0
@@ -87,7 +87,7 @@ module _ (o : List ℕ) (v : Table) (f : List ℕ) where
 
   calm-changes : Changes (Calm o v f)
   unfolding rowUsed
-  calm-changes a t i r e q c = record {
+  calm-changes a t i r e q d c = record {
     stays = c .stays;
     firm = λ j h. let x = c .firm j h in record {
       used = x .used;
@@ -128,17 +128,12 @@ module _ (o : List ℕ) (v : Table) (f : List ℕ) where
 
   -- ---- and a row whose node is new
 
-  module _ (c m : ℕ) (uuid : List ℕ) (n : uuid ≢ f) where
+  module _ (c m : ℕ) (uuid : List ℕ) (kind : ℕ) (n : uuid ≢ f) where
     abbrev Making : List ℕ → Table → Type 0
-    Making a t = Calm o v f a t × Has c m uuid (rowAt t c)
+    Making a t = Calm o v f a t × Has m uuid kind (rowAt t c)
 
     making-changes : Changes Making
-    making-changes a t i r e q k = (
-      calm-changes a t i r e q (k .0),
-      at-put (Has c m uuid) t i r c
-          (λ z. record { id = e ∙ ap (λ (j : ℕ). rowAt t j .id) (sym z) ∙ k .1 .id; file = q ∙ ap (λ (j : ℕ). rowAt t j .rec .file) (sym z) ∙ k .1 .file })
-          (k .1),
-    )
+    making-changes a t i r e q d k = (calm-changes a t i r e q d (k .0), has-put t i r c e q d (k .1))
 
     making-stores : Stores Making
     making-stores a b t k h = (calm-stores a b t k (h .0), h .1)
@@ -203,11 +198,11 @@ module _ (p : Pair) (y : Passed p) (who : ℕ) (h : Handle) (n : ℕ) (f : List 
       ok-bind (ok-both (new-law (start a t) kind mode time uuid (formed a t A .rows-34)) (leaves-new C (calm-changes a t f) (calm-stores a t f) (calm-takes a t f) (start a t) kind mode time uuid (calm-makes a t f uuid N other) (calm-start a t f))) λ x k.
       let c : ℕ = x .row in
       let m : ℕ = k .0 .id in
-      let M : List ℕ → Table → Type 0 = Making a t f (x .row) (k .0 .id) uuid other in
-      let ch : Changes (Making a t f (x .row) (k .0 .id) uuid other) = making-changes a t f (x .row) (k .0 .id) uuid other in
-      let st : Stores (Making a t f (x .row) (k .0 .id) uuid other) = making-stores a t f (x .row) (k .0 .id) uuid other in
-      ok-bind (leaves-birth M c (making-own a t f (x .row) (k .0 .id) uuid other) ch (x .state) i kind (k .1, k .0 .has)) λ s q.
-      ok-bind (leaves-append M i (making-fills a t f (x .row) (k .0 .id) uuid other i (firm v g i l) (folder-off v g i l dir)) ch s (entry (idAt s c) name kind) q) λ s q.
+      let M : List ℕ → Table → Type 0 = Making a t f (x .row) (k .0 .id) uuid kind other in
+      let ch : Changes (Making a t f (x .row) (k .0 .id) uuid kind other) = making-changes a t f (x .row) (k .0 .id) uuid kind other in
+      let st : Stores (Making a t f (x .row) (k .0 .id) uuid kind other) = making-stores a t f (x .row) (k .0 .id) uuid kind other in
+      ok-bind (leaves-birth M c (making-own a t f (x .row) (k .0 .id) uuid kind other) ch (x .state) i kind (k .1, k .0 .has)) λ s q.
+      ok-bind (leaves-append M i (making-fills a t f (x .row) (k .0 .id) uuid kind other i (firm v g i l) (folder-off v g i l dir)) ch s (entry (idAt s c) name kind) q) λ s q.
       ok-bind (leaves-named M ch s i c kind q) λ s q.
       ok-bind (leaves-meta M st s q) λ s q.
       ok-bind (leaves-sync M ch st s c q) λ s q.
@@ -221,21 +216,24 @@ module _ (p : Pair) (y : Passed p) (who : ℕ) (h : Handle) (n : ℕ) (f : List 
   some-n : n ≢ 0
   some-n z = row-n .node (on .node ∙ z)
 
-  watched : Bears (λ b u. Calm (p .arena) (p .table) f b u × On u who h n f)
+  abbrev k : ℕ
+  k = rowAt (p .table) (on .row) .rec .kind
+
+  watched : Bears (λ b u. Calm (p .arena) (p .table) f b u × OnAs who h n f k u)
   watched = record {
     stores = λ b d u k w. (calm-stores a t f b d u k (w .0), w .1);
     drops = λ b d u g k w. (calm-drops a t f b d u g k (w .0), w .1);
-    changes = λ b u i r e q w. (calm-changes a t f b u i r e q (w .0), on-changes who h n f b u i r e q (w .1));
-    takes = λ b u i r e w. (calm-takes a t f b u i r e (w .0), on-takes who h n f some-n b u i r e (w .1));
-    frees = λ b u i e w. (calm-frees a t f b u i e (w .0), on-frees who h n f b u i e (w .1));
+    changes = λ b u i r e q d w. (calm-changes a t f b u i r e q d (w .0), on-changes who h n f k b u i r e q d (w .1));
+    takes = λ b u i r e w. (calm-takes a t f b u i r e (w .0), on-takes who h n f k some-n b u i r e (w .1));
+    frees = λ b u i e w. (calm-frees a t f b u i e (w .0), on-frees who h n f k b u i e (w .1));
   }
 
-  module _ (style : Spelling) (c e g kd i j row : ℕ) (x z : Fs) (dir : isFolder (recOf (p .arena) (p .table) c .kind) ≡ true) (R : Ready (turning style c e g) c e g kd i j row x) (L : Relinked e g row x z) (o : On (z .table) who h n f) where
+  module _ (style : Spelling) (c e g kd i j row : ℕ) (x z : Fs) (dir : isFolder (recOf (p .arena) (p .table) c .kind) ≡ true) (R : Ready (turning style c e g) c e g kd i j row x) (L : Relinked e g row x z) (o : OnAs who h n f k (z .table)) where
     S : Counts (also none row) (x .arena) (x .table) (λ m. recOf (x .arena) (x .table) m .blocks) (L .L) (L .table)
     S = L .rows
 
     here : On (L .table) who h n f
-    here = subst (λ (v : Fs). On (v .table) who h n f) (L .is) o
+    here = as-on (subst (λ (v : Fs). OnAs who h n f k (v .table)) (L .is) o)
 
     -- the node's row, before the links changed
     was : rowAt (x .table) (here .row) .id ≡ n
@@ -259,7 +257,7 @@ module _ (p : Pair) (y : Passed p) (who : ℕ) (h : Handle) (n : ℕ) (f : List 
         let d : n ≡ c = R .mid .fair .rule5 .distinct n c (node-of (here .row) n row-here was) (node-of row c (R .used) (R .same)) q in
         true-false (ap (λ (k : ℕ). isFolder (recOf a t k .kind)) d ∙ dir) no-dir
 
-  moved : Turns (λ b u. Calm (p .arena) (p .table) f b u × On u who h n f) (p .arena) (p .table)
+  moved : Turns (λ b u. Calm (p .arena) (p .table) f b u × OnAs who h n f k u) (p .arena) (p .table)
   moved style c e g kd i j row x z dir R L b k w =
       (record { stays = stays-kept a t f (z .arena) b (k f (moved-off style c e g kd i j row x z dir R L (w .1))) (w .0 .stays); firm = w .0 .firm }, w .1)
 
@@ -277,7 +275,7 @@ module _ (p : Pair) (y : Passed p) (who : ℕ) (h : Handle) (n : ℕ) (f : List 
   calls (removeFolder v g name) F z =
       ok-bind (keeps-remove C (calm-stores a t f) (calm-drops a t f) (calm-changes a t f) (calm-takes a t f) (calm-frees a t f) true a t folders v g name (calm-start a t f)) λ x k. went (k .stays)
   calls (move v g old target name) F z =
-      ok-bind (ok-weaken (λ x k. k) (λ m r. tt) (move-call (λ b u. Calm a t f b u × On u who h n f) watched p (spelled-any p y) (λ v g i l dir b d u k w. (folders v g i l dir b d u k (w .0), w .1)) moved (calm-start a t f, on) v g old target name (F .4))) λ x k. went (k .1 .0 .stays)
+      ok-bind (ok-weaken (λ x k. k) (λ m r. tt) (move-call (λ b u. Calm a t f b u × OnAs who h n f k u) watched p (spelled-any p y) (λ v g i l dir b d u k w. (folders v g i l dir b d u k (w .0), w .1)) moved (calm-start a t f, on-as t who h n f on) v g old target name (F .4))) λ x k. went (k .1 .0 .stays)
   calls (metadata v g) F z = ok-bind (any (callMetadata a t v g)) λ x _. went (λ e. kept-same a (file 1 f))
   calls (setMetadata v g mode uid gid at mt ct) F z = ok-bind (any (callSet a t v g mode uid gid at mt ct)) λ x _. went (λ e. kept-same a (file 1 f))
   calls (getEntry v g k room) F z = ok-bind (any (callEntry a t v g k room)) λ x _. went (λ e. kept-same a (file 1 f))
@@ -292,7 +290,7 @@ module _ (p : Pair) (y : Passed p) (who : ℕ) (h : Handle) (n : ℕ) (f : List 
   calls sync F z = ok-bind (keeps-sync C (calm-stores a t f) (calm-drops a t f) (calm-changes a t f) (calm-takes a t f) (calm-frees a t f) a t (calm-start a t f)) λ x k. went (k .stays)
   -- the closed hold's row is firm no more
   calls (close v g) F z =
-      ok-bind (keeps-close (λ b u. Stays a f b) (λ b c u k. stays-kept a t f b c (k f)) (λ b c u g d. stays-drop a t f b c g d) (λ b u i r e q k. k) (λ b u i r e k. k) (λ b u i e k. k) a t v g
+      ok-bind (keeps-close (λ b u. Stays a f b) (λ b c u k. stays-kept a t f b c (k f)) (λ b c u g d. stays-drop a t f b c g d) (λ b u i r e q d k. k) (λ b u i r e k. k) (λ b u i e k. k) a t v g
       (λ i l e. kept-same a (file 1 f))) λ x k. went k
   calls check F z = went (λ e. kept-same a (file 1 f))
 

@@ -23,7 +23,7 @@ use Rattle.sequences.proofs.Tables.{keeps-close, keeps-table}
 module _ (h : Handle) where
   -- rows do not matter
   spent-changes : Changes (λ a t. Spent t h)
-  spent-changes a t i r e q s = record { some = s .some; given = s .given; gone = s .gone }
+  spent-changes a t i r e q d s = record { some = s .some; given = s .given; gone = s .gone }
 
   spent-takes : Takes (λ a t. Spent t h)
   spent-takes a t i r e s = record { some = s .some; given = s .given; gone = s .gone }

@@ -107,5 +107,5 @@ move-call {style = style} P K p y fills turns start-p w h old target name nb =
 pub keeps-move : {style : Spelling} (p : Pair) (w : ℕ) (h : Handle) (old : List ℕ) (target : Handle) (name : List ℕ) → Spelled style p → Bytes name → Ok (Spelled style) Clear (does (move w h old target name) p)
 unfolding does
 keeps-move p w h old target name y nb =
-    ok-bind (move-call (λ b u. Unit) (record { stores = λ b c u k o. o; drops = λ b c u g d o. o; changes = λ b u i r e q o. o; takes = λ b u i r e o. o; frees = λ b u i e o. o }) p y
+    ok-bind (move-call (λ b u. Unit) (record { stores = λ b c u k o. o; drops = λ b c u g d o. o; changes = λ b u i r e q d o. o; takes = λ b u i r e o. o; frees = λ b u i e o. o }) p y
     (λ v g i l f b c u k o. o) (λ style c f g kd i j row x z d R L b k o. o) tt w h old target name nb) λ x q. went (q .0)
