@@ -59,33 +59,28 @@ contents-by r b e q d = asked (leb (r .kind) 4) (isType (r .kind)) (isFolder (r 
 
 -- ---- a read at a passed pair: the bytes of the node's file, and no more than it has
 
-module _ (p : Pair) (y : Passed p) {w : ℕ} {h : Handle} {n : ℕ} {f : List ℕ} {k : ℕ} (o : OnAs w h n f k (p .table)) where
+module _ (p : Pair) (y : Passed p) {w : ℕ} {h : Handle} {n : ℕ} {f : List ℕ} (o : On (p .table) w h n f) where
   abbrev a : List ℕ
   a = p .arena
 
   abbrev t : Table
   t = p .table
 
+  -- the type that its record has
+  abbrev k : ℕ
+  k = recOf (p .arena) (p .table) n .kind
+
   A : Allowed (p .arena) (p .table)
   A = allowed p y
 
-  pub used : Used (p .table) (o .row)
-  used = let l = live-means t w h (o .row) .0 (o .live) in record { below = l .is-row; node = live-used t w h (o .row) (formed a t A) l }
-
-  pub some : n ≢ 0
-  some z = used .node (o .node ∙ z)
-
-  pub as-on : On (p .table) w h n f
-  as-on = record { row = o .row; live = o .live; node = o .node; file = o .file }
+  used : Used (p .table) (o .row)
+  used = on-used a t A w h n f o
 
   pub node-is : isNode (p .arena) n ≡ true
   node-is = ap (isNode a) (sym (o .node)) ∙ row-node a t A (o .row) used
 
   rec-is : recOf (p .arena) (p .table) n ≡ rowAt (p .table) (o .row) .rec
   rec-is = ap (recOf a t) (sym (o .node)) ∙ row-rec a t A (o .row) used
-
-  pub kind-is : recOf (p .arena) (p .table) n .kind ≡ k
-  kind-is = ap (λ (r : DiskINode). r .kind) rec-is ∙ o .kind
 
   pub file-is : recOf (p .arena) (p .table) n .file ≡ f
   file-is = ap (λ (r : DiskINode). r .file) rec-is ∙ o .file
@@ -99,19 +94,23 @@ module _ (p : Pair) (y : Passed p) {w : ℕ} {h : Handle} {n : ℕ} {f : List �
   known-type : leb (rowAt (p .table) (o .row) .rec .kind) 4 ≡ true
   known-type = decided-yes (decides-leb (rowAt t (o .row) .rec .kind) 4) (row-most a t A (o .row) used)
 
-  pub read-folder : isFolder k ≡ true → (at room : ℕ) → callRead (p .arena) (p .table) w h at room ≡ refused 21
+  -- its row has that type
+  row-kind : {dir : Bool} → isFolder k ≡ dir → isFolder (rowAt (p .table) (o .row) .rec .kind) ≡ dir
+  row-kind e = ap (λ (r : DiskINode). isFolder (r .kind)) (sym rec-is) ∙ e
+
+  pub read-folder : isFolder (recOf (p .arena) (p .table) n .kind) ≡ true → (at room : ℕ) → callRead (p .arena) (p .table) w h at room ≡ refused 21
   read-folder dir at room =
       reads-row at room
       ∙ ap (λ (x : Out Unit). bind x (λ _. readBytes a (nodeFile (rowAt t (o .row) .rec)) at (readCount (rowAt t (o .row) .rec .size) at room)))
-      (contents-by (rowAt t (o .row) .rec) true known-type (row-type a t A (o .row) used) (ap isFolder (o .kind) ∙ dir))
+      (contents-by (rowAt t (o .row) .rec) true known-type (row-type a t A (o .row) used) (row-kind dir))
 
-  module _ (no-dir : isFolder k ≡ false) where
+  module _ (no-dir : isFolder (recOf (p .arena) (p .table) n .kind) ≡ false) where
     has-contents : hasContents (rowAt (p .table) (o .row) .rec) ≡ done tt
-    has-contents = contents-by (rowAt t (o .row) .rec) false known-type (row-type a t A (o .row) used) (ap isFolder (o .kind) ∙ no-dir)
+    has-contents = contents-by (rowAt t (o .row) .rec) false known-type (row-type a t A (o .row) used) (row-kind no-dir)
 
     not-folder : isFolderAt (p .arena) (p .table) n ≡ false
     unfolding isFolderAt
-    not-folder = rw (ap isFolder kind-is ∙ no-dir, node-is) refl
+    not-folder = rw (no-dir, node-is) refl
 
     -- "a non-folder's file length is its size"
     pub long-is : lengthOf (p .arena) (file 1 f) ≡ rowAt (p .table) (o .row) .rec .size
@@ -137,55 +136,52 @@ module _ (p : Pair) (y : Passed p) {w : ℕ} {h : Handle} {n : ℕ} {f : List �
 
 -- ---- calls that leave the node
 
--- q passes as p did, her handle is on the same node, and reads as it read
-record Still (w : ℕ) (h : Handle) (n : ℕ) (f : List ℕ) (k : ℕ) (p q : Pair) : Type 0 where
+-- q passes as p did, her handle is on the same node, of the same type, and reads as it read
+record Still (w : ℕ) (h : Handle) (n : ℕ) (f : List ℕ) (p q : Pair) : Type 0 where
   passes : Passed q
-  on : OnAs w h n f k (q .table)
+  on : On (q .table) w h n f
   reads : (at room : ℕ) → callRead (q .arena) (q .table) w h at room ≡ callRead (p .arena) (p .table) w h at room
 
-module _ {w : ℕ} {h : Handle} {n : ℕ} {f : List ℕ} {k : ℕ} where
-  -- the same file, and so the same reads
-  same-reads : (p q : Pair) → Passed p → Passed q → OnAs w h n f k (p .table) → OnAs w h n f k (q .table) → (isFolder k ≡ false → SameFile f (p .arena) (q .arena))
-      → (at room : ℕ) → callRead (q .arena) (q .table) w h at room ≡ callRead (p .arena) (p .table) w h at room
-  same-reads p q y z o u same at room = ⊎-elim
-      (λ dir. read-folder q z u dir at room ∙ sym (read-folder p y o dir at room))
-      (λ no-dir.
-      let s : SameFile f (p .arena) (q .arena) = same no-dir in
-      read-file q z u no-dir at room
-      ∙ ap done (ap (λ (m : ℕ). tab (byteAt (q .arena) (file 1 f)) at (readCount m at room)) (s .long)
-      ∙ tab-cong (byteAt (q .arena) (file 1 f)) (byteAt (p .arena) (file 1 f)) at at (readCount (lengthOf (p .arena) (file 1 f)) at room) (λ i _. s .bytes (at + i)))
-      ∙ sym (read-file p y o no-dir at room))
-      (bool-cases (isFolder k))
+-- two handles on a node with the same file read the same
+pub same-reads : (p q : Pair) → Passed p → Passed q → {w v : ℕ} {h g : Handle} {n : ℕ} {f : List ℕ} → On (p .table) w h n f → On (q .table) v g n f
+    → recOf (q .arena) (q .table) n .kind ≡ recOf (p .arena) (p .table) n .kind → (isFolder (recOf (p .arena) (p .table) n .kind) ≡ false → SameFile f (p .arena) (q .arena))
+    → (at room : ℕ) → callRead (q .arena) (q .table) v g at room ≡ callRead (p .arena) (p .table) w h at room
+same-reads p q y z {n = n} {f = f} o u kind same at room = ⊎-elim
+    (λ dir. read-folder q z u (ap isFolder kind ∙ dir) at room ∙ sym (read-folder p y o dir at room))
+    (λ no-dir.
+    let s : SameFile f (p .arena) (q .arena) = same no-dir in
+    read-file q z u (ap isFolder kind ∙ no-dir) at room
+    ∙ ap done (ap (λ (m : ℕ). tab (byteAt (q .arena) (file 1 f)) at (readCount m at room)) (s .long)
+    ∙ tab-cong (byteAt (q .arena) (file 1 f)) (byteAt (p .arena) (file 1 f)) at at (readCount (lengthOf (p .arena) (file 1 f)) at room) (λ i _. s .bytes (at + i)))
+    ∙ sym (read-file p y o no-dir at room))
+    (bool-cases (isFolder (recOf (p .arena) (p .table) n .kind)))
 
-  still-step : (p : Pair) (c : Call) → Passed p → OnAs w h n f k (p .table) → Elsewhere w h n c p → Still w h n f k p (next c p)
+module _ {w : ℕ} {h : Handle} {n : ℕ} {f : List ℕ} where
+  still-step : (p : Pair) (c : Call) → Passed p → On (p .table) w h n f → Elsewhere w h n c p → Still w h n f p (next c p)
   unfolding Keeps
   still-step p c y o e =
       let z : Passed (next c p) = keeps p c y (e .fits) .passes in
-      let u : OnAs w h n f k (next c p .table) = as-next w h n f k (some p y o) c p (e .not-closed) o in
-      record { passes = z; on = u; reads = same-reads p (next c p) y z o u (λ no-dir. same z no-dir (does c p) refl) }
+      let S : Safe w h n f c p = spared p c w h n f y o (record { fits = e .fits; not-closed = e .not-closed }) z in
+      record { passes = z; on = S .stays; reads = same-reads p (next c p) y z o (S .stays) (S .kind) (λ no-dir. same S no-dir (does c p) refl) }
     where
-      same : Passed (next c p) → isFolder k ≡ false → (x : Out Pair) → does c p ≡ x → SameFile f (p .arena) (next c p .arena)
-      same z no-dir (done q) d =
-          spared p c w h n f y (as-on p y o) (record { fits = e .fits; not-closed = e .not-closed }) z .same (ap isFolder (kind-is p y o) ∙ no-dir) (λ g. e .not-written g (ap answer d))
-      same z no-dir (refused m) d =
+      same : Safe w h n f c p → isFolder (recOf (p .arena) (p .table) n .kind) ≡ false → (x : Out Pair) → does c p ≡ x → SameFile f (p .arena) (next c p .arena)
+      same S no-dir (done q) d = S .same no-dir (λ g. e .not-written g (ap answer d))
+      same S no-dir (refused m) d =
           let q : next c p ≡ p = ap (kept p) d in
           subst (λ (x : Pair). SameFile f (p .arena) (x .arena)) (sym q) (record { long = refl; bytes = λ i. refl })
 
-  still-then : {p q r : Pair} → Still w h n f k p q → Still w h n f k q r → Still w h n f k p r
+  still-then : {p q r : Pair} → Still w h n f p q → Still w h n f q r → Still w h n f p r
   still-then s u = record { passes = u .passes; on = u .on; reads = λ at room. u .reads at room ∙ s .reads at room }
 
-  still-along : (p : Pair) (l : List Call) → Passed p → OnAs w h n f k (p .table) → Along (Elsewhere w h n) p l → Still w h n f k p (led p l)
+  still-along : (p : Pair) (l : List Call) → Passed p → On (p .table) w h n f → Along (Elsewhere w h n) p l → Still w h n f p (led p l)
   still-along p l y o ends = record { passes = y; on = o; reads = λ at room. refl }
   still-along p l y o (goes {c = c} {l = m} e r) =
-      let s : Still w h n f k p (next c p) = still-step p c y o e in
+      let s : Still w h n f p (next c p) = still-step p c y o e in
       still-then s (still-along (next c p) m (s .passes) (s .on) r)
-
-pub on-as : (t : Table) (w : ℕ) (h : Handle) (n : ℕ) (f : List ℕ) (o : On t w h n f) → OnAs w h n f (rowAt t (o .row) .rec .kind) t
-on-as t w h n f o = record { row = o .row; live = o .live; node = o .node; file = o .file; kind = refl }
 
 pub read-stays : ReadStays
 unfolding ReadStays
-read-stays p l w h n f at room y o e = still-along p l y (on-as (p .table) w h n f o) e .reads at room
+read-stays p l w h n f at room y o e = still-along p l y o e .reads at room
 
 -- ---- a write that is done
 
@@ -210,9 +206,16 @@ wrote p q w h place bytes y fits e =
     let n : next (write w h place bytes) p ≡ q = ap (kept p) e in
     record { left = d .0; call = d .1; is = ap (kept p) (d .2); next-is = n; passes = subst Passed n (keeps p (write w h place bytes) y fits .passes) }
 
-module _ (p q : Pair) (w : ℕ) (h : Handle) (n : ℕ) (f : List ℕ) (k place : ℕ) (bytes : List ℕ) (y : Passed p) (o : OnAs w h n f k (p .table)) (fits : Fits (write w h place bytes)) (W : Wrote p q w h place bytes) where
-  pub on-wrote : OnAs w h n f k (q .table)
-  on-wrote = subst (λ (x : Pair). OnAs w h n f k (x .table)) (W .next-is) (as-next w h n f k (some p y o) (write w h place bytes) p (not-close w w h h place bytes) o)
+module _ (p q : Pair) (w : ℕ) (h : Handle) (n : ℕ) (f : List ℕ) (place : ℕ) (bytes : List ℕ) (y : Passed p) (o : On (p .table) w h n f) (fits : Fits (write w h place bytes)) (W : Wrote p q w h place bytes) where
+  -- her handle is on the node, of the type that it was
+  safe-wrote : Safe w h n f (write w h place bytes) p
+  safe-wrote = spared p (write w h place bytes) w h n f y o (record { fits = fits; not-closed = not-close w w h h place bytes }) (subst Passed (sym (W .next-is)) (W .passes))
+
+  pub on-wrote : On (q .table) w h n f
+  on-wrote = subst (λ (x : Pair). On (x .table) w h n f) (W .next-is) (safe-wrote .stays)
+
+  kind-wrote : recOf (q .arena) (q .table) n .kind ≡ recOf (p .arena) (p .table) n .kind
+  kind-wrote = subst (λ (x : Pair). recOf (x .arena) (x .table) n .kind ≡ recOf (p .arena) (p .table) n .kind) (W .next-is) (safe-wrote .kind)
 
   pub read-wrote : callRead (q .arena) (q .table) w h place (length bytes) ≡ done bytes
   unfolding WrittenRead
@@ -221,9 +224,9 @@ module _ (p q : Pair) (w : ℕ) (h : Handle) (n : ℕ) (f : List ℕ) (k place :
       (written-read (p .arena) (p .table) w h place bytes (W .left) (y .typed .bytes) (fits .3) (W .call))
 
   -- and then calls that leave the node
-  saved-still : (r : Pair) → Still w h n f k q r → Reads w h n f place bytes r
+  saved-still : (r : Pair) → Still w h n f q r → Reads w h n f place bytes r
   saved-still r S = record {
-    on = as-on r (S .passes) (S .on);
+    on = S .on;
     node = node-is r (S .passes) (S .on);
     gives = S .reads place (length bytes) ∙ read-wrote;
   }
@@ -231,9 +234,8 @@ module _ (p q : Pair) (w : ℕ) (h : Handle) (n : ℕ) (f : List ℕ) (k place :
 pub saved : Saved
 unfolding Saved
 saved p q l w h n f place bytes y o fits e along =
-    let u = on-as (p .table) w h n f o in
     let W = wrote p q w h place bytes y fits e in
-    saved-still p q w h n f _ place bytes y u fits W (led q l) (still-along q l (W .passes) (on-wrote p q w h n f _ place bytes y u fits W) along)
+    saved-still p q w h n f place bytes y o fits W (led q l) (still-along q l (W .passes) (on-wrote p q w h n f place bytes y o fits W) along)
 
 -- ---- and a colleague's
 
@@ -254,13 +256,12 @@ his-elsewhere p w v h g n m e at his o d fits = record {
 pub both-saved : BothSaved
 unfolding BothSaved Saved
 both-saved p q r l k w v h g n m f e place at hers his y o fits did along ov d fv didv alongw alongv =
-    let u = on-as (p .table) w h n f o in
     let W = wrote p q w h place hers y fits did in
-    let S = still-along q l (W .passes) (on-wrote p q w h n f _ place hers y u fits W) along in
+    let S = still-along q l (W .passes) (on-wrote p q w h n f place hers y o fits W) along in
     let X = wrote (led q l) r v g at his (S .passes) fv didv in
     let T = still-step (led q l) (write v g at his) (S .passes) (S .on) (his-elsewhere (led q l) w v h g n m e at his ov d fv) in
-    let R = subst (λ (x : Pair). Still w h n f (rowAt (p .table) (o .row) .rec .kind) (led q l) x) (X .next-is) T in (
-      saved-still p q w h n f _ place hers y u fits W (led r k) (still-then S (still-then R (still-along r k (R .passes) (R .on) alongw))),
+    let R = subst (Still w h n f (led q l)) (X .next-is) T in (
+      saved-still p q w h n f place hers y o fits W (led r k) (still-then S (still-then R (still-along r k (R .passes) (R .on) alongw))),
       saved (led q l) r k v g m e at his (S .passes) ov fv didv alongv,
     )
 
