@@ -44,11 +44,11 @@ use Rattle.sequences.specs.Calls.{Call, find, does, next}
 use Rattle.sequences.specs.Promises.{On, Through, writes, resizes}
 use Rattle.sequences.proofs.Passing.{allowed, spelled-any, spelled-midway}
 use Rattle.sequences.proofs.Corner.{on-used}
+use Rattle.sequences.proofs.Chains.{never}
 use Rattle.drawings.specs.Saved.{led}
 use Rattle.drawings.specs.Full.{findTo}
 use Rattle.drawings.specs.Rests.{Rested, NamedAt, NodeNamed, FoundAndKept}
 use Rattle.drawings.proofs.Full.{part-find}
-use Rattle.drawings.proofs.Saved.{never}
 use Rattle.drawings.proofs.Rests.{one-more, along, node-named, saved-rests}
 
 ensured : (b : Bool) (n : ℕ) → ensure b n ≡ done tt → b ≡ true

@@ -3,12 +3,12 @@
 -- step works on is filled. So whatever such changes keep, the steps keep.
 use mathlib.Core.Path.{_≡_, refl, sym, ap, _∙_, subst}
 use mathlib.Core.Bool.{Bool, true, false, not, _&&_}
-use mathlib.Core.List.{List, [], _∷_}
+use mathlib.Core.List.{List}
 use mathlib.Core.Logic.{_≢_, ⊎-elim}
 use Prim.Native.Nat.{ℕ, zero, suc, _+_, _*_, _-_, _%_, _≤_, _<_}
 use native.Mathlib.Omega.{arith}
 use lib.Dec.{eqb, ltb, leb}
-use lib.ListN.{length, drop, getD, length-take}
+use lib.ListN.{length, drop, getD, length-take, List·getD-eq-default}
 use lib.Seq.{set-out}
 use Rattle.base.specs.Out.{Out, done, refused, bind, guard, Ok, went, said}
 use Rattle.base.proofs.Outs.{ok-bind, ok-weaken, ok-done, above-zero}
@@ -187,16 +187,11 @@ other-record a b id src long P m d =
     put-apart a b (128 * id) src P m (λ i l g. ⊎-elim (λ h. omega (arith, long)) (λ h. absurd (d (omega arith))) (lt-or-le id m))
 
 -- a row that is not there is free and clean
-row-out : (l : List Row) (i : ℕ) → length l ≤ i → getD l i offRow ≡ offRow
-row-out [] i h = refl
-row-out (x ∷ l) zero h = absurd (omega arith)
-row-out (x ∷ l) (suc i) h = row-out l i (omega arith)
-
 pub row-below : (t : Table) → length (t .rows) ≡ 34 → (j : ℕ) → rowAt t j .id ≢ 0 → j < 34
-row-below t e j z = ⊎-elim (λ l. omega arith) (λ l. absurd (z (ap (λ (x : Row). x .id) (row-out (t .rows) j l)))) (lt-or-le j (length (t .rows)))
+row-below t e j z = ⊎-elim (λ l. omega arith) (λ l. absurd (z (ap (λ (x : Row). x .id) (List·getD-eq-default (t .rows) offRow l)))) (lt-or-le j (length (t .rows)))
 
 dirty-below : (t : Table) (i : ℕ) → rowAt t i .dirty ≡ true → i < length (t .rows)
-dirty-below t i e = ⊎-elim (λ l. l) (λ l. absurd (true-false e (ap (λ (x : Row). x .dirty) (row-out (t .rows) i l)))) (lt-or-le i (length (t .rows)))
+dirty-below t i e = ⊎-elim (λ l. l) (λ l. absurd (true-false e (ap (λ (x : Row). x .dirty) (List·getD-eq-default (t .rows) offRow l)))) (lt-or-le i (length (t .rows)))
 
 -- a row that was stored is clean
 clean-now : (t : Table) (i : ℕ) → rowAt (withDirty t i false) i .dirty ≡ false
@@ -204,7 +199,7 @@ clean-now t i =
     let r : Row = record { id = rowAt t i .id; dirty = false; rec = rowAt t i .rec } in
     ⊎-elim
     (λ l. ap (λ (x : Row). x .dirty) (row-here t i r l))
-    (λ l. ap (λ (rows : List Row). getD rows i offRow .dirty) (set-out (t .rows) i r l) ∙ ap (λ (x : Row). x .dirty) (row-out (t .rows) i l))
+    (λ l. ap (λ (rows : List Row). getD rows i offRow .dirty) (set-out (t .rows) i r l) ∙ ap (λ (x : Row). x .dirty) (List·getD-eq-default (t .rows) offRow l))
     (lt-or-le i (length (t .rows)))
 
 -- ---- superblock and maps: the table stays
