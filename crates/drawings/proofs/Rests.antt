@@ -23,7 +23,7 @@ use Rattle.sequences.proofs.Bytes.{Intact, left}
 use Rattle.sequences.proofs.Reading.{node-is, file-is, read-no-folder}
 use Rattle.drawings.specs.Saved.{led}
 use Rattle.drawings.specs.Rests.{Drawing, SameNode, LeavesBe, Rests, Rested, RestsAlong, NodeNamed, NodeHeld, GoneOnly, ClosedAndKept}
-use Rattle.drawings.proofs.Saved.{same-reads, write-leads, read-wrote}
+use Rattle.drawings.proofs.Saved.{same-reads, after-write, read-wrote}
 
 -- ---- one call
 
@@ -114,7 +114,7 @@ gone-only p n y e = record { unnamed = λ d k N. true-false (node-named p d k n 
 pub saved-rests : (p q r : Pair) (w v : ℕ) (h g : Handle) (n : ℕ) (f e : List ℕ) (place : ℕ) (bytes : List ℕ) → Passed p → On (p .table) w h n f → Fits (write w h place bytes) → does (write w h place bytes) p ≡ done q
     → (Passed q → Drawing n q → Rested n q r × On (r .table) v g n e) → callRead (r .arena) (r .table) v g place (length bytes) ≡ done bytes
 saved-rests p q r w v h g n f e place bytes y o fits did rest =
-    let L = write-leads p q w h n f place bytes y o fits did in
+    let L = after-write p q w h n f place bytes y o fits did in
     let c = read-wrote p q w h n f place bytes y o fits did in
     let D : Drawing n q = record { node = node-is q (L .passes) (L .on); no-folder = read-no-folder q (L .passes) (L .on) place (length bytes) bytes c } in
     let R = rest (L .passes) D in

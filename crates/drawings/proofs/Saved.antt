@@ -33,14 +33,14 @@ use Rattle.sequences.specs.Calls.{Call, write, resize, close, Fits, does, next}
 use Rattle.sequences.specs.Promises.{Along, ends, goes, On, SameFile, Through, writes, Safe, Keeps}
 use Rattle.sequences.proofs.Sequences.{keeps}
 use Rattle.sequences.proofs.Spared.{spared}
-use Rattle.sequences.proofs.Reading.{read-folder, read-file, Whole, whole}
+use Rattle.sequences.proofs.Reading.{read-folder, read-file, WholeFile, whole-file}
 use Rattle.drawings.specs.Saved.{led, Elsewhere, Reads, Saved, BothSaved, ReadStays, filledTo, LaidOver, ResizedTo}
 use Rattle.drawings.proofs.Lists.{part-tab, filled-long, filled-at}
 
 -- ---- calls that leave the node
 
 -- q passes as p did, her handle is on the same node, of the same type, and reads as it read
-record Still (w : ℕ) (h : Handle) (n : ℕ) (f : List ℕ) (p q : Pair) : Type 0 where
+record Undisturbed (w : ℕ) (h : Handle) (n : ℕ) (f : List ℕ) (p q : Pair) : Type 0 where
   passes : Passed q
   on : On (q .table) w h n f
   reads : (at room : ℕ) → callRead (q .arena) (q .table) w h at room ≡ callRead (p .arena) (p .table) w h at room
@@ -60,9 +60,9 @@ same-reads p q y z {n = n} {f = f} o u kind same at room = ⊎-elim
     (bool-cases (isFolder (recOf (p .arena) (p .table) n .kind)))
 
 module _ {w : ℕ} {h : Handle} {n : ℕ} {f : List ℕ} where
-  still-step : (p : Pair) (c : Call) → Passed p → On (p .table) w h n f → Elsewhere w h n c p → Still w h n f p (next c p)
+  undisturbed-by : (p : Pair) (c : Call) → Passed p → On (p .table) w h n f → Elsewhere w h n c p → Undisturbed w h n f p (next c p)
   unfolding Keeps
-  still-step p c y o e =
+  undisturbed-by p c y o e =
       let z : Passed (next c p) = keeps p c y (e .fits) .passes in
       let S : Safe w h n f c p = spared p c w h n f y o (record { fits = e .fits; not-closed = e .not-closed }) z in
       record { passes = z; on = S .stays; reads = same-reads p (next c p) y z o (S .stays) (S .kind) (λ no-dir. same S no-dir (does c p) refl) }
@@ -73,18 +73,18 @@ module _ {w : ℕ} {h : Handle} {n : ℕ} {f : List ℕ} where
           let q : next c p ≡ p = ap (kept p) d in
           subst (λ (x : Pair). SameFile f (p .arena) (x .arena)) (sym q) (record { long = refl; bytes = λ i. refl })
 
-  still-then : {p q r : Pair} → Still w h n f p q → Still w h n f q r → Still w h n f p r
-  still-then s u = record { passes = u .passes; on = u .on; reads = λ at room. u .reads at room ∙ s .reads at room }
+  undisturbed-then : {p q r : Pair} → Undisturbed w h n f p q → Undisturbed w h n f q r → Undisturbed w h n f p r
+  undisturbed-then s u = record { passes = u .passes; on = u .on; reads = λ at room. u .reads at room ∙ s .reads at room }
 
-  still-along : (p : Pair) (l : List Call) → Passed p → On (p .table) w h n f → Along (Elsewhere w h n) p l → Still w h n f p (led p l)
-  still-along p l y o ends = record { passes = y; on = o; reads = λ at room. refl }
-  still-along p l y o (goes {c = c} {l = m} e r) =
-      let s : Still w h n f p (next c p) = still-step p c y o e in
-      still-then s (still-along (next c p) m (s .passes) (s .on) r)
+  undisturbed-along : (p : Pair) (l : List Call) → Passed p → On (p .table) w h n f → Along (Elsewhere w h n) p l → Undisturbed w h n f p (led p l)
+  undisturbed-along p l y o ends = record { passes = y; on = o; reads = λ at room. refl }
+  undisturbed-along p l y o (goes {c = c} {l = m} e r) =
+      let s : Undisturbed w h n f p (next c p) = undisturbed-by p c y o e in
+      undisturbed-then s (undisturbed-along (next c p) m (s .passes) (s .on) r)
 
 pub read-stays : ReadStays
 unfolding ReadStays
-read-stays p l w h n f at room y o e = still-along p l y o e .reads at room
+read-stays p l w h n f at room y o e = undisturbed-along p l y o e .reads at room
 
 -- ---- a call that is done
 
@@ -95,15 +95,15 @@ resize-no-close : (w : ℕ) (h : Handle) (n : ℕ) → resize w h n ≢ close w 
 resize-no-close w h n e = let z : _≡_ {A = ℕ} 0 1 = cc in omega arith
 
 -- q is what call c left: it passes, and w's handle h is on the node that it was on, of the type that it was
-pub record Leads (w : ℕ) (h : Handle) (n : ℕ) (f : List ℕ) (c : Call) (p q : Pair) : Type 0 where
+pub record AfterDone (w : ℕ) (h : Handle) (n : ℕ) (f : List ℕ) (c : Call) (p q : Pair) : Type 0 where
   pub is : next c p ≡ q
   pub passes : Passed q
   pub on : On (q .table) w h n f
   pub kind : recOf (q .arena) (q .table) n .kind ≡ recOf (p .arena) (p .table) n .kind
 
-leads : {w : ℕ} {h : Handle} {n : ℕ} {f : List ℕ} (c : Call) (p q : Pair) → Passed p → On (p .table) w h n f → Fits c → c ≢ close w h → does c p ≡ done q → Leads w h n f c p q
+after-done : {w : ℕ} {h : Handle} {n : ℕ} {f : List ℕ} (c : Call) (p q : Pair) → Passed p → On (p .table) w h n f → Fits c → c ≢ close w h → does c p ≡ done q → AfterDone w h n f c p q
 unfolding Keeps
-leads {w} {h} {n} {f} c p q y o fits not e =
+after-done {w} {h} {n} {f} c p q y o fits not e =
     let i : next c p ≡ q = ap (kept p) e in
     let z : Passed (next c p) = keeps p c y fits .passes in
     let S : Safe w h n f c p = spared p c w h n f y o (record { fits = fits; not-closed = not }) z in
@@ -124,8 +124,8 @@ wrote p q w h place bytes e =
 -- ---- what she wrote
 
 module _ (p q : Pair) (w : ℕ) (h : Handle) (n : ℕ) (f : List ℕ) (place : ℕ) (bytes : List ℕ) (y : Passed p) (o : On (p .table) w h n f) (fits : Fits (write w h place bytes)) (e : does (write w h place bytes) p ≡ done q) where
-  pub write-leads : Leads w h n f (write w h place bytes) p q
-  write-leads = leads (write w h place bytes) p q y o fits (write-no-close w w h h place bytes) e
+  pub after-write : AfterDone w h n f (write w h place bytes) p q
+  after-write = after-done (write w h place bytes) p q y o fits (write-no-close w w h h place bytes) e
 
   pub read-wrote : callRead (q .arena) (q .table) w h place (length bytes) ≡ done bytes
   unfolding WrittenRead
@@ -135,15 +135,15 @@ module _ (p q : Pair) (w : ℕ) (h : Handle) (n : ℕ) (f : List ℕ) (place : �
       (written-read (p .arena) (p .table) w h place bytes (d .0) (y .typed .bytes) (fits .3) (d .1))
 
   -- and then calls that leave the node
-  still-wrote : (l : List Call) → Along (Elsewhere w h n) q l → Still w h n f q (led q l)
-  still-wrote l along = still-along q l (write-leads .passes) (write-leads .on) along
+  undisturbed-wrote : (l : List Call) → Along (Elsewhere w h n) q l → Undisturbed w h n f q (led q l)
+  undisturbed-wrote l along = undisturbed-along q l (after-write .passes) (after-write .on) along
 
-  saved-still : (r : Pair) → Still w h n f q r → Reads w h n f place bytes r
+  saved-still : (r : Pair) → Undisturbed w h n f q r → Reads w h n f place bytes r
   saved-still r S = record { on = S .on; gives = S .reads place (length bytes) ∙ read-wrote }
 
 pub saved : Saved
 unfolding Saved
-saved p q l w h n f place bytes y o fits e along = saved-still p q w h n f place bytes y o fits e (led q l) (still-wrote p q w h n f place bytes y o fits e l along)
+saved p q l w h n f place bytes y o fits e along = saved-still p q w h n f place bytes y o fits e (led q l) (undisturbed-wrote p q w h n f place bytes y o fits e l along)
 
 -- ---- and a colleague's
 
@@ -164,10 +164,10 @@ his-elsewhere p w v h g n m e at his o d fits = record {
 pub both-saved : BothSaved
 unfolding BothSaved Saved
 both-saved p q r l k w v h g n m f e place at hers his y o fits did along ov d fv didv alongw alongv =
-    let S = still-wrote p q w h n f place hers y o fits did l along in
-    let X = write-leads (led q l) r v g m e at his (S .passes) ov fv didv in
-    let T = subst (Still w h n f (led q l)) (X .is) (still-step (led q l) (write v g at his) (S .passes) (S .on) (his-elsewhere (led q l) w v h g n m e at his ov d fv)) in (
-      saved-still p q w h n f place hers y o fits did (led r k) (still-then S (still-then T (still-along r k (T .passes) (T .on) alongw))),
+    let S = undisturbed-wrote p q w h n f place hers y o fits did l along in
+    let X = after-write (led q l) r v g m e at his (S .passes) ov fv didv in
+    let T = subst (Undisturbed w h n f (led q l)) (X .is) (undisturbed-by (led q l) (write v g at his) (S .passes) (S .on) (his-elsewhere (led q l) w v h g n m e at his ov d fv)) in (
+      saved-still p q w h n f place hers y o fits did (led r k) (undisturbed-then S (undisturbed-then T (undisturbed-along r k (T .passes) (T .on) alongw))),
       saved (led q l) r k v g m e at his (S .passes) ov fv didv alongv,
     )
 
@@ -186,7 +186,7 @@ sized-long : (a : List ℕ) (t : Table) (i : ℕ) (x : After) (m : ℕ) (dirty :
 sized-long a t i x m dirty O e = ap (λ (z : Row). lengthOf (x .arena) (nodeFile (z .rec))) (sym (O .row)) ∙ e ∙ ap (λ (z : Row). z .rec .size) (O .row)
 
 -- where w's handle is on a row whose file held `old`
-module _ (p : Pair) (w : ℕ) (h : Handle) (old : List ℕ) (H : Whole p w h old) where
+module _ (p : Pair) (w : ℕ) (h : Handle) (old : List ℕ) (H : WholeFile p w h old) where
   abbrev i : ℕ
   i = H .row
 
@@ -203,7 +203,7 @@ module _ (p : Pair) (w : ℕ) (h : Handle) (old : List ℕ) (H : Whole p w h old
   old-byte j l = ap (λ (x : List ℕ). getD x j 0) (H .bytes) ∙ getD-tab (byteAt (p .arena) (file 1 f)) 0 (length old) j l ∙ ap (byteAt (p .arena) (file 1 f)) (let e : 0 + j ≡ j = omega arith in e)
 
   -- what a call c left is read as the text
-  reads-text : (c : Call) (q : Pair) (x : After) → Leads w h n f c p q → pair (x .arena) (x .table) ≡ q → (text : List ℕ) → lengthOf (x .arena) (file 1 f) ≡ length text
+  reads-text : (c : Call) (q : Pair) (x : After) → AfterDone w h n f c p q → pair (x .arena) (x .table) ≡ q → (text : List ℕ) → lengthOf (x .arena) (file 1 f) ≡ length text
       → ((j : ℕ) → j < length text → byteAt (x .arena) (file 1 f) j ≡ getD text j 0) → (at room : ℕ) → callRead (q .arena) (q .table) w h at room ≡ done (part text at (at + room))
   reads-text c q x L e text long bytes at room =
       text-read q (L .passes) (L .on) (ap isFolder (L .kind) ∙ H .no-dir) text
@@ -246,7 +246,7 @@ module _ (p : Pair) (w : ℕ) (h : Handle) (old : List ℕ) (H : Whole p w h old
         out : (j : ℕ) → (place ≤ j → place + length new ≤ j) → j < max (length old) (place + length new) → byteAt (x .arena) (file 1 f) j ≡ getD (paste base place new) j 0
         out j z k = laid-out j z k ∙ sym (getD-paste-out base place new fits j z ∙ filled-at (place + length new) old j k)
 
-    laid-read : (q : Pair) → Leads w h n f (write w h place new) p q → pair (x .arena) (x .table) ≡ q → (at room : ℕ) → callRead (q .arena) (q .table) w h at room ≡ done (part (paste base place new) at (at + room))
+    laid-read : (q : Pair) → AfterDone w h n f (write w h place new) p q → pair (x .arena) (x .table) ≡ q → (at room : ℕ) → callRead (q .arena) (q .table) w h at room ≡ done (part (paste base place new) at (at + room))
     laid-read q L e = reads-text (write w h place new) q x L e (paste base place new) laid-long laid-bytes
 
   module _ (m : ℕ) (x : After) (R : Resized (p .arena) (p .table) (H .row) m x) where
@@ -262,21 +262,21 @@ module _ (p : Pair) (w : ℕ) (h : Handle) (old : List ℕ) (H : Whole p w h old
         (lt-or-le j (length old))
         ∙ sym (getD-take m (filledTo m old) j 0 k ∙ filled-at m old j (omega arith))
 
-    cut-read : (q : Pair) → Leads w h n f (resize w h m) p q → pair (x .arena) (x .table) ≡ q → (at room : ℕ) → callRead (q .arena) (q .table) w h at room ≡ done (part (take m (filledTo m old)) at (at + room))
+    cut-read : (q : Pair) → AfterDone w h n f (resize w h m) p q → pair (x .arena) (x .table) ≡ q → (at room : ℕ) → callRead (q .arena) (q .table) w h at room ≡ done (part (take m (filledTo m old)) at (at + room))
     cut-read q L e = reads-text (resize w h m) q x L e (take m (filledTo m old)) (sized-long (p .arena) (p .table) i x m true (R .only) (R .exact) ∙ sym cut-long) cut-bytes
 
 pub laid-over : LaidOver
 unfolding LaidOver IsWritten
 laid-over p q w h place new old all at room y before spare fits e =
-    let H = whole p y w h old all before spare in
+    let H = whole-file p y w h old all before spare in
     let d = wrote p q w h place new e in
     let W = is-written (p .arena) (p .table) w h (H .row) place new (d .0) (y .typed .bytes) (fits .3) (H .live) (d .1) in
-    laid-read p w h old H place new (d .0) W q (write-leads p q w h _ _ place new y (whole-on p w h old H) fits e) (d .2) at room
+    laid-read p w h old H place new (d .0) W q (after-write p q w h _ _ place new y (whole-on p w h old H) fits e) (d .2) at room
 
 pub resized-to : ResizedTo
 unfolding ResizedTo IsResized does
 resized-to p q w h n old all at room y before spare fits e =
-    let H = whole p y w h old all before spare in
+    let H = whole-file p y w h old all before spare in
     let d = bind-is-done (callResize (p .arena) (p .table) w h n) (λ x. done (pair (x .arena) (x .table))) q e in
     let R = is-resized (p .arena) (p .table) w h (H .row) n (d .0) (y .typed .bytes) (H .live) (d .1) in
-    cut-read p w h old H n (d .0) R q (leads (resize w h n) p q y (whole-on p w h old H) fits (resize-no-close w h n) e) (ap (kept p) (d .2)) at room
+    cut-read p w h old H n (d .0) R q (after-done (resize w h n) p q y (whole-on p w h old H) fits (resize-no-close w h n) e) (ap (kept p) (d .2)) at room

@@ -7,7 +7,7 @@ use Prim.Native.Nat.{ℕ, _-_, _≤_, _<_}
 use native.Mathlib.Omega.{arith}
 use lib.Dec.{eqb, leb}
 use lib.ListN.{length}
-use borrow.Author.Tests.{eqb-true, eqb-false, le-leb}
+use borrow.Author.Tests.{eqb-false, le-leb}
 use Rattle.base.specs.Out.{Out, done, refused, bind, ensure, answer, kept, Ok, said}
 use Rattle.base.specs.Parts.{tab}
 use Rattle.base.proofs.Outs.{bind-is-done, ok-done}
@@ -29,7 +29,7 @@ use Rattle.sefs.specs.Contents.{readBytes, callRead}
 use Rattle.sefs_laws.specs.Contents.{fileAt, sizeAt}
 use Rattle.sefs_laws.proofs.Says.{Says, says-then, says-ensure}
 use Rattle.sefs_laws.proofs.Handles.{live-owns, handle-done}
-use Rattle.walk.specs.Walk.{Spot, lookAt, partIn, isLink, targetOf, mostLinks, walkIn, holdEnd, callWalk}
+use Rattle.walk.specs.Walk.{Spot, lookAt, partIn, targetOf, mostLinks, walkIn, holdEnd, callWalk}
 use Rattle.walk.proofs.Ways.{walk-is}
 use Rattle.rules.specs.Image.{recOf, isNode}
 use Rattle.image.specs.Midway.{Used}
@@ -39,7 +39,7 @@ use Rattle.sequences.specs.Chains.{rowSpot}
 use Rattle.sequences.proofs.Passing.{allowed, spelled-any}
 use Rattle.sequences.proofs.Walks.{look-law}
 use Rattle.sequences.proofs.Corner.{on-used}
-use Rattle.sequences.proofs.Reading.{whole}
+use Rattle.sequences.proofs.Reading.{whole-file}
 use Rattle.sequences.proofs.Reasons.{says-hold}
 use Rattle.drawings.specs.Links.{textOn, PathIsText, FollowsText, FollowsName, FollowsRoot, ContentIsTarget, FollowsCall, FollowsNameCall, FollowsRootCall, NinthLink, NinthLinkCall}
 use Rattle.drawings.proofs.Links.{path-is-text, follows-text, follows-name, follows-root, ninth-link}
@@ -80,7 +80,7 @@ module _ (p : Pair) (y : Passed p) (v : ℕ) (g : Handle) (i : ℕ) (live : live
   target-read : (target : List ℕ) (all : ℕ) → callRead (p .arena) (p .table) v g 0 all ≡ done target → length target < all → (room : ℕ) → length target ≤ room → targetOf (p .arena) (rowAt (p .table) i .rec) room ≡ done target
   unfolding targetOf readBytes
   target-read target all reads spare room l =
-      let H = whole p y v g target all reads spare in
+      let H = whole-file p y v g target all reads spare in
       let e : H .row ≡ i = sym (live-means t v g (H .row) .0 (H .live) .names) ∙ live-means t v g i .0 live .names in
       let size : length target ≡ rowAt (p .table) i .rec .size = H .size ∙ ap (sizeAt t) e in
       rw (le-leb (rowAt t i .rec .size) room (omega (arith, size)), is-there)

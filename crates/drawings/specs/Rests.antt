@@ -66,12 +66,12 @@ NodeNamed = (p : Pair) (d k n : ℕ) → Passed p → NamedAt d k n p → isNode
 unfoldable pub NodeHeld : Type 0
 NodeHeld = (p : Pair) (w : ℕ) (h : Handle) (n : ℕ) (f : List ℕ) → Passed p → On (p .table) w h n f → isNode (p .arena) n ≡ true
 
-pub record Gone (n : ℕ) (p : Pair) : Type 0 where
+pub record Unreached (n : ℕ) (p : Pair) : Type 0 where
   pub unnamed : (d k : ℕ) → NamedAt d k n p → ⊥
   pub unheld : (w : ℕ) (h : Handle) (f : List ℕ) → On (p .table) w h n f → ⊥
 
 unfoldable pub GoneOnly : Type 0
-GoneOnly = (p : Pair) (n : ℕ) → Passed p → isNode (p .arena) n ≡ false → Gone n p
+GoneOnly = (p : Pair) (n : ℕ) → Passed p → isNode (p .arena) n ≡ false → Unreached n p
 
 -- ---- the sentence
 

@@ -21,7 +21,6 @@ use Rattle.base.specs.declared.Found.the-variants.{At, Nothing}
 use Rattle.structs.specs.Layout.{recordOf, recordBytes, superBytes}
 use Rattle.structs.proofs.Layouts.{length-superBytes}
 use Rattle.structs.specs.Types.{isFolder, isType, moveVerdictOf}
-use Rattle.structs.specs.declared.DiskINode.{DiskINode}
 use Rattle.structs.specs.declared.DiskEntry.{DiskEntry}
 use Rattle.structs.specs.declared.Timespec.{Timespec}
 use Rattle.structs.specs.declared.MoveVerdict.{MoveVerdict}
@@ -77,7 +76,7 @@ ok-and (said r) h = said r
 abbrev pub Leaves : (List ℕ → Table → Type 0) → Out Fs → Type 0
 Leaves P o = Ok (λ s. P (s .arena) (s .table)) Any o
 
-abbrev pub LeavesOpen : (List ℕ → Table → Type 0) → Out Opened → Type 0
+abbrev LeavesOpen : (List ℕ → Table → Type 0) → Out Opened → Type 0
 LeavesOpen P o = Ok (λ x. P (x .state .arena) (x .state .table)) Any o
 
 abbrev pub LeavesAfter : (List ℕ → Table → Type 0) → Out After → Type 0

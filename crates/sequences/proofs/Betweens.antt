@@ -39,7 +39,7 @@ use Rattle.image.proofs.Movings.{live-there, moves-fits, moves-kind, moves-most
 use Rattle.image.proofs.BetweenSlots.{Carrying, carry-law}
 use Rattle.image.proofs.Settling.{movedKind, Avoids, wayBy, wayOf, Settled, settle-none}
 use Rattle.image.proofs.Replacing.{replace-law}
-use Rattle.image.proofs.Turned.{Ready, Relinked, dots-law, parent-law}
+use Rattle.image.proofs.Turned.{Ready, dots-law, parent-law}
 use Rattle.files_laws.specs.Laws.{Kept}
 use Rattle.arena.specs.Fields.{File}
 

@@ -45,7 +45,7 @@ use Rattle.sefs.specs.Contents.{callRead}
 use Rattle.rules.specs.Image.{isNode, storedBytes, recBy, recOf, storedSuper, storedMaps}
 use Rattle.rules.specs.Rules.{Allowed}
 use Rattle.rules.proofs.Files.{node-below}
-use Rattle.sefs_laws.proofs.Rows.{Any, any, Changes, Stores, Metas, Bears, bears-and, Fills, Alters, tabled, leaves-meta, leaves-sync, leaves-append, leaves-birth, leaves-named, row-below}
+use Rattle.sefs_laws.proofs.Rows.{Any, any, Changes, Stores, Metas, Bears, bears-and, Fills, tabled, leaves-meta, leaves-sync, leaves-append, leaves-birth, leaves-named, row-below}
 use Rattle.image.specs.Midway.{Used, storedMeta}
 use Rattle.image.proofs.Handles.{formed, row-rec, row-node}
 use Rattle.image.proofs.Images.{fair}
@@ -58,7 +58,7 @@ use Rattle.image.proofs.Allocs.{Sane, taken-new}
 use Rattle.image.proofs.Makes.{Makes, new-node-law}
 use Rattle.sequences.specs.Pairs.{Pair, Passed}
 use Rattle.sequences.specs.Calls.{Call, root, find, walk, create, link, removeFile, removeFolder, move, metadata, setMetadata, getEntry, listing, read, write, resize, sync, close, check, NewFits, Fits, does, next}
-use Rattle.sequences.specs.Promises.{SameFile, Through, writes, resizes}
+use Rattle.sequences.specs.Promises.{Through, writes, resizes}
 use Rattle.sequences.proofs.Passing.{allowed, spelled-any}
 use Rattle.sequences.proofs.Tables.{FillsFolders, Turns, keeps-create, keeps-root, keeps-find, keeps-walk, keeps-set, keeps-link, keeps-remove, keeps-write, keeps-resize, keeps-sync, keeps-close}
 use Rattle.sequences.proofs.Closes.{close-rows}
@@ -67,12 +67,12 @@ use Rattle.sequences.proofs.Corner.{at-put}
 use Rattle.sequences.proofs.Tracks.{As, Wide, Dirty, Tracks, tracks-rows, tracks-bears, tracks-fills, tracks-new}
 
 -- where file f is there, it is as it was in arena o
-abbrev pub Stays : List ℕ → List ℕ → List ℕ → Type 0
-Stays o f a = there a (file 1 f) ≡ true → Kept o a (file 1 f)
+abbrev pub KeptIfThere : List ℕ → List ℕ → List ℕ → Type 0
+KeptIfThere o f a = there a (file 1 f) ≡ true → Kept o a (file 1 f)
 
 -- since pair p: file f as it was, and of every node its type and its file
 pub record Intact (p : Pair) (f a : List ℕ) (t : Table) : Type 0 where
-  pub stays : Stays (p .arena) f a
+  pub stays : KeptIfThere (p .arena) f a
   pub tracks : (m : ℕ) → isNode (p .arena) m ≡ true → Tracks m (recOf (p .arena) (p .table) m .kind) (recOf (p .arena) (p .table) m .file) a t
 
 -- row i of table t is in use, a live hold names it, and its file is that of row i in table v
@@ -82,37 +82,37 @@ record Firm (v t : Table) (i : ℕ) : Type 0 where
   same : rowAt t i .rec .file ≡ rowAt v i .rec .file
 
 -- rows with handles are firm since table v
-abbrev Steady : Table → Table → Type 0
-Steady v t = (i : ℕ) → Firm v v i → Firm v t i
+abbrev FirmSince : Table → Table → Type 0
+FirmSince v t = (i : ℕ) → Firm v v i → Firm v t i
 
 module _ (v : Table) where
-  steady-put : (u : Table) (i : ℕ) (r : Row) → ((j : ℕ) → Firm v u j → j ≡ i → (r .id ≢ 0) × (r .rec .file ≡ rowAt u j .rec .file)) → Steady v u → Steady v (withRow u i r)
+  firm-put : (u : Table) (i : ℕ) (r : Row) → ((j : ℕ) → Firm v u j → j ≡ i → (r .id ≢ 0) × (r .rec .file ≡ rowAt u j .rec .file)) → FirmSince v u → FirmSince v (withRow u i r)
   unfolding rowUsed
-  steady-put u i r g firm j h = let x = firm j h in record {
+  firm-put u i r g firm j h = let x = firm j h in record {
     used = x .used;
     some = at-put (λ (z : Row). z .id ≢ 0) u i r j (λ e. g j x e .0) (x .some);
     same = at-put (λ (z : Row). z .rec .file ≡ rowAt v j .rec .file) u i r j (λ e. g j x e .1 ∙ x .same) (x .same);
   }
 
   -- a firm row is not free, and not unheld
-  steady-bears : Bears (λ a t. Steady v t)
-  steady-bears = tabled (Steady v)
-      (λ t i r e q d. steady-put t i r (λ j x z. (λ w. x .some (ap (λ (k : ℕ). rowAt t k .id) z ∙ sym e ∙ w), q ∙ ap (λ (k : ℕ). rowAt t k .rec .file) (sym z))))
-      (λ t i r e. steady-put t i r (λ j x z. absurd (x .some (ap (λ (k : ℕ). rowAt t k .id) z ∙ e))))
-      (λ t i e. steady-put t i _ (λ j x z. absurd (true-false (ap (rowUsed t) (sym z) ∙ x .used) e)))
+  firm-bears : Bears (λ a t. FirmSince v t)
+  firm-bears = tabled (FirmSince v)
+      (λ t i r e q d. firm-put t i r (λ j x z. (λ w. x .some (ap (λ (k : ℕ). rowAt t k .id) z ∙ sym e ∙ w), q ∙ ap (λ (k : ℕ). rowAt t k .rec .file) (sym z))))
+      (λ t i r e. firm-put t i r (λ j x z. absurd (x .some (ap (λ (k : ℕ). rowAt t k .id) z ∙ e))))
+      (λ t i e. firm-put t i _ (λ j x z. absurd (true-false (ap (rowUsed t) (sym z) ∙ x .used) e)))
 
 module _ (o f : List ℕ) where
-  stays-kept : (a b : List ℕ) → Kept a b (file 1 f) → Stays o f a → Stays o f b
+  stays-kept : (a b : List ℕ) → Kept a b (file 1 f) → KeptIfThere o f a → KeptIfThere o f b
   stays-kept a b k s e = kept-then o a b (file 1 f) (s (sym (k .exists) ∙ e)) k
 
-  stays-drop : (a b g : List ℕ) → Drop a (file 1 g) b → Stays o f a → Stays o f b
+  stays-drop : (a b g : List ℕ) → Drop a (file 1 g) b → KeptIfThere o f a → KeptIfThere o f b
   stays-drop a b g d s =
       ⊎-elim
       (λ (q : file 1 g ≡ file 1 f). λ e. absurd (true-false e (subst (λ (x : File). there b x ≡ false) q (d .gone))))
       (λ n. stays-kept a b (d .others (file 1 f) n) s)
       (file-cases (file 1 g) (file 1 f))
 
-  stays-bears : Bears (λ a t. Stays o f a)
+  stays-bears : Bears (λ a t. KeptIfThere o f a)
   stays-bears = record {
     changes = λ a t i r e q d m y h. h;
     loads = λ a t i id free new h. h;
@@ -177,7 +177,7 @@ module _ (p : Pair) (y : Passed p) where
   track m N = tracks-bears m (K m) (F m) (some-of m N) (node-apart a m N) (omega (arith, A .rule5 .most m N))
 
   module _ (f : List ℕ) where
-    pub intact-start : Intact p f (p .arena) (p .table)
+    intact-start : Intact p f (p .arena) (p .table)
     intact-start = record { stays = λ e. kept-same a (file 1 f); tracks = tracks-start }
 
     intact-bears : Bears (Intact p f)
@@ -206,13 +206,13 @@ module _ (p : Pair) (y : Passed p) where
 
     -- and the rows that have handles
     abbrev Calm : List ℕ → Table → Type 0
-    Calm b u = Intact p f b u × Steady (p .table) u
+    Calm b u = Intact p f b u × FirmSince (p .table) u
 
     calm-start : Calm (p .arena) (p .table)
     calm-start = (intact-start, λ i x. x)
 
     calm-bears : Bears Calm
-    calm-bears = bears-and intact-bears (steady-bears t)
+    calm-bears = bears-and intact-bears (firm-bears t)
 
     calm-fills : (i : ℕ) → Firm (p .table) (p .table) i → rowAt (p .table) i .rec .file ≢ f → Fills Calm i
     calm-fills i h n b d u k c = (intact-fill i b d u (λ q. n (sym (c .1 i h .same) ∙ q)) k (c .0), c .1)
@@ -225,7 +225,7 @@ module _ (p : Pair) (y : Passed p) where
         stays = λ e. kept;
         tracks = λ x N. tracks-new x (K x) (F x) (some-of x N) (node-apart a x N) (omega (arith, A .rule5 .most x N)) a b t i r free (λ q. true-false (ap (isNode a) q ∙ N) new) wide (same x N) (tracks-start x N);
       },
-      steady-put t t i r (λ j x z. absurd (x .some (ap (λ (k : ℕ). rowAt t k .id) z ∙ free))) (λ j h. h),
+      firm-put t t i r (λ j x z. absurd (x .some (ap (λ (k : ℕ). rowAt t k .id) z ∙ free))) (λ j h. h),
     )
 
   -- ---- the rows of live handles

@@ -37,7 +37,7 @@ use Rattle.tree.proofs.Ways.{lives-up}
 use Rattle.image.specs.Midway.{Used, treeOf, plain, Midway}
 use Rattle.image.proofs.TreeOf.{named-tree}
 use Rattle.image.proofs.Climbs.{below-law}
-use Rattle.image.proofs.Settling.{movedKind, Avoids}
+use Rattle.image.proofs.Settling.{Avoids}
 use Rattle.sefs_laws.proofs.Rows.{ok-and, Bears, Fills, leaves-node, leaves-release, leaves-within}
 use Rattle.sequences.proofs.Tables.{Turns}
 use Rattle.image.proofs.Handles.{row-rec, row-folder}

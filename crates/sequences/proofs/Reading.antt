@@ -64,13 +64,13 @@ module _ (p : Pair) (y : Passed p) {w : ℕ} {h : Handle} {n : ℕ} {f : List �
   A : Allowed (p .arena) (p .table)
   A = allowed p y
 
-  pub used : Used (p .table) (o .row)
+  used : Used (p .table) (o .row)
   used = on-used a t A w h n f o
 
   pub node-is : isNode (p .arena) n ≡ true
   node-is = ap (isNode a) (sym (o .node)) ∙ row-node a t A (o .row) used
 
-  pub rec-is : recOf (p .arena) (p .table) n ≡ rowAt (p .table) (o .row) .rec
+  rec-is : recOf (p .arena) (p .table) n ≡ rowAt (p .table) (o .row) .rec
   rec-is = ap (recOf a t) (sym (o .node)) ∙ row-rec a t A (o .row) used
 
   pub file-is : recOf (p .arena) (p .table) n .file ≡ f
@@ -104,14 +104,14 @@ module _ (p : Pair) (y : Passed p) {w : ℕ} {h : Handle} {n : ℕ} {f : List �
     not-folder = rw (no-dir, node-is) refl
 
     -- "a non-folder's file length is its size"
-    pub long-is : lengthOf (p .arena) (file 1 f) ≡ rowAt (p .table) (o .row) .rec .size
+    long-is : lengthOf (p .arena) (file 1 f) ≡ rowAt (p .table) (o .row) .rec .size
     long-is =
         ap (λ (x : List ℕ). lengthOf a (file 1 x)) (sym (o .file))
         ∙ ap (λ (r : DiskINode). lengthOf a (nodeFile r)) (sym rec-is)
         ∙ A .rule6 .size n node-is not-folder
         ∙ ap (λ (r : DiskINode). r .size) rec-is
 
-    pub there-is : there (p .arena) (nodeFile (rowAt (p .table) (o .row) .rec)) ≡ true
+    there-is : there (p .arena) (nodeFile (rowAt (p .table) (o .row) .rec)) ≡ true
     there-is = ap (λ (r : DiskINode). there a (nodeFile r)) (sym rec-is) ∙ A .rule5 .own n node-is
 
     read-bytes : (at m : ℕ) → readBytes (p .arena) (nodeFile (rowAt (p .table) (o .row) .rec)) at m ≡ done (tab (byteAt (p .arena) (file 1 f)) at m)
@@ -141,7 +141,7 @@ read-no-folder p y {n = n} o at room bytes e = ⊎-elim (λ dir. absurd (never (
 -- ---- the whole file
 
 -- w's handle h is on a row whose file holds `old`, and no more; it is no folder's
-pub record Whole (p : Pair) (w : ℕ) (h : Handle) (old : List ℕ) : Type 0 where
+pub record WholeFile (p : Pair) (w : ℕ) (h : Handle) (old : List ℕ) : Type 0 where
   pub row : ℕ
   pub live : liveRow (p .table) w h ≡ At row
   pub no-dir : isFolder (recOf (p .arena) (p .table) (rowAt (p .table) row .id) .kind) ≡ false
@@ -150,8 +150,8 @@ pub record Whole (p : Pair) (w : ℕ) (h : Handle) (old : List ℕ) : Type 0 whe
   pub bytes : old ≡ tab (byteAt (p .arena) (fileAt (p .table) row)) 0 (length old)
 
 -- by a read from the start that had room to spare
-pub whole : (p : Pair) → Passed p → (w : ℕ) (h : Handle) (old : List ℕ) (all : ℕ) → callRead (p .arena) (p .table) w h 0 all ≡ done old → length old < all → Whole p w h old
-whole p y w h old all reads spare =
+pub whole-file : (p : Pair) → Passed p → (w : ℕ) (h : Handle) (old : List ℕ) (all : ℕ) → callRead (p .arena) (p .table) w h 0 all ≡ done old → length old < all → WholeFile p w h old
+whole-file p y w h old all reads spare =
     let r = read-row (p .arena) (p .table) w h 0 all old reads in
     let i : ℕ = r .0 in
     let o : On (p .table) w h (rowAt (p .table) (r .0) .id) (rowAt (p .table) (r .0) .rec .file) = record { row = r .0; live = r .1; node = refl; file = refl } in

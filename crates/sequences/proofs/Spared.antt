@@ -17,7 +17,7 @@ use Rattle.sequences.specs.Calls.{Call, next}
 use Rattle.sequences.specs.Promises.{On, Spares, Else, MakesElse, Safe}
 use Rattle.sequences.proofs.Passing.{allowed}
 use Rattle.sequences.proofs.Corner.{OnAs, on-as, as-on, on-does, on-used, on-there, else-create}
-use Rattle.sequences.proofs.Bytes.{Stays, left}
+use Rattle.sequences.proofs.Bytes.{KeptIfThere, left}
 
 by-kept : (P : Table → Type 0) (p : Pair) {o : Out Pair} → P (p .table) → Ok (λ (q : Pair). P (q .table)) Any o → P (kept p o .table)
 by-kept P p y (went q) = q
@@ -56,7 +56,7 @@ spared p c w h n f y o s q =
       kind = v .1 ∙ sym (m .1);
       new = makes-else p c w h n f y o;
       same = λ no-dir not-through.
-          let L : Stays (p .arena) f (next c p .arena) = subst (λ (x : List ℕ). Stays (p .arena) x (next c p .arena)) (m .2) (left p y n (m .0) no-dir c (s .fits) not-through .stays) in
+          let L : KeptIfThere (p .arena) f (next c p .arena) = subst (λ (x : List ℕ). KeptIfThere (p .arena) x (next c p .arena)) (m .2) (left p y n (m .0) no-dir c (s .fits) not-through .stays) in
           let K = L (on-there (next c p .arena) (next c p .table) (allowed (next c p) q) w h n f (as-on z)) in
           record { long = K .long; bytes = K .byte };
     }
