@@ -14,16 +14,16 @@ use Rattle.table.specs.declared.Handle.{Handle}
 use Rattle.sefs.specs.Contents.{callRead}
 use Rattle.rules.specs.Image.{isNode, recOf, isFolderAt}
 use Rattle.sequences.specs.Pairs.{Pair, Passed}
-use Rattle.sequences.specs.Calls.{Call, write, Fits, does, next}
+use Rattle.sequences.specs.Calls.{Call, does, next}
 use Rattle.sequences.specs.Promises.{Along, ends, goes, On, SameFile, Keeps}
 use Rattle.sequences.proofs.Passing.{allowed}
 use Rattle.sequences.proofs.Sequences.{keeps}
 use Rattle.sequences.proofs.Tracks.{tracks-rec}
 use Rattle.sequences.proofs.Bytes.{Intact, left}
 use Rattle.sequences.proofs.Reading.{node-is, file-is, read-no-folder}
-use Rattle.drawings.specs.Saved.{led}
+use Rattle.drawings.specs.Saved.{led, Saves}
 use Rattle.drawings.specs.Rests.{Drawing, SameNode, LeavesBe, Rests, Rested, RestsAlong, NodeNamed, NodeHeld, GoneOnly, ClosedAndKept}
-use Rattle.drawings.proofs.Saved.{same-reads, after-write, read-wrote}
+use Rattle.drawings.proofs.Saved.{same-reads, after-save, read-saved}
 
 -- ---- one call
 
@@ -110,21 +110,19 @@ gone-only p n y e = record { unnamed = λ d k N. true-false (node-named p d k n 
 
 -- ---- what she saved
 
--- after her write, and through a handle on the node in any pair where it rests
-pub saved-rests : (p q r : Pair) (w v : ℕ) (h g : Handle) (n : ℕ) (f e : List ℕ) (place : ℕ) (bytes : List ℕ) → Passed p → On (p .table) w h n f → Fits (write w h place bytes) → does (write w h place bytes) p ≡ done q
+-- after her save, and through a handle on the node in any pair where it rests
+pub saved-rests : (p q r : Pair) (w v : ℕ) (h g : Handle) (n : ℕ) (f e : List ℕ) (place : ℕ) (bytes : List ℕ) → Passed p → Saves w h n f place bytes p q
     → (Passed q → Drawing n q → Rested n q r × On (r .table) v g n e) → callRead (r .arena) (r .table) v g place (length bytes) ≡ done bytes
-saved-rests p q r w v h g n f e place bytes y o fits did rest =
-    let L = after-write p q w h n f place bytes y o fits did in
-    let c = read-wrote p q w h n f place bytes y o fits did in
-    let D : Drawing n q = record { node = node-is q (L .passes) (L .on); no-folder = read-no-folder q (L .passes) (L .on) place (length bytes) bytes c } in
-    let R = rest (L .passes) D in
-    let S = R .0 .same in
-    let F = file-is q (L .passes) (L .on) in
-    let x : e ≡ f = sym (file-is r (R .0 .passes) (R .1)) ∙ S .file ∙ F in
-    same-reads q r (L .passes) (R .0 .passes) (L .on) (subst (On (r .table) v g n) x (R .1)) (S .kind)
-    (λ _. subst (λ (z : List ℕ). SameFile z (q .arena) (r .arena)) F (S .bytes)) place (length bytes) ∙ c
+saved-rests p q r w v h g n f e place bytes y S rest =
+    let A = after-save p q w h n f place bytes y S in
+    let c = read-saved p q w h n f place bytes y S in
+    let R = rest (A .passes) (record { node = node-is q (A .passes) (A .on); no-folder = read-no-folder q (A .passes) (A .on) place (length bytes) bytes c }) in
+    let N = R .0 .same in
+    let F = file-is q (A .passes) (A .on) in
+    let x : e ≡ f = sym (file-is r (R .0 .passes) (R .1)) ∙ N .file ∙ F in
+    same-reads q r (A .passes) (R .0 .passes) (A .on) (subst (On (r .table) v g n) x (R .1)) (N .kind)
+    (λ _. subst (λ (z : List ℕ). SameFile z (q .arena) (r .arena)) F (N .bytes)) place (length bytes) ∙ c
 
 pub closed-and-kept : ClosedAndKept
 unfolding ClosedAndKept
-closed-and-kept p q l w v h g n f e place bytes y o fits did calls u =
-    saved-rests p q (led q l) w v h g n f e place bytes y o fits did (λ z D. (along n q l z D calls, u))
+closed-and-kept p q l w v h g n f e place bytes y S calls u = saved-rests p q (led q l) w v h g n f e place bytes y S (λ z D. (along n q l z D calls, u))

@@ -34,7 +34,7 @@ use Rattle.sequences.specs.Promises.{Along, ends, goes, On, SameFile, Through, 
 use Rattle.sequences.proofs.Sequences.{keeps}
 use Rattle.sequences.proofs.Spared.{spared}
 use Rattle.sequences.proofs.Reading.{read-folder, read-file, WholeFile, whole-file}
-use Rattle.drawings.specs.Saved.{led, Elsewhere, Reads, Saved, BothSaved, ReadStays, filledTo, LaidOver, ResizedTo}
+use Rattle.drawings.specs.Saved.{led, Saves, Elsewhere, Reads, Saved, BothSaved, ReadStays, filledTo, LaidOver, ResizedTo}
 use Rattle.drawings.proofs.Lists.{part-tab, filled-long, filled-at}
 
 -- ---- calls that leave the node
@@ -123,27 +123,27 @@ wrote p q w h place bytes e =
 
 -- ---- what she wrote
 
-module _ (p q : Pair) (w : ℕ) (h : Handle) (n : ℕ) (f : List ℕ) (place : ℕ) (bytes : List ℕ) (y : Passed p) (o : On (p .table) w h n f) (fits : Fits (write w h place bytes)) (e : does (write w h place bytes) p ≡ done q) where
-  pub after-write : AfterDone w h n f (write w h place bytes) p q
-  after-write = after-done (write w h place bytes) p q y o fits (write-no-close w w h h place bytes) e
+module _ (p q : Pair) (w : ℕ) (h : Handle) (n : ℕ) (f : List ℕ) (place : ℕ) (bytes : List ℕ) (y : Passed p) (S : Saves w h n f place bytes p q) where
+  pub after-save : AfterDone w h n f (write w h place bytes) p q
+  after-save = after-done (write w h place bytes) p q y (S .on) (S .fits) (write-no-close w w h h place bytes) (S .leads)
 
-  pub read-wrote : callRead (q .arena) (q .table) w h place (length bytes) ≡ done bytes
+  pub read-saved : callRead (q .arena) (q .table) w h place (length bytes) ≡ done bytes
   unfolding WrittenRead
-  read-wrote =
-      let d = wrote p q w h place bytes e in
+  read-saved =
+      let d = wrote p q w h place bytes (S .leads) in
       subst (λ (x : Pair). callRead (x .arena) (x .table) w h place (length bytes) ≡ done bytes) (d .2)
-      (written-read (p .arena) (p .table) w h place bytes (d .0) (y .typed .bytes) (fits .3) (d .1))
+      (written-read (p .arena) (p .table) w h place bytes (d .0) (y .typed .bytes) (S .fits .3) (d .1))
 
   -- and then calls that leave the node
-  undisturbed-wrote : (l : List Call) → Along (Elsewhere w h n) q l → Undisturbed w h n f q (led q l)
-  undisturbed-wrote l along = undisturbed-along q l (after-write .passes) (after-write .on) along
+  undisturbed-saved : (l : List Call) → Along (Elsewhere w h n) q l → Undisturbed w h n f q (led q l)
+  undisturbed-saved l along = undisturbed-along q l (after-save .passes) (after-save .on) along
 
-  saved-still : (r : Pair) → Undisturbed w h n f q r → Reads w h n f place bytes r
-  saved-still r S = record { on = S .on; gives = S .reads place (length bytes) ∙ read-wrote }
+  still-reads : (r : Pair) → Undisturbed w h n f q r → Reads w h n f place bytes r
+  still-reads r U = record { on = U .on; gives = U .reads place (length bytes) ∙ read-saved }
 
 pub saved : Saved
 unfolding Saved
-saved p q l w h n f place bytes y o fits e along = saved-still p q w h n f place bytes y o fits e (led q l) (undisturbed-wrote p q w h n f place bytes y o fits e l along)
+saved p q l w h n f place bytes y S along = still-reads p q w h n f place bytes y S (led q l) (undisturbed-saved p q w h n f place bytes y S l along)
 
 -- ---- and a colleague's
 
@@ -163,12 +163,12 @@ his-elsewhere p w v h g n m e at his o d fits = record {
 
 pub both-saved : BothSaved
 unfolding BothSaved Saved
-both-saved p q r l k w v h g n m f e place at hers his y o fits did along ov d fv didv alongw alongv =
-    let S = undisturbed-wrote p q w h n f place hers y o fits did l along in
-    let X = after-write (led q l) r v g m e at his (S .passes) ov fv didv in
-    let T = subst (Undisturbed w h n f (led q l)) (X .is) (undisturbed-by (led q l) (write v g at his) (S .passes) (S .on) (his-elsewhere (led q l) w v h g n m e at his ov d fv)) in (
-      saved-still p q w h n f place hers y o fits did (led r k) (undisturbed-then S (undisturbed-then T (undisturbed-along r k (T .passes) (T .on) alongw))),
-      saved (led q l) r k v g m e at his (S .passes) ov fv didv alongv,
+both-saved p q r l k w v h g n m f e place at hers his y S along d T alongw alongv =
+    let U = undisturbed-saved p q w h n f place hers y S l along in
+    let A = after-save (led q l) r v g m e at his (U .passes) T in
+    let Z = subst (Undisturbed w h n f (led q l)) (A .is) (undisturbed-by (led q l) (write v g at his) (U .passes) (U .on) (his-elsewhere (led q l) w v h g n m e at his (T .on) d (T .fits))) in (
+      still-reads p q w h n f place hers y S (led r k) (undisturbed-then U (undisturbed-then Z (undisturbed-along r k (Z .passes) (Z .on) alongw))),
+      saved (led q l) r k v g m e at his (U .passes) T alongv,
     )
 
 -- ---- any read after a write or a resize
@@ -267,16 +267,16 @@ module _ (p : Pair) (w : ℕ) (h : Handle) (old : List ℕ) (H : WholeFile p w h
 
 pub laid-over : LaidOver
 unfolding LaidOver IsWritten
-laid-over p q w h place new old all at room y before spare fits e =
-    let H = whole-file p y w h old all before spare in
+laid-over p q w h place new old at room y R fits e =
+    let H = whole-file p y w h old (R .room) (R .gives) (R .spare) in
     let d = wrote p q w h place new e in
     let W = is-written (p .arena) (p .table) w h (H .row) place new (d .0) (y .typed .bytes) (fits .3) (H .live) (d .1) in
-    laid-read p w h old H place new (d .0) W q (after-write p q w h _ _ place new y (whole-on p w h old H) fits e) (d .2) at room
+    laid-read p w h old H place new (d .0) W q (after-done (write w h place new) p q y (whole-on p w h old H) fits (write-no-close w w h h place new) e) (d .2) at room
 
 pub resized-to : ResizedTo
 unfolding ResizedTo IsResized does
-resized-to p q w h n old all at room y before spare fits e =
-    let H = whole-file p y w h old all before spare in
+resized-to p q w h n old at room y R fits e =
+    let H = whole-file p y w h old (R .room) (R .gives) (R .spare) in
     let d = bind-is-done (callResize (p .arena) (p .table) w h n) (λ x. done (pair (x .arena) (x .table))) q e in
-    let R = is-resized (p .arena) (p .table) w h (H .row) n (d .0) (y .typed .bytes) (H .live) (d .1) in
-    cut-read p w h old H n (d .0) R q (after-done (resize w h n) p q y (whole-on p w h old H) fits (resize-no-close w h n) e) (ap (kept p) (d .2)) at room
+    let D = is-resized (p .arena) (p .table) w h (H .row) n (d .0) (y .typed .bytes) (H .live) (d .1) in
+    cut-read p w h old H n (d .0) D q (after-done (resize w h n) p q y (whole-on p w h old H) fits (resize-no-close w h n) e) (ap (kept p) (d .2)) at room
