@@ -44,11 +44,11 @@ use Rattle.sequences.specs.Calls.{Call, find, does, next}
 use Rattle.sequences.specs.Promises.{On, Through, writes, resizes}
 use Rattle.sequences.proofs.Passing.{allowed, spelled-any, spelled-midway}
 use Rattle.sequences.proofs.Corner.{on-used}
+use Rattle.sequences.proofs.Chains.{never}
 use Rattle.drawings.specs.Saved.{led}
 use Rattle.sequences.specs.TableFull.{findTo}
 use Rattle.drawings.specs.Rests.{Rested, NamedAt, NodeNamed, FoundAndKept}
 use Rattle.sequences.proofs.TableFull.{part-find}
-use Rattle.drawings.proofs.Saved.{never}
 use Rattle.drawings.proofs.Rests.{one-more, along, node-named, saved-rests}
 
 ensured : (b : Bool) (n : ℕ) → ensure b n ≡ done tt → b ≡ true
@@ -142,10 +142,10 @@ module _ (p : Pair) (y : Passed p) where
 
 pub found-and-kept : FoundAndKept
 unfolding FoundAndKept NodeNamed does
-found-and-kept p q l w v h g n d k f e name place bytes x y o fits did calls u N named fv found =
+found-and-kept p q l w v h g n d k f e name place bytes x y S calls u N named fv found =
     let E : does (find v g name) (led q l) ≡ done (pair (led q l .arena) (x .table)) = ap (λ (z : Out Added). bind z (λ x. done (pair (led q l .arena) (x .table)))) found in
     let M : next (find v g name) (led q l) ≡ pair (led q l .arena) (x .table) = ap (kept (led q l)) E in
-    saved-rests p q (pair (led q l .arena) (x .table)) w v h (x .handle) n f (recOf (led q l .arena) (led q l .table) n .file) place bytes y o fits did (λ z D.
+    saved-rests p q (pair (led q l .arena) (x .table)) w v h (x .handle) n f (recOf (led q l .arena) (led q l .table) n .file) place bytes y S (λ z D.
     let R : Rested n q (led q l) = along n q l z D calls in (
       subst (Rested n q) M (one-more n q (led q l) (find v g name) R (record {
         fits = fv;

@@ -2,32 +2,28 @@
 use mathlib.Core.Path.{_≡_, refl, sym, ap, _∙_, subst}
 use mathlib.Core.Bool.{true, false}
 use mathlib.Core.List.{List}
-use mathlib.Core.Logic.{⊎-elim}
-use Prim.Native.Nat.{ℕ, _+_}
+use Prim.Native.Nat.{ℕ}
 use lib.ListN.{length}
-use Rattle.base.specs.Out.{Out, done, refused, answer, kept, Ok, went, said}
-use Rattle.base.specs.Parts.{tab}
-use Rattle.base.proofs.Bools.{bool-cases, true-false}
-use Rattle.base.proofs.Lists.{tab-cong}
+use Rattle.base.specs.Out.{Out, done, refused, answer, kept}
+use Rattle.base.proofs.Bools.{true-false}
 use Rattle.structs.specs.Types.{isFolder}
 use Rattle.arena.specs.Fields.{file}
-use Rattle.files.specs.Read.{there, lengthOf, byteAt}
+use Rattle.files.specs.Read.{there, lengthOf}
 use Rattle.files_laws.specs.Laws.{Kept}
 use Rattle.table.specs.declared.Handle.{Handle}
-use Rattle.sefs.specs.Contents.{readCount, callRead}
+use Rattle.sefs.specs.Contents.{callRead}
 use Rattle.rules.specs.Image.{isNode, recOf, isFolderAt}
-use Rattle.sefs_laws.proofs.Rows.{Any}
 use Rattle.sequences.specs.Pairs.{Pair, Passed}
-use Rattle.sequences.specs.Calls.{Call, write, Fits, does, next}
+use Rattle.sequences.specs.Calls.{Call, does, next}
 use Rattle.sequences.specs.Promises.{Along, ends, goes, On, SameFile, Keeps}
 use Rattle.sequences.proofs.Passing.{allowed}
 use Rattle.sequences.proofs.Sequences.{keeps}
-use Rattle.drawings.specs.Saved.{led}
+use Rattle.sequences.proofs.Tracks.{tracks-rec}
+use Rattle.sequences.proofs.Bytes.{Intact, left}
+use Rattle.sequences.proofs.Reading.{node-is, file-is, read-no-folder}
+use Rattle.drawings.specs.Saved.{led, Saves}
 use Rattle.drawings.specs.Rests.{Drawing, SameNode, LeavesBe, Rests, Rested, RestsAlong, NodeNamed, NodeHeld, GoneOnly, ClosedAndKept}
-use Rattle.drawings.proofs.Tracks.{tracks-rec}
-use Rattle.drawings.proofs.Leaving.{Left, left-start, leaves}
-use Rattle.drawings.proofs.Handles.{OnAs}
-use Rattle.drawings.proofs.Saved.{node-is, kind-is, file-is, read-folder, read-file, on-as, never, wrote, on-wrote, read-wrote}
+use Rattle.drawings.proofs.Saved.{same-reads, after-save, read-saved}
 
 -- ---- one call
 
@@ -43,9 +39,9 @@ same-self : (n : ℕ) (p : Pair) → SameNode n p p
 same-self n p = record { kind = refl; file = refl; size = refl; bytes = record { long = refl; bytes = λ i. refl } }
 
 -- what a call left, in a pair that passes and has the node
-same-left : (p q : Pair) (n : ℕ) (y : Passed p) (D : Drawing n p) → Passed q → isNode (q .arena) n ≡ true → Left p y n (D .node) (D .no-folder) (q .arena) (q .table) → SameNode n p q
+same-left : (p q : Pair) (n : ℕ) → Passed p → Drawing n p → Passed q → isNode (q .arena) n ≡ true → Intact p (recOf (p .arena) (p .table) n .file) (q .arena) (q .table) → SameNode n p q
 same-left p q n y D z M L =
-    let w = tracks-rec n (recOf (p .arena) (p .table) n .kind) (recOf (p .arena) (p .table) n .file) (q .arena) (q .table) (L .tracks) in
+    let w = tracks-rec n (recOf (p .arena) (p .table) n .kind) (recOf (p .arena) (p .table) n .file) (q .arena) (q .table) (L .tracks n (D .node)) in
     let K : Kept (p .arena) (q .arena) (file 1 (recOf (p .arena) (p .table) n .file)) = L .stays (ap (λ (x : List ℕ). there (q .arena) (file 1 x)) (sym (w .file)) ∙ allowed q z .rule5 .own n M) in
     record {
       kind = w .kind;
@@ -58,14 +54,10 @@ pub rests : Rests
 unfolding Rests Keeps
 rests p c n y D e = by (does c p) refl
   where
-    left : {o : Out Pair} → Ok (λ (q : Pair). Left p y n (D .node) (D .no-folder) (q .arena) (q .table)) Any o → Left p y n (D .node) (D .no-folder) (kept p o .arena) (kept p o .table)
-    left (went l) = l
-    left (said r) = left-start p y n (D .node) (D .no-folder)
-
     by : (o : Out Pair) → does c p ≡ o → SameNode n p (next c p)
     by (done q) d =
         same-left p (next c p) n y D (keeps p c y (e .fits) .passes) (e .stays-node)
-        (left (leaves p y n (D .node) (D .no-folder) c (e .fits) (λ g. e .not-written g (ap answer d))))
+        (left p y n (D .node) (D .no-folder) c (e .fits) (λ g. e .not-written g (ap answer d)))
     by (refused m) d = subst (SameNode n p) (sym (ap (kept p) d)) (same-self n p)
 
 -- ---- any list of calls
@@ -110,7 +102,7 @@ node-named p d k n y N = ap (isNode (p .arena)) (sym (N .names)) ∙ allowed p y
 
 pub node-held : NodeHeld
 unfolding NodeHeld
-node-held p w h n f y o = node-is p y (on-as (p .table) w h n f o)
+node-held p w h n f y o = node-is p y o
 
 pub gone-only : GoneOnly
 unfolding GoneOnly NodeNamed NodeHeld
@@ -118,38 +110,19 @@ gone-only p n y e = record { unnamed = λ d k N. true-false (node-named p d k n 
 
 -- ---- what she saved
 
--- a handle that reads bytes is on no folder
-reads-drawing : (p : Pair) (y : Passed p) {w : ℕ} {h : Handle} {n : ℕ} {f : List ℕ} {k : ℕ} → OnAs w h n f k (p .table) → (at room : ℕ) (bytes : List ℕ) → callRead (p .arena) (p .table) w h at room ≡ done bytes → Drawing n p
-reads-drawing p y {k = k} o at room bytes e = record {
-  node = node-is p y o;
-  no-folder = ap isFolder (kind-is p y o) ∙ ⊎-elim (λ dir. absurd (never (sym e ∙ read-folder p y o dir at room))) (λ no. no) (bool-cases (isFolder k));
-}
-
--- two handles on a node that rests read the same
-same-read : (p q : Pair) (y : Passed p) (n : ℕ) → Drawing n p → Rested n p q → {w v : ℕ} {h g : Handle} {f e : List ℕ} {k j : ℕ} → OnAs w h n f k (p .table) → OnAs v g n e j (q .table)
-    → (at room : ℕ) → callRead (q .arena) (q .table) v g at room ≡ callRead (p .arena) (p .table) w h at room
-same-read p q y n D R {f = f} {e = e} o u at room =
-    let x : e ≡ f = sym (file-is q (R .passes) u) ∙ R .same .file ∙ file-is p y o in
-    let s : SameFile f (p .arena) (q .arena) = subst (λ (z : List ℕ). SameFile z (p .arena) (q .arena)) (file-is p y o) (R .same .bytes) in
-    read-file q (R .passes) u (ap isFolder (sym (kind-is q (R .passes) u)) ∙ R .drawing .no-folder) at room
-    ∙ ap (λ (z : List ℕ). done (tab (byteAt (q .arena) (file 1 z)) at (readCount (lengthOf (q .arena) (file 1 z)) at room))) x
-    ∙ ap done (ap (λ (m : ℕ). tab (byteAt (q .arena) (file 1 f)) at (readCount m at room)) (s .long)
-    ∙ tab-cong (byteAt (q .arena) (file 1 f)) (byteAt (p .arena) (file 1 f)) at at (readCount (lengthOf (p .arena) (file 1 f)) at room) (λ i _. s .bytes (at + i)))
-    ∙ sym (read-file p y o (ap isFolder (sym (kind-is p y o)) ∙ D .no-folder) at room)
-
--- after her write and such calls, and through a handle on the node in any pair where it rests
-pub saved-rests : (p q r : Pair) (w v : ℕ) (h g : Handle) (n : ℕ) (f e : List ℕ) (place : ℕ) (bytes : List ℕ) → Passed p → On (p .table) w h n f → Fits (write w h place bytes) → does (write w h place bytes) p ≡ done q
+-- after her save, and through a handle on the node in any pair where it rests
+pub saved-rests : (p q r : Pair) (w v : ℕ) (h g : Handle) (n : ℕ) (f e : List ℕ) (place : ℕ) (bytes : List ℕ) → Passed p → Saves w h n f place bytes p q
     → (Passed q → Drawing n q → Rested n q r × On (r .table) v g n e) → callRead (r .arena) (r .table) v g place (length bytes) ≡ done bytes
-saved-rests p q r w v h g n f e place bytes y o fits did rest =
-    let a = on-as (p .table) w h n f o in
-    let W = wrote p q w h place bytes y fits did in
-    let b = on-wrote p q w h n f _ place bytes y a fits W in
-    let c = read-wrote p q w h n f _ place bytes y a fits W in
-    let D = reads-drawing q (W .passes) b place (length bytes) bytes c in
-    let R = rest (W .passes) D in
-    same-read q r (W .passes) n D (R .0) b (on-as (r .table) v g n e (R .1)) place (length bytes) ∙ c
+saved-rests p q r w v h g n f e place bytes y S rest =
+    let A = after-save p q w h n f place bytes y S in
+    let c = read-saved p q w h n f place bytes y S in
+    let R = rest (A .passes) (record { node = node-is q (A .passes) (A .on); no-folder = read-no-folder q (A .passes) (A .on) place (length bytes) bytes c }) in
+    let N = R .0 .same in
+    let F = file-is q (A .passes) (A .on) in
+    let x : e ≡ f = sym (file-is r (R .0 .passes) (R .1)) ∙ N .file ∙ F in
+    same-reads q r (A .passes) (R .0 .passes) (A .on) (subst (On (r .table) v g n) x (R .1)) (N .kind)
+    (λ _. subst (λ (z : List ℕ). SameFile z (q .arena) (r .arena)) F (N .bytes)) place (length bytes) ∙ c
 
 pub closed-and-kept : ClosedAndKept
 unfolding ClosedAndKept
-closed-and-kept p q l w v h g n f e place bytes y o fits did calls u =
-    saved-rests p q (led q l) w v h g n f e place bytes y o fits did (λ z D. (along n q l z D calls, u))
+closed-and-kept p q l w v h g n f e place bytes y S calls u = saved-rests p q (led q l) w v h g n f e place bytes y S (λ z D. (along n q l z D calls, u))

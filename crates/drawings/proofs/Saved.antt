@@ -1,239 +1,149 @@
 -- The support call: what was saved is what is read.
 use mathlib.Core.Path.{_≡_, refl, sym, ap, _∙_, subst}
-use mathlib.Core.Bool.{Bool, true, false, not, _&&_}
+use mathlib.Core.Bool.{Bool, true, false}
 use mathlib.Core.List.{List}
 use mathlib.Core.Logic.{_≢_, ⊎-elim}
-use Prim.Native.Nat.{ℕ, _+_, _<_, max}
+use Prim.Native.Nat.{ℕ, _+_, _-_, _≤_, _<_, min, max}
 use native.Mathlib.Omega.{arith}
-use lib.Dec.{leb}
-use lib.ListN.{length, getD}
-use Rattle.base.specs.Out.{Out, done, refused, bind, ensure, answer, kept, Ok}
-use Rattle.base.specs.Parts.{tab}
-use Rattle.base.proofs.Outs.{bind-is-done, ok-done}
-use Rattle.base.proofs.Bools.{bool-cases, true-false}
-use Rattle.base.proofs.Lists.{length-tab, getD-tab, tab-cong}
+use lib.ListN.{length, take, getD, length-take, List·getD-eq-default}
+use lib.Seq.{getD-take}
+use Rattle.base.specs.Out.{Out, done, refused, answer, kept}
+use Rattle.base.specs.Parts.{part, paste, tab}
+use Rattle.base.proofs.Outs.{bind-is-done}
+use Rattle.base.proofs.Bools.{bool-cases}
+use Rattle.base.proofs.Lists.{getD-tab, tab-cong, length-paste, getD-paste-in, getD-paste-out}
 use Rattle.base.proofs.Numbers.{lt-or-le}
-use Rattle.base.proofs.Tests.{decides-leb}
-use Rattle.base.proofs.Sames.{decided-yes}
 use Rattle.base.specs.declared.Found.the-variants.{At}
-use Rattle.structs.specs.Types.{isFolder, isType}
-use Rattle.structs.specs.declared.DiskINode.{DiskINode}
-use Rattle.arena.specs.Fields.{File, file}
-use Rattle.files.specs.Read.{there, lengthOf, byteAt}
+use Rattle.structs.specs.Types.{isFolder}
+use Rattle.arena.specs.Fields.{file}
+use Rattle.files.specs.Read.{lengthOf, byteAt}
 use Rattle.table.specs.declared.Table.{Table}
 use Rattle.table.specs.declared.Row.{Row}
 use Rattle.table.specs.declared.Handle.{Handle}
 use Rattle.table.specs.Table.{rowAt, liveRow}
-use Rattle.table_laws.proofs.Handles.{live-means, live-used}
+use Rattle.table_laws.proofs.Handles.{live-means}
 use Rattle.sefs.specs.Nodes.{nodeFile}
 use Rattle.sefs.specs.Create.{After}
-use Rattle.sefs.specs.Ask.{admit, byHandle}
-use Rattle.sefs.specs.Contents.{hasContents, readCount, readBytes, callRead, callWrite}
-use Rattle.sefs_laws.specs.Contents.{fileAt, sizeAt, Exact, Written, IsWritten, WrittenRead}
-use Rattle.sefs_laws.proofs.Contents.{is-written, written-read}
-use Rattle.sefs_laws.proofs.Handles.{Owns, live-owns, handle-asks, handle-done}
-use Rattle.sefs_laws.proofs.Rows.{Any}
-use Rattle.rules.specs.Image.{isNode, recOf, isFolderAt}
-use Rattle.rules.specs.Rules.{Allowed}
-use Rattle.image.specs.Midway.{Used}
-use Rattle.image.proofs.Handles.{admitted, formed, row-node, row-rec, row-most, row-type}
+use Rattle.sefs.specs.Contents.{readCount, callRead, callWrite, callResize}
+use Rattle.sefs_laws.specs.Contents.{fileAt, Exact, Only, Written, IsWritten, WrittenRead, Resized, IsResized}
+use Rattle.sefs_laws.proofs.Contents.{is-written, written-read, is-resized}
+use Rattle.rules.specs.Image.{recOf}
 use Rattle.sequences.specs.Pairs.{Pair, pair, Passed}
-use Rattle.sequences.specs.Calls.{Call, write, close, Fits, does, next}
-use Rattle.sequences.specs.Promises.{Along, ends, goes, On, SameFile, Through, writes, Keeps}
-use Rattle.sequences.proofs.Passing.{allowed}
+use Rattle.sequences.specs.Calls.{Call, write, resize, close, Fits, does, next}
+use Rattle.sequences.specs.Promises.{Along, ends, goes, On, SameFile, Through, writes, Safe, Keeps}
 use Rattle.sequences.proofs.Sequences.{keeps}
 use Rattle.sequences.proofs.Spared.{spared}
-use Rattle.drawings.specs.Saved.{led, Elsewhere, Reads, Saved, BothSaved, ReadStays, laid, piece, LaidOver}
-use Rattle.drawings.proofs.Lists.{piece-tab, laid-long, laid-before, laid-hole, laid-in, laid-after}
-use Rattle.drawings.proofs.Handles.{OnAs, as-next}
-
--- what is asked of a known type
-asked : (x y z : Bool) → x ≡ true → y ≡ true → bind (ensure x 19) (λ _. ensure (y && not z) 21) ≡ ensure (not z) 21
-asked true true z e q = refl
-asked true false z e q = absurd (true-false q refl)
-asked false y z e q = absurd (true-false e refl)
-
-contents-by : (r : DiskINode) (b : Bool) → leb (r .kind) 4 ≡ true → isType (r .kind) ≡ true → isFolder (r .kind) ≡ b → hasContents r ≡ ensure (not b) 21
-unfolding hasContents
-contents-by r b e q d = asked (leb (r .kind) 4) (isType (r .kind)) (isFolder (r .kind)) e q ∙ ap (λ (x : Bool). ensure (not x) 21) d
-
--- ---- a read at a passed pair: the bytes of the node's file, and no more than it has
-
-module _ (p : Pair) (y : Passed p) {w : ℕ} {h : Handle} {n : ℕ} {f : List ℕ} {k : ℕ} (o : OnAs w h n f k (p .table)) where
-  abbrev a : List ℕ
-  a = p .arena
-
-  abbrev t : Table
-  t = p .table
-
-  A : Allowed (p .arena) (p .table)
-  A = allowed p y
-
-  pub used : Used (p .table) (o .row)
-  used = let l = live-means t w h (o .row) .0 (o .live) in record { below = l .is-row; node = live-used t w h (o .row) (formed a t A) l }
-
-  pub some : n ≢ 0
-  some z = used .node (o .node ∙ z)
-
-  pub as-on : On (p .table) w h n f
-  as-on = record { row = o .row; live = o .live; node = o .node; file = o .file }
-
-  pub node-is : isNode (p .arena) n ≡ true
-  node-is = ap (isNode a) (sym (o .node)) ∙ row-node a t A (o .row) used
-
-  rec-is : recOf (p .arena) (p .table) n ≡ rowAt (p .table) (o .row) .rec
-  rec-is = ap (recOf a t) (sym (o .node)) ∙ row-rec a t A (o .row) used
-
-  pub kind-is : recOf (p .arena) (p .table) n .kind ≡ k
-  kind-is = ap (λ (r : DiskINode). r .kind) rec-is ∙ o .kind
-
-  pub file-is : recOf (p .arena) (p .table) n .file ≡ f
-  file-is = ap (λ (r : DiskINode). r .file) rec-is ∙ o .file
-
-  -- a handle is asked for its row
-  reads-row : (at room : ℕ) → callRead (p .arena) (p .table) w h at room
-      ≡ bind (hasContents (rowAt (p .table) (o .row) .rec)) (λ _. readBytes (p .arena) (nodeFile (rowAt (p .table) (o .row) .rec)) at (readCount (rowAt (p .table) (o .row) .rec .size) at room))
-  unfolding callRead
-  reads-row at room = rw (admitted a t A, handle-done t w h (o .row) (live-owns t w h (o .row) (formed a t A) (o .live))) refl
-
-  known-type : leb (rowAt (p .table) (o .row) .rec .kind) 4 ≡ true
-  known-type = decided-yes (decides-leb (rowAt t (o .row) .rec .kind) 4) (row-most a t A (o .row) used)
-
-  pub read-folder : isFolder k ≡ true → (at room : ℕ) → callRead (p .arena) (p .table) w h at room ≡ refused 21
-  read-folder dir at room =
-      reads-row at room
-      ∙ ap (λ (x : Out Unit). bind x (λ _. readBytes a (nodeFile (rowAt t (o .row) .rec)) at (readCount (rowAt t (o .row) .rec .size) at room)))
-      (contents-by (rowAt t (o .row) .rec) true known-type (row-type a t A (o .row) used) (ap isFolder (o .kind) ∙ dir))
-
-  module _ (no-dir : isFolder k ≡ false) where
-    has-contents : hasContents (rowAt (p .table) (o .row) .rec) ≡ done tt
-    has-contents = contents-by (rowAt t (o .row) .rec) false known-type (row-type a t A (o .row) used) (ap isFolder (o .kind) ∙ no-dir)
-
-    not-folder : isFolderAt (p .arena) (p .table) n ≡ false
-    unfolding isFolderAt
-    not-folder = rw (ap isFolder kind-is ∙ no-dir, node-is) refl
-
-    -- "a non-folder's file length is its size"
-    pub long-is : lengthOf (p .arena) (file 1 f) ≡ rowAt (p .table) (o .row) .rec .size
-    long-is =
-        ap (λ (x : List ℕ). lengthOf a (file 1 x)) (sym (o .file))
-        ∙ ap (λ (r : DiskINode). lengthOf a (nodeFile r)) (sym rec-is)
-        ∙ A .rule6 .size n node-is not-folder
-        ∙ ap (λ (r : DiskINode). r .size) rec-is
-
-    pub there-is : there (p .arena) (nodeFile (rowAt (p .table) (o .row) .rec)) ≡ true
-    there-is = ap (λ (r : DiskINode). there a (nodeFile r)) (sym rec-is) ∙ A .rule5 .own n node-is
-
-    read-bytes : (at m : ℕ) → readBytes (p .arena) (nodeFile (rowAt (p .table) (o .row) .rec)) at m ≡ done (tab (byteAt (p .arena) (file 1 f)) at m)
-    unfolding readBytes
-    read-bytes at m = rw there-is (ap (λ (x : List ℕ). done (tab (byteAt a (file 1 x)) at m)) (o .file))
-
-    pub read-file : (at room : ℕ) → callRead (p .arena) (p .table) w h at room ≡ done (tab (byteAt (p .arena) (file 1 f)) at (readCount (lengthOf (p .arena) (file 1 f)) at room))
-    read-file at room =
-        reads-row at room
-        ∙ ap (λ (x : Out Unit). bind x (λ _. readBytes a (nodeFile (rowAt t (o .row) .rec)) at (readCount (rowAt t (o .row) .rec .size) at room))) has-contents
-        ∙ read-bytes at (readCount (rowAt t (o .row) .rec .size) at room)
-        ∙ ap (λ (m : ℕ). done (tab (byteAt a (file 1 f)) at (readCount m at room))) (sym long-is)
+use Rattle.sequences.proofs.Reading.{read-folder, read-file, WholeFile, whole-file}
+use Rattle.drawings.specs.Saved.{led, Saves, Elsewhere, Reads, Saved, BothSaved, ReadStays, filledTo, LaidOver, ResizedTo}
+use Rattle.drawings.proofs.Lists.{part-tab, filled-long, filled-at}
 
 -- ---- calls that leave the node
 
--- q passes as p did, her handle is on the same node, and reads as it read
-record Still (w : ℕ) (h : Handle) (n : ℕ) (f : List ℕ) (k : ℕ) (p q : Pair) : Type 0 where
+-- q passes as p did, her handle is on the same node, of the same type, and reads as it read
+record Undisturbed (w : ℕ) (h : Handle) (n : ℕ) (f : List ℕ) (p q : Pair) : Type 0 where
   passes : Passed q
-  on : OnAs w h n f k (q .table)
+  on : On (q .table) w h n f
   reads : (at room : ℕ) → callRead (q .arena) (q .table) w h at room ≡ callRead (p .arena) (p .table) w h at room
 
-module _ {w : ℕ} {h : Handle} {n : ℕ} {f : List ℕ} {k : ℕ} where
-  -- the same file, and so the same reads
-  same-reads : (p q : Pair) → Passed p → Passed q → OnAs w h n f k (p .table) → OnAs w h n f k (q .table) → (isFolder k ≡ false → SameFile f (p .arena) (q .arena))
-      → (at room : ℕ) → callRead (q .arena) (q .table) w h at room ≡ callRead (p .arena) (p .table) w h at room
-  same-reads p q y z o u same at room = ⊎-elim
-      (λ dir. read-folder q z u dir at room ∙ sym (read-folder p y o dir at room))
-      (λ no-dir.
-      let s : SameFile f (p .arena) (q .arena) = same no-dir in
-      read-file q z u no-dir at room
-      ∙ ap done (ap (λ (m : ℕ). tab (byteAt (q .arena) (file 1 f)) at (readCount m at room)) (s .long)
-      ∙ tab-cong (byteAt (q .arena) (file 1 f)) (byteAt (p .arena) (file 1 f)) at at (readCount (lengthOf (p .arena) (file 1 f)) at room) (λ i _. s .bytes (at + i)))
-      ∙ sym (read-file p y o no-dir at room))
-      (bool-cases (isFolder k))
+-- two handles on a node with the same file read the same
+pub same-reads : (p q : Pair) → Passed p → Passed q → {w v : ℕ} {h g : Handle} {n : ℕ} {f : List ℕ} → On (p .table) w h n f → On (q .table) v g n f
+    → recOf (q .arena) (q .table) n .kind ≡ recOf (p .arena) (p .table) n .kind → (isFolder (recOf (p .arena) (p .table) n .kind) ≡ false → SameFile f (p .arena) (q .arena))
+    → (at room : ℕ) → callRead (q .arena) (q .table) v g at room ≡ callRead (p .arena) (p .table) w h at room
+same-reads p q y z {n = n} {f = f} o u kind same at room = ⊎-elim
+    (λ dir. read-folder q z u (ap isFolder kind ∙ dir) at room ∙ sym (read-folder p y o dir at room))
+    (λ no-dir.
+    let s : SameFile f (p .arena) (q .arena) = same no-dir in
+    read-file q z u (ap isFolder kind ∙ no-dir) at room
+    ∙ ap done (ap (λ (m : ℕ). tab (byteAt (q .arena) (file 1 f)) at (readCount m at room)) (s .long)
+    ∙ tab-cong (byteAt (q .arena) (file 1 f)) (byteAt (p .arena) (file 1 f)) at at (readCount (lengthOf (p .arena) (file 1 f)) at room) (λ i _. s .bytes (at + i)))
+    ∙ sym (read-file p y o no-dir at room))
+    (bool-cases (isFolder (recOf (p .arena) (p .table) n .kind)))
 
-  still-step : (p : Pair) (c : Call) → Passed p → OnAs w h n f k (p .table) → Elsewhere w h n c p → Still w h n f k p (next c p)
+module _ {w : ℕ} {h : Handle} {n : ℕ} {f : List ℕ} where
+  undisturbed-by : (p : Pair) (c : Call) → Passed p → On (p .table) w h n f → Elsewhere w h n c p → Undisturbed w h n f p (next c p)
   unfolding Keeps
-  still-step p c y o e =
+  undisturbed-by p c y o e =
       let z : Passed (next c p) = keeps p c y (e .fits) .passes in
-      let u : OnAs w h n f k (next c p .table) = as-next w h n f k (some p y o) c p (e .not-closed) o in
-      record { passes = z; on = u; reads = same-reads p (next c p) y z o u (λ no-dir. same z no-dir (does c p) refl) }
+      let S : Safe w h n f c p = spared p c w h n f y o (record { fits = e .fits; not-closed = e .not-closed }) z in
+      record { passes = z; on = S .stays; reads = same-reads p (next c p) y z o (S .stays) (S .kind) (λ no-dir. same S no-dir (does c p) refl) }
     where
-      same : Passed (next c p) → isFolder k ≡ false → (x : Out Pair) → does c p ≡ x → SameFile f (p .arena) (next c p .arena)
-      same z no-dir (done q) d =
-          spared p c w h n f y (as-on p y o) (record { fits = e .fits; not-closed = e .not-closed }) z .same (ap isFolder (kind-is p y o) ∙ no-dir) (λ g. e .not-written g (ap answer d))
-      same z no-dir (refused m) d =
+      same : Safe w h n f c p → isFolder (recOf (p .arena) (p .table) n .kind) ≡ false → (x : Out Pair) → does c p ≡ x → SameFile f (p .arena) (next c p .arena)
+      same S no-dir (done q) d = S .same no-dir (λ g. e .not-written g (ap answer d))
+      same S no-dir (refused m) d =
           let q : next c p ≡ p = ap (kept p) d in
           subst (λ (x : Pair). SameFile f (p .arena) (x .arena)) (sym q) (record { long = refl; bytes = λ i. refl })
 
-  still-then : {p q r : Pair} → Still w h n f k p q → Still w h n f k q r → Still w h n f k p r
-  still-then s u = record { passes = u .passes; on = u .on; reads = λ at room. u .reads at room ∙ s .reads at room }
+  undisturbed-then : {p q r : Pair} → Undisturbed w h n f p q → Undisturbed w h n f q r → Undisturbed w h n f p r
+  undisturbed-then s u = record { passes = u .passes; on = u .on; reads = λ at room. u .reads at room ∙ s .reads at room }
 
-  still-along : (p : Pair) (l : List Call) → Passed p → OnAs w h n f k (p .table) → Along (Elsewhere w h n) p l → Still w h n f k p (led p l)
-  still-along p l y o ends = record { passes = y; on = o; reads = λ at room. refl }
-  still-along p l y o (goes {c = c} {l = m} e r) =
-      let s : Still w h n f k p (next c p) = still-step p c y o e in
-      still-then s (still-along (next c p) m (s .passes) (s .on) r)
-
-pub on-as : (t : Table) (w : ℕ) (h : Handle) (n : ℕ) (f : List ℕ) (o : On t w h n f) → OnAs w h n f (rowAt t (o .row) .rec .kind) t
-on-as t w h n f o = record { row = o .row; live = o .live; node = o .node; file = o .file; kind = refl }
+  undisturbed-along : (p : Pair) (l : List Call) → Passed p → On (p .table) w h n f → Along (Elsewhere w h n) p l → Undisturbed w h n f p (led p l)
+  undisturbed-along p l y o ends = record { passes = y; on = o; reads = λ at room. refl }
+  undisturbed-along p l y o (goes {c = c} {l = m} e r) =
+      let s : Undisturbed w h n f p (next c p) = undisturbed-by p c y o e in
+      undisturbed-then s (undisturbed-along (next c p) m (s .passes) (s .on) r)
 
 pub read-stays : ReadStays
 unfolding ReadStays
-read-stays p l w h n f at room y o e = still-along p l y (on-as (p .table) w h n f o) e .reads at room
+read-stays p l w h n f at room y o e = undisturbed-along p l y o e .reads at room
 
--- ---- a write that is done
+-- ---- a call that is done
 
-pub never : {A : Type 0} {x : A} {n : ℕ} → done x ≡ refused n → ⊥
-never e = let z : _≡_ {A = ℕ} 0 1 = cc in omega arith
+write-no-close : (w v : ℕ) (h g : Handle) (place : ℕ) (bytes : List ℕ) → write v g place bytes ≢ close w h
+write-no-close w v h g place bytes e = let z : _≡_ {A = ℕ} 0 1 = cc in omega arith
 
-not-close : (w v : ℕ) (h g : Handle) (place : ℕ) (bytes : List ℕ) → write v g place bytes ≢ close w h
-not-close w v h g place bytes e = let z : _≡_ {A = ℕ} 0 1 = cc in omega arith
+resize-no-close : (w : ℕ) (h : Handle) (n : ℕ) → resize w h n ≢ close w h
+resize-no-close w h n e = let z : _≡_ {A = ℕ} 0 1 = cc in omega arith
 
--- what it left, and the pair
-pub record Wrote (p q : Pair) (w : ℕ) (h : Handle) (place : ℕ) (bytes : List ℕ) : Type 0 where
-  pub left : After
-  pub call : callWrite (p .arena) (p .table) w h place bytes ≡ done left
-  pub is : pair (left .arena) (left .table) ≡ q
-  pub next-is : next (write w h place bytes) p ≡ q
+-- q is what call c left: it passes, and w's handle h is on the node that it was on, of the type that it was
+pub record AfterDone (w : ℕ) (h : Handle) (n : ℕ) (f : List ℕ) (c : Call) (p q : Pair) : Type 0 where
+  pub is : next c p ≡ q
   pub passes : Passed q
+  pub on : On (q .table) w h n f
+  pub kind : recOf (q .arena) (q .table) n .kind ≡ recOf (p .arena) (p .table) n .kind
 
-pub wrote : (p q : Pair) (w : ℕ) (h : Handle) (place : ℕ) (bytes : List ℕ) → Passed p → Fits (write w h place bytes) → does (write w h place bytes) p ≡ done q → Wrote p q w h place bytes
-unfolding does Keeps
-wrote p q w h place bytes y fits e =
+after-done : {w : ℕ} {h : Handle} {n : ℕ} {f : List ℕ} (c : Call) (p q : Pair) → Passed p → On (p .table) w h n f → Fits c → c ≢ close w h → does c p ≡ done q → AfterDone w h n f c p q
+unfolding Keeps
+after-done {w} {h} {n} {f} c p q y o fits not e =
+    let i : next c p ≡ q = ap (kept p) e in
+    let z : Passed (next c p) = keeps p c y fits .passes in
+    let S : Safe w h n f c p = spared p c w h n f y o (record { fits = fits; not-closed = not }) z in
+    record {
+      is = i;
+      passes = subst Passed i z;
+      on = subst (λ (x : Pair). On (x .table) w h n f) i (S .stays);
+      kind = subst (λ (x : Pair). recOf (x .arena) (x .table) n .kind ≡ recOf (p .arena) (p .table) n .kind) i (S .kind);
+    }
+
+-- what a write left
+wrote : (p q : Pair) (w : ℕ) (h : Handle) (place : ℕ) (bytes : List ℕ) → does (write w h place bytes) p ≡ done q → (x : After) × (callWrite (p .arena) (p .table) w h place bytes ≡ done x) × (pair (x .arena) (x .table) ≡ q)
+unfolding does
+wrote p q w h place bytes e =
     let d = bind-is-done (callWrite (p .arena) (p .table) w h place bytes) (λ x. done (pair (x .arena) (x .table))) q e in
-    let n : next (write w h place bytes) p ≡ q = ap (kept p) e in
-    record { left = d .0; call = d .1; is = ap (kept p) (d .2); next-is = n; passes = subst Passed n (keeps p (write w h place bytes) y fits .passes) }
+    (d .0, d .1, ap (kept p) (d .2))
 
-module _ (p q : Pair) (w : ℕ) (h : Handle) (n : ℕ) (f : List ℕ) (k place : ℕ) (bytes : List ℕ) (y : Passed p) (o : OnAs w h n f k (p .table)) (fits : Fits (write w h place bytes)) (W : Wrote p q w h place bytes) where
-  pub on-wrote : OnAs w h n f k (q .table)
-  on-wrote = subst (λ (x : Pair). OnAs w h n f k (x .table)) (W .next-is) (as-next w h n f k (some p y o) (write w h place bytes) p (not-close w w h h place bytes) o)
+-- ---- what she wrote
 
-  pub read-wrote : callRead (q .arena) (q .table) w h place (length bytes) ≡ done bytes
+module _ (p q : Pair) (w : ℕ) (h : Handle) (n : ℕ) (f : List ℕ) (place : ℕ) (bytes : List ℕ) (y : Passed p) (S : Saves w h n f place bytes p q) where
+  pub after-save : AfterDone w h n f (write w h place bytes) p q
+  after-save = after-done (write w h place bytes) p q y (S .on) (S .fits) (write-no-close w w h h place bytes) (S .leads)
+
+  pub read-saved : callRead (q .arena) (q .table) w h place (length bytes) ≡ done bytes
   unfolding WrittenRead
-  read-wrote =
-      subst (λ (x : Pair). callRead (x .arena) (x .table) w h place (length bytes) ≡ done bytes) (W .is)
-      (written-read (p .arena) (p .table) w h place bytes (W .left) (y .typed .bytes) (fits .3) (W .call))
+  read-saved =
+      let d = wrote p q w h place bytes (S .leads) in
+      subst (λ (x : Pair). callRead (x .arena) (x .table) w h place (length bytes) ≡ done bytes) (d .2)
+      (written-read (p .arena) (p .table) w h place bytes (d .0) (y .typed .bytes) (S .fits .3) (d .1))
 
   -- and then calls that leave the node
-  saved-still : (r : Pair) → Still w h n f k q r → Reads w h n f place bytes r
-  saved-still r S = record {
-    on = as-on r (S .passes) (S .on);
-    node = node-is r (S .passes) (S .on);
-    gives = S .reads place (length bytes) ∙ read-wrote;
-  }
+  undisturbed-saved : (l : List Call) → Along (Elsewhere w h n) q l → Undisturbed w h n f q (led q l)
+  undisturbed-saved l along = undisturbed-along q l (after-save .passes) (after-save .on) along
+
+  still-reads : (r : Pair) → Undisturbed w h n f q r → Reads w h n f place bytes r
+  still-reads r U = record { on = U .on; gives = U .reads place (length bytes) ∙ read-saved }
 
 pub saved : Saved
 unfolding Saved
-saved p q l w h n f place bytes y o fits e along =
-    let u = on-as (p .table) w h n f o in
-    let W = wrote p q w h place bytes y fits e in
-    saved-still p q w h n f _ place bytes y u fits W (led q l) (still-along q l (W .passes) (on-wrote p q w h n f _ place bytes y u fits W) along)
+saved p q l w h n f place bytes y S along = still-reads p q w h n f place bytes y S (led q l) (undisturbed-saved p q w h n f place bytes y S l along)
 
 -- ---- and a colleague's
 
@@ -244,7 +154,7 @@ through-own (writes {i = i} e q) = (i, e, q)
 his-elsewhere : (p : Pair) (w v : ℕ) (h g : Handle) (n m : ℕ) (e : List ℕ) (at : ℕ) (his : List ℕ) → On (p .table) v g m e → m ≢ n → Fits (write v g at his) → Elsewhere w h n (write v g at his) p
 his-elsewhere p w v h g n m e at his o d fits = record {
   fits = fits;
-  not-closed = not-close w v h g at his;
+  not-closed = write-no-close w v h g at his;
   not-written = λ x _.
       let z = through-own x in
       let i : z .0 ≡ o .row = sym (live-means (p .table) v g (z .0) .0 (z .1) .names) ∙ live-means (p .table) v g (o .row) .0 (o .live) .names in
@@ -253,101 +163,120 @@ his-elsewhere p w v h g n m e at his o d fits = record {
 
 pub both-saved : BothSaved
 unfolding BothSaved Saved
-both-saved p q r l k w v h g n m f e place at hers his y o fits did along ov d fv didv alongw alongv =
-    let u = on-as (p .table) w h n f o in
-    let W = wrote p q w h place hers y fits did in
-    let S = still-along q l (W .passes) (on-wrote p q w h n f _ place hers y u fits W) along in
-    let X = wrote (led q l) r v g at his (S .passes) fv didv in
-    let T = still-step (led q l) (write v g at his) (S .passes) (S .on) (his-elsewhere (led q l) w v h g n m e at his ov d fv) in
-    let R = subst (λ (x : Pair). Still w h n f (rowAt (p .table) (o .row) .rec .kind) (led q l) x) (X .next-is) T in (
-      saved-still p q w h n f _ place hers y u fits W (led r k) (still-then S (still-then R (still-along r k (R .passes) (R .on) alongw))),
-      saved (led q l) r k v g m e at his (S .passes) ov fv didv alongv,
+both-saved p q r l k w v h g n m f e place at hers his y S along d T alongw alongv =
+    let U = undisturbed-saved p q w h n f place hers y S l along in
+    let A = after-save (led q l) r v g m e at his (U .passes) T in
+    let Z = subst (Undisturbed w h n f (led q l)) (A .is) (undisturbed-by (led q l) (write v g at his) (U .passes) (U .on) (his-elsewhere (led q l) w v h g n m e at his (T .on) d (T .fits))) in (
+      still-reads p q w h n f place hers y S (led r k) (undisturbed-then U (undisturbed-then Z (undisturbed-along r k (Z .passes) (Z .on) alongw))),
+      saved (led q l) r k v g m e at his (U .passes) T alongv,
     )
 
--- ---- any read after a write
+-- ---- any read after a write or a resize
 
--- the row of a handle that was read through
-read-row : (a : List ℕ) (t : Table) (w : ℕ) (h : Handle) (at room : ℕ) (l : List ℕ) → callRead a t w h at room ≡ done l → (i : ℕ) × (liveRow t w h ≡ At i)
-unfolding callRead
-read-row a t w h at room l e =
-    let d = bind-is-done (admit a t) _ l e in
-    let b = bind-is-done (byHandle t w h) _ l (d .2) in
-    (b .0, ok-done (subst (Ok (Owns t w h) Any) (b .1) (handle-asks {R = Any} tt tt t w h)) .live)
+-- a file that holds a text is read as its parts
+text-read : (p : Pair) → Passed p → {w : ℕ} {h : Handle} {n : ℕ} {f : List ℕ} → On (p .table) w h n f → isFolder (recOf (p .arena) (p .table) n .kind) ≡ false → (text : List ℕ)
+    → lengthOf (p .arena) (file 1 f) ≡ length text → ((j : ℕ) → j < length text → byteAt (p .arena) (file 1 f) j ≡ getD text j 0)
+    → (at room : ℕ) → callRead (p .arena) (p .table) w h at room ≡ done (part text at (at + room))
+text-read p y {f = f} o no-dir text long bytes at room =
+    read-file p y o no-dir at room
+    ∙ ap done (ap (λ (m : ℕ). tab (byteAt (p .arena) (file 1 f)) at (readCount m at room)) long ∙ part-tab text (byteAt (p .arena) (file 1 f)) at room bytes)
 
-module _ (p : Pair) (y : Passed p) (w : ℕ) (h : Handle) (n : ℕ) (f : List ℕ) (k : ℕ) (o : OnAs w h n f k (p .table)) (no-dir : isFolder k ≡ false)
-    (old : List ℕ) (all : ℕ) (before : callRead (p .arena) (p .table) w h 0 all ≡ done old) (spare : length old < all) where
-  -- it was the whole file
-  old-is : old ≡ tab (byteAt (p .arena) (file 1 f)) 0 (readCount (lengthOf (p .arena) (file 1 f)) 0 all)
-  old-is = ap (kept old) (sym before ∙ read-file p y o no-dir 0 all)
+-- the length of a file whose row says so
+sized-long : (a : List ℕ) (t : Table) (i : ℕ) (x : After) (m : ℕ) (dirty : Bool) → Only a t i m dirty x → Exact (x .arena) (x .table) i → lengthOf (x .arena) (fileAt t i) ≡ m
+sized-long a t i x m dirty O e = ap (λ (z : Row). lengthOf (x .arena) (nodeFile (z .rec))) (sym (O .row)) ∙ e ∙ ap (λ (z : Row). z .rec .size) (O .row)
 
-  old-long : length old ≡ lengthOf (p .arena) (file 1 f)
-  old-long =
-      let m : ℕ = lengthOf (p .arena) (file 1 f) in
-      let e : length old ≡ readCount (lengthOf (p .arena) (file 1 f)) 0 all = ap (λ (l : List ℕ). length l) old-is ∙ length-tab (byteAt (p .arena) (file 1 f)) 0 (readCount m 0 all) in
-      omega arith
+-- where w's handle is on a row whose file held `old`
+module _ (p : Pair) (w : ℕ) (h : Handle) (old : List ℕ) (H : WholeFile p w h old) where
+  abbrev i : ℕ
+  i = H .row
+
+  abbrev n : ℕ
+  n = rowAt (p .table) (H .row) .id
+
+  abbrev f : List ℕ
+  f = rowAt (p .table) (H .row) .rec .file
+
+  whole-on : On (p .table) w h n f
+  whole-on = record { row = H .row; live = H .live; node = refl; file = refl }
 
   old-byte : (j : ℕ) → j < length old → getD old j 0 ≡ byteAt (p .arena) (file 1 f) j
-  old-byte j l =
-      let m : ℕ = lengthOf (p .arena) (file 1 f) in
-      ap (λ (x : List ℕ). getD x j 0) old-is
-      ∙ getD-tab (byteAt (p .arena) (file 1 f)) 0 (readCount m 0 all) j (omega (arith, old-long))
-      ∙ ap (byteAt (p .arena) (file 1 f)) (let e : 0 + j ≡ j = omega arith in e)
+  old-byte j l = ap (λ (x : List ℕ). getD x j 0) (H .bytes) ∙ getD-tab (byteAt (p .arena) (file 1 f)) 0 (length old) j l ∙ ap (byteAt (p .arena) (file 1 f)) (let e : 0 + j ≡ j = omega arith in e)
 
-  module _ (place : ℕ) (new : List ℕ) (x : After) (same-file : fileAt (p .table) (o .row) ≡ file 1 f) (W : Written (p .arena) (p .table) (o .row) place new x) where
-    size-is : length old ≡ sizeAt (p .table) (o .row)
-    size-is = old-long ∙ long-is p y o no-dir
+  -- what a call c left is read as the text
+  reads-text : (c : Call) (q : Pair) (x : After) → AfterDone w h n f c p q → pair (x .arena) (x .table) ≡ q → (text : List ℕ) → lengthOf (x .arena) (file 1 f) ≡ length text
+      → ((j : ℕ) → j < length text → byteAt (x .arena) (file 1 f) j ≡ getD text j 0) → (at room : ℕ) → callRead (q .arena) (q .table) w h at room ≡ done (part text at (at + room))
+  reads-text c q x L e text long bytes at room =
+      text-read q (L .passes) (L .on) (ap isFolder (L .kind) ∙ H .no-dir) text
+      (subst (λ (z : Pair). lengthOf (z .arena) (file 1 f) ≡ length text) e long)
+      (λ j l. subst (λ (z : Pair). byteAt (z .arena) (file 1 f) j ≡ getD text j 0) e (bytes j l)) at room
 
-    exact : Exact (p .arena) (p .table) (o .row)
-    exact = ap (lengthOf (p .arena)) same-file ∙ long-is p y o no-dir
+  module _ (place : ℕ) (new : List ℕ) (x : After) (W : Written (p .arena) (p .table) (H .row) place new x) where
+    abbrev base : List ℕ
+    base = filledTo (place + length new) old
 
-    byte-same : (j : ℕ) → byteAt (x .arena) (file 1 f) j ≡ byteAt (x .arena) (fileAt (p .table) (o .row)) j
-    byte-same j = ap (λ (g : File). byteAt (x .arena) g j) (sym same-file)
+    fits : place + length new ≤ length base
+    fits = omega (arith, filled-long (place + length new) old)
 
-    was-same : (j : ℕ) → byteAt (p .arena) (fileAt (p .table) (o .row)) j ≡ byteAt (p .arena) (file 1 f) j
-    was-same j = ap (λ (g : File). byteAt (p .arena) g j) same-file
+    laid-long : lengthOf (x .arena) (file 1 f) ≡ length (paste base place new)
+    laid-long =
+        sized-long (p .arena) (p .table) i x _ _ (W .only) (W .exact (H .exact))
+        ∙ ap (λ (m : ℕ). max m (place + length new)) (sym (H .size))
+        ∙ sym (length-paste base place new fits ∙ filled-long (place + length new) old)
 
-    long-after : lengthOf (x .arena) (file 1 f) ≡ length (laid old place new)
-    long-after =
-        let r : rowAt (x .table) (o .row) ≡ _ = W .only .row in
-        ap (lengthOf (x .arena)) (sym same-file)
-        ∙ ap (λ (z : Row). lengthOf (x .arena) (nodeFile (z .rec))) (sym r)
-        ∙ W .exact exact
-        ∙ ap (λ (z : Row). z .rec .size) r
-        ∙ ap (λ (m : ℕ). max m (place + length new)) (sym size-is)
-        ∙ sym (laid-long old place new)
+    laid-out : (j : ℕ) → (place ≤ j → place + length new ≤ j) → j < max (length old) (place + length new) → byteAt (x .arena) (file 1 f) j ≡ getD old j 0
+    laid-out j out l =
+        ⊎-elim
+        (λ inside. W .outside j out (omega (arith, H .size)) ∙ sym (old-byte j inside))
+        (λ past. W .hole (H .exact) j (omega (arith, H .size)) (⊎-elim (λ low. low) (λ high. absurd (omega (arith, out high))) (lt-or-le j place)) ∙ sym (List·getD-eq-default old 0 past))
+        (lt-or-le j (length old))
 
-    bytes-after : (j : ℕ) → j < length (laid old place new) → byteAt (x .arena) (file 1 f) j ≡ getD (laid old place new) j 0
-    bytes-after j l =
-        byte-same j
-        ∙ ⊎-elim
-        (λ low. ⊎-elim
-        (λ inside. W .outside j (λ z. absurd (omega arith)) (omega (arith, size-is)) ∙ was-same j ∙ sym (laid-before old place new j low inside ∙ old-byte j inside))
-        (λ past. W .hole exact j (omega (arith, size-is)) low ∙ sym (laid-hole old place new j low past))
-        (lt-or-le j (length old)))
+    laid-bytes : (j : ℕ) → j < length (paste base place new) → byteAt (x .arena) (file 1 f) j ≡ getD (paste base place new) j 0
+    laid-bytes j l =
+        let k : j < max (length old) (place + length new) = omega (arith, length-paste base place new fits, filled-long (place + length new) old) in
+        ⊎-elim
+        (λ low. out j (λ z. absurd (omega arith)) k)
         (λ high. ⊎-elim
-        (λ inside. W .inside j high inside ∙ sym (laid-in old place new j high inside))
-        (λ past.
-        let k : j < length old = omega (arith, laid-long old place new) in
-        W .outside j (λ z. past) (omega (arith, size-is)) ∙ was-same j ∙ sym (laid-after old place new j past ∙ old-byte j k))
+        (λ inside.
+        let e : j ≡ place + (j - place) = omega arith in
+        W .inside j high inside ∙ sym (ap (λ (m : ℕ). getD (paste base place new) m 0) e ∙ getD-paste-in base place new fits (j - place) (omega arith)))
+        (λ past. out j (λ z. past) k)
         (lt-or-le j (place + length new)))
         (lt-or-le j place)
+      where
+        out : (j : ℕ) → (place ≤ j → place + length new ≤ j) → j < max (length old) (place + length new) → byteAt (x .arena) (file 1 f) j ≡ getD (paste base place new) j 0
+        out j z k = laid-out j z k ∙ sym (getD-paste-out base place new fits j z ∙ filled-at (place + length new) old j k)
 
-    laid-read : Passed (pair (x .arena) (x .table)) → OnAs w h n f k (x .table) → (at room : ℕ) → callRead (x .arena) (x .table) w h at room ≡ done (piece (laid old place new) at room)
-    laid-read z u at room =
-        read-file (pair (x .arena) (x .table)) z u no-dir at room
-        ∙ ap done (ap (λ (m : ℕ). tab (byteAt (x .arena) (file 1 f)) at (readCount m at room)) long-after ∙ piece-tab (laid old place new) (byteAt (x .arena) (file 1 f)) at room bytes-after)
+    laid-read : (q : Pair) → AfterDone w h n f (write w h place new) p q → pair (x .arena) (x .table) ≡ q → (at room : ℕ) → callRead (q .arena) (q .table) w h at room ≡ done (part (paste base place new) at (at + room))
+    laid-read q L e = reads-text (write w h place new) q x L e (paste base place new) laid-long laid-bytes
+
+  module _ (m : ℕ) (x : After) (R : Resized (p .arena) (p .table) (H .row) m x) where
+    cut-long : length (take m (filledTo m old)) ≡ m
+    cut-long = length-take m (filledTo m old) ∙ (ap (min m) (filled-long m old) ∙ omega arith)
+
+    cut-bytes : (j : ℕ) → j < length (take m (filledTo m old)) → byteAt (x .arena) (file 1 f) j ≡ getD (take m (filledTo m old)) j 0
+    cut-bytes j l =
+        let k : j < m = omega (arith, cut-long) in
+        ⊎-elim
+        (λ inside. R .below j k ∙ sym (old-byte j inside))
+        (λ past. R .beyond j (omega (arith, H .size, H .exact)) ∙ sym (List·getD-eq-default old 0 past))
+        (lt-or-le j (length old))
+        ∙ sym (getD-take m (filledTo m old) j 0 k ∙ filled-at m old j (omega arith))
+
+    cut-read : (q : Pair) → AfterDone w h n f (resize w h m) p q → pair (x .arena) (x .table) ≡ q → (at room : ℕ) → callRead (q .arena) (q .table) w h at room ≡ done (part (take m (filledTo m old)) at (at + room))
+    cut-read q L e = reads-text (resize w h m) q x L e (take m (filledTo m old)) (sized-long (p .arena) (p .table) i x m true (R .only) (R .exact) ∙ sym cut-long) cut-bytes
 
 pub laid-over : LaidOver
 unfolding LaidOver IsWritten
-laid-over p q w h place new old all at room y before spare fits e =
-    let r = read-row (p .arena) (p .table) w h 0 all old before in
-    let i : ℕ = r .0 in
-    let o : OnAs w h (rowAt (p .table) (r .0) .id) (rowAt (p .table) (r .0) .rec .file) (rowAt (p .table) (r .0) .rec .kind) (p .table) = record { row = r .0; live = r .1; node = refl; file = refl; kind = refl } in
-    let W = wrote p q w h place new y fits e in
-    let u = on-wrote p q w h _ _ _ place new y o fits W in
-    subst (λ (x : Pair). callRead (x .arena) (x .table) w h at room ≡ done (piece (laid old place new) at room)) (W .is)
-    (laid-read p y w h _ _ _ o
-    (⊎-elim (λ dir. absurd (never (sym before ∙ read-folder p y o dir 0 all))) (λ no. no) (bool-cases (isFolder (rowAt (p .table) i .rec .kind))))
-    old all before spare place new (W .left) refl
-    (is-written (p .arena) (p .table) w h i place new (W .left) (y .typed .bytes) (fits .3) (r .1) (W .call))
-    (subst Passed (sym (W .is)) (W .passes)) (subst (λ (x : Pair). OnAs w h (rowAt (p .table) (r .0) .id) (rowAt (p .table) (r .0) .rec .file) (rowAt (p .table) (r .0) .rec .kind) (x .table)) (sym (W .is)) u) at room)
+laid-over p q w h place new old at room y R fits e =
+    let H = whole-file p y w h old (R .room) (R .gives) (R .spare) in
+    let d = wrote p q w h place new e in
+    let W = is-written (p .arena) (p .table) w h (H .row) place new (d .0) (y .typed .bytes) (fits .3) (H .live) (d .1) in
+    laid-read p w h old H place new (d .0) W q (after-done (write w h place new) p q y (whole-on p w h old H) fits (write-no-close w w h h place new) e) (d .2) at room
+
+pub resized-to : ResizedTo
+unfolding ResizedTo IsResized does
+resized-to p q w h n old at room y R fits e =
+    let H = whole-file p y w h old (R .room) (R .gives) (R .spare) in
+    let d = bind-is-done (callResize (p .arena) (p .table) w h n) (λ x. done (pair (x .arena) (x .table))) q e in
+    let D = is-resized (p .arena) (p .table) w h (H .row) n (d .0) (y .typed .bytes) (H .live) (d .1) in
+    cut-read p w h old H n (d .0) D q (after-done (resize w h n) p q y (whole-on p w h old H) fits (resize-no-close w h n) e) (ap (kept p) (d .2)) at room

@@ -14,9 +14,9 @@ use Rattle.sefs.specs.Open.{callFind}
 use Rattle.sefs.specs.Contents.{callRead}
 use Rattle.rules.specs.Image.{isNode, recOf, isFolderAt, slotIn}
 use Rattle.sequences.specs.Pairs.{Pair, Passed}
-use Rattle.sequences.specs.Calls.{Call, find, write, Fits, does, reasonOf, next}
+use Rattle.sequences.specs.Calls.{Call, find, Fits, reasonOf, next}
 use Rattle.sequences.specs.Promises.{Along, On, SameFile, Through}
-use Rattle.drawings.specs.Saved.{led}
+use Rattle.drawings.specs.Saved.{led, Saves}
 
 -- n is a node, and no folder, whether open or not
 pub record Drawing (n : ℕ) (p : Pair) : Type 0 where
@@ -31,7 +31,7 @@ pub record SameNode (n : ℕ) (p q : Pair) : Type 0 where
   pub bytes : SameFile (recOf (p .arena) (p .table) n .file) (p .arena) (q .arena)
 
 -- a call, whoever's, that leaves the drawing: no write or resize is done through a handle on node n, and n is a node afterwards. Opening it, closing
--- it, its names and its metadata are free
+-- it, its names and its metadata are free. (A number that is no node's any more may become another's; when it stays one is said below.)
 pub record LeavesBe (n : ℕ) (c : Call) (p : Pair) : Type 0 where
   pub fits : Fits c
   pub not-written : Through n (p .table) c → reasonOf c p ≢ 0
@@ -50,8 +50,7 @@ pub record Rested (n : ℕ) (p q : Pair) : Type 0 where
 unfoldable pub RestsAlong : Type 0
 RestsAlong = (p : Pair) (l : List Call) (n : ℕ) → Passed p → Drawing n p → Along (LeavesBe n) p l → Rested n p (led p l)
 
--- ---- when a node stays one: while a folder's later slot names it, or a handle on it is live. So in a passed pair a number that is no node's has
--- lost its last link and its last hold
+-- ---- when a node stays one: while a folder's later slot names it, or a handle on it is live
 
 -- slot k of folder d names node n
 pub record NamedAt (d k n : ℕ) (p : Pair) : Type 0 where
@@ -66,28 +65,27 @@ NodeNamed = (p : Pair) (d k n : ℕ) → Passed p → NamedAt d k n p → isNode
 unfoldable pub NodeHeld : Type 0
 NodeHeld = (p : Pair) (w : ℕ) (h : Handle) (n : ℕ) (f : List ℕ) → Passed p → On (p .table) w h n f → isNode (p .arena) n ≡ true
 
-pub record Gone (n : ℕ) (p : Pair) : Type 0 where
+-- so a number that is no node's, in a passed pair, has lost its last link and its last hold
+pub record Unreached (n : ℕ) (p : Pair) : Type 0 where
   pub unnamed : (d k : ℕ) → NamedAt d k n p → ⊥
   pub unheld : (w : ℕ) (h : Handle) (f : List ℕ) → On (p .table) w h n f → ⊥
 
 unfoldable pub GoneOnly : Type 0
-GoneOnly = (p : Pair) (n : ℕ) → Passed p → isNode (p .arena) n ≡ false → Gone n p
+GoneOnly = (p : Pair) (n : ℕ) → Passed p → isNode (p .arena) n ≡ false → Unreached n p
 
 -- ---- the sentence
 
--- from a passed pair she writes through h, on node n, and it is done; then come any calls that leave the drawing, her close of h among them: then
--- a read of the place, through any handle on n, whoever's and whenever given, gives what she wrote
+-- from a passed pair she saves; then come any calls that leave the drawing, her close of h among them: then a read of the place, through any handle
+-- g on n, whoever's and whenever given, gives what she wrote
 unfoldable pub ClosedAndKept : Type 0
 ClosedAndKept = (p q : Pair) (l : List Call) (w v : ℕ) (h g : Handle) (n : ℕ) (f e : List ℕ) (place : ℕ) (bytes : List ℕ)
-    → Passed p → On (p .table) w h n f → Fits (write w h place bytes) → does (write w h place bytes) p ≡ done q
-    → Along (LeavesBe n) q l → On (led q l .table) v g n e
+    → Passed p → Saves w h n f place bytes p q → Along (LeavesBe n) q l → On (led q l .table) v g n e
     → callRead (led q l .arena) (led q l .table) v g place (length bytes) ≡ done bytes
 
--- and where a folder still has the name for it, v, who has a handle on that folder, finds it by name and reads it
+-- and where slot k of a folder d still has the name for it, v, who has a handle g on that folder, finds it by name and reads it
 unfoldable pub FoundAndKept : Type 0
 FoundAndKept = (p q : Pair) (l : List Call) (w v : ℕ) (h g : Handle) (n d k : ℕ) (f e name : List ℕ) (place : ℕ) (bytes : List ℕ) (x : Added)
-    → Passed p → On (p .table) w h n f → Fits (write w h place bytes) → does (write w h place bytes) p ≡ done q
-    → Along (LeavesBe n) q l → On (led q l .table) v g d e
+    → Passed p → Saves w h n f place bytes p q → Along (LeavesBe n) q l → On (led q l .table) v g d e
     → NamedAt d k n (led q l) → nameOf (slotIn (led q l .arena) (recOf (led q l .arena) (led q l .table) d) k .name) ≡ name
     → Fits (find v g name) → callFind (led q l .arena) (led q l .table) v g name ≡ done x
     → callRead (led q l .arena) (x .table) v (x .handle) place (length bytes) ≡ done bytes

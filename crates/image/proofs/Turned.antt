@@ -16,7 +16,7 @@ use Rattle.structs.specs.Fits.{EntryFits}
 use Rattle.structs.specs.Layout.{entryBytes}
 use Rattle.structs.specs.Types.{isFolder}
 use Rattle.structs.specs.declared.DiskINode.{DiskINode}
-use Rattle.arena.specs.Fields.{file}
+use Rattle.arena.specs.Fields.{File, file}
 use Rattle.table.specs.declared.Table.{Table}
 use Rattle.table.specs.Table.{rowAt}
 use Rattle.table_laws.specs.Rules.{also, none}
@@ -42,7 +42,7 @@ use Rattle.image.proofs.Inits.{dots-fits}
 use Rattle.image.proofs.Metas.{kept-same}
 use Rattle.image.proofs.Drops.{mid-rec, super-kept, maps-kept}
 use Rattle.image.proofs.Resets.{recs-kept, nodes-kept, ids-kept, fair-by-tree}
-use Rattle.image.proofs.Appends.{file-apart, slot-kept, entry-bytes, put-meta, put-there, slot-new}
+use Rattle.image.proofs.Appends.{slot-kept, entry-bytes, put-meta, put-there, slot-new}
 use Rattle.image.proofs.Renames.{long-same, slot-else, Overwritten, overwrite-law}
 use Rattle.image.proofs.Unlinks.{dec-is}
 use Rattle.image.proofs.Counts.{Counts, counts-none, counts-used, counts-rec, counts-row, counts-links}
@@ -265,7 +265,7 @@ module _ {style : Spelling} (c f g kd i j row : ℕ) (below-i : i < 34) (below-j
     pub record Rewritten (d : Fs) : Type 0 where
       pub ready : Ready (plain style) c f g kd i j row d
       pub table : d .table ≡ y .table
-      pub others : (h : List ℕ) → rowAt (y .table) row .rec .file ≢ h → Kept (y .arena) (d .arena) (file 1 h)
+      pub others : (h : File) → nodeFile (rowAt (y .table) row .rec) ≢ h → Kept (y .arena) (d .arena) h
 
     pub parent-law : Ok Rewritten Clear (moveParent y j row)
     unfolding moveParent
@@ -277,6 +277,6 @@ module _ {style : Spelling} (c f g kd i j row : ℕ) (below-i : i < 34) (below-j
         ends d O = record {
           ready = subst (Ready (plain style) c f g kd i j row) (sym (O .is)) (ready (O .arena) (subst (λ (h : List ℕ). Put a (file 1 h) (264 * 1) (entryBytes (dotsEntry g)) (O .arena)) file-c (O .put)));
           table = ap (λ (z : Fs). z .table) (O .is) ∙ ap (λ (z : Fs). z .table) (sym (K .is));
-          others = subst (λ (z : Fs). (h : List ℕ) → rowAt (z .table) row .rec .file ≢ h → Kept (z .arena) (d .arena) (file 1 h)) (sym (K .is))
-              (λ h n. subst (λ (z : Fs). Kept a (z .arena) (file 1 h)) (sym (O .is)) (O .put .others (file 1 h) (file-apart (rowAt u row .rec .file) h n)));
+          others = subst (λ (z : Fs). (h : File) → nodeFile (rowAt (z .table) row .rec) ≢ h → Kept (z .arena) (d .arena) h) (sym (K .is))
+              (λ h n. subst (λ (z : Fs). Kept a (z .arena) h) (sym (O .is)) (O .put .others h n));
         }

@@ -18,19 +18,18 @@ use Rattle.table.specs.Table.{rowAt}
 use Rattle.table_laws.proofs.Rows.{formed-more}
 use Rattle.sefs.specs.State.{Fs, withTable}
 use Rattle.sefs.specs.Ask.{start}
-use Rattle.sefs.specs.Nodes.{Opened, idAt, getNode, syncRow, release}
+use Rattle.sefs.specs.Nodes.{Opened, idAt, nodeFile, getNode, syncRow, release}
 use Rattle.sefs.specs.Slots.{Slot}
 use Rattle.sefs.specs.Create.{After, after}
 use Rattle.base.specs.Search.{pick}
 use Rattle.sefs.specs.Move.{Replaced, none, node, removeReplaced, renamed, moveDots, moveLinks, moveParent, moveBetween}
 use Rattle.rules.specs.Image.{isNode, recOf}
 use Rattle.sequences.specs.Pairs.{pair}
-use Rattle.sefs_laws.proofs.Rows.{Fills, leaves-node, leaves-append, leaves-remove, leaves-dots, leaves-sync, leaves-release, leaves-replaced}
+use Rattle.sefs_laws.proofs.Rows.{ok-and, Bears, Fills, leaves-node, leaves-append, leaves-remove, leaves-dots, leaves-sync, leaves-release, leaves-replaced}
 use Rattle.tree.specs.Tree.{Spelling}
 use Rattle.image.specs.Midway.{Used}
 use Rattle.image.proofs.Nodes.{meta-is}
 use Rattle.sequences.proofs.Passing.{Spelled, midway-spelled}
-use Rattle.sequences.proofs.Bears.{Bears, ok-and}
 use Rattle.image.proofs.Stores.{sync-mid}
 use Rattle.image.proofs.Drops.{mid-rec, release-law}
 use Rattle.image.proofs.Appends.{append-law}
@@ -40,9 +39,9 @@ use Rattle.image.proofs.Movings.{live-there, moves-fits, moves-kind, moves-most
 use Rattle.image.proofs.BetweenSlots.{Carrying, carry-law}
 use Rattle.image.proofs.Settling.{movedKind, Avoids, wayBy, wayOf, Settled, settle-none}
 use Rattle.image.proofs.Replacing.{replace-law}
-use Rattle.image.proofs.Turned.{Ready, Relinked, dots-law, parent-law}
+use Rattle.image.proofs.Turned.{Ready, dots-law, parent-law}
 use Rattle.files_laws.specs.Laws.{Kept}
-use Rattle.arena.specs.Fields.{file}
+use Rattle.arena.specs.Fields.{File}
 
 -- the replaced node goes, if there is one
 replaced-law : {style : Spelling} {own : ℕ → Type 0} (s : Fs) (i j : ℕ) (old : Slot) (name : List ℕ) (r : Replaced) → Moving style own s i j old name r → idAt s i ≢ idAt s j → Avoids s j old → (x : Fs) → Carrying own s i j old name r x
@@ -53,8 +52,8 @@ replaced-law s i j old name (node d k) M apart avoids x X = replace-law s i j ol
 module _ {style : Spelling} (P : List ℕ → Table → Type 0) (K : Bears P) {own : ℕ → Type 0} (k : ℕ) (only : (m : ℕ) → own m → m ≡ k)
     (s : Fs) (i j : ℕ) (old : Slot) (name : List ℕ) (r : Replaced) (M : Moving style own s i j old name r) (apart : rowAt (s .table) i .id ≢ rowAt (s .table) j .id) (avoids : Avoids s j old)
     (fills-i : Fills P i) (fills-j : Fills P j)
-    (turns : (row : ℕ) (x y : Fs) → isFolder (movedKind s old) ≡ true → Ready (wayBy style true s i j old) (old .entry .id) (idAt s i) (idAt s j) (movedKind s old) i j row x → Relinked (idAt s i) (idAt s j) row x y
-    → (b : List ℕ) → ((h : List ℕ) → rowAt (y .table) row .rec .file ≢ h → Kept (y .arena) b (file 1 h)) → P (y .arena) (y .table) → P b (y .table)) where
+    (turns : (row : ℕ) (y : Fs) → isFolder (movedKind s old) ≡ true → rowAt (y .table) row .id ≡ old .entry .id → (b : List ℕ) → ((g : File) → nodeFile (rowAt (y .table) row .rec) ≢ g → Kept (y .arena) b g)
+    → P (y .arena) (y .table) → P b (y .table)) where
   abbrev c : ℕ
   c = old .entry .id
 
@@ -149,7 +148,7 @@ module _ {style : Spelling} (P : List ℕ → Table → Type 0) (K : Bears P) {o
       rw (links-are row x (R .kind) true q)
       (ok-bind (ok-and (dots-law c (idAt s i) (idAt s j) kd i j row (M .from .used .below) (M .to .used .below) some-i some-j apart x R links) (leaves-dots P (K .changes) x i j h)) λ y e.
       ok-weaken
-      (λ d w. (w .ready, subst (P (d .arena)) (sym (w .table)) (turns row x y q R (e .0) (d .arena) (w .others) (e .1))))
+      (λ d w. (w .ready, subst (P (d .arena)) (sym (w .table)) (turns row y q (ap (λ (z : Fs). rowAt (z .table) row .id) (e .0 .is) ∙ e .0 .rows .ids row ∙ R .same) (d .arena) (w .others) (e .1))))
       (λ n z. z)
       (parent-law c (idAt s i) (idAt s j) kd i j row (M .from .used .below) (M .to .used .below) some-i some-j apart x R q y (e .0)))
 
@@ -170,7 +169,7 @@ module _ {style : Spelling} (P : List ℕ → Table → Type 0) (K : Bears P) {o
           kind = ap (λ (y : DiskINode). y .kind) (S .recs row) ∙ R .kind;
         })
         clear-17 (sync-mid x (R .mid) m w))
-        (leaves-sync P (K .changes) (K .stores) x m h)
+        (leaves-sync P (K .stores) x m h)
 
     from-used : (x : Fs) → Open false row x → Used (x .table) i
     from-used x R = record { below = M .from .used .below; node = λ e. some-i (sym (R .from) ∙ e) }
@@ -184,12 +183,12 @@ module _ {style : Spelling} (P : List ℕ → Table → Type 0) (K : Bears P) {o
         ok-bind (sync-law x R h i (from-used x R)) λ x e.
         ok-bind (sync-law x (e .0) (e .1) j (to-used x (e .0))) λ x e.
         ok-bind (ok-and (ok-weaken (λ d D. midway-spelled (d .arena) (d .table) (D .mid)) clear-17 (release-law x row (e .0 .mid) (e .0 .used) (λ v. refl) (e .0 .meta)))
-        (leaves-release P (K .changes) (K .stores) (K .takes) (K .frees) (K .drops) x row (e .1))) λ x q. went q
+        (leaves-release P K x row (e .1))) λ x q. went q
 
   rest : (z : Fs) → Settled style own s i j old z → P (z .arena) (z .table)
       → Ok Q Clear (bind (getNode z c) (λ o. bind (moveLinks (o .state) i j (o .row)) (λ s. bind (moveParent s j (o .row)) (λ s. bind (syncRow s i) (λ s. bind (syncRow s j) (λ s. bind (release s (o .row)) (λ s. done (after s))))))))
   rest z Z h =
-      ok-bind (ok-and (gets z Z) (leaves-node P (K .takes) z c h)) λ o e.
+      ok-bind (ok-and (gets z Z) (leaves-node P (K .loads) z c h)) λ o e.
       let G = e .0 in
       subst (λ (w : Opened). P (w .state .arena) (w .state .table)
       → Ok Q Clear (bind (moveLinks (w .state) i j (w .row)) (λ s. bind (moveParent s j (w .row)) (λ s. bind (syncRow s i) (λ s. bind (syncRow s j) (λ s. bind (release s (w .row)) (λ s. done (after s))))))))
@@ -203,5 +202,5 @@ module _ {style : Spelling} (P : List ℕ → Table → Type 0) (K : Bears P) {o
   between-law h =
       ok-bind (ok-and (ok-weaken (λ x A. A) clear-17 (append-law s j (renamed (old .entry) name) (moves-fits s i j old name r M) (live-there s (M .mid) j (M .to)))) (leaves-append P j fills-j (K .changes) s _ h)) λ x e.
       ok-bind (ok-and (ok-weaken (λ x X. X) clear-17 (carry-law s i j old name r M apart x (e .0))) (leaves-remove P i fills-i (K .changes) x _ (e .1))) λ x e.
-      ok-bind (ok-and (ok-weaken (λ z Z. Z) clear-17 (replaced-law s i j old name r M apart avoids x (e .0))) (leaves-replaced P (K .changes) (K .stores) (K .takes) (K .frees) (K .drops) x j fills-j r (e .1))) λ z e.
+      ok-bind (ok-and (ok-weaken (λ z Z. Z) clear-17 (replaced-law s i j old name r M apart avoids x (e .0))) (leaves-replaced P K x j fills-j r (e .1))) λ z e.
       rest z (e .0) (e .1)

@@ -1,304 +1,384 @@
--- The bytes of an open node's file: a call stores into the metadata file, into the files of folders that it has handles on or moves, into a new node's, and
--- into the file of the node that it writes or resizes; and it removes files. A node that is open has its file afterwards, so what was removed was
--- another's.
+-- What each call leaves of a node that is no folder, open or not: its type and its file, and the file's bytes where it is still there, unless the call
+-- writes or resizes through a handle on it. A call stores into the metadata file, into the files of folders that it has handles on or moves, into a new
+-- node's, and into the file of the node that it writes or resizes; and it removes files.
 use mathlib.Core.Path.{_≡_, refl, sym, ap, _∙_, subst}
 use mathlib.Core.Bool.{true, false}
 use mathlib.Core.List.{List}
-use mathlib.Core.Logic.{_≢_, ⊎-elim}
-use Prim.Native.Nat.{ℕ}
+use mathlib.Core.Logic.{_≢_, _⊎_, inl, inr, ⊎-elim}
+use Prim.Native.Nat.{ℕ, _+_, _*_}
+use native.Mathlib.Omega.{arith}
 use Rattle.base.specs.Out.{Out, kept, Ok, went, said}
 use Rattle.base.proofs.Outs.{ok-bind, ok-weaken}
-use Rattle.base.proofs.Bools.{true-false}
+use Rattle.base.proofs.Bools.{bool-cases, true-false}
+use Rattle.base.proofs.Lists.{tab-cong}
+use Rattle.base.specs.declared.Found.{Found}
+use Rattle.base.specs.declared.Found.the-variants.{At, Nothing}
+use Rattle.structs.specs.Layout.{recordOf}
+use Rattle.structs.proofs.Layouts.{recordOf-recordBytes}
 use Rattle.structs.specs.Types.{isFolder}
 use Rattle.structs.specs.declared.DiskINode.{DiskINode}
 use Rattle.structs.specs.declared.Timespec.{Timespec}
 use Rattle.arena.specs.Fields.{File, file}
-use Rattle.files.specs.Read.{there}
-use Rattle.files_laws.specs.Laws.{Named, Kept, Drop}
+use Rattle.files.specs.Read.{there, byteAt}
+use Rattle.files_laws.specs.Laws.{Kept, Drop}
 use Rattle.files_laws.proofs.Bounds.{named-node}
 use Rattle.files_laws.proofs.Parts.{file-cases}
-use Rattle.files_laws.proofs.Make.{make-law}
 use Rattle.table.specs.declared.Table.{Table}
 use Rattle.table.specs.declared.Row.{Row}
 use Rattle.table.specs.declared.Handle.{Handle}
-use Rattle.table.specs.Table.{rowAt, withRow, rowUsed}
+use Rattle.table.specs.Table.{rowAt, rowOf, withRow, addHold, rowUsed, closeHold}
 use Rattle.table_laws.specs.Rules.{Live}
 use Rattle.table_laws.proofs.Rules.{of-holder}
+use Rattle.table_laws.proofs.Rows.{row-here}
 use Rattle.table_laws.proofs.Handles.{live-means, live-used}
-use Rattle.sefs.specs.Nodes.{idAt}
+use Rattle.table_laws.proofs.Finds.{row-found}
+use Rattle.table_laws.proofs.Spare.{first-spare}
+use Rattle.sefs.specs.State.{Fs}
+use Rattle.sefs.specs.Records.{newRecord}
+use Rattle.sefs.specs.Meta.{metaFile}
+use Rattle.sefs.specs.Nodes.{Opened, idAt, nodeFile, newNode}
 use Rattle.sefs.specs.Folders.{entry}
 use Rattle.sefs.specs.Ask.{start}
-use Rattle.sefs.specs.Open.{callRoot, callFind}
 use Rattle.sefs.specs.Create.{Given, createSteps}
-use Rattle.sefs.specs.Read.{callSet, callMetadata, callEntry, callListing}
+use Rattle.sefs.specs.Read.{callMetadata, callEntry, callListing}
 use Rattle.sefs.specs.Contents.{callRead}
-use Rattle.rules.specs.Image.{isNode, recOf}
+use Rattle.rules.specs.Image.{isNode, storedBytes, recBy, recOf, storedSuper, storedMaps}
 use Rattle.rules.specs.Rules.{Allowed}
-use Rattle.sefs_laws.proofs.Rows.{Any, any, ok-both, Changes, Takes, Frees, Stores, Drops, Fills, Makes, leaves-meta, leaves-sync, leaves-append, leaves-birth, leaves-named, leaves-new}
-use Rattle.sefs.specs.State.{Fs}
-use Rattle.table_laws.specs.Rules.{also, none}
-use Rattle.tree.specs.Tree.{Spelling}
-use Rattle.image.specs.Midway.{Used, turning}
-use Rattle.image.proofs.Counts.{Counts, counts-rec}
-use Rattle.image.proofs.Turned.{Ready, Relinked}
+use Rattle.rules.proofs.Files.{node-below}
+use Rattle.sefs_laws.proofs.Rows.{Any, any, Changes, Stores, Metas, Bears, bears-and, Fills, tabled, leaves-meta, leaves-sync, leaves-append, leaves-birth, leaves-named, row-below}
+use Rattle.image.specs.Midway.{Used, storedMeta}
 use Rattle.image.proofs.Handles.{formed, row-rec, row-node}
-use Rattle.image.proofs.Metas.{kept-same, kept-then}
+use Rattle.image.proofs.Images.{fair}
+use Rattle.image.proofs.Holds.{add-rows}
+use Rattle.image.proofs.Nodes.{there-meta, meta-is, node-some}
+use Rattle.image.proofs.Stores.{node-apart}
+use Rattle.image.proofs.Metas.{kept-same, kept-then, length-mapsTo, bytes-mapsTo, node-other}
 use Rattle.image.proofs.Appends.{file-apart}
+use Rattle.image.proofs.Allocs.{Sane, taken-new}
+use Rattle.image.proofs.Makes.{Makes, new-node-law}
 use Rattle.sequences.specs.Pairs.{Pair, Passed}
-use Rattle.walk.specs.Walk.{callWalk}
-use Rattle.sequences.specs.Calls.{Call, root, find, walk, create, link, removeFile, removeFolder, move, metadata, setMetadata, getEntry, listing, read, write, resize, sync, close, check, Fits, does, next}
-use Rattle.sequences.specs.Promises.{On, SameFile, Through, writes, resizes}
+use Rattle.sequences.specs.Calls.{Call, root, find, walk, create, link, removeFile, removeFolder, move, metadata, setMetadata, getEntry, listing, read, write, resize, sync, close, check, NewFits, Fits, does, next}
+use Rattle.sequences.specs.Promises.{Through, writes, resizes}
 use Rattle.sequences.proofs.Passing.{allowed, spelled-any}
-use Rattle.sequences.proofs.Tables.{FillsFolders, keeps-create, keeps-link, keeps-remove, keeps-write, keeps-resize, keeps-sync, keeps-close}
-use Rattle.sequences.proofs.Bears.{Bears, Turns}
+use Rattle.sequences.proofs.Tables.{FillsFolders, Turns, keeps-create, keeps-root, keeps-find, keeps-walk, keeps-set, keeps-link, keeps-remove, keeps-write, keeps-resize, keeps-sync, keeps-close}
+use Rattle.sequences.proofs.Closes.{close-rows}
 use Rattle.sequences.proofs.Moves.{move-call}
-use Rattle.sequences.proofs.Corner.{at-put, Has, new-law, on-changes, on-takes, on-frees, on-used, on-there}
+use Rattle.sequences.proofs.Corner.{at-put}
+use Rattle.sequences.proofs.Tracks.{As, Wide, Dirty, Tracks, tracks-rows, tracks-bears, tracks-fills, tracks-new}
 
 -- where file f is there, it is as it was in arena o
-abbrev Stays : List ℕ → List ℕ → List ℕ → Type 0
-Stays o f a = there a (file 1 f) ≡ true → Kept o a (file 1 f)
+abbrev pub KeptIfThere : List ℕ → List ℕ → List ℕ → Type 0
+KeptIfThere o f a = there a (file 1 f) ≡ true → Kept o a (file 1 f)
 
--- row i of table t is in use, a live hold names it, and its file is that of row i in table o
-record Firm (o t : Table) (i : ℕ) : Type 0 where
+-- since pair p: file f as it was, and of every node its type and its file
+pub record Intact (p : Pair) (f a : List ℕ) (t : Table) : Type 0 where
+  pub stays : KeptIfThere (p .arena) f a
+  pub tracks : (m : ℕ) → isNode (p .arena) m ≡ true → Tracks m (recOf (p .arena) (p .table) m .kind) (recOf (p .arena) (p .table) m .file) a t
+
+-- row i of table t is in use, a live hold names it, and its file is that of row i in table v
+record Firm (v t : Table) (i : ℕ) : Type 0 where
   used : rowUsed t i ≡ true
   some : rowAt t i .id ≢ 0
-  same : rowAt t i .rec .file ≡ rowAt o i .rec .file
+  same : rowAt t i .rec .file ≡ rowAt v i .rec .file
 
--- the file as it was in arena o, and rows with handles firm since table v
-record Calm (o : List ℕ) (v : Table) (f a : List ℕ) (t : Table) : Type 0 where
-  stays : Stays o f a
-  firm : (i : ℕ) → Firm v v i → Firm v t i
+-- rows with handles are firm since table v
+abbrev FirmSince : Table → Table → Type 0
+FirmSince v t = (i : ℕ) → Firm v v i → Firm v t i
 
--- ---- what the steps keep
+module _ (v : Table) where
+  firm-put : (u : Table) (i : ℕ) (r : Row) → ((j : ℕ) → Firm v u j → j ≡ i → (r .id ≢ 0) × (r .rec .file ≡ rowAt u j .rec .file)) → FirmSince v u → FirmSince v (withRow u i r)
+  unfolding rowUsed
+  firm-put u i r g firm j h = let x = firm j h in record {
+    used = x .used;
+    some = at-put (λ (z : Row). z .id ≢ 0) u i r j (λ e. g j x e .0) (x .some);
+    same = at-put (λ (z : Row). z .rec .file ≡ rowAt v j .rec .file) u i r j (λ e. g j x e .1 ∙ x .same) (x .same);
+  }
 
-module _ (o : List ℕ) (v : Table) (f : List ℕ) where
-  stays-kept : (a b : List ℕ) → Kept a b (file 1 f) → Stays o f a → Stays o f b
+  -- a firm row is not free, and not unheld
+  firm-bears : Bears (λ a t. FirmSince v t)
+  firm-bears = tabled (FirmSince v)
+      (λ t i r e q d. firm-put t i r (λ j x z. (λ w. x .some (ap (λ (k : ℕ). rowAt t k .id) z ∙ sym e ∙ w), q ∙ ap (λ (k : ℕ). rowAt t k .rec .file) (sym z))))
+      (λ t i r e. firm-put t i r (λ j x z. absurd (x .some (ap (λ (k : ℕ). rowAt t k .id) z ∙ e))))
+      (λ t i e. firm-put t i _ (λ j x z. absurd (true-false (ap (rowUsed t) (sym z) ∙ x .used) e)))
+
+module _ (o f : List ℕ) where
+  stays-kept : (a b : List ℕ) → Kept a b (file 1 f) → KeptIfThere o f a → KeptIfThere o f b
   stays-kept a b k s e = kept-then o a b (file 1 f) (s (sym (k .exists) ∙ e)) k
 
-  stays-drop : (a b g : List ℕ) → Drop a (file 1 g) b → Stays o f a → Stays o f b
+  stays-drop : (a b g : List ℕ) → Drop a (file 1 g) b → KeptIfThere o f a → KeptIfThere o f b
   stays-drop a b g d s =
       ⊎-elim
       (λ (q : file 1 g ≡ file 1 f). λ e. absurd (true-false e (subst (λ (x : File). there b x ≡ false) q (d .gone))))
       (λ n. stays-kept a b (d .others (file 1 f) n) s)
       (file-cases (file 1 g) (file 1 f))
 
-  calm-start : Calm o v f o v
-  calm-start = record { stays = λ e. kept-same o (file 1 f); firm = λ i x. x }
-
-  calm-changes : Changes (Calm o v f)
-  unfolding rowUsed
-  calm-changes a t i r e q c = record {
-    stays = c .stays;
-    firm = λ j h. let x = c .firm j h in record {
-      used = x .used;
-      some = at-put (λ (y : Row). y .id ≢ 0) t i r j (λ z w. x .some (ap (λ (k : ℕ). rowAt t k .id) z ∙ sym e ∙ w)) (x .some);
-      same = at-put (λ (y : Row). y .rec .file ≡ rowAt v j .rec .file) t i r j (λ z. q ∙ ap (λ (k : ℕ). rowAt t k .rec .file) (sym z) ∙ x .same) (x .same);
-    };
+  stays-bears : Bears (λ a t. KeptIfThere o f a)
+  stays-bears = record {
+    changes = λ a t i r e q d m y h. h;
+    loads = λ a t i id free new h. h;
+    frees = λ a t i unused clean h. h;
+    stores = λ a b t i l p. stays-kept a b (p .others (file 1 f) (node-other f));
+    metas = λ a b t k q. stays-kept a b (k f);
+    drops = λ a b t g d. stays-drop a b g d;
   }
 
-  -- a firm row is not free, and not unheld
-  calm-else : (a : List ℕ) (t : Table) (i : ℕ) (r : Row) → ((j : ℕ) → Firm v t j → j ≡ i → ⊥) → Calm o v f a t → Calm o v f a (withRow t i r)
-  unfolding rowUsed
-  calm-else a t i r n c = record {
-    stays = c .stays;
-    firm = λ j h. let x = c .firm j h in record {
-      used = x .used;
-      some = at-put (λ (y : Row). y .id ≢ 0) t i r j (λ z. absurd (n j x z)) (x .some);
-      same = at-put (λ (y : Row). y .rec .file ≡ rowAt v j .rec .file) t i r j (λ z. absurd (n j x z)) (x .same);
-    };
-  }
+-- ---- as a call begins, and goes on
 
-  calm-takes : Takes (Calm o v f)
-  calm-takes a t i r e = calm-else a t i r (λ j x z. x .some (ap (λ (k : ℕ). rowAt t k .id) z ∙ e))
-
-  calm-frees : Frees (Calm o v f)
-  calm-frees a t i e = calm-else a t i _ (λ j x z. true-false (ap (rowUsed t) (sym z) ∙ x .used) e)
-
-  calm-stores : Stores (Calm o v f)
-  calm-stores a b t k c = record { stays = stays-kept a b (k f) (c .stays); firm = c .firm }
-
-  calm-drops : Drops (Calm o v f)
-  calm-drops a b t g d c = record { stays = stays-drop a b g d (c .stays); firm = c .firm }
-
-  calm-fills : (i : ℕ) → Firm v v i → rowAt v i .rec .file ≢ f → Fills (Calm o v f) i
-  calm-fills i h n a b t k c = record { stays = stays-kept a b (k f (λ q. n (sym (c .firm i h .same) ∙ q))) (c .stays); firm = c .firm }
-
-  calm-makes : (uuid : List ℕ) → Named (file 1 uuid) → uuid ≢ f → Makes (Calm o v f) uuid
-  calm-makes uuid N n a t c = ok-weaken (λ b m. record { stays = stays-kept a b (m .others (file 1 f) (file-apart uuid f n)) (c .stays); firm = c .firm }) (λ r q. tt) (make-law a (file 1 uuid) N)
-
-  -- ---- and a row whose node is new
-
-  module _ (c m : ℕ) (uuid : List ℕ) (n : uuid ≢ f) where
-    abbrev Making : List ℕ → Table → Type 0
-    Making a t = Calm o v f a t × Has c m uuid (rowAt t c)
-
-    making-changes : Changes Making
-    making-changes a t i r e q k = (
-      calm-changes a t i r e q (k .0),
-      at-put (Has c m uuid) t i r c
-          (λ z. record { id = e ∙ ap (λ (j : ℕ). rowAt t j .id) (sym z) ∙ k .1 .id; file = q ∙ ap (λ (j : ℕ). rowAt t j .rec .file) (sym z) ∙ k .1 .file })
-          (k .1),
-    )
-
-    making-stores : Stores Making
-    making-stores a b t k h = (calm-stores a b t k (h .0), h .1)
-
-    making-fills : (i : ℕ) → Firm v v i → rowAt v i .rec .file ≢ f → Fills Making i
-    making-fills i h d a b t k x = (calm-fills i h d a b t k (x .0), x .1)
-
-    making-own : Fills Making c
-    making-own a b t k x = (record { stays = stays-kept a b (k f (λ q. n (sym (x .1 .file) ∙ q))) (x .0 .stays); firm = x .0 .firm }, x .1)
-
--- ---- the calls
-
-module _ (p : Pair) (y : Passed p) (who : ℕ) (h : Handle) (n : ℕ) (f : List ℕ) (on : On (p .table) who h n f) (no-dir : isFolder (recOf (p .arena) (p .table) n .kind) ≡ false) where
+module _ (p : Pair) (y : Passed p) where
   abbrev a : List ℕ
   a = p .arena
 
   abbrev t : Table
   t = p .table
 
-  abbrev C : List ℕ → Table → Type 0
-  C = Calm (p .arena) (p .table) f
+  abbrev K : ℕ → ℕ
+  K m = recOf (p .arena) (p .table) m .kind
 
-  A : Allowed a t
+  abbrev F : ℕ → List ℕ
+  F m = recOf (p .arena) (p .table) m .file
+
+  A : Allowed (p .arena) (p .table)
   A = allowed p y
 
-  row-n : Used t (on .row)
-  row-n = on-used a t A who h n f on
+  used-row : (j : ℕ) → rowAt (p .table) j .id ≢ 0 → Used (p .table) j
+  used-row j z = record { below = row-below t (y .typed .fits .rows-34) j z; node = z }
 
-  node-n : isNode a n ≡ true
-  node-n = ap (isNode a) (sym (on .node)) ∙ row-node a t A (on .row) row-n
+  some-of : (m : ℕ) → isNode (p .arena) m ≡ true → m ≢ 0
+  some-of m N = node-some a t (fair a t A) m N
 
-  file-n : recOf a t n .file ≡ f
-  file-n = ap (λ (k : ℕ). recOf a t k .file) (sym (on .node)) ∙ ap (λ (r : DiskINode). r .file) (row-rec a t A (on .row) row-n) ∙ on .file
+  tracks-start : (m : ℕ) → isNode (p .arena) m ≡ true → Tracks m (K m) (F m) (p .arena) (p .table)
+  unfolding recOf
+  tracks-start m N = record {
+    rows = λ j e. of j (used-row j (λ z. some-of m N (sym e ∙ z))) e;
+    stored = by (rowOf t m) refl;
+    wide = λ j l. let F = y .typed .fits .rows j (omega (arith, y .typed .fits .rows-34)) .rec in record { file = F .file; mac = F .mac };
+  }
+    where
+      of : (j : ℕ) → Used (p .table) j → rowAt (p .table) j .id ≡ m → As (K m) (F m) (rowAt (p .table) j .rec)
+      of j u e =
+          let q : rowAt t j .rec ≡ recOf a t m = sym (row-rec a t A j u) ∙ ap (recOf a t) e in
+          record { kind = ap (λ (r : DiskINode). r .kind) q; file = ap (λ (r : DiskINode). r .file) q }
 
-  used : (v : ℕ) (g : Handle) (i : ℕ) → Live t v g i → Used t i
-  used v g i l = record { below = l .is-row; node = live-used t v g i (formed a t A) l }
+      by : (x : Found) → rowOf (p .table) m ≡ x → As (K m) (F m) (recordOf (storedBytes (p .arena) m)) ⊎ Dirty m (p .table)
+      by (At j) e =
+          let w = row-found t m j e in
+          let u = used-row j (λ z. some-of m N (sym (w .1) ∙ z)) in
+          ⊎-elim
+          (λ d. inr (record { at = j; below = w .0; id = w .1; dirty = d }))
+          (λ d. inl (subst (As (K m) (F m))
+          (sym (recordOf-recordBytes (rowAt t j .rec) (y .typed .fits .rows j (w .0) .rec)) ∙ ap recordOf (A .rule4 .clean j (w .0) (u .node) d) ∙ ap (λ (x : ℕ). recordOf (storedBytes a x)) (w .1))
+          (of j u (w .1))))
+          (bool-cases (rowAt t j .dirty))
+      by Nothing e =
+          let q : recOf a t m ≡ recordOf (storedBytes a m) = ap (recBy a t m) e in
+          inl (record { kind = ap (λ (r : DiskINode). r .kind) (sym q); file = ap (λ (r : DiskINode). r .file) (sym q) })
 
-  firm : (v : ℕ) (g : Handle) (i : ℕ) → Live t v g i → Firm t t i
-  firm v g i l = record {
+  track : (m : ℕ) → isNode (p .arena) m ≡ true → Bears (Tracks m (K m) (F m))
+  track m N = tracks-bears m (K m) (F m) (some-of m N) (node-apart a m N) (omega (arith, A .rule5 .most m N))
+
+  module _ (f : List ℕ) where
+    intact-start : Intact p f (p .arena) (p .table)
+    intact-start = record { stays = λ e. kept-same a (file 1 f); tracks = tracks-start }
+
+    intact-bears : Bears (Intact p f)
+    intact-bears = let S = stays-bears a f in record {
+      changes = λ b u i r e q d m w c. record { stays = c .stays; tracks = λ x N. track x N .changes b u i r e q d m w (c .tracks x N) };
+      loads = λ b u i id free new c. record { stays = c .stays; tracks = λ x N. track x N .loads b u i id free new (c .tracks x N) };
+      frees = λ b u i unused clean c. record { stays = c .stays; tracks = λ x N. track x N .frees b u i unused clean (c .tracks x N) };
+      stores = λ b d u i l P c. record { stays = S .stores b d u i l P (c .stays); tracks = λ x N. track x N .stores b d u i l P (c .tracks x N) };
+      metas = λ b d u files same c. record { stays = S .metas b d u files same (c .stays); tracks = λ x N. track x N .metas b d u files same (c .tracks x N) };
+      drops = λ b d u g D c. record { stays = S .drops b d u g D (c .stays); tracks = λ x N. track x N .drops b d u g D (c .tracks x N) };
+    }
+
+    -- the rows alone count
+    intact-rows : (b : List ℕ) (u v : Table) → v .rows ≡ u .rows → Intact p f b u → Intact p f b v
+    intact-rows b u v e c = record { stays = c .stays; tracks = λ x N. tracks-rows x (K x) (F x) b u v e (c .tracks x N) }
+
+    intact-adds : (b : List ℕ) (u : Table) (w row : ℕ) → Intact p f b u → Intact p f b (addHold u w row .table)
+    intact-adds b u w row = intact-rows b u (addHold u w row .table) (add-rows u w row)
+
+    -- a file that is not f is filled
+    intact-fill : (i : ℕ) (b d : List ℕ) (u : Table) → rowAt u i .rec .file ≢ f → ((g : File) → nodeFile (rowAt u i .rec) ≢ g → Kept b d g) → Intact p f b u → Intact p f d u
+    intact-fill i b d u n k c = record {
+      stays = stays-kept a f b d (k (file 1 f) (file-apart (rowAt u i .rec .file) f n)) (c .stays);
+      tracks = λ x N. tracks-fills x (K x) (F x) (some-of x N) (node-apart a x N) (omega (arith, A .rule5 .most x N)) i b d u k (c .tracks x N);
+    }
+
+    -- and the rows that have handles
+    abbrev Calm : List ℕ → Table → Type 0
+    Calm b u = Intact p f b u × FirmSince (p .table) u
+
+    calm-start : Calm (p .arena) (p .table)
+    calm-start = (intact-start, λ i x. x)
+
+    calm-bears : Bears Calm
+    calm-bears = bears-and intact-bears (firm-bears t)
+
+    calm-fills : (i : ℕ) → Firm (p .table) (p .table) i → rowAt (p .table) i .rec .file ≢ f → Fills Calm i
+    calm-fills i h n b d u k c = (intact-fill i b d u (λ q. n (sym (c .1 i h .same) ∙ q)) k (c .0), c .1)
+
+    -- a row for a new node, at the start
+    calm-new : (b : List ℕ) (i : ℕ) (r : Row) → rowAt (p .table) i .id ≡ 0 → isNode (p .arena) (r .id) ≡ false → Wide r → Kept (p .arena) b (file 1 f)
+        → ((m : ℕ) → isNode (p .arena) m ≡ true → storedBytes b m ≡ storedBytes (p .arena) m) → Calm b (withRow (p .table) i r)
+    calm-new b i r free new wide kept same = (
+      record {
+        stays = λ e. kept;
+        tracks = λ x N. tracks-new x (K x) (F x) (some-of x N) (node-apart a x N) (omega (arith, A .rule5 .most x N)) a b t i r free (λ q. true-false (ap (isNode a) q ∙ N) new) wide (same x N) (tracks-start x N);
+      },
+      firm-put t t i r (λ j x z. absurd (x .some (ap (λ (k : ℕ). rowAt t k .id) z ∙ free))) (λ j h. h),
+    )
+
+  -- ---- the rows of live handles
+
+  live-row : (w : ℕ) (g : Handle) (i : ℕ) → Live (p .table) w g i → Used (p .table) i
+  live-row w g i l = record { below = l .is-row; node = live-used t w g i (formed a t A) l }
+
+  live-firm : (w : ℕ) (g : Handle) (i : ℕ) → Live (p .table) w g i → Firm (p .table) (p .table) i
+  live-firm w g i l = record {
     used = of-holder t i (record { hold = g .hold; is-hold = l .is-hold; live = λ z. l .given (sym (l .stamp) ∙ z); names = l .names });
-    some = used v g i l .node;
+    some = live-row w g i l .node;
     same = refl;
   }
 
-  -- another node has another file
-  off : (v : ℕ) (g : Handle) (i : ℕ) → Live t v g i → rowAt t i .id ≢ n → rowAt t i .rec .file ≢ f
-  off v g i l d q =
-      let u = used v g i l in
-      d (A .rule5 .distinct (rowAt t i .id) n (row-node a t A i u) node-n (ap (λ (r : DiskINode). r .file) (row-rec a t A i u) ∙ q ∙ sym file-n))
+  -- ---- the calls
 
-  folder-off : (v : ℕ) (g : Handle) (i : ℕ) → Live t v g i → isFolder (rowAt t i .rec .kind) ≡ true → rowAt t i .rec .file ≢ f
-  folder-off v g i l dir = off v g i l (λ q.
-      true-false (ap (λ (r : DiskINode). isFolder (r .kind)) (row-rec a t A i (used v g i l)) ∙ dir) (ap (λ (k : ℕ). isFolder (recOf a t k .kind)) q ∙ no-dir))
+  module _ (n : ℕ) (N : isNode (p .arena) n ≡ true) (no-dir : isFolder (recOf (p .arena) (p .table) n .kind) ≡ false) where
+    abbrev f : List ℕ
+    f = recOf (p .arena) (p .table) n .file
 
-  folders : FillsFolders (Calm (p .arena) (p .table) f) (p .table)
-  folders v g i l dir = calm-fills a t f i (firm v g i l) (folder-off v g i l dir)
+    abbrev I : List ℕ → Table → Type 0
+    I = Intact p f
 
-  create-steps : (v : ℕ) (g : Handle) (i : ℕ) → Live (p .table) v g i → isFolder (rowAt (p .table) i .rec .kind) ≡ true → (name : List ℕ) (kind mode : ℕ) (time : Timespec) (uuid : List ℕ) → Named (file 1 uuid) → there (p .arena) (file 1 uuid) ≡ false
-      → Ok (λ (x : Given). Stays (p .arena) f (x .arena)) Any (createSteps (start (p .arena) (p .table)) v i name kind mode time uuid)
-  unfolding createSteps
-  create-steps v g i l dir name kind mode time uuid N none =
-      ok-bind (ok-both (new-law (start a t) kind mode time uuid (formed a t A .rows-34)) (leaves-new C (calm-changes a t f) (calm-stores a t f) (calm-takes a t f) (start a t) kind mode time uuid (calm-makes a t f uuid N other) (calm-start a t f))) λ x k.
-      let c : ℕ = x .row in
-      let m : ℕ = k .0 .id in
-      let M : List ℕ → Table → Type 0 = Making a t f (x .row) (k .0 .id) uuid other in
-      let ch : Changes (Making a t f (x .row) (k .0 .id) uuid other) = making-changes a t f (x .row) (k .0 .id) uuid other in
-      let st : Stores (Making a t f (x .row) (k .0 .id) uuid other) = making-stores a t f (x .row) (k .0 .id) uuid other in
-      ok-bind (leaves-birth M c (making-own a t f (x .row) (k .0 .id) uuid other) ch (x .state) i kind (k .1, k .0 .has)) λ s q.
-      ok-bind (leaves-append M i (making-fills a t f (x .row) (k .0 .id) uuid other i (firm v g i l) (folder-off v g i l dir)) ch s (entry (idAt s c) name kind) q) λ s q.
-      ok-bind (leaves-named M ch s i c kind q) λ s q.
-      ok-bind (leaves-meta M st s q) λ s q.
-      ok-bind (leaves-sync M ch st s c q) λ s q.
-      ok-bind (leaves-sync M ch st s i q) λ s q. went (q .0 .stays)
-    where
-      other : uuid ≢ f
-      other e = true-false (ap (λ (x : List ℕ). there (p .arena) (file 1 x)) e ∙ on-there (p .arena) (p .table) (allowed p y) who h n f on) none
+    abbrev C : List ℕ → Table → Type 0
+    C = Calm f
 
-  -- ---- a move fills the moved folder's file too, once it has found it again: while the handle is on the node, that is another's
+    -- another node has another file
+    apart-file : (m : ℕ) → isNode (p .arena) m ≡ true → m ≢ n → F m ≢ f
+    apart-file m M d q = d (A .rule5 .distinct m n M N q)
 
-  some-n : n ≢ 0
-  some-n z = row-n .node (on .node ∙ z)
+    -- a folder is another node
+    folder-file : (m : ℕ) → isNode (p .arena) m ≡ true → isFolder (K m) ≡ true → F m ≢ f
+    folder-file m M dir = apart-file m M (λ q. true-false (ap (λ (k : ℕ). isFolder (K k)) (sym q) ∙ dir) no-dir)
 
-  watched : Bears (λ b u. Calm (p .arena) (p .table) f b u × On u who h n f)
-  watched = record {
-    stores = λ b d u k w. (calm-stores a t f b d u k (w .0), w .1);
-    drops = λ b d u g k w. (calm-drops a t f b d u g k (w .0), w .1);
-    changes = λ b u i r e q w. (calm-changes a t f b u i r e q (w .0), on-changes who h n f b u i r e q (w .1));
-    takes = λ b u i r e w. (calm-takes a t f b u i r e (w .0), on-takes who h n f some-n b u i r e (w .1));
-    frees = λ b u i e w. (calm-frees a t f b u i e (w .0), on-frees who h n f b u i e (w .1));
-  }
+    row-apart : (w : ℕ) (g : Handle) (i : ℕ) → Live (p .table) w g i → rowAt (p .table) i .id ≢ n → rowAt (p .table) i .rec .file ≢ f
+    row-apart w g i l d q =
+        let u = live-row w g i l in
+        apart-file (rowAt t i .id) (row-node a t A i u) d (ap (λ (r : DiskINode). r .file) (row-rec a t A i u) ∙ q)
 
-  module _ (style : Spelling) (c e g kd i j row : ℕ) (x z : Fs) (dir : isFolder (recOf (p .arena) (p .table) c .kind) ≡ true) (R : Ready (turning style c e g) c e g kd i j row x) (L : Relinked e g row x z) (o : On (z .table) who h n f) where
-    S : Counts (also none row) (x .arena) (x .table) (λ m. recOf (x .arena) (x .table) m .blocks) (L .L) (L .table)
-    S = L .rows
+    folders : FillsFolders C (p .table)
+    folders w g i l dir =
+        let u = live-row w g i l in
+        let q = row-rec a t A i u in
+        calm-fills f i (live-firm w g i l) (λ e. folder-file (rowAt t i .id) (row-node a t A i u) (ap (λ (r : DiskINode). isFolder (r .kind)) q ∙ dir) (ap (λ (r : DiskINode). r .file) q ∙ e))
 
-    here : On (L .table) who h n f
-    here = subst (λ (v : Fs). On (v .table) who h n f) (L .is) o
+    -- a folder that moves
+    turns : Turns C (p .arena) (p .table)
+    turns c row M dir b d u e k h = (intact-fill f row b d u (λ q. folder-file c M dir (sym (h .0 .tracks c M .rows row e .file) ∙ q)) k (h .0), h .1)
 
-    -- the node's row, before the links changed
-    was : rowAt (x .table) (here .row) .id ≡ n
-    was = sym (S .ids (here .row)) ∙ here .node
+    -- ---- a new node
 
-    row-here : Used (x .table) (here .row)
-    row-here = record { below = live-means (L .table) who h (here .row) .0 (here .live) .is-row; node = λ z. some-n (sym was ∙ z) }
+    module _ (kind mode : ℕ) (time : Timespec) (uuid : List ℕ) (fits : NewFits kind mode time uuid) (absent : there (p .arena) (file 1 uuid) ≡ false) where
+      other : f ≢ uuid
+      other e = true-false (A .rule5 .own n N) (ap (λ (x : List ℕ). there a (file 1 x)) e ∙ absent)
 
-    file-of : (m id : ℕ) → Used (x .table) m → rowAt (x .table) m .id ≡ id → rowAt (L .table) m .rec .file ≡ recOf (x .arena) (x .table) id .file
-    file-of m id w q =
-        ap (λ (r : DiskINode). r .file) (sym (counts-rec (x .arena) (x .table) (λ m. recOf (x .arena) (x .table) m .blocks) (L .L) (L .table) S m w))
-        ∙ ap (λ (k : ℕ). recOf (x .arena) (L .table) k .file) q ∙ S .files id
+      sane : Sane (storedMeta (p .arena))
+      unfolding storedMaps
+      sane = record {
+        magic = A .rule3 .magic;
+        some = A .rule3 .some;
+        few = A .rule3 .few;
+        blocks = A .rule3 .blocks;
+        unused = A .rule3 .unused;
+        long = length-mapsTo a (storedSuper a .groups);
+        bytes = bytes-mapsTo a (y .typed .bytes) (storedSuper a .groups);
+        none = A .rule4 .zero;
+        owns = A .rule4 .maps;
+      }
 
-    node-of : (m id : ℕ) → Used (x .table) m → rowAt (x .table) m .id ≡ id → isNode (x .arena) id ≡ true
-    node-of m id w q = ap (isNode (x .arena)) (sym q) ∙ R .mid .fair .rule4 .node m (w .below) (w .node)
+      make : Ok (Makes (start (p .arena) (p .table)) (storedMeta (p .arena)) (newRecord kind mode time uuid)) (λ r. r ≡ 17) (newNode (start (p .arena) (p .table)) kind mode time uuid)
+      unfolding isNode
+      make =
+          let s = first-spare t (formed a t A) in
+          let B = fair a t A in
+          new-node-law (start a t) (storedMeta a) (meta-is a t B) sane (there-meta a t B) (A .rule3 .length) (y .typed .bytes) (A .rule1 .sound) (A .rule4 .node)
+          (s .0) (s .1) uuid (named-node uuid (fits .file) (fits .bytes)) absent kind mode time
 
-    moved-off : rowAt (z .table) row .rec .file ≢ f
-    moved-off w =
-        let q : recOf (x .arena) (x .table) n .file ≡ recOf (x .arena) (x .table) c .file =
-        sym (file-of (here .row) n row-here was) ∙ here .file ∙ sym w ∙ ap (λ (v : Fs). rowAt (v .table) row .rec .file) (L .is) ∙ file-of row c (R .used) (R .same) in
-        let d : n ≡ c = R .mid .fair .rule5 .distinct n c (node-of (here .row) n row-here was) (node-of row c (R .used) (R .same)) q in
-        true-false (ap (λ (k : ℕ). isFolder (recOf a t k .kind)) d ∙ dir) no-dir
+      module _ (c : ℕ) where
+        -- row c has the new file
+        abbrev New : List ℕ → Table → Type 0
+        New b u = C b u × (rowAt u c .rec .file ≡ uuid)
 
-  moved : Turns (λ b u. Calm (p .arena) (p .table) f b u × On u who h n f) (p .arena) (p .table)
-  moved style c e g kd i j row x z dir R L b k w =
-      (record { stays = stays-kept a t f (z .arena) b (k f (moved-off style c e g kd i j row x z dir R L (w .1))) (w .0 .stays); firm = w .0 .firm }, w .1)
+        new-changes : Changes New
+        new-changes b u i r e q d m w h =
+            (calm-bears f .changes b u i r e q d m w (h .0), at-put (λ (x : Row). x .rec .file ≡ uuid) u i r c (λ z. q ∙ ap (λ (j : ℕ). rowAt u j .rec .file) (sym z) ∙ h .1) (h .1))
 
-  calls : (c : Call) → Fits c → (Through n (p .table) c → ⊥) → Ok (λ (q : Pair). Stays (p .arena) f (q .arena)) Any (does c p)
-  unfolding does
-  calls (root v) F z = ok-bind (any (callRoot a t v)) λ x _. went (λ e. kept-same a (file 1 f))
-  calls (find v g name) F z = ok-bind (any (callFind a t v g name)) λ x _. went (λ e. kept-same a (file 1 f))
-  calls (walk v g path room) F z = ok-bind (any (callWalk a t v g path room .end)) λ x _. went (λ e. kept-same a (file 1 f))
-  calls (create v g name kind mode time uuid) F z =
-      ok-bind (keeps-create (λ b u. Stays a f b) a t v g name kind mode time uuid (λ i l dir none. create-steps v g i l dir name kind mode time uuid (named-node uuid (F .3 .file) (F .3 .bytes)) none)) λ x k. went k
-  calls (link v g name child) F z =
-      ok-bind (keeps-link C (calm-stores a t f) (calm-drops a t f) (calm-changes a t f) (calm-takes a t f) (calm-frees a t f) a t folders v g name child (calm-start a t f)) λ x k. went (k .stays)
-  calls (removeFile v g name) F z =
-      ok-bind (keeps-remove C (calm-stores a t f) (calm-drops a t f) (calm-changes a t f) (calm-takes a t f) (calm-frees a t f) false a t folders v g name (calm-start a t f)) λ x k. went (k .stays)
-  calls (removeFolder v g name) F z =
-      ok-bind (keeps-remove C (calm-stores a t f) (calm-drops a t f) (calm-changes a t f) (calm-takes a t f) (calm-frees a t f) true a t folders v g name (calm-start a t f)) λ x k. went (k .stays)
-  calls (move v g old target name) F z =
-      ok-bind (ok-weaken (λ x k. k) (λ m r. tt) (move-call (λ b u. Calm a t f b u × On u who h n f) watched p (spelled-any p y) (λ v g i l dir b d u k w. (folders v g i l dir b d u k (w .0), w .1)) moved (calm-start a t f, on) v g old target name (F .4))) λ x k. went (k .1 .0 .stays)
-  calls (metadata v g) F z = ok-bind (any (callMetadata a t v g)) λ x _. went (λ e. kept-same a (file 1 f))
-  calls (setMetadata v g mode uid gid at mt ct) F z = ok-bind (any (callSet a t v g mode uid gid at mt ct)) λ x _. went (λ e. kept-same a (file 1 f))
-  calls (getEntry v g k room) F z = ok-bind (any (callEntry a t v g k room)) λ x _. went (λ e. kept-same a (file 1 f))
-  calls (listing v g m room) F z = ok-bind (any (callListing a t v g m room)) λ x _. went (λ e. kept-same a (file 1 f))
-  calls (read v g place room) F z = ok-bind (any (callRead a t v g place room)) λ x _. went (λ e. kept-same a (file 1 f))
-  calls (write v g place bytes) F z =
-      ok-bind (keeps-write C (calm-stores a t f) (calm-drops a t f) (calm-changes a t f) (calm-takes a t f) (calm-frees a t f) a t v g place bytes
-      (λ i l. calm-fills a t f i (firm v g i l) (off v g i l (λ q. z (writes (live-means t v g i .1 l) q)))) (calm-start a t f)) λ x k. went (k .stays)
-  calls (resize v g m) F z =
-      ok-bind (keeps-resize C (calm-stores a t f) (calm-drops a t f) (calm-changes a t f) (calm-takes a t f) (calm-frees a t f) a t v g m
-      (λ i l. calm-fills a t f i (firm v g i l) (off v g i l (λ q. z (resizes (live-means t v g i .1 l) q)))) (calm-start a t f)) λ x k. went (k .stays)
-  calls sync F z = ok-bind (keeps-sync C (calm-stores a t f) (calm-drops a t f) (calm-changes a t f) (calm-takes a t f) (calm-frees a t f) a t (calm-start a t f)) λ x k. went (k .stays)
-  -- the closed hold's row is firm no more
-  calls (close v g) F z =
-      ok-bind (keeps-close (λ b u. Stays a f b) (λ b c u k. stays-kept a t f b c (k f)) (λ b c u g d. stays-drop a t f b c g d) (λ b u i r e q k. k) (λ b u i r e k. k) (λ b u i e k. k) a t v g
-      (λ i l e. kept-same a (file 1 f))) λ x k. went k
-  calls check F z = went (λ e. kept-same a (file 1 f))
+        new-stores : Stores New
+        new-stores b d u i l P h = (calm-bears f .stores b d u i l P (h .0), at-put (λ (x : Row). x .rec .file ≡ uuid) u i _ c (λ z. ap (λ (j : ℕ). rowAt u j .rec .file) (sym z) ∙ h .1) (h .1))
 
-  pub same-file : (c : Call) → Fits c → (Through n (p .table) c → ⊥) → there (next c p .arena) (file 1 f) ≡ true → SameFile f (p .arena) (next c p .arena)
-  same-file c F z = by-outcome (calls c F z)
-    where
-      by-outcome : {o : Out Pair} → Ok (λ (q : Pair). Stays (p .arena) f (q .arena)) Any o → there (kept p o .arena) (file 1 f) ≡ true → SameFile f (p .arena) (kept p o .arena)
-      by-outcome (went s) e = let k = s e in record { long = k .long; bytes = k .byte }
-      by-outcome (said r) e = record { long = refl; bytes = λ k. refl }
+        new-metas : Metas New
+        new-metas b d u files same h = (calm-bears f .metas b d u files same (h .0), h .1)
+
+        new-own : Fills New c
+        new-own b d u q h = ((intact-fill f c b d u (λ e. other (sym e ∙ h .1)) q (h .0 .0), h .0 .1), h .1)
+
+      made : (o : Opened) → Makes (start (p .arena) (p .table)) (storedMeta (p .arena)) (newRecord kind mode time uuid) o → New (o .row) (o .state .arena) (o .state .table)
+      unfolding isNode storedBytes
+      made o Q =
+          let w = row-found t 0 (o .row) (Q .free) in
+          let r : Row = record { id = Q .id; dirty = true; rec = newRecord kind mode time uuid } in
+          subst (λ (s : Fs). New (o .row) (s .arena) (s .table)) (sym (Q .is)) (
+            calm-new f (Q .arena) (o .row) r (w .1) (taken-new (storedMeta a) (Q .meta) (Q .id) (Q .taken)) (record { file = fits .file; mac = refl }) (Q .others f other)
+                (λ m M. tab-cong (byteAt (Q .arena) metaFile) (byteAt a metaFile) (128 * m) (128 * m) 112 (λ i l. Q .ground .below (128 * m + i) (omega (arith, A .rule3 .length, node-below a m M)))),
+            ap (λ (x : Row). x .rec .file) (row-here t (o .row) r (omega (arith, w .0, y .typed .fits .rows-34))),
+          )
+
+      create-steps : (w i : ℕ) (name : List ℕ) → Fills C i → Ok (λ (x : Given). I (x .arena) (x .table)) Any (createSteps (start (p .arena) (p .table)) w i name kind mode time uuid)
+      unfolding createSteps
+      create-steps w i name fills =
+          ok-bind (ok-weaken made (λ r q. tt) make) λ x h.
+          let M : List ℕ → Table → Type 0 = New (x .row) in
+          let own : Fills M i = λ b d u q h. (fills b d u q (h .0), h .1) in
+          ok-bind (leaves-birth M (x .row) (new-own (x .row)) (new-changes (x .row)) (x .state) i kind h) λ s h.
+          ok-bind (leaves-append M i own (new-changes (x .row)) s (entry (idAt s (x .row)) name kind) h) λ s h.
+          ok-bind (leaves-named M (new-changes (x .row)) s i (x .row) kind h) λ s h.
+          ok-bind (leaves-meta M (new-metas (x .row)) s h) λ s h.
+          ok-bind (leaves-sync M (new-stores (x .row)) s (x .row) h) λ s h.
+          ok-bind (leaves-sync M (new-stores (x .row)) s i h) λ s h.
+          went (intact-adds f (s .arena) (s .table) w (x .row) (h .0 .0))
+
+    -- ---- all of them
+
+    pub leaves : (c : Call) → Fits c → (Through n (p .table) c → ⊥) → Ok (λ (q : Pair). Intact p (recOf (p .arena) (p .table) n .file) (q .arena) (q .table)) Any (does c p)
+    unfolding does
+    leaves (root w) x z = ok-bind (keeps-root I (intact-bears f .loads) (intact-adds f) a t w (intact-start f)) λ x l. went l
+    leaves (find w g name) x z = ok-bind (keeps-find I (intact-bears f .loads) (intact-adds f) a t w g name (intact-start f)) λ x l. went l
+    leaves (walk w g path room) x z = ok-bind (keeps-walk I (intact-bears f .loads) (intact-adds f) a t w g path room (intact-start f)) λ x l. went l
+    leaves (create w g name kind mode time uuid) x z =
+        ok-bind (keeps-create I a t w g name kind mode time uuid (λ i l dir none. create-steps kind mode time uuid (x .3) none w i name (folders w g i l dir))) λ x l. went l
+    leaves (link w g name child) x z = ok-bind (keeps-link C (calm-bears f) a t folders w g name child (calm-start f)) λ x l. went (l .0)
+    leaves (removeFile w g name) x z = ok-bind (keeps-remove C (calm-bears f) false a t folders w g name (calm-start f)) λ x l. went (l .0)
+    leaves (removeFolder w g name) x z = ok-bind (keeps-remove C (calm-bears f) true a t folders w g name (calm-start f)) λ x l. went (l .0)
+    leaves (move w g old target name) x z =
+        ok-bind (ok-weaken (λ x l. l) (λ m r. tt) (move-call C (calm-bears f) p (spelled-any p y) folders turns (calm-start f) w g old target name (x .4))) λ x l. went (l .1 .0)
+    leaves (metadata w g) x z = ok-bind (any (callMetadata a t w g)) λ x _. went (intact-start f)
+    leaves (setMetadata w g mode uid gid at mt ct) x z = ok-bind (keeps-set I (intact-bears f) a t w g mode uid gid at mt ct (intact-start f)) λ x l. went l
+    leaves (getEntry w g j room) x z = ok-bind (any (callEntry a t w g j room)) λ x _. went (intact-start f)
+    leaves (listing w g m room) x z = ok-bind (any (callListing a t w g m room)) λ x _. went (intact-start f)
+    leaves (read w g place room) x z = ok-bind (any (callRead a t w g place room)) λ x _. went (intact-start f)
+    leaves (write w g place bytes) x z =
+        ok-bind (keeps-write C (calm-bears f) a t w g place bytes (λ i l. calm-fills f i (live-firm w g i l) (row-apart w g i l (λ q. z (writes (live-means t w g i .1 l) q)))) (calm-start f)) λ x l. went (l .0)
+    leaves (resize w g m) x z =
+        ok-bind (keeps-resize C (calm-bears f) a t w g m (λ i l. calm-fills f i (live-firm w g i l) (row-apart w g i l (λ q. z (resizes (live-means t w g i .1 l) q)))) (calm-start f)) λ x l. went (l .0)
+    leaves sync x z = ok-bind (keeps-sync C (calm-bears f) a t (calm-start f)) λ x l. went (l .0)
+    -- the closed hold's row is firm no more
+    leaves (close w g) x z =
+        ok-bind (keeps-close I (intact-bears f) a t w g (λ i l. intact-rows f a t (closeHold t (g .hold) .table) (close-rows t (g .hold)) (intact-start f))) λ x l. went l
+    leaves check x z = went (intact-start f)
+
+    -- afterwards
+    pub left : (c : Call) → Fits c → (Through n (p .table) c → ⊥) → Intact p (recOf (p .arena) (p .table) n .file) (next c p .arena) (next c p .table)
+    left c x z = by-outcome (leaves c x z)
+      where
+        by-outcome : {o : Out Pair} → Ok (λ (q : Pair). Intact p (recOf (p .arena) (p .table) n .file) (q .arena) (q .table)) Any o → Intact p (recOf (p .arena) (p .table) n .file) (kept p o .arena) (kept p o .table)
+        by-outcome (went l) = l
+        by-outcome (said r) = intact-start f

@@ -46,7 +46,7 @@ use Rattle.sequences.proofs.Passing.{allowed, spelled-any, spelled-midw
 use Rattle.sequences.proofs.Finds.{not-both, row-find}
 use Rattle.sequences.proofs.Walks.{look-law}
 
-never : {A : Type 0} {x : A} {n : ℕ} → done x ≡ refused n → ⊥
+pub never : {A : Type 0} {x : A} {n : ℕ} → done x ≡ refused n → ⊥
 never e = let z : _≡_ {A = ℕ} 0 1 = cc in omega arith
 
 -- a test that was passed

@@ -232,7 +232,7 @@ module _ {style : Spelling} (a : List ℕ) (t : Table) (M : Midway style none a 
       }
 
       keeps-can : (y : Fs) (j : ℕ) → canHold (y .table) w ≡ true → Ok (λ (z : Fs). canHold (z .table) w ≡ true) (λ n. Unit) (syncRow y j)
-      keeps-can y j h = leaves-sync (λ a u. canHold u w ≡ true) (λ a u k r p q g. can-row u k r w ∙ g) (tabled-stores (λ u. canHold u w ≡ true)) y j h
+      keeps-can y j h = leaves-sync (λ a u. canHold u w ≡ true) (tabled-stores (λ u. canHold u w ≡ true) (λ u k r p q d g. can-row u k r w ∙ g)) y j h
 
       last : (y : Fs) → y .table ≡ x .table → MetaPut (x .arena) m (y .arena)
           → Ok (λ (g : Given). Spelled style (pair (g .arena) (g .table))) (λ r. r ≡ 17) (bind (syncRow y c) (λ z. bind (syncRow z i) (λ v. done (given v (addHold (v .table) w c)))))

@@ -12,7 +12,7 @@ use Rattle.base.specs.declared.Found.the-variants.{Nothing}
 use Rattle.table_laws.specs.Rules.{Live}
 use Rattle.table_laws.proofs.Handles.{dead-nothing, live-below, add-dead, close-dead, close-ends}
 use Rattle.table_laws.proofs.Holds.{add-cases, close-cases}
-use Rattle.sefs_laws.proofs.Rows.{Any, Changes, Takes, Frees, tabled-stores, tabled-drops}
+use Rattle.sefs_laws.proofs.Rows.{Any, Alters, Takes, Yields, tabled}
 use Rattle.image.proofs.Handles.{formed}
 use Rattle.sequences.specs.Pairs.{Pair, Passed}
 use Rattle.sequences.specs.Calls.{Call, does, next}
@@ -22,14 +22,14 @@ use Rattle.sequences.proofs.Tables.{keeps-close, keeps-table}
 
 module _ (h : Handle) where
   -- rows do not matter
-  spent-changes : Changes (λ a t. Spent t h)
-  spent-changes a t i r e q s = record { some = s .some; given = s .given; gone = s .gone }
+  spent-alters : Alters (λ t. Spent t h)
+  spent-alters t i r e q d s = record { some = s .some; given = s .given; gone = s .gone }
 
-  spent-takes : Takes (λ a t. Spent t h)
-  spent-takes a t i r e s = record { some = s .some; given = s .given; gone = s .gone }
+  spent-takes : Takes (λ t. Spent t h)
+  spent-takes t i r e s = record { some = s .some; given = s .given; gone = s .gone }
 
-  spent-frees : Frees (λ a t. Spent t h)
-  spent-frees a t i e s = record { some = s .some; given = s .given; gone = s .gone }
+  spent-yields : Yields (λ t. Spent t h)
+  spent-yields t i e s = record { some = s .some; given = s .given; gone = s .gone }
 
   -- a new hold's stamp is the next, which was not given
   spent-adds : (t : Table) (w row : ℕ) → Spent t h → Spent (addHold t w row .table) h
@@ -47,7 +47,7 @@ module _ (h : Handle) where
   }
 
   spent-does : (c : Call) (p : Pair) → Spent (p .table) h → Spent (next c p .table) h
-  spent-does c p s = stays (keeps-table (λ t. Spent t h) spent-changes spent-takes spent-frees spent-adds c p (λ w g e i l s. spent-closes (p .table) (g .hold) s) s)
+  spent-does c p s = stays (keeps-table (λ t. Spent t h) spent-alters spent-takes spent-yields spent-adds c p (λ w g e i l s. spent-closes (p .table) (g .hold) s) s)
     where
       stays : {o : Out Pair} → Ok (λ (q : Pair). Spent (q .table) h) Any o → Spent (kept p o .table) h
       stays (went q) = q
@@ -68,7 +68,7 @@ pub closed : Closed
 unfolding Closed does
 closed p q w h y e =
     ok-done (subst (Ok (λ (x : Pair). Spent (x .table) h) Any) e
-    (ok-bind (keeps-close (λ a t. Spent t h) (tabled-stores (λ t. Spent t h)) (tabled-drops (λ t. Spent t h)) (spent-changes h) (spent-takes h) (spent-frees h) (p .arena) (p .table) w h (spent-own h p y w)) λ x s. went s))
+    (ok-bind (keeps-close (λ a t. Spent t h) (tabled (λ t. Spent t h) (spent-alters h) (spent-takes h) (spent-yields h)) (p .arena) (p .table) w h (spent-own h p y w)) λ x s. went s))
 
 pub ended : Ended
 unfolding Ended

@@ -37,9 +37,9 @@ use Rattle.tree.proofs.Ways.{lives-up}
 use Rattle.image.specs.Midway.{Used, treeOf, plain, Midway}
 use Rattle.image.proofs.TreeOf.{named-tree}
 use Rattle.image.proofs.Climbs.{below-law}
-use Rattle.image.proofs.Settling.{movedKind, Avoids}
-use Rattle.sefs_laws.proofs.Rows.{Fills, leaves-node, leaves-release, leaves-within}
-use Rattle.sequences.proofs.Bears.{Bears, Turns, ok-and}
+use Rattle.image.proofs.Settling.{Avoids}
+use Rattle.sefs_laws.proofs.Rows.{ok-and, Bears, Fills, leaves-node, leaves-release, leaves-within}
+use Rattle.sequences.proofs.Tables.{Turns}
 use Rattle.image.proofs.Handles.{row-rec, row-folder}
 use Rattle.image.proofs.Slots.{slot-is}
 use Rattle.sefs_laws.proofs.Says.{ensure-yes}
@@ -128,7 +128,7 @@ module _ {style : Spelling} (a : List ℕ) (t : Table) (A : Allowed a t) (y : Sp
     between : P a u → rowAt u i .id ≢ rowAt u j .id → Avoids (start a u) j e → Ok Q Clear (moveBetween (start a u) i j e name r)
     between p d avoids =
         between-law P K k only (start a u) i j e name r begins d avoids fills-i fills-j
-        (λ row x z f R L b w. turns style (e .entry .id) (rowAt u i .id) (rowAt u j .id) (movedKind (start a u) e) i j row x z (ap (λ (q : DiskINode). isFolder (q .kind)) (sym (recs (e .entry .id) (hit-node e hit))) ∙ f) R L b w)
+        (λ row x f q b w. turns (e .entry .id) row (hit-node e hit) (ap (λ (q : DiskINode). isFolder (q .kind)) (sym (recs (e .entry .id) (hit-node e hit))) ∙ f) (x .arena) b (x .table) q w)
         p
 
   -- one folder: no row of the call's own
@@ -138,7 +138,7 @@ module _ {style : Spelling} (a : List ℕ) (t : Table) (A : Allowed a t) (y : Sp
       let B = begins 0 (λ m o. absurd o) r u M row-i row-j recs e (λ m o. absurd o) hit onto in
       let z : i ≡ j = M .formed .one-row i j (from .used .below) (to .used .below) (B .from .used .node) q in
       ok-and (within-law (start a u) i e name r (subst (λ (x : ℕ). Moving style rows.none (start a u) i x e name r) (sym z) B))
-      (leaves-within P (K .changes) (K .stores) (K .takes) (K .frees) (K .drops) (start a u) i fills-i e name r p)
+      (leaves-within P K (start a u) i fills-i e name r p)
 
   -- ---- the new name is not there
 
@@ -178,7 +178,7 @@ module _ {style : Spelling} (a : List ℕ) (t : Table) (A : Allowed a t) (y : Sp
       go true q = ok-bind hits λ e h. rw q (within none t (spelled-midway a t y) refl refl (λ k n. refl) e (h .0) N start-p (eqb-true (rowAt t i .id) (rowAt t j .id) q))
       go false q =
           ok-bind hits λ e h.
-          ok-bind (ok-and (get-law a t (spelled-midway a t y) (e .entry .id) (hit-node e (h .0))) (leaves-node P (K .takes) (start a t) (e .entry .id) start-p)) λ w g.
+          ok-bind (ok-and (get-law a t (spelled-midway a t y) (e .entry .id) (hit-node e (h .0))) (leaves-node P (K .loads) (start a t) (e .entry .id) start-p)) λ w g.
           subst (λ (z : Opened). P (z .state .arena) (z .state .table) → Ok Q Clear (bind (typeInRange (recAt (z .state) (z .row))) (λ _. bind (notBelow (z .state) i j (z .row)) (λ _. moveSteps (z .state) i j old name none)))) (sym (g .0 .is))
           (free-law (eqb-false (rowAt t i .id) (rowAt t j .id) q) N e (h .0) (h .1) w (g .0)) (g .1)
 
@@ -273,7 +273,7 @@ module _ {style : Spelling} (a : List ℕ) (t : Table) (A : Allowed a t) (y : Sp
           ok-bind (judge-law a t A (y .passes .typed .bytes) u d idd rec-d node-d (rowAt u c .rec .kind)) λ x J.
           subst (λ (z : Fs). Ok Q Clear (bind (notBelow z i j c) (λ _. bind (release z c) (λ s. moveSteps s i j old name (node d k))))) (sym (J .is))
           (ok-bind (below-law (start a u) (W .mid .fair) (meta-is a u (W .mid .fair)) i j c (λ q. not-root e hit (sym (W .same) ∙ q)) (live-lives (start a u) (W .mid) j to-u) (live-rec (start a u) (W .mid) j to-u)) λ _ h.
-          ok-bind (ok-and (ends-law a t idd (e .entry .id) o D w W apart links) (leaves-release P (K .changes) (K .stores) (K .takes) (K .frees) (K .drops) (start a u) c p)) λ x g.
+          ok-bind (ok-and (ends-law a t idd (e .entry .id) o D w W apart links) (leaves-release P K (start a u) c p)) λ x g.
           let E = g .0 in
           subst (λ (z : Fs). P (z .arena) (z .table) → Ok Q Clear (moveSteps z i j old name (node d k))) (sym (E .is))
           (λ m. rw (ap (λ (z : Row). findSlot a (z .rec) old) (E .rows i (from .used)) ∙ found)
@@ -309,11 +309,11 @@ module _ {style : Spelling} (a : List ℕ) (t : Table) (A : Allowed a t) (y : Sp
     node-law =
         rw is-slot
         (ok-bind hits λ e h.
-        ok-bind (ok-and (get-law a t (spelled-midway a t y) idd node-d) (leaves-node P (K .takes) (start a t) idd start-p)) λ o f.
+        ok-bind (ok-and (get-law a t (spelled-midway a t y) idd node-d) (leaves-node P (K .loads) (start a t) idd start-p)) λ o f.
         let D = f .0 in
         subst (λ (z : Opened). P (z .state .arena) (z .state .table) → Ok Q Clear (bind (getNode (z .state) (e .entry .id)) (λ c. bind (known (recAt (c .state) (c .row))) (λ _. bind (known (recAt (c .state) (z .row)))
         (λ _. pick (eqb (e .entry .id) idd) (done (after (start a t))) (moveOnto (c .state) i j old name (c .row) (z .row) k)))))) (sym (D .is))
-        (λ p. ok-bind (ok-and (get-more a (D .table) (D .mid) (D .row) (λ m q. ⊎-elim (λ z. absurd z) (λ z. z) q) (e .entry .id) (hit-node e (h .0))) (leaves-node P (K .takes) (start a (D .table)) (e .entry .id) p)) λ w g.
+        (λ p. ok-bind (ok-and (get-more a (D .table) (D .mid) (D .row) (λ m q. ⊎-elim (λ z. absurd z) (λ z. z) q) (e .entry .id) (hit-node e (h .0))) (leaves-node P (K .loads) (start a (D .table)) (e .entry .id) p)) λ w g.
         let W = g .0 in
         subst (λ (z : Opened). P (z .state .arena) (z .state .table) → Ok Q Clear (bind (known (recAt (z .state) (z .row))) (λ _. bind (known (recAt (z .state) (D .row)))
         (λ _. pick (eqb (e .entry .id) idd) (done (after (start a t))) (moveOnto (z .state) i j old name (z .row) (D .row) k))))) (sym (W .is))

@@ -31,10 +31,9 @@ use Rattle.rules.specs.Rules.{Allowed}
 use Rattle.tree.specs.Tree.{Spelling}
 use Rattle.sequences.specs.Pairs.{Pair, pair}
 use Rattle.sequences.specs.Calls.{move, does}
-use Rattle.sefs_laws.proofs.Rows.{Fills}
+use Rattle.sefs_laws.proofs.Rows.{Bears, Fills, tabled}
 use Rattle.table_laws.proofs.Handles.{live-means}
-use Rattle.sequences.proofs.Bears.{Bears, Turns}
-use Rattle.sequences.proofs.Tables.{FillsFolders}
+use Rattle.sequences.proofs.Tables.{FillsFolders, Turns}
 use Rattle.sefs_laws.proofs.Says.{says-ensure, says-is, ok-is, ensure-asks}
 use Rattle.sequences.proofs.Passing.{Spelled, allowed}
 use Rattle.image.specs.Midway.{Used}
@@ -107,5 +106,5 @@ move-call {style = style} P K p y fills turns start-p w h old target name nb =
 pub keeps-move : {style : Spelling} (p : Pair) (w : ℕ) (h : Handle) (old : List ℕ) (target : Handle) (name : List ℕ) → Spelled style p → Bytes name → Ok (Spelled style) Clear (does (move w h old target name) p)
 unfolding does
 keeps-move p w h old target name y nb =
-    ok-bind (move-call (λ b u. Unit) (record { stores = λ b c u k o. o; drops = λ b c u g d o. o; changes = λ b u i r e q o. o; takes = λ b u i r e o. o; frees = λ b u i e o. o }) p y
-    (λ v g i l f b c u k o. o) (λ style c f g kd i j row x z d R L b k o. o) tt w h old target name nb) λ x q. went (q .0)
+    ok-bind (move-call (λ b u. Unit) (tabled (λ u. Unit) (λ u i r e q d o. o) (λ u i r e o. o) (λ u i e o. o)) p y
+    (λ v g i l f b c u k o. o) (λ c row m f b d u e k o. o) tt w h old target name nb) λ x q. went (q .0)

@@ -28,8 +28,8 @@ use Rattle.rules.specs.Image.{storedBytes, recBy, recOf}
 use Rattle.image.proofs.Metas.{node-other, put-run}
 use Rattle.image.proofs.Drops.{stored-kept}
 use Rattle.image.proofs.Holds.{rows-at}
+use Rattle.sefs_laws.proofs.Rows.{Changes, Loads, Frees, Stores, Bears, Fills, other-record}
 use Rattle.sequences.proofs.Corner.{at-put}
-use Rattle.drawings.proofs.Works.{Changes, Loads, Frees, Stores, Metas, Drops, Fills, other-record}
 
 -- a record of that type and file
 pub record As (k : ℕ) (f : List ℕ) (r : DiskINode) : Type 0 where
@@ -118,25 +118,25 @@ module _ (n k : ℕ) (f : List ℕ) (some : n ≢ 0) (off : n % 1024 ≢ 1) (sma
     wide = T .wide;
   }
 
-  pub tracks-changes : Changes (Tracks n k f)
+  tracks-changes : Changes (Tracks n k f)
   tracks-changes a t i r e q d m y T =
       put a a t i r T (λ z. let w = T .rows i (sym e ∙ z) in record { kind = d ∙ w .kind; file = q ∙ w .file })
       (λ l. record { file = ap (λ (l : List ℕ). length l) q ∙ T .wide i l .file; mac = ap (λ (l : List ℕ). length l) m ∙ T .wide i l .mac })
       (⊎-elim (λ s. inl s) (λ (D : Dirty n t). inr (dirty-put t i r D (λ z. (e ∙ ap (λ (j : ℕ). rowAt t j .id) (sym z) ∙ D .id, y)))) (T .stored))
 
-  pub tracks-loads : Loads (Tracks n k f)
+  tracks-loads : Loads (Tracks n k f)
   tracks-loads a t i id free new T =
       put a a t i _ T
       (λ (z : id ≡ n). ⊎-elim (λ s. subst (λ (j : ℕ). As k f (recordOf (storedBytes a j))) (sym z) s) (λ (D : Dirty n t). absurd (row-missing t id new (D .at) (D .below) (D .id ∙ sym z))) (T .stored))
       (λ l. let w = stored-wide a id in record { file = w .0; mac = w .1 })
       (⊎-elim (λ s. inl s) (λ (D : Dirty n t). inr (dirty-put t i _ D (λ z. absurd (some (sym (D .id) ∙ ap (λ (j : ℕ). rowAt t j .id) z ∙ free))))) (T .stored))
 
-  pub tracks-frees : Frees (Tracks n k f)
+  tracks-frees : Frees (Tracks n k f)
   tracks-frees a t i unused clean T =
       put a a t i _ T (λ z. absurd (some (sym z))) (λ l. record { file = refl; mac = refl })
       (⊎-elim (λ s. inl s) (λ (D : Dirty n t). inr (dirty-put t i _ D (λ z. absurd (true-false (D .dirty) (ap (λ (j : ℕ). rowAt t j .dirty) z ∙ clean))))) (T .stored))
 
-  pub tracks-stores : Stores (Tracks n k f)
+  tracks-stores : Stores (Tracks n k f)
   unfolding storedBytes
   tracks-stores a b t i l P T =
       put a b t i (record { id = rowAt t i .id; dirty = false; rec = rowAt t i .rec }) T (T .rows i)
@@ -158,17 +158,21 @@ module _ (n k : ℕ) (f : List ℕ) (some : n ≢ 0) (off : n % 1024 ≢ 1) (sma
       long : length (recordBytes (rowAt t i .rec)) ≡ 112
       long = length-recordBytes (rowAt t i .rec) (T .wide i l .file) (T .wide i l .mac)
 
+  pub tracks-bears : Bears (Tracks n k f)
+  tracks-bears = record {
+    changes = tracks-changes;
+    loads = tracks-loads;
+    frees = tracks-frees;
+    stores = tracks-stores;
+    metas = λ a b t files same T. same-stored a b t (same n some off) T;
+    drops = λ a b t g D T. same-stored a b t (stored-kept a b (D .others metaFile (λ e. node-other g (sym e))) n) T;
+  }
+
+  pub tracks-fills : (i : ℕ) → Fills (Tracks n k f) i
+  tracks-fills i a b t K T = same-stored a b t (stored-kept a b (K metaFile (λ e. node-other (rowAt t i .rec .file) (sym e))) n) T
+
   -- a new node's row
   pub tracks-new : (a b : List ℕ) (t : Table) (i : ℕ) (r : Row) → rowAt t i .id ≡ 0 → r .id ≢ n → Wide r → storedBytes b n ≡ storedBytes a n → Tracks n k f a t → Tracks n k f b (withRow t i r)
   tracks-new a b t i r free other wide e T =
       put a b t i r T (λ z. absurd (other z)) (λ l. wide)
       (⊎-elim (λ s. inl (subst (λ (l : List ℕ). As k f (recordOf l)) (sym e) s)) (λ (D : Dirty n t). inr (dirty-put t i r D (λ z. absurd (some (sym (D .id) ∙ ap (λ (j : ℕ). rowAt t j .id) z ∙ free))))) (T .stored))
-
-  pub tracks-metas : Metas (Tracks n k f)
-  tracks-metas a b t files same T = same-stored a b t (same n some off) T
-
-  pub tracks-drops : Drops (Tracks n k f)
-  tracks-drops a b t g D T = same-stored a b t (stored-kept a b (D .others metaFile (λ e. node-other g (sym e))) n) T
-
-  pub tracks-fills : (i : ℕ) → Fills (Tracks n k f) i
-  tracks-fills i a b t K T = same-stored a b t (stored-kept a b (K metaFile (λ e. node-other (rowAt t i .rec .file) (sym e))) n) T
