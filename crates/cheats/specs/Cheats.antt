@@ -26,15 +26,20 @@ use Rattle.fsck.specs.Verdicts.{verdictOf}
 use Rattle.fsck.specs.declared.Verdict.{Verdict}
 use Rattle.fsck.specs.declared.Verdict.the-variants as verdicts
 
--- ---- of every call: x is what it is given, y what it leaves
+-- ---- whatever the call: X is what it is given, Y what it leaves, and its contract says what Y is at X
 
 -- the port breaks the contract at some input
 unfoldable pub Broken : {X Y : Type 0} → (X → Y → Type 0) → (X → Y) → Type 0
 Broken {X} Holds port = (x : X) × (Holds x (port x) → ⊥)
 
--- "stores nothing": the arena afterwards is the arena before, whatever is answered and whatever becomes of the table
+-- so does each that "stores nothing": the arena afterwards is the arena before, whatever is answered and whatever becomes of the table
 unfoldable pub StoresNothing : {X Y : Type 0} → (X → List ℕ) → (Y → List ℕ) → (X → Y → Type 0) → Type 0
 StoresNothing {X} {Y} before after Holds = (port : X → Y) → ((x : X) → after (port x) ≡ before x) → Broken Holds port
+
+-- what a call leaves that makes no hold: the arena, and the answer with its table
+pub record Result : Type 0 where
+  pub arena : List ℕ
+  pub after : Reply
 
 -- ---- create
 
@@ -84,11 +89,6 @@ pub record RemoveInput : Type 0 where
   pub handle : Handle
   pub name : List ℕ
 
--- the arena afterwards, and the answer with its table: of remove-file, and of the five calls below
-pub record Result : Type 0 where
-  pub arena : List ℕ
-  pub after : Reply
-
 -- its contract
 unfoldable pub RemoveHolds : RemoveInput → Result → Type 0
 RemoveHolds x y = Returned (x .table) (callRemoveFile (x .arena) (x .table) (x .who) (x .handle) (x .name)) (x .arena) (y .arena) (y .after)
@@ -105,9 +105,9 @@ RemoveConstant = (port : RemoveInput → Result) (r : Answer) → ((x : RemoveIn
 unfoldable pub RemoveStoresNothing : Type 0
 RemoveStoresNothing = StoresNothing (λ x. x .arena) (λ y. y .arena) RemoveHolds
 
--- ---- write, resize, link, move and sync
+-- ---- write
 
--- what each is given
+-- what write is given
 pub record WriteInput : Type 0 where
   pub arena : List ℕ
   pub table : Table
@@ -116,6 +116,17 @@ pub record WriteInput : Type 0 where
   pub place : ℕ
   pub bytes : List ℕ
 
+-- its contract
+unfoldable pub WriteHolds : WriteInput → Result → Type 0
+WriteHolds x y = Returned (x .table) (callWrite (x .arena) (x .table) (x .who) (x .handle) (x .place) (x .bytes)) (x .arena) (y .arena) (y .after)
+
+-- a write that stores nothing
+unfoldable pub WriteStoresNothing : Type 0
+WriteStoresNothing = StoresNothing (λ x. x .arena) (λ y. y .arena) WriteHolds
+
+-- ---- resize
+
+-- what resize is given
 pub record ResizeInput : Type 0 where
   pub arena : List ℕ
   pub table : Table
@@ -123,6 +134,17 @@ pub record ResizeInput : Type 0 where
   pub handle : Handle
   pub size : ℕ
 
+-- its contract
+unfoldable pub ResizeHolds : ResizeInput → Result → Type 0
+ResizeHolds x y = Returned (x .table) (callResize (x .arena) (x .table) (x .who) (x .handle) (x .size)) (x .arena) (y .arena) (y .after)
+
+-- a resize that stores nothing
+unfoldable pub ResizeStoresNothing : Type 0
+ResizeStoresNothing = StoresNothing (λ x. x .arena) (λ y. y .arena) ResizeHolds
+
+-- ---- link
+
+-- what link is given
 pub record LinkInput : Type 0 where
   pub arena : List ℕ
   pub table : Table
@@ -131,6 +153,17 @@ pub record LinkInput : Type 0 where
   pub name : List ℕ
   pub child : Handle
 
+-- its contract
+unfoldable pub LinkHolds : LinkInput → Result → Type 0
+LinkHolds x y = Returned (x .table) (callLink (x .arena) (x .table) (x .who) (x .handle) (x .name) (x .child)) (x .arena) (y .arena) (y .after)
+
+-- a link that stores nothing
+unfoldable pub LinkStoresNothing : Type 0
+LinkStoresNothing = StoresNothing (λ x. x .arena) (λ y. y .arena) LinkHolds
+
+-- ---- move
+
+-- what move is given
 pub record MoveInput : Type 0 where
   pub arena : List ℕ
   pub table : Table
@@ -140,40 +173,27 @@ pub record MoveInput : Type 0 where
   pub target : Handle
   pub name : List ℕ
 
-pub record SyncInput : Type 0 where
-  pub arena : List ℕ
-  pub table : Table
-
--- their contracts
-unfoldable pub WriteHolds : WriteInput → Result → Type 0
-WriteHolds x y = Returned (x .table) (callWrite (x .arena) (x .table) (x .who) (x .handle) (x .place) (x .bytes)) (x .arena) (y .arena) (y .after)
-
-unfoldable pub ResizeHolds : ResizeInput → Result → Type 0
-ResizeHolds x y = Returned (x .table) (callResize (x .arena) (x .table) (x .who) (x .handle) (x .size)) (x .arena) (y .arena) (y .after)
-
-unfoldable pub LinkHolds : LinkInput → Result → Type 0
-LinkHolds x y = Returned (x .table) (callLink (x .arena) (x .table) (x .who) (x .handle) (x .name) (x .child)) (x .arena) (y .arena) (y .after)
-
+-- its contract
 unfoldable pub MoveHolds : MoveInput → Result → Type 0
 MoveHolds x y =
     Returned (x .table) (callMove (x .arena) (x .table) (x .who) (x .handle) (x .old) (x .target) (x .name)) (x .arena) (y .arena) (y .after)
 
-unfoldable pub SyncHolds : SyncInput → Result → Type 0
-SyncHolds x y = Returned (x .table) (callSync (x .arena) (x .table)) (x .arena) (y .arena) (y .after)
-
--- one of them that stores nothing
-unfoldable pub WriteStoresNothing : Type 0
-WriteStoresNothing = StoresNothing (λ x. x .arena) (λ y. y .arena) WriteHolds
-
-unfoldable pub ResizeStoresNothing : Type 0
-ResizeStoresNothing = StoresNothing (λ x. x .arena) (λ y. y .arena) ResizeHolds
-
-unfoldable pub LinkStoresNothing : Type 0
-LinkStoresNothing = StoresNothing (λ x. x .arena) (λ y. y .arena) LinkHolds
-
+-- a move that stores nothing
 unfoldable pub MoveStoresNothing : Type 0
 MoveStoresNothing = StoresNothing (λ x. x .arena) (λ y. y .arena) MoveHolds
 
+-- ---- sync
+
+-- what sync is given
+pub record SyncInput : Type 0 where
+  pub arena : List ℕ
+  pub table : Table
+
+-- its contract
+unfoldable pub SyncHolds : SyncInput → Result → Type 0
+SyncHolds x y = Returned (x .table) (callSync (x .arena) (x .table)) (x .arena) (y .arena) (y .after)
+
+-- a sync that stores nothing
 unfoldable pub SyncStoresNothing : Type 0
 SyncStoresNothing = StoresNothing (λ x. x .arena) (λ y. y .arena) SyncHolds
 

@@ -1,5 +1,5 @@
--- The calls of the examples with less work: each is its definition, line by line, with the readings of Near in place of the definition's
--- own, and is proved equal to it where arena and table are admitted.
+-- The calls of the examples, and those that `cheats` asks for, with less work: each is its definition, line by line, with the readings of
+-- Near in place of the definition's own, and is proved equal to it where arena and table are admitted.
 use mathlib.Core.Path.{_≡_}
 use mathlib.Core.Bool.{Bool, false, not, _&&_}
 use mathlib.Core.List.{List}

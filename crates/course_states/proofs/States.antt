@@ -212,7 +212,7 @@ fullArena =
 unfoldable pub fullWorld : World
 fullWorld = record { arena = fullArena; table = rootTable; root = handle 0 1 }
 
--- ---- with `a`, and the byte `x` in it: write stores no record, so `a` has a dirty row
+-- ---- with `a`, and the byte `x` in it, where `cheats` starts: write stores no record, so `a` has a dirty row
 
 unfoldable pub xArena : List ℕ
 xArena =

@@ -223,7 +223,7 @@ pub full-made : (name : List ℕ) (kind n : ℕ) → made fullWorld name kind n 
 unfolding made fullWorld
 full-made name kind n = create-near fullArena rootTable editor (handle 0 1) name kind 420 epoch (uuid n) (admitted fullArena rootTable full-legal full-sound root-formed)
 
--- ---- `x` written into `a`
+-- ---- `x` written into `a`, for `cheats`
 
 x-near : writeNear (aWorld .arena) (aWorld .table) editor (handle 1 2) 0 (120 ∷ []) ≡ done (record { arena = xWorld .arena; table = xWorld .table })
 unfolding computed writeNear aMeta aArena aWorld xArena xWorld
