@@ -1,5 +1,6 @@
 -- None of the cheats keeps the contracts.
 use mathlib.Core.Path.{_≡_, ap, sym, _∙_}
+use mathlib.Core.Logic.{_≢_}
 use mathlib.Core.List.{List, [], _∷_}
 use Prim.Native.Nat.{ℕ}
 use native.Mathlib.Decide.{ℕ-discrete}
@@ -25,8 +26,8 @@ use Rattle.fsck.specs.declared.Verdict.{Verdict}
 use Rattle.fsck.specs.declared.Verdict.the-variants as verdicts
 use Rattle.course_states.specs.Worlds.{epoch, uuid, editor}
 use Rattle.course_states.proofs.States.{handle, rootTable, freshArena, aWorld, bWorld, cWorld}
-use Rattle.cheats.specs.Cheats.{CreateHolds, CreateBroken, CreateRefuses, CreateConstant, CreateStoresNothing, RemoveHolds, RemoveBroken, RemoveRefuses, RemoveConstant, RemoveStoresNothing, onward, TwoHold, OnlyFirst, FindHolds, FindBroken, FindRefuses, FindConstant, CreateFindHolds, BlindFind, CheckBroken, PassesAll, FailsAll, InventsNodes, InventsUnused, InventsFree}
-use Rattle.cheats.proofs.Inputs.{byte, createA, a-done, createEmpty, empty-refused, b-done, fresh-five, a-five, a-seven, b-seven, find-before, find-after, removeA, removeEmpty, gone-answer, c-length, gone-length, remove-empty}
+use Rattle.cheats.specs.Cheats.{Broken, StoresNothing, CreateHolds, CreateRefuses, CreateConstant, CreateStoresNothing, RemoveHolds, RemoveRefuses, RemoveConstant, RemoveStoresNothing, WriteHolds, WriteStoresNothing, ResizeHolds, ResizeStoresNothing, LinkHolds, LinkStoresNothing, MoveHolds, MoveStoresNothing, SyncHolds, SyncStoresNothing, onward, TwoHold, OnlyFirst, FindHolds, FindBroken, FindRefuses, FindConstant, CreateFindHolds, BlindFind, CheckBroken, PassesAll, FailsAll, InventsNodes, InventsUnused, InventsFree}
+use Rattle.cheats.proofs.Inputs.{byte, createA, a-done, createEmpty, empty-refused, b-done, fresh-five, a-five, a-seven, b-seven, find-before, find-after, removeA, removeEmpty, gone-answer, c-length, gone-length, remove-empty, writeX, x-seven, written-seven, resizeX, resized-seven, linkB, a-links, linked-links, moveB, a-name, moved-name, syncX, x-size, synced-size}
 use Rattle.cheats.proofs.Counts.{empty-fails, fresh-verdict, a-verdict}
 
 -- ---- what create's contract says where the definition is done, and where it is refused
@@ -47,21 +48,28 @@ module _ {t : Table} {o : Out sefs.Given} {a b : List ℕ} {r : HeldReply} (c : 
 not-both : (x : Got) (h : Handle) (n : ℕ) → x ≡ gots.Held h → x ≡ gots.Refused n → ⊥
 not-both x h n p q = let z : _≡_ {A = ℕ} 0 1 = cc in omega arith
 
+-- ---- what stores nothing is caught at the input x by byte k, which is another one afterwards, by the contract
+
+stores-caught : {X Y : Type 0} (before : X → List ℕ) (after : Y → List ℕ) (Holds : X → Y → Type 0) (x : X) (k : ℕ)
+    → ((y : Y) → Holds x y → byte k (after y) ≢ byte k (before x)) → StoresNothing before after Holds
+unfolding StoresNothing Broken
+stores-caught before after Holds x k other port h = (x, λ c. other (port x) c (ap (byte k) (h x)))
+
 -- ---- create
 
 pub create-refuses : CreateRefuses
-unfolding CreateRefuses CreateBroken CreateHolds createA
+unfolding CreateRefuses Broken CreateHolds createA
 create-refuses port h = (createA, λ c. not-both (port createA .given .answer) (handle 1 2) (h createA .0) (held-answer c _ a-done) (h createA .1))
 
 pub create-constant : CreateConstant
-unfolding CreateConstant CreateBroken CreateHolds createA createEmpty
+unfolding CreateConstant Broken CreateHolds createA createEmpty
 create-constant port (gots.Held k) h = (createEmpty, λ c. not-both (port createEmpty .given .answer) k 12 (h createEmpty) (held-refused c 12 empty-refused))
 create-constant port (gots.Refused n) h = (createA, λ c. not-both (port createA .given .answer) (handle 1 2) n (held-answer c _ a-done) (h createA))
 
+-- block 5 comes into use
 pub create-stores : CreateStoresNothing
-unfolding CreateStoresNothing CreateBroken CreateHolds createA
-create-stores port h =
-    (createA, λ c. omega (arith, ap (byte 2560) (held-arena c _ a-done), ap (byte 2560) (h createA), fresh-five, a-five))
+unfolding CreateStoresNothing CreateHolds createA
+create-stores = stores-caught (λ x. x .arena) (λ y. y .arena) CreateHolds createA 2560 (λ y c e. omega (arith, e, fresh-five, ap (byte 2560) (held-arena c _ a-done), a-five))
 
 -- ---- remove-file
 
@@ -69,19 +77,47 @@ not-done : (x : Answer) (n : ℕ) → x ≡ answers.Done → x ≡ answers.Refus
 not-done x n p q = let z : _≡_ {A = ℕ} 0 1 = cc in omega arith
 
 pub remove-refuses : RemoveRefuses
-unfolding RemoveRefuses RemoveBroken RemoveHolds removeA
+unfolding RemoveRefuses Broken RemoveHolds removeA
 remove-refuses port h = (removeA, λ c. not-done (port removeA .after .answer) (h removeA .0) (ap (λ (x : Reply). x .answer) (c .answer) ∙ gone-answer) (h removeA .1))
 
 pub remove-constant : RemoveConstant
-unfolding RemoveConstant RemoveBroken RemoveHolds removeA removeEmpty
+unfolding RemoveConstant Broken RemoveHolds removeA removeEmpty
 remove-constant port answers.Done h =
     (removeEmpty, λ c. not-done (port removeEmpty .after .answer) 9 (h removeEmpty) (ap (λ (x : Reply). x .answer) (c .answer ∙ ap (afterAs (cWorld .table)) remove-empty)))
 remove-constant port (answers.Refused n) h =
     (removeA, λ c. not-done (port removeA .after .answer) n (ap (λ (x : Reply). x .answer) (c .answer) ∙ gone-answer) (h removeA))
 
+-- the folder's length falls
 pub remove-stores : RemoveStoresNothing
-unfolding RemoveStoresNothing RemoveBroken RemoveHolds removeA
-remove-stores port h = (removeA, λ c. omega (arith, ap (byte 532) (c .arena), ap (byte 532) (h removeA), gone-length, c-length))
+unfolding RemoveStoresNothing RemoveHolds removeA
+remove-stores = stores-caught (λ x. x .arena) (λ y. y .arena) RemoveHolds removeA 532 (λ y c e. omega (arith, e, c-length, ap (byte 532) (c .arena), gone-length))
+
+-- ---- write, resize, link, move and sync
+
+-- block 7 comes into use
+pub write-stores : WriteStoresNothing
+unfolding WriteStoresNothing WriteHolds writeX
+write-stores = stores-caught (λ x. x .arena) (λ y. y .arena) WriteHolds writeX 3584 (λ y c e. omega (arith, e, a-seven, ap (byte 3584) (c .arena), written-seven))
+
+-- block 7 becomes free
+pub resize-stores : ResizeStoresNothing
+unfolding ResizeStoresNothing ResizeHolds resizeX
+resize-stores = stores-caught (λ x. x .arena) (λ y. y .arena) ResizeHolds resizeX 3584 (λ y c e. omega (arith, e, x-seven, ap (byte 3584) (c .arena), resized-seven))
+
+-- the stored count of links rises
+pub link-stores : LinkStoresNothing
+unfolding LinkStoresNothing LinkHolds linkB
+link-stores = stores-caught (λ x. x .arena) (λ y. y .arena) LinkHolds linkB 2470 (λ y c e. omega (arith, e, a-links, ap (byte 2470) (c .arena), linked-links))
+
+-- the slot has another name
+pub move-stores : MoveStoresNothing
+unfolding MoveStoresNothing MoveHolds moveB
+move-stores = stores-caught (λ x. x .arena) (λ y. y .arena) MoveHolds moveB 1612 (λ y c e. omega (arith, e, a-name, ap (byte 1612) (c .arena), moved-name))
+
+-- the stored size rises
+pub sync-stores : SyncStoresNothing
+unfolding SyncStoresNothing SyncHolds syncX
+sync-stores = stores-caught (λ x. x .arena) (λ y. y .arena) SyncHolds syncX 2456 (λ y c e. omega (arith, e, x-size, ap (byte 2456) (c .arena), synced-size))
 
 -- ---- find
 

@@ -6,18 +6,21 @@ use Prim.Native.Nat.{ℕ}
 use lib.ListN.{getD}
 use Rattle.base.specs.Out.{done, refused}
 use Rattle.structs.specs.Constants.{typeFile}
-use Rattle.sefs.specs.Create.{callCreate}
+use Rattle.sefs.specs.Create.{callCreate, callLink}
 use Rattle.sefs.specs.Open.{callFind}
 use Rattle.sefs.specs.Remove.{callRemoveFile}
+use Rattle.sefs.specs.Move.{callMove}
+use Rattle.sefs.specs.Contents.{callWrite, callResize}
+use Rattle.sefs.specs.Close.{callSync}
 use Rattle.calls.specs.Answers.{gotOf}
 use Rattle.calls.specs.declared.Answer.the-variants as answers
 use Rattle.calls.specs.declared.Got.the-variants as gots
 use Rattle.steps.specs.Ends.{afterAs, arenaAfter}
 use Rattle.course_states.specs.Worlds.{epoch, uuid, editor, made}
-use Rattle.course_states.proofs.Calls.{createNear, findCallNear, find-call-near, removeCallNear, remove-call-near}
-use Rattle.course_states.proofs.States.{handle, rootTable, freshArena, freshWorld, aMeta, aArena, aWorld, bSlots, bMeta, bArena, bWorld, cSlots, cMeta, cArena, cWorld}
-use Rattle.course_states.proofs.Steps.{computed, fresh-admitted, fresh-made, a-made, a-admitted, b-made, c-admitted}
-use Rattle.cheats.specs.Cheats.{CreateInput, RemoveInput}
+use Rattle.course_states.proofs.Calls.{createNear, findCallNear, find-call-near, removeCallNear, remove-call-near, resizeNear, resize-near, linkNear, link-near, moveNear, move-near, syncNear, sync-near}
+use Rattle.course_states.proofs.States.{handle, rootTable, freshArena, freshWorld, aMeta, aArena, aWorld, bSlots, bMeta, bArena, bWorld, cSlots, cMeta, cArena, cWorld, xArena, xWorld}
+use Rattle.course_states.proofs.Steps.{computed, fresh-admitted, fresh-made, a-made, a-admitted, b-made, c-admitted, x-written, x-admitted}
+use Rattle.cheats.specs.Cheats.{CreateInput, RemoveInput, WriteInput, ResizeInput, LinkInput, MoveInput, SyncInput}
 
 -- a byte of an arena
 unfoldable pub byte : ℕ → List ℕ → ℕ
@@ -138,3 +141,75 @@ remove-empty-near = refl
 
 pub remove-empty : callRemoveFile (cWorld .arena) (cWorld .table) editor (handle 0 1) [] ≡ refused 9
 remove-empty = remove-call-near false (cWorld .arena) (cWorld .table) editor (handle 0 1) [] c-admitted ∙ remove-empty-near
+
+-- ---- write: `x` into `a`, which has no block yet. Block 7 is free with `a`, and the block of its contents then
+
+unfoldable pub writeX : WriteInput
+writeX = record { arena = aWorld .arena; table = aWorld .table; who = editor; handle = handle 1 2; place = 0; bytes = 120 ∷ [] }
+
+pub x-seven : byte 3584 (xWorld .arena) ≡ 2
+unfolding computed byte aMeta xArena xWorld
+x-seven = refl
+
+pub written-seven : byte 3584 (arenaAfter (aWorld .arena) (callWrite (aWorld .arena) (aWorld .table) editor (handle 1 2) 0 (120 ∷ []))) ≡ 2
+written-seven = rw x-written x-seven
+
+-- ---- resize: `a` with `x` in it, to nothing. Block 7 becomes free
+
+unfoldable pub resizeX : ResizeInput
+resizeX = record { arena = xWorld .arena; table = xWorld .table; who = editor; handle = handle 1 2; size = 0 }
+
+resized-near : byte 3584 (arenaAfter (xWorld .arena) (resizeNear (xWorld .arena) (xWorld .table) editor (handle 1 2) 0)) ≡ 0
+unfolding computed byte resizeNear aMeta xArena xWorld
+resized-near = refl
+
+pub resized-seven : byte 3584 (arenaAfter (xWorld .arena) (callResize (xWorld .arena) (xWorld .table) editor (handle 1 2) 0)) ≡ 0
+resized-seven = rw (resize-near (xWorld .arena) (xWorld .table) editor (handle 1 2) 0 x-admitted) resized-near
+
+-- ---- link: `b` names `a` too. Byte 14 of `a`'s record, in block 4: the lower byte of its links
+
+unfoldable pub linkB : LinkInput
+linkB = record { arena = aWorld .arena; table = aWorld .table; who = editor; handle = handle 0 1; name = 98 ∷ []; child = handle 1 2 }
+
+pub a-links : byte 2470 (aWorld .arena) ≡ 1
+unfolding computed byte aMeta aArena aWorld
+a-links = refl
+
+linked-near : byte 2470 (arenaAfter (aWorld .arena) (linkNear (aWorld .arena) (aWorld .table) editor (handle 0 1) (98 ∷ []) (handle 1 2))) ≡ 2
+unfolding computed byte linkNear aMeta aArena aWorld
+linked-near = refl
+
+pub linked-links : byte 2470 (arenaAfter (aWorld .arena) (callLink (aWorld .arena) (aWorld .table) editor (handle 0 1) (98 ∷ []) (handle 1 2))) ≡ 2
+linked-links = rw (link-near (aWorld .arena) (aWorld .table) editor (handle 0 1) (98 ∷ []) (handle 1 2) a-admitted) linked-near
+
+-- ---- move: `a` becomes `b`. The first byte of the name in slot 2 of the root, in block 3
+
+unfoldable pub moveB : MoveInput
+moveB = record { arena = aWorld .arena; table = aWorld .table; who = editor; handle = handle 0 1; old = 97 ∷ []; target = handle 0 1; name = 98 ∷ [] }
+
+pub a-name : byte 1612 (aWorld .arena) ≡ 97
+unfolding computed byte aMeta aArena aWorld
+a-name = refl
+
+moved-near : byte 1612 (arenaAfter (aWorld .arena) (moveNear (aWorld .arena) (aWorld .table) editor (handle 0 1) (97 ∷ []) (handle 0 1) (98 ∷ []))) ≡ 98
+unfolding computed byte moveNear aMeta aArena aWorld
+moved-near = refl
+
+pub moved-name : byte 1612 (arenaAfter (aWorld .arena) (callMove (aWorld .arena) (aWorld .table) editor (handle 0 1) (97 ∷ []) (handle 0 1) (98 ∷ []))) ≡ 98
+moved-name = rw (move-near (aWorld .arena) (aWorld .table) editor (handle 0 1) (97 ∷ []) (handle 0 1) (98 ∷ []) a-admitted) moved-near
+
+-- ---- sync: `a` with `x` in it, whose row is dirty. Byte 0 of its record, in block 4: the lowest byte of the size
+
+unfoldable pub syncX : SyncInput
+syncX = record { arena = xWorld .arena; table = xWorld .table }
+
+pub x-size : byte 2456 (xWorld .arena) ≡ 0
+unfolding computed byte aMeta xArena xWorld
+x-size = refl
+
+synced-near : byte 2456 (arenaAfter (xWorld .arena) (syncNear (xWorld .arena) (xWorld .table))) ≡ 1
+unfolding computed byte syncNear aMeta xArena xWorld
+synced-near = refl
+
+pub synced-size : byte 2456 (arenaAfter (xWorld .arena) (callSync (xWorld .arena) (xWorld .table))) ≡ 1
+synced-size = rw (sync-near (xWorld .arena) (xWorld .table) x-admitted) synced-near

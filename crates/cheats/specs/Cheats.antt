@@ -7,9 +7,12 @@ use Prim.Native.Nat.{ℕ}
 use Rattle.structs.specs.declared.Timespec.{Timespec}
 use Rattle.table.specs.declared.Handle.{Handle}
 use Rattle.table.specs.declared.Table.{Table}
-use Rattle.sefs.specs.Create.{callCreate}
+use Rattle.sefs.specs.Create.{callCreate, callLink}
 use Rattle.sefs.specs.Open.{callFind}
 use Rattle.sefs.specs.Remove.{callRemoveFile}
+use Rattle.sefs.specs.Move.{callMove}
+use Rattle.sefs.specs.Contents.{callWrite, callResize}
+use Rattle.sefs.specs.Close.{callSync}
 use Rattle.calls.specs.declared.Reply.{Reply}
 use Rattle.calls.specs.declared.Answer.{Answer}
 use Rattle.calls.specs.declared.Answer.the-variants as answers
@@ -22,6 +25,21 @@ use Rattle.calls_find.specs.Finds.{Gives}
 use Rattle.fsck.specs.Verdicts.{verdictOf}
 use Rattle.fsck.specs.declared.Verdict.{Verdict}
 use Rattle.fsck.specs.declared.Verdict.the-variants as verdicts
+
+-- ---- whatever the call: X is what it is given, Y what it leaves, and its contract says what Y is at X
+
+-- the port breaks the contract at some input
+unfoldable pub Broken : {X Y : Type 0} → (X → Y → Type 0) → (X → Y) → Type 0
+Broken {X} Holds port = (x : X) × (Holds x (port x) → ⊥)
+
+-- so does each that "stores nothing": the arena afterwards is the arena before, whatever is answered and whatever becomes of the table
+unfoldable pub StoresNothing : {X Y : Type 0} → (X → List ℕ) → (Y → List ℕ) → (X → Y → Type 0) → Type 0
+StoresNothing {X} {Y} before after Holds = (port : X → Y) → ((x : X) → after (port x) ≡ before x) → Broken Holds port
+
+-- what a call leaves that makes no hold: the arena, and the answer with its table
+pub record Result : Type 0 where
+  pub arena : List ℕ
+  pub after : Reply
 
 -- ---- create
 
@@ -49,21 +67,17 @@ CreateHolds x y =
     (y .arena)
     (y .given)
 
--- the port breaks the contract at some input
-unfoldable pub CreateBroken : (CreateInput → CreateResult) → Type 0
-CreateBroken port = (x : CreateInput) × (CreateHolds x (port x) → ⊥)
-
 -- a create that always refuses
 unfoldable pub CreateRefuses : Type 0
-CreateRefuses = (port : CreateInput → CreateResult) → ((x : CreateInput) → (n : ℕ) × (port x .given .answer ≡ gots.Refused n)) → CreateBroken port
+CreateRefuses = (port : CreateInput → CreateResult) → ((x : CreateInput) → (n : ℕ) × (port x .given .answer ≡ gots.Refused n)) → Broken CreateHolds port
 
 -- a create with one constant answer
 unfoldable pub CreateConstant : Type 0
-CreateConstant = (port : CreateInput → CreateResult) (r : Got) → ((x : CreateInput) → port x .given .answer ≡ r) → CreateBroken port
+CreateConstant = (port : CreateInput → CreateResult) (r : Got) → ((x : CreateInput) → port x .given .answer ≡ r) → Broken CreateHolds port
 
 -- a create that stores nothing
 unfoldable pub CreateStoresNothing : Type 0
-CreateStoresNothing = (port : CreateInput → CreateResult) → ((x : CreateInput) → port x .arena ≡ x .arena) → CreateBroken port
+CreateStoresNothing = StoresNothing (λ x. x .arena) (λ y. y .arena) CreateHolds
 
 -- ---- remove-file
 
@@ -75,30 +89,113 @@ pub record RemoveInput : Type 0 where
   pub handle : Handle
   pub name : List ℕ
 
--- the arena afterwards, and the answer with its table
-pub record RemoveResult : Type 0 where
-  pub arena : List ℕ
-  pub after : Reply
-
 -- its contract
-unfoldable pub RemoveHolds : RemoveInput → RemoveResult → Type 0
+unfoldable pub RemoveHolds : RemoveInput → Result → Type 0
 RemoveHolds x y = Returned (x .table) (callRemoveFile (x .arena) (x .table) (x .who) (x .handle) (x .name)) (x .arena) (y .arena) (y .after)
-
--- the port breaks the contract at some input
-unfoldable pub RemoveBroken : (RemoveInput → RemoveResult) → Type 0
-RemoveBroken port = (x : RemoveInput) × (RemoveHolds x (port x) → ⊥)
 
 -- a remove-file that always refuses
 unfoldable pub RemoveRefuses : Type 0
-RemoveRefuses = (port : RemoveInput → RemoveResult) → ((x : RemoveInput) → (n : ℕ) × (port x .after .answer ≡ answers.Refused n)) → RemoveBroken port
+RemoveRefuses = (port : RemoveInput → Result) → ((x : RemoveInput) → (n : ℕ) × (port x .after .answer ≡ answers.Refused n)) → Broken RemoveHolds port
 
 -- a remove-file with one constant answer
 unfoldable pub RemoveConstant : Type 0
-RemoveConstant = (port : RemoveInput → RemoveResult) (r : Answer) → ((x : RemoveInput) → port x .after .answer ≡ r) → RemoveBroken port
+RemoveConstant = (port : RemoveInput → Result) (r : Answer) → ((x : RemoveInput) → port x .after .answer ≡ r) → Broken RemoveHolds port
 
 -- a remove-file that stores nothing
 unfoldable pub RemoveStoresNothing : Type 0
-RemoveStoresNothing = (port : RemoveInput → RemoveResult) → ((x : RemoveInput) → port x .arena ≡ x .arena) → RemoveBroken port
+RemoveStoresNothing = StoresNothing (λ x. x .arena) (λ y. y .arena) RemoveHolds
+
+-- ---- write
+
+-- what write is given
+pub record WriteInput : Type 0 where
+  pub arena : List ℕ
+  pub table : Table
+  pub who : ℕ
+  pub handle : Handle
+  pub place : ℕ
+  pub bytes : List ℕ
+
+-- its contract
+unfoldable pub WriteHolds : WriteInput → Result → Type 0
+WriteHolds x y = Returned (x .table) (callWrite (x .arena) (x .table) (x .who) (x .handle) (x .place) (x .bytes)) (x .arena) (y .arena) (y .after)
+
+-- a write that stores nothing
+unfoldable pub WriteStoresNothing : Type 0
+WriteStoresNothing = StoresNothing (λ x. x .arena) (λ y. y .arena) WriteHolds
+
+-- ---- resize
+
+-- what resize is given
+pub record ResizeInput : Type 0 where
+  pub arena : List ℕ
+  pub table : Table
+  pub who : ℕ
+  pub handle : Handle
+  pub size : ℕ
+
+-- its contract
+unfoldable pub ResizeHolds : ResizeInput → Result → Type 0
+ResizeHolds x y = Returned (x .table) (callResize (x .arena) (x .table) (x .who) (x .handle) (x .size)) (x .arena) (y .arena) (y .after)
+
+-- a resize that stores nothing
+unfoldable pub ResizeStoresNothing : Type 0
+ResizeStoresNothing = StoresNothing (λ x. x .arena) (λ y. y .arena) ResizeHolds
+
+-- ---- link
+
+-- what link is given
+pub record LinkInput : Type 0 where
+  pub arena : List ℕ
+  pub table : Table
+  pub who : ℕ
+  pub handle : Handle
+  pub name : List ℕ
+  pub child : Handle
+
+-- its contract
+unfoldable pub LinkHolds : LinkInput → Result → Type 0
+LinkHolds x y = Returned (x .table) (callLink (x .arena) (x .table) (x .who) (x .handle) (x .name) (x .child)) (x .arena) (y .arena) (y .after)
+
+-- a link that stores nothing
+unfoldable pub LinkStoresNothing : Type 0
+LinkStoresNothing = StoresNothing (λ x. x .arena) (λ y. y .arena) LinkHolds
+
+-- ---- move
+
+-- what move is given
+pub record MoveInput : Type 0 where
+  pub arena : List ℕ
+  pub table : Table
+  pub who : ℕ
+  pub handle : Handle
+  pub old : List ℕ
+  pub target : Handle
+  pub name : List ℕ
+
+-- its contract
+unfoldable pub MoveHolds : MoveInput → Result → Type 0
+MoveHolds x y =
+    Returned (x .table) (callMove (x .arena) (x .table) (x .who) (x .handle) (x .old) (x .target) (x .name)) (x .arena) (y .arena) (y .after)
+
+-- a move that stores nothing
+unfoldable pub MoveStoresNothing : Type 0
+MoveStoresNothing = StoresNothing (λ x. x .arena) (λ y. y .arena) MoveHolds
+
+-- ---- sync
+
+-- what sync is given
+pub record SyncInput : Type 0 where
+  pub arena : List ℕ
+  pub table : Table
+
+-- its contract
+unfoldable pub SyncHolds : SyncInput → Result → Type 0
+SyncHolds x y = Returned (x .table) (callSync (x .arena) (x .table)) (x .arena) (y .arena) (y .after)
+
+-- a sync that stores nothing
+unfoldable pub SyncStoresNothing : Type 0
+SyncStoresNothing = StoresNothing (λ x. x .arena) (λ y. y .arena) SyncHolds
 
 -- ---- find, which leaves the arena
 

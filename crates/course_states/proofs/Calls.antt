@@ -1,13 +1,14 @@
--- The calls of the examples with less work: each is its definition, line by line, with the readings of Near in place of the definition's
--- own, and is proved equal to it where arena and table are admitted.
+-- The calls of the examples, and those that `cheats` asks for, with less work: each is its definition, line by line, with the readings of
+-- Near in place of the definition's own, and is proved equal to it where arena and table are admitted.
 use mathlib.Core.Path.{_≡_}
 use mathlib.Core.Bool.{Bool, false, not, _&&_}
 use mathlib.Core.List.{List}
-use Prim.Native.Nat.{ℕ, _-_, _*_}
+use Prim.Native.Nat.{ℕ, _+_, _-_, _*_}
 use native.Mathlib.Omega.{arith}
+use lib.ListN.{length}
 use lib.Dec.{eqb, ltb, leb}
 use Rattle.base.specs.Out.{Out, done, bind, guard, ensure, _>>=_}
-use Rattle.base.specs.Reasons.{stuck, tableFull, invalidParam, fileTaken, tooManyLinks, dirRemoved}
+use Rattle.base.specs.Reasons.{stuck, tableFull, invalidParam, fileTaken, tooManyLinks, dirRemoved, isDir}
 use Rattle.base.specs.Search.{pick}
 use Rattle.base.specs.declared.Found.{Found}
 use Rattle.base.specs.declared.Found.the-variants.{At, Nothing}
@@ -25,12 +26,15 @@ use Rattle.files.specs.Store.{cutFile}
 use Rattle.sefs.specs.State.{Fs, withArena}
 use Rattle.sefs.specs.Records.{withBlocks}
 use Rattle.sefs.specs.Meta.{metaFile, isUsed}
-use Rattle.sefs.specs.Nodes.{Opened, nodeFile, recAt, setRec, openIn, openAt, loadNode, getNode, syncRow, release}
+use Rattle.sefs.specs.Nodes.{Opened, nodeFile, recAt, idAt, setRec, openIn, openAt, loadNode, getNode, syncRow, release}
 use Rattle.sefs.specs.Folders.{putSlot, direntRemove, nlinksDec, unlinkFolder, direntNodeRemove}
 use Rattle.sefs.specs.Ask.{admit, anOwner, byHandle, goodName, newName, notLong, notSpecial, known, folder, liveFolder, orExists, start}
 use Rattle.sefs.specs.Open.{holdNode, callRoot, callFind}
-use Rattle.sefs.specs.Create.{After, after, Given, canMake, createSteps, callCreate}
+use Rattle.sefs.specs.Create.{After, after, Given, canMake, createSteps, callCreate, linkSteps, callLink}
 use Rattle.sefs.specs.Remove.{removable, removeSteps, callRemove}
+use Rattle.sefs.specs.Move.{Replaced, none, moveWithin, moveBetween, notBelow, moveSteps, moveFree, moveTo, callMove}
+use Rattle.sefs.specs.Contents.{hasContents, notTooBig, writeSteps, callWrite, resizeSteps, callResize}
+use Rattle.sefs.specs.Close.{syncFrom, callSync}
 use Rattle.course_states.proofs.Near.{readNear, read-near, metaNear, meta-near, slotBytesNear, slot-bytes-near, lookNear, look-near, findNear, find-near}
 
 unfoldable pub startNear : List ℕ → Table → Fs
@@ -208,3 +212,138 @@ remove-call-near dir a t w h name ok =
     (λ _. bind (find-near a (rowAt t i .rec) name j)
     (λ s. bind (get-near (start-near a t j) (s .entry .id) j)
     (λ o. bind (removable dir (recAt (o .state) (o .row))) (λ _. remove-steps-near (o .state) i (o .row) (s .place) j)))))))))
+
+-- ---- write, resize and sync: they read nothing of a file, so they are as defined but for the test of arena and table
+
+unfoldable pub writeNear : List ℕ → Table → ℕ → Handle → ℕ → List ℕ → Out After
+writeNear a t w h place bytes = do
+  i ← byHandle t w h
+  _ ← hasContents (rowAt t i .rec)
+  _ ← notTooBig (place + length bytes)
+  s ← writeSteps (start a t) i place bytes
+  done (after s)
+
+pub write-near : (a : List ℕ) (t : Table) (w : ℕ) (h : Handle) (place : ℕ) (bytes : List ℕ) → admit a t ≡ done tt → callWrite a t w h place bytes ≡ writeNear a t w h place bytes
+unfolding callWrite writeNear
+write-near a t w h place bytes ok = rw ok
+
+unfoldable pub resizeNear : List ℕ → Table → ℕ → Handle → ℕ → Out After
+resizeNear a t w h n = do
+  i ← byHandle t w h
+  _ ← hasContents (rowAt t i .rec)
+  _ ← notTooBig n
+  s ← resizeSteps (start a t) i n
+  done (after s)
+
+pub resize-near : (a : List ℕ) (t : Table) (w : ℕ) (h : Handle) (n : ℕ) → admit a t ≡ done tt → callResize a t w h n ≡ resizeNear a t w h n
+unfolding callResize resizeNear
+resize-near a t w h n ok = rw ok
+
+unfoldable pub syncNear : List ℕ → Table → Out After
+syncNear a t = do
+  s ← syncFrom (start a t) 0 34
+  done (after s)
+
+pub sync-near : (a : List ℕ) (t : Table) → admit a t ≡ done tt → callSync a t ≡ syncNear a t
+unfolding callSync syncNear
+sync-near a t ok = rw ok
+
+-- ---- link
+
+unfoldable pub linkNear : List ℕ → Table → ℕ → Handle → List ℕ → Handle → Out After
+linkNear a t w h name child = do
+  i ← byHandle t w h
+  c ← byHandle t w child
+  _ ← newName name
+  _ ← liveFolder (rowAt t i .rec)
+  _ ← notLong name
+  f ← lookNear a (rowAt t i .rec) name
+  _ ← orExists f
+  _ ← known (rowAt t c .rec)
+  _ ← ensure (not (isFolder (rowAt t c .rec .kind))) isDir
+  _ ← ensure (ltb (rowAt t c .rec .nlinks) 65535) tooManyLinks
+  linkSteps (start a t) i name c
+
+pub link-near : (a : List ℕ) (t : Table) (w : ℕ) (h : Handle) (name : List ℕ) (child : Handle) → admit a t ≡ done tt → callLink a t w h name child ≡ linkNear a t w h name child
+unfolding callLink linkNear
+link-near a t w h name child ok =
+    λ j. bind (ok j)
+    (λ _. bind (byHandle t w h)
+    (λ i. bind (byHandle t w child)
+    (λ c. bind (newName name)
+    (λ _. bind (liveFolder (rowAt t i .rec))
+    (λ _. bind (notLong name)
+    (λ _. bind (look-near a (rowAt t i .rec) name j)
+    (λ f. bind (orExists f)
+    (λ _. bind (known (rowAt t c .rec))
+    (λ _. bind (ensure (not (isFolder (rowAt t c .rec .kind))) isDir)
+    (λ _. bind (ensure (ltb (rowAt t c .rec .nlinks) 65535) tooManyLinks) (λ _. linkSteps (start a t) i name c)))))))))))
+
+-- ---- move; where the new name exists it is as defined
+
+unfoldable pub moveStepsNear : Fs → ℕ → ℕ → List ℕ → List ℕ → Replaced → Out After
+moveStepsNear s i j old name r = do
+  e ← findNear (s .arena) (recAt s i) old
+  pick (eqb (idAt s i) (idAt s j)) (moveWithin s i e name r) (moveBetween s i j e name r)
+
+move-steps-near : (s : Fs) (i j : ℕ) (old name : List ℕ) (r : Replaced) → moveSteps s i j old name r ≡ moveStepsNear s i j old name r
+unfolding moveSteps moveStepsNear
+move-steps-near s i j old name r =
+    λ z. bind (find-near (s .arena) (recAt s i) old z)
+    (λ e. pick (eqb (idAt s i) (idAt s j)) (moveWithin s i e name r) (moveBetween s i j e name r))
+
+unfoldable pub moveFreeNear : Fs → ℕ → ℕ → List ℕ → List ℕ → Out After
+moveFreeNear s i j old name = pick (eqb (idAt s i) (idAt s j)) (moveStepsNear s i j old name none) (do
+  was ← findNear (s .arena) (recAt s i) old
+  c ← getNear s (was .entry .id)
+  _ ← notBelow (c .state) i j (c .row)
+  moveStepsNear (c .state) i j old name none)
+
+move-free-near : (s : Fs) (i j : ℕ) (old name : List ℕ) → moveFree s i j old name ≡ moveFreeNear s i j old name
+unfolding moveFree moveFreeNear
+move-free-near s i j old name =
+    λ z. pick (eqb (idAt s i) (idAt s j)) (move-steps-near s i j old name none z)
+    (bind (find-near (s .arena) (recAt s i) old z)
+    (λ was. bind (get-near s (was .entry .id) z)
+    (λ c. bind (notBelow (c .state) i j (c .row)) (λ _. move-steps-near (c .state) i j old name none z))))
+
+unfoldable pub moveToNear : Fs → ℕ → ℕ → List ℕ → List ℕ → Found → Out After
+moveToNear s i j old name (At k) = moveTo s i j old name (At k)
+moveToNear s i j old name Nothing = moveFreeNear s i j old name
+
+move-to-near : (s : Fs) (i j : ℕ) (old name : List ℕ) (f : Found) → moveTo s i j old name f ≡ moveToNear s i j old name f
+unfolding moveToNear
+move-to-near s i j old name (At k) = λ z. moveTo s i j old name (At k)
+move-to-near s i j old name Nothing = move-free-near s i j old name
+
+unfoldable pub moveNear : List ℕ → Table → ℕ → Handle → List ℕ → Handle → List ℕ → Out After
+moveNear a t w h old target name = do
+  i ← byHandle t w h
+  j ← byHandle t w target
+  _ ← goodName old
+  _ ← newName name
+  _ ← liveFolder (rowAt t i .rec)
+  _ ← notSpecial old
+  _ ← notSpecial name
+  _ ← notLong old
+  _ ← notLong name
+  _ ← liveFolder (rowAt t j .rec)
+  f ← lookNear a (rowAt t j .rec) name
+  moveToNear (start a t) i j old name f
+
+pub move-near : (a : List ℕ) (t : Table) (w : ℕ) (h : Handle) (old : List ℕ) (target : Handle) (name : List ℕ)
+    → admit a t ≡ done tt → callMove a t w h old target name ≡ moveNear a t w h old target name
+unfolding callMove moveNear
+move-near a t w h old target name ok =
+    λ z. bind (ok z)
+    (λ _. bind (byHandle t w h)
+    (λ i. bind (byHandle t w target)
+    (λ j. bind (goodName old)
+    (λ _. bind (newName name)
+    (λ _. bind (liveFolder (rowAt t i .rec))
+    (λ _. bind (notSpecial old)
+    (λ _. bind (notSpecial name)
+    (λ _. bind (notLong old)
+    (λ _. bind (notLong name)
+    (λ _. bind (liveFolder (rowAt t j .rec))
+    (λ _. bind (look-near a (rowAt t j .rec) name z) (λ f. move-to-near (start a t) i j old name f z))))))))))))

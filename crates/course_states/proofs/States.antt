@@ -1,5 +1,5 @@
 -- The states that the examples lead through, block by block: what the calls leave, written down. That they leave it is proved in Steps.
-use mathlib.Core.Bool.{false}
+use mathlib.Core.Bool.{true, false}
 use mathlib.Core.List.{List, [], _∷_, _++_}
 use Prim.Native.Nat.{ℕ, _*_, _-_}
 use lib.ListN.{length, replicate, take, drop}
@@ -15,7 +15,7 @@ use Rattle.table.specs.declared.Row.{Row}
 use Rattle.table.specs.declared.Table.{Table}
 use Rattle.arena.specs.Fields.{File, file}
 use Rattle.sefs.specs.Meta.{metaFile}
-use Rattle.sefs.specs.Records.{newRecord, withLinks, withBlocks}
+use Rattle.sefs.specs.Records.{newRecord, withLinks, withBlocks, withSize}
 use Rattle.sefs.specs.Folders.{entry}
 use Rattle.course_states.specs.Worlds.{World, epoch, uuid, rootFile, editor}
 
@@ -211,3 +211,30 @@ fullArena =
 
 unfoldable pub fullWorld : World
 fullWorld = record { arena = fullArena; table = rootTable; root = handle 0 1 }
+
+-- ---- with `a`, and the byte `x` in it, where `cheats` starts: write stores no record, so `a` has a dirty row
+
+unfoldable pub xArena : List ℕ
+xArena =
+    join
+    (headBlk metaFile 131072 47
+    ∷ headBlk rootFile 792 773
+    ∷ dataBlk rootFile 0 (folderBytes 2 (slotFile 3 97)) 29738
+    ∷ dataBlk rootFile 1 (folderBytes 2 (slotFile 3 97)) 8384
+    ∷ dataBlk metaFile 0 aMeta 7247839
+    ∷ headBlk (file 1 (uuid 2)) 1 424
+    ∷ dataBlk metaFile 1 aMeta 23
+    ∷ dataBlk (file 1 (uuid 2)) 0 (120 ∷ []) 3404
+    ∷ freeBlks 8
+    ∷ [])
+
+unfoldable pub xWorld : World
+xWorld = record {
+  arena = xArena;
+  table = record {
+    rows = rowsOf (clean 2 (rootRec 2 3) ∷ record { id = 3; dirty = true; rec = withSize (fileRec 2 1) 1 } ∷ []);
+    holds = holdsOf (hold 0 1 ∷ hold 1 2 ∷ []);
+    next = 3;
+  };
+  root = handle 0 1;
+}

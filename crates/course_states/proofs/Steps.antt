@@ -16,7 +16,7 @@ use Rattle.maps.specs.Maps.{bitOf, putBit, bitAt, withBit}
 use Rattle.utf8.specs.Names.{zeroAt, hasZero, hasSlash, nameVerdict, isDot, isDots, isSpecial, storedName, isNamed, nameBytes}
 use Rattle.utf8.specs.Utf8.{within, lead, tail, step, after, utf8}
 use Rattle.table.specs.Formed.{liveOk, holdOk, rowOk, holdsOk, ownersOk, rowsOk, shaped, wellFormed}
-use Rattle.table.specs.Table.{emptyTable, rowOf, holdOf, liveRow, ownHolds, canHold, addHold, rowUsed}
+use Rattle.table.specs.Table.{emptyTable, rowOf, holdOf, liveRow, ownHolds, canHold, addHold, rowUsed, isNext, nextRow}
 use Rattle.table.specs.Zero.{bytesZero, numbersZero, timeZero, recordZero}
 use Rattle.arena.specs.Blocks.{blk, putBlk, legal}
 use Rattle.arena.specs.Fields.{zeros, checkOf, isFree, seal, sameFile, isHead, isData, fresh as freshBlock}
@@ -29,16 +29,19 @@ use Rattle.sefs.specs.Nodes.{newNode, storeRow, syncRow, freeNode, dropNode, re
 use Rattle.sefs.specs.Folders.{putSlot, direntInit, direntAppend, nlinksInc, nlinksDec, unlinkFolder}
 use Rattle.sefs.specs.Ask.{admit, byHandle, liveFolder}
 use Rattle.sefs.specs.Open.{callRoot}
-use Rattle.sefs.specs.Create.{createSteps, callFormat, formatSteps, birth, nameFolder, named}
+use Rattle.sefs.specs.Create.{createSteps, callFormat, formatSteps, birth, nameFolder, named, linkSteps}
 use Rattle.sefs.specs.Remove.{callRemoveFile, removable}
+use Rattle.sefs.specs.Move.{moveWithin}
+use Rattle.sefs.specs.Contents.{hasContents, writeSteps, callWrite, resizeSteps}
+use Rattle.sefs.specs.Close.{syncFrom}
 use Rattle.course_states.specs.Worlds.{epoch, uuid, editor, fresh, opened, begun, made, filed, full, stored}
 use Rattle.course_states.proofs.Near.{byteOf, near, byteNear, runNear, readNear, mapsNear, metaNear, slotBytesNear, slotNear, lookToNear, lookNear, findNear, weigh, layoutBy, soundBy, checkNear, admitted}
-use Rattle.course_states.proofs.Calls.{startNear, loadNear, openNear, getNear, holdNear, rootNear, root-near, createNear, create-near, removeNear, removeStepsNear, removeCallNear, remove-call-near}
-use Rattle.course_states.proofs.States.{headBlk, dataBlk, freeBlks, recordsOf, metaBytes, folderBytes, rowsOf, holdsOf, handle, rootTable, freshArena, freshWorld, aMeta, aArena, aWorld, bSlots, bMeta, bArena, bWorld, cSlots, cMeta, cArena, cWorld, fullArena, fullWorld}
+use Rattle.course_states.proofs.Calls.{startNear, loadNear, openNear, getNear, holdNear, rootNear, root-near, createNear, create-near, removeNear, removeStepsNear, removeCallNear, remove-call-near, writeNear, write-near, moveStepsNear, moveFreeNear, moveToNear}
+use Rattle.course_states.proofs.States.{headBlk, dataBlk, freeBlks, recordsOf, metaBytes, folderBytes, rowsOf, holdsOf, handle, rootTable, freshArena, freshWorld, aMeta, aArena, aWorld, bSlots, bMeta, bArena, bWorld, cSlots, cMeta, cArena, cWorld, fullArena, fullWorld, xArena, xWorld}
 
 -- what is opened so that a call is computed: below the calls, and the states
 unfoldable pub computed : ℕ
-unfolding countTo sumTo allTo lowest foundBelow paste tab same every leOf leBytes leAt lePut signed bitsOf join superOf superFields superBytes recordOf recordFields recordBytes timeOf timeFields timeBytes entryOf entryFields entryBytes bitOf putBit bitAt withBit within lead tail step after utf8 zeroAt hasZero hasSlash nameVerdict isDot isDots isSpecial storedName isNamed nameBytes rowOf holdOf liveRow ownHolds canHold addHold rowUsed liveOk holdOk rowOk holdsOk ownersOk rowsOk shaped wellFormed bytesZero numbersZero timeZero recordZero blk putBlk legal checkOf seal sameFile isFree isHead isData zeros freshBlock freeOf headOf dataOf freeCount allZero headOnce dataOnce withinLength under there lengthOf present byteAt readFile claim writeBlk setLength raise putBlock putTo touched putFile makeFile clearTo clearAll isPast zeroTail cutFile isOf dropFile storeMaps syncMeta firstBit isUsed addGroup takeBit allocBlock freeBlock newNode storeRow syncRow freeNode dropNode release putSlot direntInit direntAppend nlinksInc nlinksDec unlinkFolder liveFolder byHandle formatSteps birth nameFolder named createSteps removable byteOf near byteNear runNear readNear mapsNear metaNear slotBytesNear slotNear lookToNear lookNear findNear weigh layoutBy soundBy startNear loadNear openNear getNear holdNear removeNear removeStepsNear headBlk dataBlk freeBlks recordsOf metaBytes folderBytes rowsOf holdsOf
+unfolding countTo sumTo allTo lowest foundBelow paste tab same every leOf leBytes leAt lePut signed bitsOf join superOf superFields superBytes recordOf recordFields recordBytes timeOf timeFields timeBytes entryOf entryFields entryBytes bitOf putBit bitAt withBit within lead tail step after utf8 zeroAt hasZero hasSlash nameVerdict isDot isDots isSpecial storedName isNamed nameBytes rowOf holdOf liveRow ownHolds canHold addHold rowUsed isNext nextRow liveOk holdOk rowOk holdsOk ownersOk rowsOk shaped wellFormed bytesZero numbersZero timeZero recordZero blk putBlk legal checkOf seal sameFile isFree isHead isData zeros freshBlock freeOf headOf dataOf freeCount allZero headOnce dataOnce withinLength under there lengthOf present byteAt readFile claim writeBlk setLength raise putBlock putTo touched putFile makeFile clearTo clearAll isPast zeroTail cutFile isOf dropFile storeMaps syncMeta firstBit isUsed addGroup takeBit allocBlock freeBlock newNode storeRow syncRow freeNode dropNode release putSlot direntInit direntAppend nlinksInc nlinksDec unlinkFolder liveFolder byHandle formatSteps birth nameFolder named createSteps removable linkSteps moveWithin hasContents writeSteps resizeSteps syncFrom byteOf near byteNear runNear readNear mapsNear metaNear slotBytesNear slotNear lookToNear lookNear findNear weigh layoutBy soundBy startNear loadNear openNear getNear holdNear removeNear removeStepsNear moveStepsNear moveFreeNear moveToNear headBlk dataBlk freeBlks recordsOf metaBytes folderBytes rowsOf holdsOf
 computed = 0
 
 -- ---- the fresh image
@@ -219,3 +222,27 @@ opened-full = rw (root-near fullArena emptyTable editor (admitted fullArena empt
 pub full-made : (name : List ℕ) (kind n : ℕ) → made fullWorld name kind n ≡ createNear fullArena rootTable editor (handle 0 1) name kind 420 epoch (uuid n)
 unfolding made fullWorld
 full-made name kind n = create-near fullArena rootTable editor (handle 0 1) name kind 420 epoch (uuid n) (admitted fullArena rootTable full-legal full-sound root-formed)
+
+-- ---- `x` written into `a`, for `cheats`
+
+x-near : writeNear (aWorld .arena) (aWorld .table) editor (handle 1 2) 0 (120 ∷ []) ≡ done (record { arena = xWorld .arena; table = xWorld .table })
+unfolding computed writeNear aMeta aArena aWorld xArena xWorld
+x-near = refl
+
+pub x-written : callWrite (aWorld .arena) (aWorld .table) editor (handle 1 2) 0 (120 ∷ []) ≡ done (record { arena = xWorld .arena; table = xWorld .table })
+x-written = write-near (aWorld .arena) (aWorld .table) editor (handle 1 2) 0 (120 ∷ []) a-admitted ∙ x-near
+
+x-legal : legal (xWorld .arena) ≡ true
+unfolding computed aMeta xArena xWorld
+x-legal = refl
+
+x-sound : soundBy checkNear (xWorld .arena) ≡ true
+unfolding computed aMeta xArena xWorld
+x-sound = refl
+
+x-formed : wellFormed (xWorld .table) ≡ true
+unfolding computed xWorld
+x-formed = refl
+
+pub x-admitted : admit (xWorld .arena) (xWorld .table) ≡ done tt
+x-admitted = admitted (xWorld .arena) (xWorld .table) x-legal x-sound x-formed

@@ -1,35 +1,6 @@
-// The checker's program: an arena of at most 65,536 bytes on standard input, no node open; one line out.
-use fsck::Verdict;
+// The checker's program: the arena is standard input.
 use libc::STDIN_FILENO;
-use libc::STDOUT_FILENO;
-
-fn show(label: &[u8], n: u32) {
-    io::write_all(STDOUT_FILENO, label);
-    io::print_decimal(STDOUT_FILENO, n as u64);
-}
-
-fn tell(v: Verdict) {
-    match v {
-        Verdict::Pass {
-            nodes,
-            unused,
-            free,
-        } => {
-            show(b"pass nodes ", nodes);
-            show(b" unused ", unused);
-            show(b" free ", free);
-        }
-        Verdict::Fail(rule) => show(b"fail rule ", rule as u32),
-    }
-    io::write_all(STDOUT_FILENO, b"\n");
-}
 
 fn main() {
-    let mut arena = [0u8; 65537];
-    let n = io::read_full(STDIN_FILENO, &mut arena);
-    if n > 65536 {
-        tell(Verdict::Fail(1));
-    } else {
-        tell(fsck::check(&arena[..n], table::empty()));
-    }
+    fsck_report::report(STDIN_FILENO);
 }
