@@ -558,7 +558,8 @@ def climb(s, target, id):
 
 
 def not_below(s, row, target, moved):
-    if row is not target and moved.rec.type == FOLDER:
+    """The moved node's type says whether there is a climb, so a type above 4 sticks here, before any step."""
+    if row is not target and is_folder(moved.rec):
         climb(s, target, moved.id)
 
 
