@@ -3,6 +3,8 @@
 Written from the document alone: it shares no code and no idea with crates/ (dictionaries here, searches over blocks there).
 """
 
+import operator
+
 BLOCK = 512
 PAYLOAD = 480
 LIMIT = 4_294_967_295
@@ -16,7 +18,7 @@ class Refused(Exception):
 
 
 def check_sum(block):
-    return sum((i + 1) * block[i] for i in range(508))
+    return sum(map(operator.mul, range(1, 509), block))
 
 
 def sealed(block):
@@ -153,9 +155,17 @@ class Arena:
         self.blocks = [bytes(BLOCK) if b[0] and (b[1], b[4:20]) == file else b for b in self.blocks]
 
 
+PRIME = 4_294_967_291
+PART = 8192
+# The powers of 257 by which a part's bytes count, the first byte's first.
+POWERS = [pow(257, PART - 1 - i, PRIME) for i in range(PART)]
+
+
 def sum_of(data):
-    """The sum that call scripts print."""
+    """The sum that call scripts print: h becomes (h x 257 + b + 1) mod 4,294,967,291 with each byte b."""
     h = 0
-    for b in data:
-        h = (h * 257 + b + 1) % 4_294_967_291
+    for at in range(0, len(data), PART):
+        part = data[at:at + PART]
+        powers = POWERS[PART - len(part):]
+        h = (h * pow(257, len(part), PRIME) + sum(map(operator.mul, powers, part)) + sum(powers)) % PRIME
     return h

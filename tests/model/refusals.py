@@ -523,17 +523,27 @@ def table_full(b):
 
 
 def last_stamp(b):
-    """A table set from outside: the last stamps, a dirty row whose record lies past the longest file, and a type above 4."""
-    root = b.fresh(32)
-    b.close(b.create(root, "a"))
+    """A table set from outside: the last stamps, a dirty row whose record lies past the longest file, and a type above 4. A moved node's type is looked
+    at before any step, so it sticks also where the new slot would find no block."""
+    root, files = b.fresh(), []
+    for name in "ab":
+        made = b.create(root, name)
+        files.append(b.at.table.rows[b.at.table.holds[made[0]][0]].rec.file)
+        b.close(made)
     b.close(root)
-    b.table(table_bytes([(2 ** 25, 1, record(FOLDER, 2, 3, ROOT_FILE)), (4, 0, record(5, 1, 0, ROOT_FILE))], [(0, 1, 1), (1, 2, 1)], 2 ** 64 - 2))
+    rows = [(2 ** 25, 1, record(FOLDER, 2, 4, ROOT_FILE)), (4, 0, record(5, 1, 0, ROOT_FILE)), (5, 0, record(FOLDER, 2, 0, files[0])), (6, 0, record(FILE, 1, 0, files[1]))]
+    b.table(table_bytes(rows, [(0, 1, 1), (1, 2, 1), (2, 3, 1), (3, 4, 1)], 2 ** 64 - 2))
     b.no(19, *takes_contents((1, 2)), *takes_contents((1, 2), 2 ** 64 - 1, b"a"))
     b.no(17, ("sync",), ("remove-file", (0, 1), b"a"), ("close", (0, 1)))
+    for at in (479, 1439, 2399, 3360):
+        b.write((3, 4), at, b"ab" if at < 3360 else b"a")
+        b.ok()
+    b.no(17, ("move", (0, 1), b"a", (2, 3), b"c"))
+    b.no(19, ("move", (0, 1), b"b", (2, 3), b"c"))
     b.ok(b.root())
     for b.who in (2, 1):
         b.no(16, ("root",))
-    b.no(16, ("find", (0, 1), b"a"), create((0, 1), b"b"))
+    b.no(16, ("find", (0, 1), b"a"), create((0, 1), b"c"))
 
 
 def no_space(b):

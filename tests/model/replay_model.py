@@ -11,7 +11,7 @@ import functools
 import struct
 import sys
 
-from arena_model import BLOCK, LIMIT, META, PAYLOAD, Arena, Refused, legal, number_at, sound, sum_of
+from arena_model import BLOCK, LIMIT, META, PAYLOAD, PRIME, Arena, Refused, legal, number_at, sound, sum_of
 
 SLOT = 264
 RECORD = 112
@@ -21,7 +21,6 @@ OWNERS = range(1, 5)
 OWN_HOLDS = 8
 GROUP = 1024
 MAGIC = 0x2F8DBE2A
-PRIME = 4_294_967_291
 FOLDER = 2
 SYMLINK = 3
 MOST_LINKS = 8
@@ -558,7 +557,8 @@ def climb(s, target, id):
 
 
 def not_below(s, row, target, moved):
-    if row is not target and moved.rec.type == FOLDER:
+    """The moved node's type says whether there is a climb, so a type above 4 sticks here, before any step."""
+    if row is not target and is_folder(moved.rec):
         climb(s, target, moved.id)
 
 
@@ -935,7 +935,7 @@ class Script:
 
 
 def output_sum(written):
-    return f" o {sum_of(written.ljust(OUTPUT, bytes([238])))}"
+    return f" o {carry(bytes(written).ljust(OUTPUT, bytes([238])))[0]}"
 
 
 class Model:
