@@ -168,7 +168,8 @@ pub extern "C" fn dz_walk(
     links: &mut [u8],
     out: &mut [u64],
 ) -> u32
-    ensures { λ r. ⌜ Walks (sizedWalk 4402 (now (table .entry)) (sizedWalk 2 (now (out .entry)) (callWalk (now (arena .entry)) (tableOf (now (table .entry))) owner (handleOf hold stamp) (now (path .entry)) (length (now (links .entry)))))) (now (links .entry)) (now (links .exit)) (now (table .entry), now (out .entry)) (now (table .exit), now (out .exit)) r ⌝ }
+    ensures { λ r. ⌜ Walks (sizedWalk 4402 (now (table .entry)) (sizedWalk 2 (now (out .entry)) (callWalk (now (arena .entry)) (tableOf (now (table .entry))) owner (handleOf hold stamp) (now (path .entry)) (length (now (links .entry))))))
+        (now (links .entry)) (now (links .exit)) (now (table .entry), now (out .entry)) (now (table .exit), now (out .exit)) r ⌝ }
 {
     if table.len() != TABLE {
         return WRONG_SIZE;
@@ -229,7 +230,8 @@ pub extern "C" fn dz_create(
     file: &[u8],
     out: &mut [u64],
 ) -> u32
-    ensures { λ r. ⌜ Answers (sized 4402 (now (table .entry)) (sized 16 (now (file .entry)) (sized 2 (now (out .entry)) (callCreate (now (arena .entry)) (tableOf (now (table .entry))) owner (handleOf hold stamp) (now (name .entry)) kind mode (timeOf sec nsec) (now (file .entry)))))) madeOf (now (arena .entry), now (table .entry), now (out .entry)) (now (arena .exit), now (table .exit), now (out .exit)) r ⌝ }
+    ensures { λ r. ⌜ Answers (sized 4402 (now (table .entry)) (sized 16 (now (file .entry)) (sized 2 (now (out .entry)) (callCreate (now (arena .entry)) (tableOf (now (table .entry))) owner (handleOf hold stamp) (now (name .entry)) kind mode (timeOf sec nsec) (now (file .entry))))))
+        madeOf (now (arena .entry), now (table .entry), now (out .entry)) (now (arena .exit), now (table .exit), now (out .exit)) r ⌝ }
 {
     if table.len() != TABLE {
         return WRONG_SIZE;
@@ -258,7 +260,8 @@ pub extern "C" fn dz_link(
     child_hold: u32,
     child_stamp: u64,
 ) -> u32
-    ensures { λ r. ⌜ Answers (sized 4402 (now (table .entry)) (callLink (now (arena .entry)) (tableOf (now (table .entry))) owner (handleOf hold stamp) (now (name .entry)) (handleOf «child_hold» «child_stamp»))) leftOf (now (arena .entry), now (table .entry)) (now (arena .exit), now (table .exit)) r ⌝ }
+    ensures { λ r. ⌜ Answers (sized 4402 (now (table .entry)) (callLink (now (arena .entry)) (tableOf (now (table .entry))) owner (handleOf hold stamp) (now (name .entry)) (handleOf «child_hold» «child_stamp»)))
+        leftOf (now (arena .entry), now (table .entry)) (now (arena .exit), now (table .exit)) r ⌝ }
 {
     if table.len() != TABLE {
         return WRONG_SIZE;
@@ -331,7 +334,8 @@ pub extern "C" fn dz_move(
     to_stamp: u64,
     name: &[u8],
 ) -> u32
-    ensures { λ r. ⌜ Answers (sized 4402 (now (table .entry)) (callMove (now (arena .entry)) (tableOf (now (table .entry))) owner (handleOf hold stamp) (now (old .entry)) (handleOf «to_hold» «to_stamp») (now (name .entry)))) leftOf (now (arena .entry), now (table .entry)) (now (arena .exit), now (table .exit)) r ⌝ }
+    ensures { λ r. ⌜ Answers (sized 4402 (now (table .entry)) (callMove (now (arena .entry)) (tableOf (now (table .entry))) owner (handleOf hold stamp) (now (old .entry)) (handleOf «to_hold» «to_stamp») (now (name .entry))))
+        leftOf (now (arena .entry), now (table .entry)) (now (arena .exit), now (table .exit)) r ⌝ }
 {
     if table.len() != TABLE {
         return WRONG_SIZE;

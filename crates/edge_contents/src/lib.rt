@@ -38,7 +38,8 @@ pub extern "C" fn dz_read(
     out: &mut [u8],
     count: &mut [u64],
 ) -> u32
-    ensures { λ r. ⌜ Answers (sized 4402 (now (table .entry)) (sized 1 (now (count .entry)) (callRead (now (arena .entry)) (tableOf (now (table .entry))) owner (handleOf hold stamp) place (length (now (out .entry)))))) (readIn (now (out .entry))) (now (out .entry), now (count .entry)) (now (out .exit), now (count .exit)) r ⌝ }
+    ensures { λ r. ⌜ Answers (sized 4402 (now (table .entry)) (sized 1 (now (count .entry)) (callRead (now (arena .entry)) (tableOf (now (table .entry))) owner (handleOf hold stamp) place (length (now (out .entry))))))
+        (readIn (now (out .entry))) (now (out .entry), now (count .entry)) (now (out .exit), now (count .exit)) r ⌝ }
 {
     if table.len() != TABLE {
         return WRONG_SIZE;
@@ -128,7 +129,8 @@ pub extern "C" fn dz_list(
     dots: u8,
     out: &mut [u8],
 ) -> u32
-    ensures { λ r. ⌜ Answers (sized 4402 (now (table .entry)) (sized 1 (now (next .entry)) (callListing (now (arena .entry)) (tableOf (now (table .entry))) owner (handleOf hold stamp) (startIn dots (now (next .entry))) (length (now (out .entry)))))) (listedIn (startIn dots (now (next .entry))) (now (out .entry))) (now (next .entry), now (out .entry)) (now (next .exit), now (out .exit)) r ⌝ }
+    ensures { λ r. ⌜ Answers (sized 4402 (now (table .entry)) (sized 1 (now (next .entry)) (callListing (now (arena .entry)) (tableOf (now (table .entry))) owner (handleOf hold stamp) (startIn dots (now (next .entry))) (length (now (out .entry))))))
+        (listedIn (startIn dots (now (next .entry))) (now (out .entry))) (now (next .entry), now (out .entry)) (now (next .exit), now (out .exit)) r ⌝ }
 {
     if table.len() != TABLE {
         return WRONG_SIZE;

@@ -113,7 +113,7 @@ module _ {s : Image} {w v : List ℕ} {n : ℕ} where
   unfolding does handed
   check-did {p = p} L g = by (eqb n 255) refl
     where
-      counts : {o p : Out (List ℕ)} → Answers p countsOf w v n → Guarded o p → n ≢ 255 → inWords v ≡ lent (λ c. inWords c) (inWords w) o
+      counts : {o p : Out (List ℕ)} → Answers p countsOf w v n → Guarded o p → n ≢ 255 → inWords v ≡ lent inWords (inWords w) o
       counts {o = done z} L same x = ap inWords (L .places)
       counts {o = refused m} L same x = ap inWords (L .places)
       counts L wrong x = absurd (x (L .number))
@@ -128,31 +128,31 @@ module _ {s : Image} {w v : List ℕ} {n : ℕ} where
 
 -- ---- tested
 
-ran : {c : Call} {s u : Image} {x y : Places} {n : ℕ} → Ran c s x u y n → Did c s x u y n
+ran-did : {c : Call} {s u : Image} {x y : Places} {n : ℕ} → Ran c s x u y n → Did c s x u y n
 unfolding does handed
-ran (tested.roots _ a t _ out _ _ _ L) = answers-did (λ x. (now a, x .0, inWords (x .1))) L (fixed 4402 (now t) (fixed 2 (now out) same)) refl refl (λ _. written refl refl)
-ran (tested.finds _ a t _ _ out _ _ _ _ _ L) = answers-did (λ x. (now a, x .0, inWords (x .1))) L (fixed 4402 (now t) (fixed 2 (now out) same)) refl refl (λ _. written refl refl)
-ran (tested.walks _ _ t _ _ _ _ out _ _ _ _ _ L) = walk-did L (fixed-walk 4402 (now t) (fixed-walk 2 (now out) same-walk)) refl refl
-ran (tested.creates _ _ _ t _ _ file out _ _ _ _ _ _ _ _ _ L) =
+ran-did (tested.roots _ a t _ out _ _ _ L) = answers-did (λ x. (now a, x .0, inWords (x .1))) L (fixed 4402 (now t) (fixed 2 (now out) same)) refl refl (λ _. written refl refl)
+ran-did (tested.finds _ a t _ _ out _ _ _ _ _ L) = answers-did (λ x. (now a, x .0, inWords (x .1))) L (fixed 4402 (now t) (fixed 2 (now out) same)) refl refl (λ _. written refl refl)
+ran-did (tested.walks _ _ t _ _ _ _ out _ _ _ _ _ L) = walk-did L (fixed-walk 4402 (now t) (fixed-walk 2 (now out) same-walk)) refl refl
+ran-did (tested.creates _ _ _ t _ _ file out _ _ _ _ _ _ _ _ _ L) =
     answers-did (λ x. (x .0, x .1, inWords (x .2))) L (fixed 4402 (now t) (fixed 16 (now file) (fixed 2 (now out) same))) refl refl (λ _. written refl refl)
-ran (tested.links _ _ _ t _ _ _ _ _ _ _ _ L) = left-did L (fixed 4402 (now t) same) refl refl
-ran (tested.removes-file _ _ _ t _ _ _ _ _ _ L) = left-did L (fixed 4402 (now t) same) refl refl
-ran (tested.removes-folder _ _ _ t _ _ _ _ _ _ L) = left-did L (fixed 4402 (now t) same) refl refl
-ran (tested.moves _ _ _ t _ _ _ _ _ _ _ _ _ L) = left-did L (fixed 4402 (now t) same) refl refl
-ran (tested.tells _ a t out _ _ _ _ _ L) = answers-did (λ w. (now a, now t, inWords w)) L (fixed 4402 (now t) (fixed 14 (now out) same)) refl refl (λ _. looked refl still)
-ran (tested.sets _ _ t _ _ _ _ _ _ _ _ _ _ _ _ _ _ L) = set-did L (fixed 4402 (now t) same) refl refl
-ran (tested.enters _ a t _ _ _ _ _ _ _ L) = answers-did (λ o. (now a, now t, places [] o [])) L (fixed 4402 (now t) same) refl refl (λ _. looked refl still)
-ran (tested.lists _ a t next _ _ _ _ _ _ _ _ L) = answers-did (λ x. (now a, now t, places (x .0) (x .1) [])) L (fixed 4402 (now t) (fixed 1 (now next) same)) refl refl (λ _. looked refl still)
-ran (tested.reads _ a t _ _ count _ _ _ _ _ _ L) = answers-did (λ x. (now a, now t, places (x .1) (x .0) [])) L (fixed 4402 (now t) (fixed 1 (now count) same)) refl refl (λ _. looked refl still)
-ran (tested.writes _ _ _ t _ _ _ _ _ _ _ L) = left-did L (fixed 4402 (now t) same) refl refl
-ran (tested.resizes _ _ _ t _ _ _ _ _ _ L) = left-did L (fixed 4402 (now t) same) refl refl
-ran (tested.syncs _ _ _ t _ _ L) = left-did L (fixed 4402 (now t) same) refl refl
-ran (tested.closes _ _ _ t _ _ _ _ _ L) = left-did L (fixed 4402 (now t) same) refl refl
-ran (tested.checks _ _ t out _ _ L) = check-did L (fixed 4402 (now t) (fixed 3 (now out) same))
+ran-did (tested.links _ _ _ t _ _ _ _ _ _ _ _ L) = left-did L (fixed 4402 (now t) same) refl refl
+ran-did (tested.removes-file _ _ _ t _ _ _ _ _ _ L) = left-did L (fixed 4402 (now t) same) refl refl
+ran-did (tested.removes-folder _ _ _ t _ _ _ _ _ _ L) = left-did L (fixed 4402 (now t) same) refl refl
+ran-did (tested.moves _ _ _ t _ _ _ _ _ _ _ _ _ L) = left-did L (fixed 4402 (now t) same) refl refl
+ran-did (tested.tells _ a t out _ _ _ _ _ L) = answers-did (λ w. (now a, now t, inWords w)) L (fixed 4402 (now t) (fixed 14 (now out) same)) refl refl (λ _. looked refl still)
+ran-did (tested.sets _ _ t _ _ _ _ _ _ _ _ _ _ _ _ _ _ L) = set-did L (fixed 4402 (now t) same) refl refl
+ran-did (tested.enters _ a t _ _ _ _ _ _ _ L) = answers-did (λ o. (now a, now t, places [] o [])) L (fixed 4402 (now t) same) refl refl (λ _. looked refl still)
+ran-did (tested.lists _ a t next _ _ _ _ _ _ _ _ L) = answers-did (λ x. (now a, now t, places (x .0) (x .1) [])) L (fixed 4402 (now t) (fixed 1 (now next) same)) refl refl (λ _. looked refl still)
+ran-did (tested.reads _ a t _ _ count _ _ _ _ _ _ L) = answers-did (λ x. (now a, now t, places (x .1) (x .0) [])) L (fixed 4402 (now t) (fixed 1 (now count) same)) refl refl (λ _. looked refl still)
+ran-did (tested.writes _ _ _ t _ _ _ _ _ _ _ L) = left-did L (fixed 4402 (now t) same) refl refl
+ran-did (tested.resizes _ _ _ t _ _ _ _ _ _ L) = left-did L (fixed 4402 (now t) same) refl refl
+ran-did (tested.syncs _ _ _ t _ _ L) = left-did L (fixed 4402 (now t) same) refl refl
+ran-did (tested.closes _ _ _ t _ _ _ _ _ L) = left-did L (fixed 4402 (now t) same) refl refl
+ran-did (tested.checks _ _ t out _ _ L) = check-did L (fixed 4402 (now t) (fixed 3 (now out) same))
 
 pub does-calls : Does
 unfolding Does
-does-calls c s u x y n r = ran r
+does-calls c s u x y n r = ran-did r
 
 -- ---- an owner's
 
@@ -165,27 +165,27 @@ owned {a = a} {t = t} y k =
 pub asked : {s : Image} → Kept s → Owned (s .arena) (s .chains) (s .table)
 asked y = owned (y .trusted) (y .chained)
 
-owns : {c : Call} {s u : Image} {x y : Places} {n : ℕ} → Kept s → Owns c s x u y n → Did c s x u y n × Chained (u .arena) (u .chains)
+owns-did : {c : Call} {s u : Image} {x y : Places} {n : ℕ} → Kept s → Owns c s x u y n → Did c s x u y n × Chained (u .arena) (u .chains)
 unfolding does handed
-owns y (owning.roots _ a _ _ _ out _ _ _ L) = (answers-did (λ x. (now a, x .0, inWords (x .1))) (L (asked y)) (fixed 2 (now out) same) refl refl (λ _. written refl refl), y .chained)
-owns y (owning.finds _ a _ _ _ _ out _ _ _ _ _ L) = (answers-did (λ x. (now a, x .0, inWords (x .1))) (L (asked y)) (fixed 2 (now out) same) refl refl (λ _. written refl refl), y .chained)
-owns y (owning.walks _ _ _ _ _ _ _ _ out _ _ _ _ _ L) = (walk-did (L (asked y)) (fixed-walk 2 (now out) same-walk) refl refl, y .chained)
-owns y (owning.creates _ _ _ _ _ _ _ _ file out _ _ _ _ _ _ _ _ _ L) =
+owns-did y (owning.roots _ a _ _ _ out _ _ _ L) = (answers-did (λ x. (now a, x .0, inWords (x .1))) (L (asked y)) (fixed 2 (now out) same) refl refl (λ _. written refl refl), y .chained)
+owns-did y (owning.finds _ a _ _ _ _ out _ _ _ _ _ L) = (answers-did (λ x. (now a, x .0, inWords (x .1))) (L (asked y)) (fixed 2 (now out) same) refl refl (λ _. written refl refl), y .chained)
+owns-did y (owning.walks _ _ _ _ _ _ _ _ out _ _ _ _ _ L) = (walk-did (L (asked y)) (fixed-walk 2 (now out) same-walk) refl refl, y .chained)
+owns-did y (owning.creates _ _ _ _ _ _ _ _ file out _ _ _ _ _ _ _ _ _ L) =
     (answers-did (λ x. (x .0, x .1, inWords (x .2))) (L (asked y) .0) (fixed 16 (now file) (fixed 2 (now out) same)) refl refl (λ _. written refl refl), L (asked y) .1)
-owns y (owning.links _ _ _ _ _ _ _ _ _ _ _ _ _ _ L) = (left-did (L (asked y) .0) same refl refl, L (asked y) .1)
-owns y (owning.removes-file _ _ _ _ _ _ _ _ _ _ _ _ L) = (left-did (L (asked y) .0) same refl refl, L (asked y) .1)
-owns y (owning.removes-folder _ _ _ _ _ _ _ _ _ _ _ _ L) = (left-did (L (asked y) .0) same refl refl, L (asked y) .1)
-owns y (owning.moves _ _ _ _ _ _ _ _ _ _ _ _ _ _ _ L) = (left-did (L (asked y) .0) same refl refl, L (asked y) .1)
-owns y (owning.tells _ a _ t out _ _ _ _ _ L) = (answers-did (λ w. (now a, now t, inWords w)) (L (asked y)) (fixed 14 (now out) same) refl refl (λ _. looked refl still), y .chained)
-owns y (owning.sets _ _ _ _ _ _ _ _ _ _ _ _ _ _ _ _ _ _ L) = (set-did (L (asked y)) same refl refl, y .chained)
-owns y (owning.enters _ a _ t _ _ _ _ _ _ _ L) = (answers-did (λ o. (now a, now t, places [] o [])) (L (asked y)) same refl refl (λ _. looked refl still), y .chained)
-owns y (owning.lists _ a _ t next _ _ _ _ _ _ _ _ L) = (answers-did (λ x. (now a, now t, places (x .0) (x .1) [])) (L (asked y)) (fixed 1 (now next) same) refl refl (λ _. looked refl still), y .chained)
-owns y (owning.reads _ a _ t _ _ count _ _ _ _ _ _ L) = (answers-did (λ x. (now a, now t, places (x .1) (x .0) [])) (L (asked y)) (fixed 1 (now count) same) refl refl (λ _. looked refl still), y .chained)
-owns y (owning.writes _ _ _ _ _ _ _ _ _ _ _ _ _ L) = (left-did (L (asked y) .0) same refl refl, L (asked y) .1)
-owns y (owning.resizes _ _ _ _ _ _ _ _ _ _ _ _ L) = (left-did (L (asked y) .0) same refl refl, L (asked y) .1)
-owns y (owning.syncs _ _ _ _ _ _ _ _ L) = (left-did (L (asked y) .0) same refl refl, L (asked y) .1)
-owns y (owning.closes _ _ _ _ _ _ _ _ _ _ _ L) = (left-did (L (asked y) .0) same refl refl, L (asked y) .1)
+owns-did y (owning.links _ _ _ _ _ _ _ _ _ _ _ _ _ _ L) = (left-did (L (asked y) .0) same refl refl, L (asked y) .1)
+owns-did y (owning.removes-file _ _ _ _ _ _ _ _ _ _ _ _ L) = (left-did (L (asked y) .0) same refl refl, L (asked y) .1)
+owns-did y (owning.removes-folder _ _ _ _ _ _ _ _ _ _ _ _ L) = (left-did (L (asked y) .0) same refl refl, L (asked y) .1)
+owns-did y (owning.moves _ _ _ _ _ _ _ _ _ _ _ _ _ _ _ L) = (left-did (L (asked y) .0) same refl refl, L (asked y) .1)
+owns-did y (owning.tells _ a _ t out _ _ _ _ _ L) = (answers-did (λ w. (now a, now t, inWords w)) (L (asked y)) (fixed 14 (now out) same) refl refl (λ _. looked refl still), y .chained)
+owns-did y (owning.sets _ _ _ _ _ _ _ _ _ _ _ _ _ _ _ _ _ _ L) = (set-did (L (asked y)) same refl refl, y .chained)
+owns-did y (owning.enters _ a _ t _ _ _ _ _ _ _ L) = (answers-did (λ o. (now a, now t, places [] o [])) (L (asked y)) same refl refl (λ _. looked refl still), y .chained)
+owns-did y (owning.lists _ a _ t next _ _ _ _ _ _ _ _ L) = (answers-did (λ x. (now a, now t, places (x .0) (x .1) [])) (L (asked y)) (fixed 1 (now next) same) refl refl (λ _. looked refl still), y .chained)
+owns-did y (owning.reads _ a _ t _ _ count _ _ _ _ _ _ L) = (answers-did (λ x. (now a, now t, places (x .1) (x .0) [])) (L (asked y)) (fixed 1 (now count) same) refl refl (λ _. looked refl still), y .chained)
+owns-did y (owning.writes _ _ _ _ _ _ _ _ _ _ _ _ _ L) = (left-did (L (asked y) .0) same refl refl, L (asked y) .1)
+owns-did y (owning.resizes _ _ _ _ _ _ _ _ _ _ _ _ L) = (left-did (L (asked y) .0) same refl refl, L (asked y) .1)
+owns-did y (owning.syncs _ _ _ _ _ _ _ _ L) = (left-did (L (asked y) .0) same refl refl, L (asked y) .1)
+owns-did y (owning.closes _ _ _ _ _ _ _ _ _ _ _ L) = (left-did (L (asked y) .0) same refl refl, L (asked y) .1)
 
 pub own-does-calls : OwnDoes
 unfolding OwnDoes
-own-does-calls c s u x y n k r = owns k r
+own-does-calls c s u x y n k r = owns-did k r

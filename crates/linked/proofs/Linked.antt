@@ -6,7 +6,7 @@ use mathlib.Core.Logic.{_≢_, _⊎_, _↔_, inl, inr, ⊎-elim}
 use Prim.Native.Nat.{ℕ}
 use native.Mathlib.Omega.{arith}
 use lib.Dec.{T}
-use Rattle.base.specs.Out.{Out, done, refused, bind, answer, kept}
+use Rattle.base.specs.Out.{Out, done, refused, answer}
 use Rattle.base.specs.Reasons.{tableFull}
 use Rattle.base.proofs.Outs.{bind-is-done}
 use Rattle.structs.specs.declared.Timespec.{Timespec}
@@ -20,7 +20,6 @@ use Rattle.sefs.specs.Create.{Given, callCreate}
 use Rattle.walk.specs.Walk.{callWalk}
 use Rattle.rules.proofs.Check.{check-pass}
 use Rattle.edge_words.specs.Words.{handleWords}
-use Rattle.edge.specs.Edge.{lent}
 use Rattle.owners_kept.specs.Owned.{Chained}
 use Rattle.sequences.specs.Pairs.{Pair, pair}
 use Rattle.sequences.specs.Calls.{Call, root, walk, create, close, Fits, does, reasonOf, next}
@@ -32,19 +31,19 @@ use Rattle.sequences.proofs.Sequences.{sequence, apart, no-slashes}
 use Rattle.sequences.proofs.Places.{full-means, root-full, full-by-own, refused-others, apart-by-owner}
 use Rattle.sequences.proofs.Ends.{closed, ended}
 use Rattle.sequences.proofs.Reasons.{reasons}
-use Rattle.linked.specs.Images.{Image, pairOf, Trusted, Passes, Kept, Places, places, handed, Did}
+use Rattle.linked.specs.Images.{Image, pairOf, Passes, Kept, Places, handed, Did}
 use Rattle.linked.specs.Tested.{Ran}
 use Rattle.linked.specs.Owning.{Owns}
-use Rattle.linked.specs.Linked.{Does, OwnDoes, Functions, none, ran, Goes, Transports, Linked, OwnLinked, Mixed, tested, owning, MixedLinked, Handles, Else, RunsWell, RunsApart, RunsElse, RunsByOwner, RunsRefused, RunsFull, RunsRootFull, RunsFullByOwn, RunsClosed, RunsSlashless, RunsWalk, RunsHalt, Theorems, Numbers}
+use Rattle.linked.specs.Linked.{Does, OwnDoes, Functions, none, ran, Goes, Transports, Linked, OwnLinked, Mixed, tested, owning, MixedLinked, RunsWell, RunsApart, RunsElse, RunsByOwner, RunsRefused, RunsFull, RunsRootFull, RunsFullByOwn, RunsClosed, RunsSlashless, RunsWalk, RunsHalt, Theorems, Numbers}
 use Rattle.linked.proofs.Functions.{does-calls, own-does-calls}
-use Rattle.linked.proofs.Transport.{zero-done, number-is, fitting, transport}
+use Rattle.linked.proofs.Transport.{zero-done, not-255, number-is, fitting, transport}
 use Rattle.linked.proofs.Walks.{walked-finds, walked-halts}
 
 -- ---- the transport
 
 pub linked : Linked
 unfolding Linked Does
-linked P s v l m y = transport (λ (s : Image). Unit) (λ c s u x y n p k r. (does-calls c s u x y n r, tt)) P s v l m (y .trusted) tt
+linked P s v l m y = transport (λ (s : Image). Unit) (λ c s u x y n p k r. (does-calls c s u x y n r, tt)) P s v l m y tt
 
 pub own-linked : OwnLinked
 unfolding OwnLinked OwnDoes
@@ -53,9 +52,9 @@ own-linked P s v l m y =
 
 pub mixed-linked : MixedLinked
 unfolding MixedLinked Does OwnDoes
-mixed-linked P s v l m y = transport (λ (s : Image). Unit) law P s v l m (y .trusted) tt
+mixed-linked P s v l m y = transport (λ (s : Image). Unit) law P s v l m y tt
   where
-    law : (c : Call) (s u : Image) (x y : Places) (n : ℕ) → Trusted (s .arena) (s .table) → Unit {0} → Mixed c s x u y n → Did c s x u y n × Unit {0}
+    law : (c : Call) (s u : Image) (x y : Places) (n : ℕ) → Passes s → Unit {0} → Mixed c s x u y n → Did c s x u y n × Unit {0}
     law c s u x y n p k (tested r) = (does-calls c s u x y n r, tt)
     law c s u x y n p k (owning e r) = (own-does-calls c s u x y n (record { trusted = p; chained = e }) r .0, tt)
 
@@ -91,10 +90,7 @@ module _ (p : Pair) (w : ℕ) (h : Handle) (path : List ℕ) (room : ℕ) where
   walk-reason (done g) d = rw d refl
   walk-reason (refused n) d = rw d refl
 
-not-255 : _≢_ {A = ℕ} 0 255
-not-255 e = omega (arith, e)
-
-module _ {R : Functions} {I : Image → Type 0} (T : Transports R I) (trusted : (s : Image) → I s → Trusted (s .arena) (s .table)) where
+module _ {R : Functions} {I : Image → Type 0} (T : Transports R I) (trusted : (s : Image) → I s → Passes s) where
   runs-well : RunsWell R I
   unfolding RunsWell Sequence
   runs-well s v l m i = T Well s v l m i (sequence (pairOf s) l (trusted s i .passes) (fitting m (pairOf s)))
@@ -215,7 +211,7 @@ module _ {R : Functions} {I : Image → Type 0} (T : Transports R I) (trusted : 
 -- of tested functions, of an owner's, of both
 pub tested-theorems : Theorems Ran Passes
 unfolding Linked
-tested-theorems = theorems linked (λ s y. y .trusted)
+tested-theorems = theorems linked (λ s y. y)
 
 pub own-theorems : Theorems Owns Kept
 unfolding OwnLinked
@@ -223,7 +219,7 @@ own-theorems = theorems own-linked (λ s y. y .trusted)
 
 pub mixed-theorems : Theorems Mixed Passes
 unfolding MixedLinked
-mixed-theorems = theorems mixed-linked (λ s y. y .trusted)
+mixed-theorems = theorems mixed-linked (λ s y. y)
 
 -- ---- on any bytes
 

@@ -9,9 +9,10 @@ use lib.Dec.{eqb, ltb}
 use lib.ListN.{length}
 use denote.Ref.{now}
 use borrow.Author.Tests.{eqb-true}
-use Rattle.base.specs.Out.{Out, done, refused, bind, guard, answer, Ok, went, said, Went, well, ill}
+use Rattle.base.specs.Out.{Out, done, refused, bind, answer, Ok, went, said, Went, well, ill}
 use Rattle.base.specs.Search.{pick}
 use Rattle.base.proofs.Bools.{bool-cases, and-parts}
+use Rattle.base.proofs.Finds.{eq-cases}
 use Rattle.base.proofs.Outs.{ok-bind}
 use Rattle.structs.specs.Constants.{sefsMagic}
 use Rattle.structs.specs.Layout.{superOf}
@@ -32,7 +33,8 @@ use Rattle.fsck.specs.declared.Verdict.the-variants.{Fail}
 use Rattle.calls_format.specs.Format.{formatted}
 use Rattle.edge_words.specs.Words.{timeOf}
 use Rattle.edge.specs.Edge.{sized, Answers, leftOf, counted}
-use Rattle.sequences.specs.Pairs.{pair, Passed}
+use Rattle.edge.proofs.Laws.{sized-is, sized-not}
+use Rattle.sequences.specs.Pairs.{pair}
 use Rattle.sequences.specs.Promises.{Fresh, Slashless, FreshSlashless}
 use Rattle.sequences.proofs.Fresh.{format-goes, fresh, fresh-slashless}
 use Rattle.linked.specs.Images.{Kept}
@@ -40,25 +42,11 @@ use Rattle.linked.specs.Linked.{OwnDoes, CheckSays, OpenDoes, FormatFres
 use Rattle.linked.specs.Linked as linked
 use Rattle.linked.proofs.Functions.{owned, asked, own-does-calls}
 use Rattle.linked.proofs.Tables.{table-fits}
-use Rattle.linked.proofs.Transport.{trusted-written, after}
+use Rattle.linked.proofs.Transport.{trusted-written, not-255, after}
 
--- ---- sizes
-
--- where a number is 0, no slice had a wrong size
-sized-zero : {A : Type 0} (k : ℕ) (l : List ℕ) (o : Out A) → 0 ≡ answer (sized k l o) → (length l ≡ k) × (sized k l o ≡ o)
-sized-zero {A} k l o = by (eqb (length l) k) refl
-  where
-    by : (b : Bool) → eqb (length l) k ≡ b → 0 ≡ answer (guard b 255 o) → (length l ≡ k) × (guard b 255 o ≡ o)
-    by true e z = (eqb-true (length l) k e, refl)
-    by false e z = absurd (omega (arith, z))
-
--- nor where it is not 255
-sized-not : {A : Type 0} (k : ℕ) (l : List ℕ) (o : Out A) → answer (sized k l o) ≢ 255 → sized k l o ≡ o
-sized-not {A} k l o = by (eqb (length l) k)
-  where
-    by : (b : Bool) → answer (guard b 255 o) ≢ 255 → guard b 255 o ≡ o
-    by true z = refl
-    by false z = absurd (z refl)
+-- where the number is not 255, no slice had a wrong size
+sized-said : {A : Type 0} (k : ℕ) (l : List ℕ) (o : Out A) → answer (sized k l o) ≢ 255 → (length l ≡ k) × (sized k l o ≡ o)
+sized-said k l o x = ⊎-elim (λ e. (e, sized-is k l o e)) (λ z. absurd (x (ap answer (sized-not k l o z)))) (eq-cases (length l) k)
 
 -- ---- a format, a check, the chains
 
@@ -66,8 +54,8 @@ pub format-fresh : FormatFresh
 unfolding FormatFresh Fresh FreshSlashless callFormat
 format-fresh κs a a' t t' file sec nsec B M F L =
     let o : Out After = formatted (callFormat (now a) (timeOf sec nsec) (now file)) in
-    let x = sized-zero 4402 (now t) (sized 16 (now file) o) (L .number) in
-    let y = sized-zero 16 (now file) o (L .number ∙ ap answer (x .1)) in
+    let x = sized-said 4402 (now t) (sized 16 (now file) o) (λ e. not-255 (L .number ∙ e)) in
+    let y = sized-said 16 (now file) o (λ e. not-255 (L .number ∙ ap answer (x .1) ∙ e)) in
     let is : sized 4402 (now t) (sized 16 (now file) o) ≡ o = x .1 ∙ y .1 in
     ⊎-elim
     (λ l.
@@ -86,31 +74,23 @@ format-fresh κs a a' t t' file sec nsec B M F L =
     absurd (omega (arith, q)))
     (bool-cases (legal (now a)))
 
-pub check-trusts : CheckTrusts
-unfolding CheckTrusts verdictOf
-check-trusts κs a t out out' B C L =
-    let o : Out (List ℕ) = counted (verdictOf (now a) (tableOf (now t))) in
-    let x = sized-zero 4402 (now t) (sized 3 (now out) o) (L .number) in
-    let y = sized-zero 3 (now out) o (L .number ∙ ap answer (x .1)) in
-    record {
-      size = x .0;
-      passes = record { typed = record { bytes = B; fits = table-fits (now t) C (x .0) }; passes = by (eqb (checked (now a) (tableOf (now t))) 0) refl (L .number ∙ ap answer (x .1 ∙ y .1)) };
-    }
-  where
-    by : (b : Bool) → eqb (checked (now a) (tableOf (now t))) 0 ≡ b → 0 ≡ answer (counted (pick b (passOf (now a)) (Fail (checked (now a) (tableOf (now t)))))) → checked (now a) (tableOf (now t)) ≡ 0
-    by true e z = eqb-true (checked (now a) (tableOf (now t))) 0 e
-    by false e z = sym z
-
 pub check-says : CheckSays
 unfolding CheckSays verdictOf passOf
 check-says κs a t out out' n L x =
-    let s = sized-not 4402 (now t) (sized 3 (now out) (counted (verdictOf (now a) (tableOf (now t))))) (λ e. x (L .number ∙ e)) in
-    let r = sized-not 3 (now out) (counted (verdictOf (now a) (tableOf (now t)))) (λ e. x (L .number ∙ ap answer s ∙ e)) in
-    L .number ∙ ap answer (s ∙ r) ∙ by (eqb (checked (now a) (tableOf (now t))) 0) refl
+    let o : Out (List ℕ) = counted (verdictOf (now a) (tableOf (now t))) in
+    let s = sized-said 4402 (now t) (sized 3 (now out) o) (λ e. x (L .number ∙ e)) in
+    let r = sized-said 3 (now out) o (λ e. x (L .number ∙ ap answer (s .1) ∙ e)) in
+    L .number ∙ ap answer (s .1 ∙ r .1) ∙ by (eqb (checked (now a) (tableOf (now t))) 0) refl
   where
     by : (b : Bool) → eqb (checked (now a) (tableOf (now t))) 0 ≡ b → answer (counted (pick b (passOf (now a)) (Fail (checked (now a) (tableOf (now t)))))) ≡ checked (now a) (tableOf (now t))
     by true e = sym (eqb-true (checked (now a) (tableOf (now t))) 0 e)
     by false e = refl
+
+pub check-trusts : CheckTrusts
+unfolding CheckTrusts CheckSays
+check-trusts κs a t out out' B C L =
+    let n : length (now t) ≡ 4402 = sized-said 4402 (now t) (sized 3 (now out) (counted (verdictOf (now a) (tableOf (now t))))) (λ e. not-255 (L .number ∙ e)) .0 in
+    record { size = n; passes = record { typed = record { bytes = B; fits = table-fits (now t) C n }; passes = sym (check-says κs a t out out' 0 L not-255) } }
 
 pub chains-own : ChainsOwn
 unfolding ChainsOwn
@@ -154,8 +134,8 @@ module _ (a : List ℕ) where
 pub open-does : OpenDoes
 unfolding OpenDoes
 open-does κs a t t' n L x =
-    let s : sized 4402 (now t) (callOpen (now a)) ≡ callOpen (now a) = sized-not 4402 (now t) (callOpen (now a)) (λ e. x (L .number ∙ e)) in
-    by (callOpen (now a)) (open-law (now a)) (subst (λ (o : Out Table). Answers o tableBytes (now t) (now t') n) s L)
+    let s = sized-said 4402 (now t) (callOpen (now a)) (λ e. x (L .number ∙ e)) in
+    by (callOpen (now a)) (open-law (now a)) (subst (λ (o : Out Table). Answers o tableBytes (now t) (now t') n) (s .1) L)
   where
     by : (o : Out Table) → Ok (λ u. u ≡ emptyTable) (λ k. k ≢ 0) o → Answers o tableBytes (now t) (now t') n → (n ≡ answer o) × (n ≡ 0 → now t' ≡ tableBytes emptyTable)
     by (done u) (went e) K = (K .number, λ _. K .places ∙ ap tableBytes e)

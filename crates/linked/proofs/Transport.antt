@@ -17,7 +17,7 @@ use Rattle.sequences.specs.Promises as along
 use Rattle.sequences.proofs.Sequences.{keeps}
 use Rattle.sequences.proofs.Reasons.{says-does}
 use Rattle.sefs_laws.proofs.Says.{Says}
-use Rattle.linked.specs.Images.{Image, pairOf, Same, Trusted, Places, handed, Has, written, looked, Did, did, denied, uncalled}
+use Rattle.linked.specs.Images.{Image, pairOf, Same, Trusted, Passes, Places, Has, written, looked, Did, did, denied, uncalled}
 use Rattle.linked.specs.Linked.{Functions, Runs, none, ran, wrong, Goes, AlongRuns}
 
 -- ---- neither 0 nor 255 is a reason: 0 says that the call was done, and 255 that none was made
@@ -68,7 +68,7 @@ module _ {s u : Image} (S : Same s u) where
   same-pair : pairOf u ≡ pairOf s
   same-pair = ap₂ (λ (a t : List ℕ). pair a (tableOf t)) (S .arena) (S .table)
 
-  same-trusted : Trusted (s .arena) (s .table) → Trusted (u .arena) (u .table)
+  same-trusted : Passes s → Passes u
   same-trusted y = subst (λ (x : List ℕ). Trusted x (u .table)) (sym (S .arena)) (subst (Trusted (s .arena)) (sym (S .table)) y)
 
 -- ---- one run
@@ -78,7 +78,7 @@ number-is (did d h e z) k = z ∙ sym (ap answer d)
 number-is (denied d S e) k = sym (ap answer d)
 number-is (uncalled S e z) k = absurd (k z)
 
-module _ (c : Call) (s u : Image) (T : Trusted (s .arena) (s .table)) (F : Fits c) where
+module _ (c : Call) (s u : Image) (T : Passes s) (F : Fits c) where
   module _ (q : Pair) (d : does c (pairOf s) ≡ done q) where
     next-is : next c (pairOf s) ≡ q
     next-is = ap (kept (pairOf s)) d
@@ -91,12 +91,12 @@ module _ (c : Call) (s u : Image) (T : Trusted (s .arena) (s .table)) (F : Fits 
     has-pair (written e f) = ap₂ pair e (ap tableOf f ∙ tableOf-tableBytes (q .table) (passed .typed .fits))
     has-pair (looked e S) = same-pair S ∙ sym e
 
-    has-trusted : Has s u q → Trusted (u .arena) (u .table)
+    has-trusted : Has s u q → Passes u
     has-trusted (written e f) = subst (λ (b : List ℕ). Trusted b (u .table)) (sym e) (subst (Trusted (q .arena)) (sym f) (trusted-written (q .arena) (q .table) passed))
     has-trusted (looked e S) = same-trusted S T
 
   -- the bytes pass together again
-  pub after : {x y : Places} {n : ℕ} → Did c s x u y n → Trusted (u .arena) (u .table)
+  pub after : {x y : Places} {n : ℕ} → Did c s x u y n → Passes u
   after (did {q = q} d h e z) = has-trusted q d h
   after (denied d S e) = same-trusted S T
   after (uncalled S e z) = same-trusted S T
@@ -107,6 +107,9 @@ module _ (c : Call) (s u : Image) (T : Trusted (s .arena) (s .table)) (F : Fits 
   called P (denied d S e) k p =
       record { holds = p; number = sym (ap answer d); left = same-pair S ∙ sym (ap (kept (pairOf s)) d); given = e; trusted = same-trusted S T }
   called P (uncalled S e z) k p = absurd (k z)
+
+pub not-255 : _≢_ {A = ℕ} 0 255
+not-255 e = omega (arith, e)
 
 -- a run that answers 255 leaves all as it was
 not-called : {c : Call} {s u : Image} {x y : Places} → Did c s x u y 255 → Same s u × (y ≡ x)
@@ -124,8 +127,8 @@ module _ {R : Functions} where
   fitting (wrong r m) p = fitting m p
 
   module _ (K : Image → Type 0)
-      (law : (c : Call) (s u : Image) (x y : Places) (n : ℕ) → Trusted (s .arena) (s .table) → K s → R c s x u y n → Did c s x u y n × K u) where
-    pub transport : (P : Call → Pair → Type 0) (s v : Image) (l : List Call) (m : Runs R s l v) → Trusted (s .arena) (s .table) → K s → Along P (pairOf s) l → AlongRuns P m
+      (law : (c : Call) (s u : Image) (x y : Places) (n : ℕ) → Passes s → K s → R c s x u y n → Did c s x u y n × K u) where
+    pub transport : (P : Call → Pair → Type 0) (s v : Image) (l : List Call) (m : Runs R s l v) → Passes s → K s → Along P (pairOf s) l → AlongRuns P m
     transport P s v l none y k a = tt
     transport P s v l (ran {c = c} {u = u} {x = x} {y = w} {l = t} {n = n} f r z m) y k (along.goes h a) =
         let d = law c s u x w n y k r in

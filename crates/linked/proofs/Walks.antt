@@ -4,7 +4,7 @@ use mathlib.Core.Bool.{Bool, true, false}
 use mathlib.Core.List.{List, _∷_, _++_}
 use mathlib.Core.Logic.{_≢_, _⊎_, inl, inr}
 use Prim.Native.Nat.{ℕ}
-use Rattle.base.specs.Out.{Out, done, refused, bind, ensure}
+use Rattle.base.specs.Out.{done, refused, bind, ensure}
 use Rattle.base.specs.Reasons.{badName, tableFull}
 use Rattle.base.specs.declared.Found.the-variants.{At}
 use Rattle.base.proofs.Outs.{ok-does}

@@ -54,12 +54,12 @@ pub record Trusted (a t : List ℕ) : Type 0 where
   pub passes : Passed (pair a (tableOf t))
 
 -- so do those of the image
-pub record Passes (s : Image) : Type 0 where
-  pub trusted : Trusted (s .arena) (s .table)
+abbrev pub Passes : Image → Type 0
+Passes s = Trusted (s .arena) (s .table)
 
 -- and the chains that an owner keeps are the arena's
 pub record Kept (s : Image) : Type 0 where
-  pub trusted : Trusted (s .arena) (s .table)
+  pub trusted : Passes s
   pub chained : Chained (s .arena) (s .chains)
 
 -- ---- what is lent for a call's results: words, an output, walk's link buffer. A function that has none of a kind is lent an empty one
@@ -103,7 +103,7 @@ handed (write w h place bytes) p x = x
 handed (resize w h n) p x = x
 handed sync p x = x
 handed (close w h) p x = x
-handed check p x = lent (λ c. withWords x c) x (counted (verdictOf (p .arena) (p .table)))
+handed check p x = lent (withWords x) x (counted (verdictOf (p .arena) (p .table)))
 
 -- ---- the call c was made on s, with x lent for its results, and left u and y; n is its reason, 0 where it was done. On any bytes
 

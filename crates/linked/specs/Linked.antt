@@ -48,8 +48,8 @@ Does = (c : Call) (s u : Image) (x y : Places) (n : ℕ) → Ran c s x u y n →
 unfoldable pub OwnDoes : Type 0
 OwnDoes = (c : Call) (s u : Image) (x y : Places) (n : ℕ) → Kept s → Owns c s x u y n → Did c s x u y n × Chained (u .arena) (u .chains)
 
--- ---- a list of runs, of any functions with any arguments that their types hold (`Fits`) and any places: from s to u, and the calls that they made. A
--- run that answers 255 made none
+-- ---- a list of runs, of any functions R with any arguments that their types hold (`Fits`) and any places: from s to v, and l are the calls that they made.
+-- A run that answers 255 made none
 
 abbrev pub Functions : Type 1
 Functions = Call → Image → Places → Image → Places → ℕ → Type 0
@@ -66,7 +66,7 @@ pub record Goes (P : Call → Pair → Type 0) (c : Call) (s : Image) (x : Place
   pub number : n ≡ reasonOf c (pairOf s)
   pub left : pairOf u ≡ next c (pairOf s)
   pub given : y ≡ handed c (pairOf s) x
-  pub trusted : Trusted (u .arena) (u .table)
+  pub trusted : Passes u
 
 -- so of each run of the list; one that answers 255 leaves all as it was
 abbrev pub AlongRuns : {R : Functions} (P : Call → Pair → Type 0) {s v : Image} {l : List Call} → Runs R s l v → Type 0
@@ -121,7 +121,7 @@ module _ (R : Functions) (I : Image → Type 0) where
   RunsApart = (s v : Image) (l : List Call) (m : Runs R s l v) (w : ℕ) (h : Handle) (n : ℕ) (f : List ℕ) → I s → On (pairOf s .table) w h n f
       → Along (λ c q. c ≢ close w h) (pairOf s) l → AlongRuns (Safe w h n f) m
 
-  -- its new nodes, by the words that a create gives with 0: v's handle is on another node
+  -- its new nodes, by the words that a create gives with 0: where v's handle h is live on node n, they are one on another
   unfoldable pub RunsElse : Type 0
   RunsElse = (s u : Image) (x y : Places) (w : ℕ) (g : Handle) (name : List ℕ) (kind mode : ℕ) (time : Timespec) (file : List ℕ) (v : ℕ) (h : Handle) (n : ℕ) (f : List ℕ) → I s
       → Fits (create w g name kind mode time file) → R (create w g name kind mode time file) s x u y 0 → On (pairOf s .table) v h n f → Else (y .words) (pairOf u .table) w n f

@@ -2,7 +2,7 @@
 -- `Learnt` of a function is what its `ensures` tells a caller, over the arguments, the number returned, and the arguments at exit.
 --
 -- A new function needs one constructor here, or in Owning: as many lifetimes as it has references, each slice that it may write twice, its contract, and the call that
--- it is with the image and the places before and after. And one clause of `did`, or `own-did` (proofs/Functions): `answers-did`, where the slices that it may write
+-- it is with the image and the places before and after. And one clause of `ran-did`, or `owns-did` (proofs/Functions): `answers-did`, where the slices that it may write
 -- stand, one `fixed` for each `sized`, outermost first, and `refl` where `handed` and `does` have the call's own outcome.
 use mathlib.Core.List.{List, []}
 use Prim.Native.Nat.{ℕ}

@@ -1,5 +1,5 @@
 // The calls of an owner: nobody else writes its arena and its table, and a check of both has passed, or they were just formatted. Then reasons
-// 1, 2 and 3 can't come (`owned`, crates/promised), and nothing tests for them. The owner keeps the chains of all blocks beside the arena: a
+// 1, 2 and 3 can't come (`owned`, crates/linked), and nothing tests for them. The owner keeps the chains of all blocks beside the arena: a
 // call that changes the arena makes them again.
 ghost use lib.ListN.{length};
 ghost use Rattle.table_bytes.specs.Layout.{tableOf, tableBytes};
@@ -136,7 +136,8 @@ pub extern "C" fn dz_own_walk(
     out: &mut [u64],
 ) -> u32
     requires { ⌜ Owned (now arena) (now chains) (now table) ⌝ }
-    ensures { λ r. ⌜ Walks (sizedWalk 2 (now (out .entry)) (callWalk (now (arena .entry)) (tableOf (now (table .entry))) owner (handleOf hold stamp) (now (path .entry)) (length (now (links .entry))))) (now (links .entry)) (now (links .exit)) (now (table .entry), now (out .entry)) (now (table .exit), now (out .exit)) r ⌝ }
+    ensures { λ r. ⌜ Walks (sizedWalk 2 (now (out .entry)) (callWalk (now (arena .entry)) (tableOf (now (table .entry))) owner (handleOf hold stamp) (now (path .entry)) (length (now (links .entry)))))
+        (now (links .entry)) (now (links .exit)) (now (table .entry), now (out .entry)) (now (table .exit), now (out .exit)) r ⌝ }
 {
     if out.len() != HANDLE_WORDS {
         return WRONG_SIZE;
@@ -194,7 +195,8 @@ pub extern "C" fn dz_own_create(
     out: &mut [u64],
 ) -> u32
     requires { ⌜ Owned (now arena) (now chains) (now table) ⌝ }
-    ensures { λ r. ⌜ Answers (sized 16 (now (file .entry)) (sized 2 (now (out .entry)) (callCreate (now (arena .entry)) (tableOf (now (table .entry))) owner (handleOf hold stamp) (now (name .entry)) kind mode (timeOf sec nsec) (now (file .entry))))) madeOf (now (arena .entry), now (table .entry), now (out .entry)) (now (arena .exit), now (table .exit), now (out .exit)) r ⌝ }
+    ensures { λ r. ⌜ Answers (sized 16 (now (file .entry)) (sized 2 (now (out .entry)) (callCreate (now (arena .entry)) (tableOf (now (table .entry))) owner (handleOf hold stamp) (now (name .entry)) kind mode (timeOf sec nsec) (now (file .entry)))))
+        madeOf (now (arena .entry), now (table .entry), now (out .entry)) (now (arena .exit), now (table .exit), now (out .exit)) r ⌝ }
     ensures { λ _. ⌜ Chained (now (arena .exit)) (now (chains .exit)) ⌝ }
 {
     if file.len() != FILE_NAME {

@@ -230,7 +230,8 @@ pub extern "C" fn dz_own_list(
     out: &mut [u8],
 ) -> u32
     requires { ⌜ Owned (now arena) (now chains) (now table) ⌝ }
-    ensures { λ r. ⌜ Answers (sized 1 (now (next .entry)) (callListing (now (arena .entry)) (tableOf (now (table .entry))) owner (handleOf hold stamp) (startIn dots (now (next .entry))) (length (now (out .entry))))) (listedIn (startIn dots (now (next .entry))) (now (out .entry))) (now (next .entry), now (out .entry)) (now (next .exit), now (out .exit)) r ⌝ }
+    ensures { λ r. ⌜ Answers (sized 1 (now (next .entry)) (callListing (now (arena .entry)) (tableOf (now (table .entry))) owner (handleOf hold stamp) (startIn dots (now (next .entry))) (length (now (out .entry)))))
+        (listedIn (startIn dots (now (next .entry))) (now (out .entry))) (now (next .entry), now (out .entry)) (now (next .exit), now (out .exit)) r ⌝ }
 {
     if next.len() != NEXT_WORDS {
         return WRONG_SIZE;

@@ -1,5 +1,4 @@
 -- What a public call's contract gives from a passed pair, and what the checker's answer says.
-use mathlib.Core.Path.{_≡_}
 use mathlib.Core.Bool.{Bool, true, false}
 use mathlib.Core.List.{List}
 use mathlib.Core.Logic.{_≢_}

@@ -88,7 +88,10 @@ returns-4 c =
     let create = c .before .before .before .before .before .before .before .before .before .before .before .create-on in
     let endheld = c .before .before .before .before .end-held in
     let new = new-is (newnode .ensures) (time-is (s .fits .sec) (s .fits .nsec) (time .ensures)) (fileof .ensures) in
-    by-made (sized-is 4402 (s .args .table .now) _ (no1 .left) ∙ sized-is 16 (s .args .file .now) _ (no2 .left) ∙ sized-is 2 (s .args .out .now) _ (no3 .left) ∙ (λ x. callCreate (s .args .arena .now) (sym (bbegin .ensures .0) x) (s .args .owner) (sym (handle .ensures) x) (s .args .name .now) (sym new x .kind) (sym new x .mode) (sym new x .time) (sym new x .file))) (create .ensures) (endheld .ensures .0) (endheld .ensures .1)
+    by-made
+    (sized-is 4402 (s .args .table .now) _ (no1 .left) ∙ sized-is 16 (s .args .file .now) _ (no2 .left) ∙ sized-is 2 (s .args .out .now) _ (no3 .left)
+    ∙ (λ x. callCreate (s .args .arena .now) (sym (bbegin .ensures .0) x) (s .args .owner) (sym (handle .ensures) x) (s .args .name .now) (sym new x .kind) (sym new x .mode) (sym new x .time) (sym new x .file)))
+    (create .ensures) (endheld .ensures .0) (endheld .ensures .1)
 
 pub dz-create-spec : {M : Type 1} → statement M
 dz-create-spec =

@@ -62,7 +62,9 @@ returns-3 c =
     let handle = c .before .before .before .before .before .before .before .before .before .before .handle in
     let find = c .before .before .before .before .before .before .before .before .before .find-on in
     let endheld = c .before .before .before .before .end-held in
-    by-held (sized-is 4402 (s .args .table .now) _ (no1 .left) ∙ sized-is 2 (s .args .out .now) _ (no2 .left) ∙ (λ x. callFind (s .args .arena .now) (sym (bbegin .ensures .0) x) (s .args .owner) (sym (handle .ensures) x) (s .args .name .now))) (find .ensures) (endheld .ensures .0) (endheld .ensures .1)
+    by-held
+    (sized-is 4402 (s .args .table .now) _ (no1 .left) ∙ sized-is 2 (s .args .out .now) _ (no2 .left) ∙ (λ x. callFind (s .args .arena .now) (sym (bbegin .ensures .0) x) (s .args .owner) (sym (handle .ensures) x) (s .args .name .now)))
+    (find .ensures) (endheld .ensures .0) (endheld .ensures .1)
 
 pub dz-find-spec : {M : Type 1} → statement M
 dz-find-spec =

@@ -53,7 +53,9 @@ returns-2 c =
     let handle = c .before .before .before .before .before .before .before .before .before .before .before .before .before .before .before .before .handle in
     let move = c .before .before .before .before .before .before .before .before .move-on in
     let endcourse = c .before .before .end-course in
-    by-move (sized-is 4402 (s .args .table .now) _ (no1 .left) ∙ (λ x. callMove (s .args .arena .now) (sym (bbegin .ensures .0) x) (s .args .owner) (sym (handle2 .ensures) x) (s .args .old .now) (sym (handle .ensures) x) (s .args .name .now))) (bbegin .ensures .0) (move .ensures) (endcourse .ensures)
+    by-move
+    (sized-is 4402 (s .args .table .now) _ (no1 .left) ∙ (λ x. callMove (s .args .arena .now) (sym (bbegin .ensures .0) x) (s .args .owner) (sym (handle2 .ensures) x) (s .args .old .now) (sym (handle .ensures) x) (s .args .name .now)))
+    (bbegin .ensures .0) (move .ensures) (endcourse .ensures)
 
 pub dz-move-spec : {M : Type 1} → statement M
 dz-move-spec =

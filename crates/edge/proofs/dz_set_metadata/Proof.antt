@@ -59,7 +59,11 @@ returns-2 c =
     let time3 = c .before .before .before .before .before .before .before .before .before .before .before .before .time3 in
     let sset = c .before .before .before .before .before .before .set-on in
     let endafter = c .before .before .end-after in
-    by-table (sized-is 4402 (s .args .table .now) _ (no1 .left) ∙ (λ x. callSet (s .args .arena .now) (sym (bbegin .ensures .0) x) (s .args .owner) (sym (handle .ensures) x) (s .args .mode) (s .args .uid) (s .args .gid) (sym (time-is (s .fits .asec) (s .fits .ansec) (time .ensures)) x) (sym (time-is (s .fits .msec) (s .fits .mnsec) (time2 .ensures)) x) (sym (time-is (s .fits .csec) (s .fits .cnsec) (time3 .ensures)) x))) (sset .ensures) (endafter .ensures)
+    by-table
+    (sized-is 4402 (s .args .table .now) _ (no1 .left)
+    ∙ (λ x. callSet (s .args .arena .now) (sym (bbegin .ensures .0) x) (s .args .owner) (sym (handle .ensures) x) (s .args .mode) (s .args .uid) (s .args .gid)
+    (sym (time-is (s .fits .asec) (s .fits .ansec) (time .ensures)) x) (sym (time-is (s .fits .msec) (s .fits .mnsec) (time2 .ensures)) x) (sym (time-is (s .fits .csec) (s .fits .cnsec) (time3 .ensures)) x)))
+    (sset .ensures) (endafter .ensures)
 
 pub dz-set-metadata-spec : {M : Type 1} → statement M
 dz-set-metadata-spec =

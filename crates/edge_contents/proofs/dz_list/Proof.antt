@@ -82,7 +82,10 @@ returns-3 c =
     let handle = c .before .before .before .before .before .before .before .before .handle in
     let listing = c .before .before .before .before .before .before .listing-on in
     let end = c .before .before .end-listed in
-    by-listed (start .start-of .result) (startIn (s .args .dots) (s .args .next .now)) (start .start-of .ensures) (sized-is 4402 (s .args .table .now) _ (to-one start .if1 .left) ∙ sized-is 1 (s .args .next .now) _ (to-two start .if2 .left) ∙ (λ x. callListing (s .args .arena .now) (sym (b .begin .ensures .0) x) (s .args .owner) (sym (handle .ensures) x) (sym (start .start-of .ensures) x) (length (s .args .out .now)))) (listing .ensures) (end .ensures)
+    by-listed (start .start-of .result) (startIn (s .args .dots) (s .args .next .now)) (start .start-of .ensures)
+    (sized-is 4402 (s .args .table .now) _ (to-one start .if1 .left) ∙ sized-is 1 (s .args .next .now) _ (to-two start .if2 .left)
+    ∙ (λ x. callListing (s .args .arena .now) (sym (b .begin .ensures .0) x) (s .args .owner) (sym (handle .ensures) x) (sym (start .start-of .ensures) x) (length (s .args .out .now))))
+    (listing .ensures) (end .ensures)
 
 pub dz-list-spec : {M : Type 1} → statement M
 dz-list-spec =

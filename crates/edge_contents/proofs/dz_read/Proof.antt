@@ -55,7 +55,9 @@ returns-3 c =
     let handle = c .before .before .before .before .before .before .before .before .handle in
     let read = c .before .before .before .before .before .before .read-on in
     let endtaken = c .before .before .end-taken in
-    by-taken (sized-is 4402 (s .args .table .now) _ (no1 .left) ∙ sized-is 1 (s .args .count .now) _ (no2 .left) ∙ (λ x. callRead (s .args .arena .now) (sym (bbegin .ensures .0) x) (s .args .owner) (sym (handle .ensures) x) (s .args .place) (length (s .args .out .now)))) (read .ensures) (endtaken .ensures)
+    by-taken
+    (sized-is 4402 (s .args .table .now) _ (no1 .left) ∙ sized-is 1 (s .args .count .now) _ (no2 .left) ∙ (λ x. callRead (s .args .arena .now) (sym (bbegin .ensures .0) x) (s .args .owner) (sym (handle .ensures) x) (s .args .place) (length (s .args .out .now))))
+    (read .ensures) (endtaken .ensures)
 
 pub dz-read-spec : {M : Type 1} → statement M
 dz-read-spec =

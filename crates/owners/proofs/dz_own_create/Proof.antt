@@ -70,8 +70,13 @@ returns-3 c =
     let n = b .before .before .before in
     let i = n .before .before .before in
     let s = i .before .before .before .before .before .before .before .before in
-    let new = new-is (n .new-node .ensures) (time-is (s .fits .sec) (s .fits .nsec) (n .before .before .time .ensures)) (n .before .file-of .ensures) in
-    (by-made (sized-is 16 (s .args .file .now) _ (i .before .if1 .left) ∙ sized-is 2 (s .args .out .now) _ (i .if2 .left) ∙ (λ x. callCreate (s .args .arena .now) (sym (b .begin .ensures .0) x) (s .args .owner) (sym (o .before .handle .ensures) x) (s .args .name .now) (sym new x .kind) (sym new x .mode) (sym new x .time) (sym new x .file))) (o .create-on .ensures .0) (e .end-held .ensures .0) (e .end-held .ensures .1), o .create-on .ensures .1)
+    let new = new-is (n .new-node .ensures) (time-is (s .fits .sec) (s .fits .nsec) (n .before .before .time .ensures)) (n .before .file-of .ensures) in (
+      by-made
+          (sized-is 16 (s .args .file .now) _ (i .before .if1 .left) ∙ sized-is 2 (s .args .out .now) _ (i .if2 .left)
+          ∙ (λ x. callCreate (s .args .arena .now) (sym (b .begin .ensures .0) x) (s .args .owner) (sym (o .before .handle .ensures) x) (s .args .name .now) (sym new x .kind) (sym new x .mode) (sym new x .time) (sym new x .file)))
+          (o .create-on .ensures .0) (e .end-held .ensures .0) (e .end-held .ensures .1),
+      o .create-on .ensures .1,
+    )
 
 pub dz-own-create-spec : {M : Type 1} → statement M
 dz-own-create-spec =

@@ -58,7 +58,9 @@ returns-2 c =
     let r = e .before .before .before .before .before in
     let b = r .before .before .before .before .before .before in
     let s = b .before .before .before .before .before .before .before .before .before in
-    by-held (sized-is 2 (s .args .out .now) _ (b .before .before .before .if1 .left) ∙ (λ x. callFind (s .args .arena .now) (sym (b .begin .ensures .0) x) (s .args .owner) (sym (r .before .handle .ensures) x) (s .args .name .now))) (r .find-led .ensures) (e .end-held .ensures .0) (e .end-held .ensures .1)
+    by-held
+    (sized-is 2 (s .args .out .now) _ (b .before .before .before .if1 .left) ∙ (λ x. callFind (s .args .arena .now) (sym (b .begin .ensures .0) x) (s .args .owner) (sym (r .before .handle .ensures) x) (s .args .name .now)))
+    (r .find-led .ensures) (e .end-held .ensures .0) (e .end-held .ensures .1)
 
 pub dz-own-find-spec : {M : Type 1} → statement M
 dz-own-find-spec =

@@ -40,7 +40,10 @@ returns-2 c =
     let b = m .before .before .before .before in
     let s = b .before .before .before .before .before .before .before in
     let q = not-refused (s .pre) (b .begin .ensures .0) (b .begin .ensures .1) in
-    by-told (sized-is 14 (s .args .out .now) _ (b .before .before .if1 .left) ∙ (λ x. callMetadata (s .args .arena .now) (sym (b .begin .ensures .0) x) (s .args .owner) (sym (m .before .handle .ensures) x)) ∙ metadata-admitted (s .args .arena .now) (tableIn (b .begin .last .0)) (s .args .owner) (m .before .handle .result) q) (m .metadata-in .ensures) (e .end-told .ensures)
+    by-told
+    (sized-is 14 (s .args .out .now) _ (b .before .before .if1 .left) ∙ (λ x. callMetadata (s .args .arena .now) (sym (b .begin .ensures .0) x) (s .args .owner) (sym (m .before .handle .ensures) x))
+    ∙ metadata-admitted (s .args .arena .now) (tableIn (b .begin .last .0)) (s .args .owner) (m .before .handle .result) q)
+    (m .metadata-in .ensures) (e .end-told .ensures)
 
 pub dz-own-metadata-spec : {M : Type 1} → statement M
 dz-own-metadata-spec =

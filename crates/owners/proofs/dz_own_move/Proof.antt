@@ -48,8 +48,12 @@ returns c =
     let e = c .before .before in
     let o = e .before .before .before .before .before .before .before .before in
     let b = o .before .before .before .before .before .before .before in
-    let s = b .before .before .before .before .before .before .before .before .before in
-    (by-end (λ x. callMove (s .args .arena .now) (sym (b .begin .ensures .0) x) (s .args .owner) (sym (o .before .before .before .before .before .handle2 .ensures) x) (s .args .old .now) (sym (b .before .before .before .handle .ensures) x) (s .args .name .now)) (o .move-on .ensures .0) (e .end-after .ensures), o .move-on .ensures .1)
+    let s = b .before .before .before .before .before .before .before .before .before in (
+      by-end
+          (λ x. callMove (s .args .arena .now) (sym (b .begin .ensures .0) x) (s .args .owner) (sym (o .before .before .before .before .before .handle2 .ensures) x) (s .args .old .now) (sym (b .before .before .before .handle .ensures) x) (s .args .name .now))
+          (o .move-on .ensures .0) (e .end-after .ensures),
+      o .move-on .ensures .1,
+    )
 
 pub dz-own-move-spec : {M : Type 1} → statement M
 dz-own-move-spec =

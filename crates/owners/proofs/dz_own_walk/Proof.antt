@@ -62,7 +62,9 @@ returns-2 c =
     let w = e .before .before .before .before .before .before .before in
     let b = w .before .before .before .before .before .before .before in
     let s = b .before .before .before .before .before .before .before .before .before .before in
-    by-walk (walk-sized 2 (s .args .out .now) _ (b .before .before .before .if1 .left) ∙ (λ x. callWalk (s .args .arena .now) (sym (b .begin .ensures .0) x) (s .args .owner) (sym (w .before .before .handle .ensures) x) (s .args .path .now) (length (s .args .links .now)))) (w .walk-led .ensures .0) (w .walk-led .ensures .1) (e .end-held .ensures .0) (e .end-held .ensures .1)
+    by-walk
+    (walk-sized 2 (s .args .out .now) _ (b .before .before .before .if1 .left) ∙ (λ x. callWalk (s .args .arena .now) (sym (b .begin .ensures .0) x) (s .args .owner) (sym (w .before .before .handle .ensures) x) (s .args .path .now) (length (s .args .links .now))))
+    (w .walk-led .ensures .0) (w .walk-led .ensures .1) (e .end-held .ensures .0) (e .end-held .ensures .1)
 
 pub dz-own-walk-spec : {M : Type 1} → statement M
 dz-own-walk-spec =

@@ -83,7 +83,9 @@ returns-2 c =
     let b = l .before .before .before .before .before .before .before in
     let start = to-start b in
     let s = to-first start in
-    by-listed (start .start-of .result) (startIn (s .args .dots) (s .args .next .now)) (start .start-of .ensures) (sized-is 1 (s .args .next .now) _ (to-one start .if1 .left) ∙ (λ x. callListing (s .args .arena .now) (sym (b .begin .ensures .0) x) (s .args .owner) (sym (l .before .before .handle .ensures) x) (sym (start .start-of .ensures) x) (length (s .args .out .now)))) (l .list-led .ensures) (e .end-listed .ensures)
+    by-listed (start .start-of .result) (startIn (s .args .dots) (s .args .next .now)) (start .start-of .ensures)
+    (sized-is 1 (s .args .next .now) _ (to-one start .if1 .left) ∙ (λ x. callListing (s .args .arena .now) (sym (b .begin .ensures .0) x) (s .args .owner) (sym (l .before .before .handle .ensures) x) (sym (start .start-of .ensures) x) (length (s .args .out .now))))
+    (l .list-led .ensures) (e .end-listed .ensures)
 
 pub dz-own-list-spec : {M : Type 1} → statement M
 dz-own-list-spec =

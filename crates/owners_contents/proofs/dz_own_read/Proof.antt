@@ -54,7 +54,9 @@ returns-2 c =
     let l = e .before .before .before .before in
     let b = l .before .before .before .before .before .before .before in
     let s = b .before .before .before .before .before .before .before .before in
-    by-taken (sized-is 1 (s .args .count .now) _ (b .before .before .if1 .left) ∙ (λ x. callRead (s .args .arena .now) (sym (b .begin .ensures .0) x) (s .args .owner) (sym (l .before .before .handle .ensures) x) (s .args .place) (length (s .args .out .now)))) (l .read-led .ensures) (e .end-taken .ensures)
+    by-taken
+    (sized-is 1 (s .args .count .now) _ (b .before .before .if1 .left) ∙ (λ x. callRead (s .args .arena .now) (sym (b .begin .ensures .0) x) (s .args .owner) (sym (l .before .before .handle .ensures) x) (s .args .place) (length (s .args .out .now))))
+    (l .read-led .ensures) (e .end-taken .ensures)
 
 pub dz-own-read-spec : {M : Type 1} → statement M
 dz-own-read-spec =
