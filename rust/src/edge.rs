@@ -7,9 +7,9 @@
 //! Every call that takes or makes a handle says who asks, by a number that the call itself judges.
 //!
 //! The calls for owners of an image (`dz_own_`) leave the tests of arena and table out, and ask for more: that both would pass them, and that the chains are the
-//! arena's (`Owned` of crates/owners_kept). A pair has chains where that is so, and only then are these calls made. It gets them where it was just formatted
-//! or the check passed (theorems `fresh` and `check`, docs/PROOFS.md). Each of these calls leaves a pair that passes again, and chains that are right
-//! (`keeps`; the calls' own contracts). Open, which `keeps` leaves out, takes the chains away.
+//! arena's (`Owned` of crates/owners_kept). A pair has chains where that is so, and only then are these calls made. It gets them where a format or a check
+//! of it gave 0, and then the making of the chains (theorems `FormatFresh`, `CheckTrusts` and `ChainsOwn`, crate `linked`). Each of these calls leaves a
+//! pair that passes again, and chains that are right (`OwnKeeps`, crate `linked`). Open, which is none of them, takes the chains away.
 #![allow(unsafe_code)]
 use alloc::boxed::Box;
 use alloc::vec::Vec;

@@ -5,18 +5,14 @@ use mathlib.Core.List.{List, [], _∷_}
 use Prim.Native.Nat.{ℕ, _+_, _/_}
 use lib.ListN.{length, getD}
 use lib.Dec.{eqb}
-use Rattle.base.specs.Out.{Out, done, refused, guard, answer, kept}
+use Rattle.base.specs.Out.{Out, done, refused, guard, answer}
 use Rattle.base.specs.Parts.{paste}
 use Rattle.base.specs.Search.{pick}
 use Rattle.structs.specs.declared.Timespec.{Timespec}
 use Rattle.table.specs.declared.Table.{Table}
 use Rattle.table.specs.declared.Added.{Added}
 use Rattle.table_bytes.specs.Layout.{tableOf, tableBytes}
-use Rattle.sefs.specs.declared.Metadata.{Metadata}
 use Rattle.sefs.specs.Create.{After, Given}
-use Rattle.calls.specs.Answers.{answerOf, answerNumber, gotOf, gotNumber, toldOf, toldNumber, listedOf, listedNumber, takenOf, takenNumber, laid}
-use Rattle.steps.specs.Ends.{arenaAfter}
-use Rattle.calls_create.specs.Held.{arenaHeld}
 use Rattle.calls_create.specs.declared.New.{New}
 use Rattle.calls_move.specs.declared.Course.{Course}
 use Rattle.calls_move.specs.declared.Course.the-variants.{Made, Same, Refused}
@@ -24,7 +20,7 @@ use Rattle.verdicts.specs.Starts.{startOf}
 use Rattle.walk.specs.Walk.{Walked, walked, mostLinks}
 use Rattle.fsck.specs.declared.Verdict.{Verdict}
 use Rattle.fsck.specs.declared.Verdict.the-variants.{Pass, Fail}
-use Rattle.edge_words.specs.Words.{handleWords, metadataWords}
+use Rattle.edge_words.specs.Words.{handleWords}
 
 -- what create is to make, by its arguments
 abbrev pub newOf : ℕ → ℕ → Timespec → List ℕ → New
@@ -38,78 +34,56 @@ sized n l o = guard (eqb (length l) n) 255 o
 abbrev pub sizedWalk : {A : Type 0} → ℕ → List ℕ → Walked A → Walked A
 sizedWalk n l x = pick (eqb (length l) n) x (walked [] mostLinks (refused 255))
 
--- lent bytes or words afterwards: f of what the call gives; "A refusal returns its number only"
-abbrev pub lent : {A : Type 0} → (A → List ℕ) → List ℕ → Out A → List ℕ
+-- what a call leaves where it may write: f of what it gives; "A refusal returns its number only"
+abbrev pub lent : {A P : Type 0} → (A → P) → P → Out A → P
 lent f l (done x) = f x
 lent f l (refused n) = l
 
--- ---- a call is sent to the outcome o by its definition and returns n. An arena that it may change was a and is b; the table's bytes were
--- t and are u; words for a result were w and are v
+-- ---- one relation for every function. A call is sent to the outcome o by its definition and returns n. What the slices that it may write held is
+-- `before`, what they hold is `after`, in the order of its arguments; where the call is done with x they hold `leaves x`
+pub record Answers {A P : Type 0} (o : Out A) (leaves : A → P) (before after : P) (n : ℕ) : Type 0 where
+  pub number : n ≡ answer o
+  pub places : after ≡ lent leaves before o
 
--- sync, close, link, the removals, move, write, resize, format
-pub record Leaves (o : Out After) (a b t u : List ℕ) (n : ℕ) : Type 0 where
-  pub number : n ≡ answerNumber (answerOf o)
-  pub arena : b ≡ arenaAfter a o
-  pub table : u ≡ lent (λ x. tableBytes (x .table)) t o
+-- ---- what a call that is done leaves. (open and set metadata: `tableBytes`; metadata: `metadataWords`; get entry: `paste` over its output's start)
 
--- create
-pub record Makes (o : Out Given) (a b t u w v : List ℕ) (n : ℕ) : Type 0 where
-  pub number : n ≡ answerNumber (answerOf o)
-  pub arena : b ≡ arenaHeld a o
-  pub table : u ≡ lent (λ x. tableBytes (x .table)) t o
-  pub words : v ≡ lent (λ x. handleWords (x .handle)) w o
+-- sync, close, link, the removals, move, write, resize, format: arena and table
+abbrev pub leftOf : After → List ℕ × List ℕ
+leftOf x = (x .arena, tableBytes (x .table))
 
--- root, find
-pub record Holds (o : Out Added) (t u w v : List ℕ) (n : ℕ) : Type 0 where
-  pub number : n ≡ gotNumber (gotOf o)
-  pub table : u ≡ lent (λ x. tableBytes (x .table)) t o
-  pub words : v ≡ lent (λ x. handleWords (x .handle)) w o
+-- create: arena, table and the handle's words
+abbrev pub madeOf : Given → List ℕ × List ℕ × List ℕ
+madeOf x = (x .arena, tableBytes (x .table), handleWords (x .handle))
+
+-- root, find, walk: table and the handle's words
+abbrev pub heldOf : Added → List ℕ × List ℕ
+heldOf x = (tableBytes (x .table), handleWords (x .handle))
 
 -- walk: the link buffer was p and is q. "a refusal leaves those already read there and the bytes after them unchanged"
-pub record Walks (x : Walked Added) (p q t u w v : List ℕ) (n : ℕ) : Type 0 where
-  pub held : Holds (x .end) t u w v n
+pub record Walks (x : Walked Added) (p q : List ℕ) (before after : List ℕ × List ℕ) (n : ℕ) : Type 0 where
+  pub answers : Answers (x .end) heldOf before after n
   pub links : q ≡ paste p 0 (x .links)
-
--- open, set metadata
-pub record Sets (o : Out Table) (t u : List ℕ) (n : ℕ) : Type 0 where
-  pub number : n ≡ answerNumber (answerOf o)
-  pub table : u ≡ lent tableBytes t o
-
--- metadata
-pub record Tells (o : Out Metadata) (w v : List ℕ) (n : ℕ) : Type 0 where
-  pub number : n ≡ toldNumber (toldOf o)
-  pub words : v ≡ lent metadataWords w o
-
--- get entry: the output was p and is q
-pub record Shows (o : Out (List ℕ)) (p q : List ℕ) (n : ℕ) : Type 0 where
-  pub number : n ≡ answerNumber (answerOf o)
-  pub output : q ≡ laid p o
 
 -- where a listing starts: the word is the place's next slot, and a mark that is not 0 asks for the dots
 abbrev pub startIn : ℕ → List ℕ → ℕ
 startIn dots w = startOf (not (eqb dots 0)) (getD w 0 0)
 
--- listing: the output likewise; the word is the slot where it started, moved on by the slots of 264 bytes that were written
-pub record Lists (o : Out (List ℕ)) (from : ℕ) (p q w v : List ℕ) (n : ℕ) : Type 0 where
-  pub number : n ≡ listedNumber (listedOf o)
-  pub output : q ≡ laid p o
-  pub words : v ≡ lent (λ l. (from + length l / 264) ∷ []) w o
+-- listing: the word is the slot where it started, moved on by the slots of 264 bytes that were written over the output's start
+abbrev pub listedIn : ℕ → List ℕ → List ℕ → List ℕ × List ℕ
+listedIn from out l = ((from + length l / 264) ∷ [], paste out 0 l)
 
--- read: the output likewise; the word is how many bytes were written
-pub record Takes (o : Out (List ℕ)) (p q w v : List ℕ) (n : ℕ) : Type 0 where
-  pub number : n ≡ takenNumber (takenOf o)
-  pub output : q ≡ laid p o
-  pub words : v ≡ lent (λ l. length l ∷ []) w o
+-- read: the bytes over the output's start, and the word is how many they are
+abbrev pub readIn : List ℕ → List ℕ → List ℕ × List ℕ
+readIn out l = (paste out 0 l, length l ∷ [])
 
 -- the check's verdict as an outcome: "0 for a pass", with nodes, unused and free; "or the failing rule's number"
 abbrev pub counted : Verdict → Out (List ℕ)
 counted (Pass nodes unused free) = done (nodes ∷ unused ∷ free ∷ [])
 counted (Fail rule) = refused rule
 
--- check: a number above 0 is the rule that fails
-pub record Counts (o : Out (List ℕ)) (w v : List ℕ) (n : ℕ) : Type 0 where
-  pub number : n ≡ answer o
-  pub words : v ≡ kept w o
+-- check: these words
+abbrev pub countsOf : List ℕ → List ℕ
+countsOf w = w
 
 -- ---- move, by what deciding it came to: the number, and the table's bytes, which were l. u is the table that memory has
 

@@ -2,7 +2,7 @@
 ghost use mathlib.Core.Path.{_≡_};
 ghost use lib.ListN.{length};
 ghost use Rattle.mem.specs.Mem.{tableIn, memorySize};
-ghost use Rattle.edge.specs.Edge.{courseNumber, courseTableBy, counted, Counts};
+ghost use Rattle.edge.specs.Edge.{Answers, counted, countsOf, courseNumber, courseTableBy};
 use calls_move::Course;
 use edge_words::results::put_counts;
 use fsck::Verdict;
@@ -29,7 +29,7 @@ pub fn end_course(table: &mut [u8], mem: &[u8], c: Course) -> u32
 
 pub fn end_verdict(out: &mut [u64], v: Verdict) -> u32
     requires { ⌜ length (now out) ≡ 3 ⌝ }
-    ensures { λ r. ⌜ Counts (counted v) (now (out .entry)) (now (out .exit)) r ⌝ }
+    ensures { λ r. ⌜ Answers (counted v) countsOf (now (out .entry)) (now (out .exit)) r ⌝ }
 {
     match v {
         Verdict::Pass {

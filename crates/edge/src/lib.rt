@@ -5,7 +5,7 @@ mod ends;
 
 ghost use mathlib.Core.Path.{_≡_};
 ghost use lib.ListN.{length};
-ghost use Rattle.table_bytes.specs.Layout.{tableOf};
+ghost use Rattle.table_bytes.specs.Layout.{tableOf, tableBytes};
 ghost use Rattle.sefs.specs.Close.{callSync, callClose};
 ghost use Rattle.sefs.specs.Create.{callFormat, callCreate, callLink};
 ghost use Rattle.sefs.specs.Move.{callMove};
@@ -15,8 +15,8 @@ ghost use Rattle.sefs.specs.Remove.{callRemove, callRemoveFile, callRemoveFolde
 ghost use Rattle.walk.specs.Walk.{callWalk};
 ghost use Rattle.calls_format.specs.Format.{formatted};
 ghost use Rattle.fsck.specs.Verdicts.{verdictOf};
-ghost use Rattle.edge_words.specs.Words.{handleOf, timeOf};
-ghost use Rattle.edge.specs.Edge.{sized, sizedWalk, newOf, counted, Leaves, Makes, Holds, Walks, Sets, Tells, Counts};
+ghost use Rattle.edge_words.specs.Words.{handleOf, timeOf, metadataWords};
+ghost use Rattle.edge.specs.Edge.{sized, sizedWalk, newOf, Answers, leftOf, madeOf, heldOf, Walks, counted, countsOf};
 use calls_close::close_on;
 use calls_create::New;
 use calls_create::create_on;
@@ -61,7 +61,7 @@ pub extern "C" fn dz_format(
     nsec: i64,
     file: &[u8],
 ) -> u32
-    ensures { λ r. ⌜ Leaves (sized 4402 (now (table .entry)) (sized 16 (now (file .entry)) (formatted (callFormat (now (arena .entry)) (timeOf sec nsec) (now (file .entry)))))) (now (arena .entry)) (now (arena .exit)) (now (table .entry)) (now (table .exit)) r ⌝ }
+    ensures { λ r. ⌜ Answers (sized 4402 (now (table .entry)) (sized 16 (now (file .entry)) (formatted (callFormat (now (arena .entry)) (timeOf sec nsec) (now (file .entry)))))) leftOf (now (arena .entry), now (table .entry)) (now (arena .exit), now (table .exit)) r ⌝ }
 {
     if table.len() != TABLE {
         return WRONG_SIZE;
@@ -75,7 +75,7 @@ pub extern "C" fn dz_format(
 
 #[no_mangle]
 pub extern "C" fn dz_open(arena: &[u8], table: &mut [u8]) -> u32
-    ensures { λ r. ⌜ Sets (sized 4402 (now (table .entry)) (callOpen (now (arena .entry)))) (now (table .entry)) (now (table .exit)) r ⌝ }
+    ensures { λ r. ⌜ Answers (sized 4402 (now (table .entry)) (callOpen (now (arena .entry)))) tableBytes (now (table .entry)) (now (table .exit)) r ⌝ }
 {
     if table.len() != TABLE {
         return WRONG_SIZE;
@@ -86,7 +86,7 @@ pub extern "C" fn dz_open(arena: &[u8], table: &mut [u8]) -> u32
 
 #[no_mangle]
 pub extern "C" fn dz_sync(arena: &mut [u8], table: &mut [u8]) -> u32
-    ensures { λ r. ⌜ Leaves (sized 4402 (now (table .entry)) (callSync (now (arena .entry)) (tableOf (now (table .entry))))) (now (arena .entry)) (now (arena .exit)) (now (table .entry)) (now (table .exit)) r ⌝ }
+    ensures { λ r. ⌜ Answers (sized 4402 (now (table .entry)) (callSync (now (arena .entry)) (tableOf (now (table .entry))))) leftOf (now (arena .entry), now (table .entry)) (now (arena .exit), now (table .exit)) r ⌝ }
 {
     if table.len() != TABLE {
         return WRONG_SIZE;
@@ -100,7 +100,7 @@ pub extern "C" fn dz_sync(arena: &mut [u8], table: &mut [u8]) -> u32
 // Nodes, unused ids and free blocks where it passes. A number other than 255 is the rule that fails.
 #[no_mangle]
 pub extern "C" fn dz_check(arena: &[u8], table: &[u8], out: &mut [u64]) -> u32
-    ensures { λ r. ⌜ Counts (sized 4402 (now (table .entry)) (sized 3 (now (out .entry)) (counted (verdictOf (now (arena .entry)) (tableOf (now (table .entry))))))) (now (out .entry)) (now (out .exit)) r ⌝ }
+    ensures { λ r. ⌜ Answers (sized 4402 (now (table .entry)) (sized 3 (now (out .entry)) (counted (verdictOf (now (arena .entry)) (tableOf (now (table .entry))))))) countsOf (now (out .entry)) (now (out .exit)) r ⌝ }
 {
     if table.len() != TABLE {
         return WRONG_SIZE;
@@ -118,7 +118,7 @@ pub extern "C" fn dz_check(arena: &[u8], table: &[u8], out: &mut [u64]) -> u32
 
 #[no_mangle]
 pub extern "C" fn dz_root(arena: &[u8], table: &mut [u8], owner: u8, out: &mut [u64]) -> u32
-    ensures { λ r. ⌜ Holds (sized 4402 (now (table .entry)) (sized 2 (now (out .entry)) (callRoot (now (arena .entry)) (tableOf (now (table .entry))) owner))) (now (table .entry)) (now (table .exit)) (now (out .entry)) (now (out .exit)) r ⌝ }
+    ensures { λ r. ⌜ Answers (sized 4402 (now (table .entry)) (sized 2 (now (out .entry)) (callRoot (now (arena .entry)) (tableOf (now (table .entry))) owner))) heldOf (now (table .entry), now (out .entry)) (now (table .exit), now (out .exit)) r ⌝ }
 {
     if table.len() != TABLE {
         return WRONG_SIZE;
@@ -142,7 +142,7 @@ pub extern "C" fn dz_find(
     name: &[u8],
     out: &mut [u64],
 ) -> u32
-    ensures { λ r. ⌜ Holds (sized 4402 (now (table .entry)) (sized 2 (now (out .entry)) (callFind (now (arena .entry)) (tableOf (now (table .entry))) owner (handleOf hold stamp) (now (name .entry))))) (now (table .entry)) (now (table .exit)) (now (out .entry)) (now (out .exit)) r ⌝ }
+    ensures { λ r. ⌜ Answers (sized 4402 (now (table .entry)) (sized 2 (now (out .entry)) (callFind (now (arena .entry)) (tableOf (now (table .entry))) owner (handleOf hold stamp) (now (name .entry))))) heldOf (now (table .entry), now (out .entry)) (now (table .exit), now (out .exit)) r ⌝ }
 {
     if table.len() != TABLE {
         return WRONG_SIZE;
@@ -168,7 +168,8 @@ pub extern "C" fn dz_walk(
     links: &mut [u8],
     out: &mut [u64],
 ) -> u32
-    ensures { λ r. ⌜ Walks (sizedWalk 4402 (now (table .entry)) (sizedWalk 2 (now (out .entry)) (callWalk (now (arena .entry)) (tableOf (now (table .entry))) owner (handleOf hold stamp) (now (path .entry)) (length (now (links .entry)))))) (now (links .entry)) (now (links .exit)) (now (table .entry)) (now (table .exit)) (now (out .entry)) (now (out .exit)) r ⌝ }
+    ensures { λ r. ⌜ Walks (sizedWalk 4402 (now (table .entry)) (sizedWalk 2 (now (out .entry)) (callWalk (now (arena .entry)) (tableOf (now (table .entry))) owner (handleOf hold stamp) (now (path .entry)) (length (now (links .entry))))))
+        (now (links .entry)) (now (links .exit)) (now (table .entry), now (out .entry)) (now (table .exit), now (out .exit)) r ⌝ }
 {
     if table.len() != TABLE {
         return WRONG_SIZE;
@@ -190,7 +191,7 @@ pub extern "C" fn dz_close(
     hold: u32,
     stamp: u64,
 ) -> u32
-    ensures { λ r. ⌜ Leaves (sized 4402 (now (table .entry)) (callClose (now (arena .entry)) (tableOf (now (table .entry))) owner (handleOf hold stamp))) (now (arena .entry)) (now (arena .exit)) (now (table .entry)) (now (table .exit)) r ⌝ }
+    ensures { λ r. ⌜ Answers (sized 4402 (now (table .entry)) (callClose (now (arena .entry)) (tableOf (now (table .entry))) owner (handleOf hold stamp))) leftOf (now (arena .entry), now (table .entry)) (now (arena .exit), now (table .exit)) r ⌝ }
 {
     if table.len() != TABLE {
         return WRONG_SIZE;
@@ -229,7 +230,8 @@ pub extern "C" fn dz_create(
     file: &[u8],
     out: &mut [u64],
 ) -> u32
-    ensures { λ r. ⌜ Makes (sized 4402 (now (table .entry)) (sized 16 (now (file .entry)) (sized 2 (now (out .entry)) (callCreate (now (arena .entry)) (tableOf (now (table .entry))) owner (handleOf hold stamp) (now (name .entry)) kind mode (timeOf sec nsec) (now (file .entry)))))) (now (arena .entry)) (now (arena .exit)) (now (table .entry)) (now (table .exit)) (now (out .entry)) (now (out .exit)) r ⌝ }
+    ensures { λ r. ⌜ Answers (sized 4402 (now (table .entry)) (sized 16 (now (file .entry)) (sized 2 (now (out .entry)) (callCreate (now (arena .entry)) (tableOf (now (table .entry))) owner (handleOf hold stamp) (now (name .entry)) kind mode (timeOf sec nsec) (now (file .entry))))))
+        madeOf (now (arena .entry), now (table .entry), now (out .entry)) (now (arena .exit), now (table .exit), now (out .exit)) r ⌝ }
 {
     if table.len() != TABLE {
         return WRONG_SIZE;
@@ -258,7 +260,8 @@ pub extern "C" fn dz_link(
     child_hold: u32,
     child_stamp: u64,
 ) -> u32
-    ensures { λ r. ⌜ Leaves (sized 4402 (now (table .entry)) (callLink (now (arena .entry)) (tableOf (now (table .entry))) owner (handleOf hold stamp) (now (name .entry)) (handleOf «child_hold» «child_stamp»))) (now (arena .entry)) (now (arena .exit)) (now (table .entry)) (now (table .exit)) r ⌝ }
+    ensures { λ r. ⌜ Answers (sized 4402 (now (table .entry)) (callLink (now (arena .entry)) (tableOf (now (table .entry))) owner (handleOf hold stamp) (now (name .entry)) (handleOf «child_hold» «child_stamp»)))
+        leftOf (now (arena .entry), now (table .entry)) (now (arena .exit), now (table .exit)) r ⌝ }
 {
     if table.len() != TABLE {
         return WRONG_SIZE;
@@ -280,7 +283,7 @@ fn remove_named(
     name: &[u8],
     folder: bool,
 ) -> u32
-    ensures { λ r. ⌜ Leaves (sized 4402 (now (table .entry)) (callRemove folder (now (arena .entry)) (tableOf (now (table .entry))) owner (handleOf hold stamp) (now (name .entry)))) (now (arena .entry)) (now (arena .exit)) (now (table .entry)) (now (table .exit)) r ⌝ }
+    ensures { λ r. ⌜ Answers (sized 4402 (now (table .entry)) (callRemove folder (now (arena .entry)) (tableOf (now (table .entry))) owner (handleOf hold stamp) (now (name .entry)))) leftOf (now (arena .entry), now (table .entry)) (now (arena .exit), now (table .exit)) r ⌝ }
 {
     if table.len() != TABLE {
         return WRONG_SIZE;
@@ -300,7 +303,7 @@ pub extern "C" fn dz_remove_file(
     stamp: u64,
     name: &[u8],
 ) -> u32
-    ensures { λ r. ⌜ Leaves (sized 4402 (now (table .entry)) (callRemoveFile (now (arena .entry)) (tableOf (now (table .entry))) owner (handleOf hold stamp) (now (name .entry)))) (now (arena .entry)) (now (arena .exit)) (now (table .entry)) (now (table .exit)) r ⌝ }
+    ensures { λ r. ⌜ Answers (sized 4402 (now (table .entry)) (callRemoveFile (now (arena .entry)) (tableOf (now (table .entry))) owner (handleOf hold stamp) (now (name .entry)))) leftOf (now (arena .entry), now (table .entry)) (now (arena .exit), now (table .exit)) r ⌝ }
 {
     remove_named(arena, table, owner, hold, stamp, name, false)
 }
@@ -314,7 +317,7 @@ pub extern "C" fn dz_remove_folder(
     stamp: u64,
     name: &[u8],
 ) -> u32
-    ensures { λ r. ⌜ Leaves (sized 4402 (now (table .entry)) (callRemoveFolder (now (arena .entry)) (tableOf (now (table .entry))) owner (handleOf hold stamp) (now (name .entry)))) (now (arena .entry)) (now (arena .exit)) (now (table .entry)) (now (table .exit)) r ⌝ }
+    ensures { λ r. ⌜ Answers (sized 4402 (now (table .entry)) (callRemoveFolder (now (arena .entry)) (tableOf (now (table .entry))) owner (handleOf hold stamp) (now (name .entry)))) leftOf (now (arena .entry), now (table .entry)) (now (arena .exit), now (table .exit)) r ⌝ }
 {
     remove_named(arena, table, owner, hold, stamp, name, true)
 }
@@ -331,7 +334,8 @@ pub extern "C" fn dz_move(
     to_stamp: u64,
     name: &[u8],
 ) -> u32
-    ensures { λ r. ⌜ Leaves (sized 4402 (now (table .entry)) (callMove (now (arena .entry)) (tableOf (now (table .entry))) owner (handleOf hold stamp) (now (old .entry)) (handleOf «to_hold» «to_stamp») (now (name .entry)))) (now (arena .entry)) (now (arena .exit)) (now (table .entry)) (now (table .exit)) r ⌝ }
+    ensures { λ r. ⌜ Answers (sized 4402 (now (table .entry)) (callMove (now (arena .entry)) (tableOf (now (table .entry))) owner (handleOf hold stamp) (now (old .entry)) (handleOf «to_hold» «to_stamp») (now (name .entry))))
+        leftOf (now (arena .entry), now (table .entry)) (now (arena .exit), now (table .exit)) r ⌝ }
 {
     if table.len() != TABLE {
         return WRONG_SIZE;
@@ -354,7 +358,7 @@ pub extern "C" fn dz_metadata(
     stamp: u64,
     out: &mut [u64],
 ) -> u32
-    ensures { λ r. ⌜ Tells (sized 4402 (now (table .entry)) (sized 14 (now (out .entry)) (callMetadata (now (arena .entry)) (tableOf (now (table .entry))) owner (handleOf hold stamp)))) (now (out .entry)) (now (out .exit)) r ⌝ }
+    ensures { λ r. ⌜ Answers (sized 4402 (now (table .entry)) (sized 14 (now (out .entry)) (callMetadata (now (arena .entry)) (tableOf (now (table .entry))) owner (handleOf hold stamp)))) metadataWords (now (out .entry)) (now (out .exit)) r ⌝ }
 {
     if table.len() != TABLE {
         return WRONG_SIZE;
@@ -385,7 +389,7 @@ pub extern "C" fn dz_set_metadata(
     csec: i64,
     cnsec: i64,
 ) -> u32
-    ensures { λ r. ⌜ Sets (sized 4402 (now (table .entry)) (callSet (now (arena .entry)) (tableOf (now (table .entry))) owner (handleOf hold stamp) mode uid gid (timeOf asec ansec) (timeOf msec mnsec) (timeOf csec cnsec))) (now (table .entry)) (now (table .exit)) r ⌝ }
+    ensures { λ r. ⌜ Answers (sized 4402 (now (table .entry)) (callSet (now (arena .entry)) (tableOf (now (table .entry))) owner (handleOf hold stamp) mode uid gid (timeOf asec ansec) (timeOf msec mnsec) (timeOf csec cnsec))) tableBytes (now (table .entry)) (now (table .exit)) r ⌝ }
 {
     if table.len() != TABLE {
         return WRONG_SIZE;

@@ -1,10 +1,11 @@
 // The calls on what a node holds, as C functions: a file's own bytes, a folder's slots. How they answer says crate `edge`.
 ghost use lib.ListN.{length};
+ghost use Rattle.base.specs.Parts.{paste};
 ghost use Rattle.table_bytes.specs.Layout.{tableOf};
 ghost use Rattle.sefs.specs.Contents.{callRead, callWrite, callResize};
 ghost use Rattle.sefs.specs.Read.{callEntry, callListing};
 ghost use Rattle.edge_words.specs.Words.{handleOf};
-ghost use Rattle.edge.specs.Edge.{sized, startIn, Leaves, Shows, Lists, Takes};
+ghost use Rattle.edge.specs.Edge.{sized, Answers, leftOf, startIn, listedIn, readIn};
 use calls_entry::entry_on;
 use calls_list::listing_on;
 use calls_read::read_on;
@@ -37,7 +38,8 @@ pub extern "C" fn dz_read(
     out: &mut [u8],
     count: &mut [u64],
 ) -> u32
-    ensures { λ r. ⌜ Takes (sized 4402 (now (table .entry)) (sized 1 (now (count .entry)) (callRead (now (arena .entry)) (tableOf (now (table .entry))) owner (handleOf hold stamp) place (length (now (out .entry)))))) (now (out .entry)) (now (out .exit)) (now (count .entry)) (now (count .exit)) r ⌝ }
+    ensures { λ r. ⌜ Answers (sized 4402 (now (table .entry)) (sized 1 (now (count .entry)) (callRead (now (arena .entry)) (tableOf (now (table .entry))) owner (handleOf hold stamp) place (length (now (out .entry))))))
+        (readIn (now (out .entry))) (now (out .entry), now (count .entry)) (now (out .exit), now (count .exit)) r ⌝ }
 {
     if table.len() != TABLE {
         return WRONG_SIZE;
@@ -61,7 +63,7 @@ pub extern "C" fn dz_write(
     place: u64,
     src: &[u8],
 ) -> u32
-    ensures { λ r. ⌜ Leaves (sized 4402 (now (table .entry)) (callWrite (now (arena .entry)) (tableOf (now (table .entry))) owner (handleOf hold stamp) place (now (src .entry)))) (now (arena .entry)) (now (arena .exit)) (now (table .entry)) (now (table .exit)) r ⌝ }
+    ensures { λ r. ⌜ Answers (sized 4402 (now (table .entry)) (callWrite (now (arena .entry)) (tableOf (now (table .entry))) owner (handleOf hold stamp) place (now (src .entry)))) leftOf (now (arena .entry), now (table .entry)) (now (arena .exit), now (table .exit)) r ⌝ }
 {
     if table.len() != TABLE {
         return WRONG_SIZE;
@@ -81,7 +83,7 @@ pub extern "C" fn dz_resize(
     stamp: u64,
     n: u64,
 ) -> u32
-    ensures { λ r. ⌜ Leaves (sized 4402 (now (table .entry)) (callResize (now (arena .entry)) (tableOf (now (table .entry))) owner (handleOf hold stamp) n)) (now (arena .entry)) (now (arena .exit)) (now (table .entry)) (now (table .exit)) r ⌝ }
+    ensures { λ r. ⌜ Answers (sized 4402 (now (table .entry)) (callResize (now (arena .entry)) (tableOf (now (table .entry))) owner (handleOf hold stamp) n)) leftOf (now (arena .entry), now (table .entry)) (now (arena .exit), now (table .exit)) r ⌝ }
 {
     if table.len() != TABLE {
         return WRONG_SIZE;
@@ -104,7 +106,7 @@ pub extern "C" fn dz_get_entry(
     slot: u64,
     out: &mut [u8],
 ) -> u32
-    ensures { λ r. ⌜ Shows (sized 4402 (now (table .entry)) (callEntry (now (arena .entry)) (tableOf (now (table .entry))) owner (handleOf hold stamp) slot (length (now (out .entry))))) (now (out .entry)) (now (out .exit)) r ⌝ }
+    ensures { λ r. ⌜ Answers (sized 4402 (now (table .entry)) (callEntry (now (arena .entry)) (tableOf (now (table .entry))) owner (handleOf hold stamp) slot (length (now (out .entry))))) (paste (now (out .entry)) 0) (now (out .entry)) (now (out .exit)) r ⌝ }
 {
     if table.len() != TABLE {
         return WRONG_SIZE;
@@ -127,7 +129,8 @@ pub extern "C" fn dz_list(
     dots: u8,
     out: &mut [u8],
 ) -> u32
-    ensures { λ r. ⌜ Lists (sized 4402 (now (table .entry)) (sized 1 (now (next .entry)) (callListing (now (arena .entry)) (tableOf (now (table .entry))) owner (handleOf hold stamp) (startIn dots (now (next .entry))) (length (now (out .entry)))))) (startIn dots (now (next .entry))) (now (out .entry)) (now (out .exit)) (now (next .entry)) (now (next .exit)) r ⌝ }
+    ensures { λ r. ⌜ Answers (sized 4402 (now (table .entry)) (sized 1 (now (next .entry)) (callListing (now (arena .entry)) (tableOf (now (table .entry))) owner (handleOf hold stamp) (startIn dots (now (next .entry))) (length (now (out .entry))))))
+        (listedIn (startIn dots (now (next .entry))) (now (out .entry))) (now (next .entry), now (out .entry)) (now (next .exit), now (out .exit)) r ⌝ }
 {
     if table.len() != TABLE {
         return WRONG_SIZE;

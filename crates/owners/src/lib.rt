@@ -1,8 +1,8 @@
 // The calls of an owner: nobody else writes its arena and its table, and a check of both has passed, or they were just formatted. Then reasons
-// 1, 2 and 3 can't come (`owned`, crates/promised), and nothing tests for them. The owner keeps the chains of all blocks beside the arena: a
+// 1, 2 and 3 can't come (`owned`, crates/linked), and nothing tests for them. The owner keeps the chains of all blocks beside the arena: a
 // call that changes the arena makes them again.
 ghost use lib.ListN.{length};
-ghost use Rattle.table_bytes.specs.Layout.{tableOf};
+ghost use Rattle.table_bytes.specs.Layout.{tableOf, tableBytes};
 ghost use Rattle.sefs.specs.Close.{callSync, callClose};
 ghost use Rattle.sefs.specs.Create.{callCreate, callLink};
 ghost use Rattle.sefs.specs.Move.{callMove};
@@ -10,8 +10,8 @@ ghost use Rattle.sefs.specs.Open.{callRoot, callFind};
 ghost use Rattle.sefs.specs.Read.{callMetadata, callSet};
 ghost use Rattle.sefs.specs.Remove.{callRemove, callRemoveFile, callRemoveFolder};
 ghost use Rattle.walk.specs.Walk.{callWalk};
-ghost use Rattle.edge_words.specs.Words.{handleOf, timeOf};
-ghost use Rattle.edge.specs.Edge.{sized, sizedWalk, Leaves, Makes, Holds, Walks, Sets, Tells};
+ghost use Rattle.edge_words.specs.Words.{handleOf, timeOf, metadataWords};
+ghost use Rattle.edge.specs.Edge.{sized, sizedWalk, Answers, leftOf, madeOf, heldOf, Walks};
 ghost use Rattle.owners_kept.specs.Owned.{Chained, Owned};
 ghost use Rattle.owners.specs.Builds.{Builds};
 use calls_find::find_led;
@@ -61,7 +61,7 @@ pub extern "C" fn dz_own_chains(arena: &[u8], chains: &mut [u16]) -> u32
 #[no_mangle]
 pub extern "C" fn dz_own_sync(arena: &mut [u8], chains: &mut [u16], table: &mut [u8]) -> u32
     requires { ⌜ Owned (now arena) (now chains) (now table) ⌝ }
-    ensures { λ r. ⌜ Leaves (callSync (now (arena .entry)) (tableOf (now (table .entry)))) (now (arena .entry)) (now (arena .exit)) (now (table .entry)) (now (table .exit)) r ⌝ }
+    ensures { λ r. ⌜ Answers (callSync (now (arena .entry)) (tableOf (now (table .entry)))) leftOf (now (arena .entry), now (table .entry)) (now (arena .exit), now (table .exit)) r ⌝ }
     ensures { λ _. ⌜ Chained (now (arena .exit)) (now (chains .exit)) ⌝ }
 {
     let mut mem = [0u8; MEMORY];
@@ -81,7 +81,7 @@ pub extern "C" fn dz_own_root(
     out: &mut [u64],
 ) -> u32
     requires { ⌜ Owned (now arena) (now chains) (now table) ⌝ }
-    ensures { λ r. ⌜ Holds (sized 2 (now (out .entry)) (callRoot (now (arena .entry)) (tableOf (now (table .entry))) owner)) (now (table .entry)) (now (table .exit)) (now (out .entry)) (now (out .exit)) r ⌝ }
+    ensures { λ r. ⌜ Answers (sized 2 (now (out .entry)) (callRoot (now (arena .entry)) (tableOf (now (table .entry))) owner)) heldOf (now (table .entry), now (out .entry)) (now (table .exit), now (out .exit)) r ⌝ }
 {
     if out.len() != HANDLE_WORDS {
         return WRONG_SIZE;
@@ -104,7 +104,7 @@ pub extern "C" fn dz_own_find(
     out: &mut [u64],
 ) -> u32
     requires { ⌜ Owned (now arena) (now chains) (now table) ⌝ }
-    ensures { λ r. ⌜ Holds (sized 2 (now (out .entry)) (callFind (now (arena .entry)) (tableOf (now (table .entry))) owner (handleOf hold stamp) (now (name .entry)))) (now (table .entry)) (now (table .exit)) (now (out .entry)) (now (out .exit)) r ⌝ }
+    ensures { λ r. ⌜ Answers (sized 2 (now (out .entry)) (callFind (now (arena .entry)) (tableOf (now (table .entry))) owner (handleOf hold stamp) (now (name .entry)))) heldOf (now (table .entry), now (out .entry)) (now (table .exit), now (out .exit)) r ⌝ }
 {
     if out.len() != HANDLE_WORDS {
         return WRONG_SIZE;
@@ -136,7 +136,8 @@ pub extern "C" fn dz_own_walk(
     out: &mut [u64],
 ) -> u32
     requires { ⌜ Owned (now arena) (now chains) (now table) ⌝ }
-    ensures { λ r. ⌜ Walks (sizedWalk 2 (now (out .entry)) (callWalk (now (arena .entry)) (tableOf (now (table .entry))) owner (handleOf hold stamp) (now (path .entry)) (length (now (links .entry))))) (now (links .entry)) (now (links .exit)) (now (table .entry)) (now (table .exit)) (now (out .entry)) (now (out .exit)) r ⌝ }
+    ensures { λ r. ⌜ Walks (sizedWalk 2 (now (out .entry)) (callWalk (now (arena .entry)) (tableOf (now (table .entry))) owner (handleOf hold stamp) (now (path .entry)) (length (now (links .entry)))))
+        (now (links .entry)) (now (links .exit)) (now (table .entry), now (out .entry)) (now (table .exit), now (out .exit)) r ⌝ }
 {
     if out.len() != HANDLE_WORDS {
         return WRONG_SIZE;
@@ -166,7 +167,7 @@ pub extern "C" fn dz_own_close(
     stamp: u64,
 ) -> u32
     requires { ⌜ Owned (now arena) (now chains) (now table) ⌝ }
-    ensures { λ r. ⌜ Leaves (callClose (now (arena .entry)) (tableOf (now (table .entry))) owner (handleOf hold stamp)) (now (arena .entry)) (now (arena .exit)) (now (table .entry)) (now (table .exit)) r ⌝ }
+    ensures { λ r. ⌜ Answers (callClose (now (arena .entry)) (tableOf (now (table .entry))) owner (handleOf hold stamp)) leftOf (now (arena .entry), now (table .entry)) (now (arena .exit), now (table .exit)) r ⌝ }
     ensures { λ _. ⌜ Chained (now (arena .exit)) (now (chains .exit)) ⌝ }
 {
     let mut mem = [0u8; MEMORY];
@@ -194,7 +195,8 @@ pub extern "C" fn dz_own_create(
     out: &mut [u64],
 ) -> u32
     requires { ⌜ Owned (now arena) (now chains) (now table) ⌝ }
-    ensures { λ r. ⌜ Makes (sized 16 (now (file .entry)) (sized 2 (now (out .entry)) (callCreate (now (arena .entry)) (tableOf (now (table .entry))) owner (handleOf hold stamp) (now (name .entry)) kind mode (timeOf sec nsec) (now (file .entry))))) (now (arena .entry)) (now (arena .exit)) (now (table .entry)) (now (table .exit)) (now (out .entry)) (now (out .exit)) r ⌝ }
+    ensures { λ r. ⌜ Answers (sized 16 (now (file .entry)) (sized 2 (now (out .entry)) (callCreate (now (arena .entry)) (tableOf (now (table .entry))) owner (handleOf hold stamp) (now (name .entry)) kind mode (timeOf sec nsec) (now (file .entry)))))
+        madeOf (now (arena .entry), now (table .entry), now (out .entry)) (now (arena .exit), now (table .exit), now (out .exit)) r ⌝ }
     ensures { λ _. ⌜ Chained (now (arena .exit)) (now (chains .exit)) ⌝ }
 {
     if file.len() != FILE_NAME {
@@ -231,7 +233,7 @@ pub extern "C" fn dz_own_link(
     child_stamp: u64,
 ) -> u32
     requires { ⌜ Owned (now arena) (now chains) (now table) ⌝ }
-    ensures { λ r. ⌜ Leaves (callLink (now (arena .entry)) (tableOf (now (table .entry))) owner (handleOf hold stamp) (now (name .entry)) (handleOf «child_hold» «child_stamp»)) (now (arena .entry)) (now (arena .exit)) (now (table .entry)) (now (table .exit)) r ⌝ }
+    ensures { λ r. ⌜ Answers (callLink (now (arena .entry)) (tableOf (now (table .entry))) owner (handleOf hold stamp) (now (name .entry)) (handleOf «child_hold» «child_stamp»)) leftOf (now (arena .entry), now (table .entry)) (now (arena .exit), now (table .exit)) r ⌝ }
     ensures { λ _. ⌜ Chained (now (arena .exit)) (now (chains .exit)) ⌝ }
 {
     let child = handle(child_hold, child_stamp);
@@ -261,7 +263,7 @@ fn remove_named(
     folder: bool,
 ) -> u32
     requires { ⌜ Owned (now arena) (now chains) (now table) ⌝ }
-    ensures { λ r. ⌜ Leaves (callRemove folder (now (arena .entry)) (tableOf (now (table .entry))) owner (handleOf hold stamp) (now (name .entry))) (now (arena .entry)) (now (arena .exit)) (now (table .entry)) (now (table .exit)) r ⌝ }
+    ensures { λ r. ⌜ Answers (callRemove folder (now (arena .entry)) (tableOf (now (table .entry))) owner (handleOf hold stamp) (now (name .entry))) leftOf (now (arena .entry), now (table .entry)) (now (arena .exit), now (table .exit)) r ⌝ }
     ensures { λ _. ⌜ Chained (now (arena .exit)) (now (chains .exit)) ⌝ }
 {
     let mut mem = [0u8; MEMORY];
@@ -289,7 +291,7 @@ pub extern "C" fn dz_own_remove_file(
     name: &[u8],
 ) -> u32
     requires { ⌜ Owned (now arena) (now chains) (now table) ⌝ }
-    ensures { λ r. ⌜ Leaves (callRemoveFile (now (arena .entry)) (tableOf (now (table .entry))) owner (handleOf hold stamp) (now (name .entry))) (now (arena .entry)) (now (arena .exit)) (now (table .entry)) (now (table .exit)) r ⌝ }
+    ensures { λ r. ⌜ Answers (callRemoveFile (now (arena .entry)) (tableOf (now (table .entry))) owner (handleOf hold stamp) (now (name .entry))) leftOf (now (arena .entry), now (table .entry)) (now (arena .exit), now (table .exit)) r ⌝ }
     ensures { λ _. ⌜ Chained (now (arena .exit)) (now (chains .exit)) ⌝ }
 {
     remove_named(arena, chains, table, owner, hold, stamp, name, false)
@@ -306,7 +308,7 @@ pub extern "C" fn dz_own_remove_folder(
     name: &[u8],
 ) -> u32
     requires { ⌜ Owned (now arena) (now chains) (now table) ⌝ }
-    ensures { λ r. ⌜ Leaves (callRemoveFolder (now (arena .entry)) (tableOf (now (table .entry))) owner (handleOf hold stamp) (now (name .entry))) (now (arena .entry)) (now (arena .exit)) (now (table .entry)) (now (table .exit)) r ⌝ }
+    ensures { λ r. ⌜ Answers (callRemoveFolder (now (arena .entry)) (tableOf (now (table .entry))) owner (handleOf hold stamp) (now (name .entry))) leftOf (now (arena .entry), now (table .entry)) (now (arena .exit), now (table .exit)) r ⌝ }
     ensures { λ _. ⌜ Chained (now (arena .exit)) (now (chains .exit)) ⌝ }
 {
     remove_named(arena, chains, table, owner, hold, stamp, name, true)
@@ -326,7 +328,7 @@ pub extern "C" fn dz_own_move(
     name: &[u8],
 ) -> u32
     requires { ⌜ Owned (now arena) (now chains) (now table) ⌝ }
-    ensures { λ r. ⌜ Leaves (callMove (now (arena .entry)) (tableOf (now (table .entry))) owner (handleOf hold stamp) (now (old .entry)) (handleOf «to_hold» «to_stamp») (now (name .entry))) (now (arena .entry)) (now (arena .exit)) (now (table .entry)) (now (table .exit)) r ⌝ }
+    ensures { λ r. ⌜ Answers (callMove (now (arena .entry)) (tableOf (now (table .entry))) owner (handleOf hold stamp) (now (old .entry)) (handleOf «to_hold» «to_stamp») (now (name .entry))) leftOf (now (arena .entry), now (table .entry)) (now (arena .exit), now (table .exit)) r ⌝ }
     ensures { λ _. ⌜ Chained (now (arena .exit)) (now (chains .exit)) ⌝ }
 {
     let to = handle(to_hold, to_stamp);
@@ -351,7 +353,7 @@ pub extern "C" fn dz_own_metadata(
     out: &mut [u64],
 ) -> u32
     requires { ⌜ Owned (now arena) (now chains) (now table) ⌝ }
-    ensures { λ r. ⌜ Tells (sized 14 (now (out .entry)) (callMetadata (now (arena .entry)) (tableOf (now (table .entry))) owner (handleOf hold stamp))) (now (out .entry)) (now (out .exit)) r ⌝ }
+    ensures { λ r. ⌜ Answers (sized 14 (now (out .entry)) (callMetadata (now (arena .entry)) (tableOf (now (table .entry))) owner (handleOf hold stamp))) metadataWords (now (out .entry)) (now (out .exit)) r ⌝ }
 {
     if out.len() != METADATA_WORDS {
         return WRONG_SIZE;
@@ -381,7 +383,7 @@ pub extern "C" fn dz_own_set_metadata(
     cnsec: i64,
 ) -> u32
     requires { ⌜ Owned (now arena) (now chains) (now table) ⌝ }
-    ensures { λ r. ⌜ Sets (callSet (now (arena .entry)) (tableOf (now (table .entry))) owner (handleOf hold stamp) mode uid gid (timeOf asec ansec) (timeOf msec mnsec) (timeOf csec cnsec)) (now (table .entry)) (now (table .exit)) r ⌝ }
+    ensures { λ r. ⌜ Answers (callSet (now (arena .entry)) (tableOf (now (table .entry))) owner (handleOf hold stamp) mode uid gid (timeOf asec ansec) (timeOf msec mnsec) (timeOf csec cnsec)) tableBytes (now (table .entry)) (now (table .exit)) r ⌝ }
 {
     let h = handle(hold, stamp);
     let atime = time(asec, ansec);

@@ -1,13 +1,14 @@
 // The calls of an owner on what a node holds: a file's own bytes, a folder's slots. Who may make them, and what is kept beside the arena, says crate `owners_kept`.
 ghost use mathlib.Core.Path.{_≡_};
 ghost use lib.ListN.{length};
+ghost use Rattle.base.specs.Parts.{paste};
 ghost use Rattle.table_bytes.specs.Layout.{tableOf};
 ghost use Rattle.sefs.specs.Contents.{callRead, callWrite, callResize};
 ghost use Rattle.sefs.specs.Read.{callEntry, callListing};
 ghost use Rattle.mem.specs.Mem.{tableIn};
 ghost use Rattle.steps.specs.Ends.{Ended};
 ghost use Rattle.edge_words.specs.Words.{handleOf};
-ghost use Rattle.edge.specs.Edge.{sized, startIn, Leaves, Shows, Lists, Takes};
+ghost use Rattle.edge.specs.Edge.{sized, Answers, leftOf, startIn, listedIn, readIn};
 ghost use Rattle.owners_kept.specs.Owned.{Chained, Owned, Kept};
 use calls_entry::entry_led;
 use calls_list::list_led;
@@ -45,7 +46,7 @@ pub extern "C" fn dz_own_read(
     count: &mut [u64],
 ) -> u32
     requires { ⌜ Owned (now arena) (now chains) (now table) ⌝ }
-    ensures { λ r. ⌜ Takes (sized 1 (now (count .entry)) (callRead (now (arena .entry)) (tableOf (now (table .entry))) owner (handleOf hold stamp) place (length (now (out .entry))))) (now (out .entry)) (now (out .exit)) (now (count .entry)) (now (count .exit)) r ⌝ }
+    ensures { λ r. ⌜ Answers (sized 1 (now (count .entry)) (callRead (now (arena .entry)) (tableOf (now (table .entry))) owner (handleOf hold stamp) place (length (now (out .entry))))) (readIn (now (out .entry))) (now (out .entry), now (count .entry)) (now (out .exit), now (count .exit)) r ⌝ }
 {
     if count.len() != READ_WORDS {
         return WRONG_SIZE;
@@ -130,7 +131,7 @@ pub extern "C" fn dz_own_write(
     src: &[u8],
 ) -> u32
     requires { ⌜ Owned (now arena) (now chains) (now table) ⌝ }
-    ensures { λ r. ⌜ Leaves (callWrite (now (arena .entry)) (tableOf (now (table .entry))) owner (handleOf hold stamp) place (now (src .entry))) (now (arena .entry)) (now (arena .exit)) (now (table .entry)) (now (table .exit)) r ⌝ }
+    ensures { λ r. ⌜ Answers (callWrite (now (arena .entry)) (tableOf (now (table .entry))) owner (handleOf hold stamp) place (now (src .entry))) leftOf (now (arena .entry), now (table .entry)) (now (arena .exit), now (table .exit)) r ⌝ }
     ensures { λ _. ⌜ Chained (now (arena .exit)) (now (chains .exit)) ⌝ }
 {
     let mut mem = [0u8; MEMORY];
@@ -175,7 +176,7 @@ pub extern "C" fn dz_own_resize(
     size: u64,
 ) -> u32
     requires { ⌜ Owned (now arena) (now chains) (now table) ⌝ }
-    ensures { λ r. ⌜ Leaves (callResize (now (arena .entry)) (tableOf (now (table .entry))) owner (handleOf hold stamp) size) (now (arena .entry)) (now (arena .exit)) (now (table .entry)) (now (table .exit)) r ⌝ }
+    ensures { λ r. ⌜ Answers (callResize (now (arena .entry)) (tableOf (now (table .entry))) owner (handleOf hold stamp) size) leftOf (now (arena .entry), now (table .entry)) (now (arena .exit), now (table .exit)) r ⌝ }
     ensures { λ _. ⌜ Chained (now (arena .exit)) (now (chains .exit)) ⌝ }
 {
     let mut mem = [0u8; MEMORY];
@@ -198,7 +199,7 @@ pub extern "C" fn dz_own_get_entry(
     out: &mut [u8],
 ) -> u32
     requires { ⌜ Owned (now arena) (now chains) (now table) ⌝ }
-    ensures { λ r. ⌜ Shows (callEntry (now (arena .entry)) (tableOf (now (table .entry))) owner (handleOf hold stamp) slot (length (now (out .entry)))) (now (out .entry)) (now (out .exit)) r ⌝ }
+    ensures { λ r. ⌜ Answers (callEntry (now (arena .entry)) (tableOf (now (table .entry))) owner (handleOf hold stamp) slot (length (now (out .entry)))) (paste (now (out .entry)) 0) (now (out .entry)) (now (out .exit)) r ⌝ }
 {
     let mut mem = [0u8; MEMORY];
     begin(&mut mem, table);
@@ -229,7 +230,8 @@ pub extern "C" fn dz_own_list(
     out: &mut [u8],
 ) -> u32
     requires { ⌜ Owned (now arena) (now chains) (now table) ⌝ }
-    ensures { λ r. ⌜ Lists (sized 1 (now (next .entry)) (callListing (now (arena .entry)) (tableOf (now (table .entry))) owner (handleOf hold stamp) (startIn dots (now (next .entry))) (length (now (out .entry))))) (startIn dots (now (next .entry))) (now (out .entry)) (now (out .exit)) (now (next .entry)) (now (next .exit)) r ⌝ }
+    ensures { λ r. ⌜ Answers (sized 1 (now (next .entry)) (callListing (now (arena .entry)) (tableOf (now (table .entry))) owner (handleOf hold stamp) (startIn dots (now (next .entry))) (length (now (out .entry)))))
+        (listedIn (startIn dots (now (next .entry))) (now (out .entry))) (now (next .entry), now (out .entry)) (now (next .exit), now (out .exit)) r ⌝ }
 {
     if next.len() != NEXT_WORDS {
         return WRONG_SIZE;

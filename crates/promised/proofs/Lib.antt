@@ -2,4 +2,3 @@ pub mod Calls
 pub mod Contents
 pub mod Checks
 pub mod Ones
-pub mod Owners

@@ -1,13 +1,10 @@
 -- What a public call's contract gives from a passed pair, and what the checker's answer says.
-use mathlib.Core.Path.{_≡_}
 use mathlib.Core.Bool.{Bool, true, false}
 use mathlib.Core.List.{List}
 use mathlib.Core.Logic.{_≢_}
 use Prim.Native.Nat.{ℕ, _<_, _≤_}
-use lib.ListN.{length}
 use Rattle.base.specs.Reasons.{damaged, badTable, stuck}
 use Rattle.table.specs.declared.Table.{Table}
-use Rattle.table_bytes.specs.Layout.{tableOf}
 use Rattle.rules.specs.Rules.{RuleAt}
 use Rattle.sequences.specs.Pairs.{pair, Passed}
 use Rattle.fsck.specs.declared.Verdict.{Verdict}
@@ -33,8 +30,3 @@ pub record Lowest (a : List ℕ) (t : Table) (n : ℕ) : Type 0 where
   pub most : n ≤ 8
   pub below : (j : ℕ) → j < n → RuleAt j a t
   pub fails : RuleAt n a t → ⊥
-
--- ---- what an owner has: the arena a, and the bytes t of a table, that pass together
-pub record Trusted (a t : List ℕ) : Type 0 where
-  pub size : length t ≡ 4402
-  pub passes : Passed (pair a (tableOf t))

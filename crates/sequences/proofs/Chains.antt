@@ -56,15 +56,15 @@ ensured false n e = absurd (never (sym e))
 
 module _ (a : List ℕ) (t : Table) (w : ℕ) where
   -- a table that finds have led to: it passes, and each node has the record that it had
-  record Follows (u : Table) : Type 0 where
-    passes : Passed (pair a u)
-    recs : (k : ℕ) → isNode a k ≡ true → recOf a u k ≡ recOf a t k
+  pub record Follows (u : Table) : Type 0 where
+    pub passes : Passed (pair a u)
+    pub recs : (k : ℕ) → isNode a k ≡ true → recOf a u k ≡ recOf a t k
 
   -- a find has given a handle on the spot's node
-  record Gives (x : Added) (n : Spot) : Type 0 where
-    row : ℕ
-    live : liveRow (x .table) w (x .handle) ≡ At row
-    is : rowSpot (x .table) row ≡ n
+  pub record Gives (x : Added) (n : Spot) : Type 0 where
+    pub row : ℕ
+    pub live : liveRow (x .table) w (x .handle) ≡ At row
+    pub is : rowSpot (x .table) row ≡ n
     follows : Follows (x .table)
 
   -- how a find and a part end
@@ -78,7 +78,7 @@ module _ (a : List ℕ) (t : Table) (w : ℕ) where
   alike-then (done x) k = k x refl
   alike-then (refused n) k = stop
 
-  hold-gives : (u : Table) → Follows u → Owner w → canHold u w ≡ true → (id : ℕ) → isNode a id ≡ true → Ok (λ (x : Added). Gives x (spot id (recOf a t id))) (λ _. ⊥) (holdNode (start a u) w id)
+  pub hold-gives : (u : Table) → Follows u → Owner w → canHold u w ≡ true → (id : ℕ) → isNode a id ≡ true → Ok (λ (x : Added). Gives x (spot id (recOf a t id))) (λ _. ⊥) (holdNode (start a u) w id)
   unfolding holdNode
   hold-gives u F who can id n =
       ok-bind (get-law a u (spelled-midway a u (spelled-any (pair a u) (F .passes))) id n) λ o G.
@@ -148,13 +148,13 @@ module _ (a : List ℕ) (t : Table) (w : ℕ) where
   by-refused full n e b f = absurd (f (sym (ap answer e)))
 
   -- where a chain of finds has led
-  record Reaches (at : Spot) (ps : List (List ℕ)) (v : Table) (g : Handle) : Type 0 where
+  pub record Reaches (at : Spot) (ps : List (List ℕ)) (v : Table) (g : Handle) : Type 0 where
     row : ℕ
     live : liveRow v w g ≡ At row
     chain : Chain (start a t) at ps (rowSpot v row)
-    follows : Follows v
+    pub follows : Follows v
 
-  reaches : Passed (pair a t) → {u v : Table} {h g : Handle} {ps : List (List ℕ)} → Finds a w u h ps v g → Follows u → (i : ℕ) → liveRow u w h ≡ At i → Reaches (rowSpot u i) ps v g
+  pub reaches : Passed (pair a t) → {u v : Table} {h g : Handle} {ps : List (List ℕ)} → Finds a w u h ps v g → Follows u → (i : ℕ) → liveRow u w h ≡ At i → Reaches (rowSpot u i) ps v g
   reaches y none F i l = record { row = i; live = l; chain = here; follows = F }
   reaches y (next {t = u} {h = h} {x = x} {p = p} e k c) F i l =
       let B = by-done (alike-find y u F h i l p) x e in
@@ -162,7 +162,7 @@ module _ (a : List ℕ) (t : Table) (w : ℕ) where
       let R = reaches y c (G .follows) (G .row) (G .live) in
       record { row = R .row; live = R .live; chain = on (B .1 ∙ ap done (sym (G .is))) (k (G .row) (G .live)) (R .chain); follows = R .follows }
 
-  begins : Passed (pair a t) → Follows t
+  pub begins : Passed (pair a t) → Follows t
   begins y = record { passes = y; recs = λ k n. refl }
 
 pub walk-as-finds : WalkAsFinds

@@ -2,7 +2,7 @@
 use mathlib.Core.Path.{sym, _∙_}
 use Rattle.fsck.specs.Verdicts.{verdictOf}
 use Rattle.edge.specs.Edge.{counted}
-use Rattle.edge.proofs.Laws.{sized-is, sized-not, counts-not, counts}
+use Rattle.edge.proofs.Laws.{sized-is, sized-not, answers-not, by-counts}
 use borrow.Author.Needs.{needs}
 use Rattle.edge.proofs.dz_check.Statement.{statement}
 use Rattle.edge.proofs.dz_check.Tie as tie
@@ -11,14 +11,14 @@ returns : tie.Need-returns
 returns c =
     let s = c .before .before .before .before in
     let yes1 = c .if1 in
-    counts-not (sized-not 4402 (s .args .table .now) _ (yes1 .taken))
+    answers-not (sized-not 4402 (s .args .table .now) _ (yes1 .taken))
 
 returns-2 : tie.Need-returns-2
 returns-2 c =
     let s = c .before .before .before .before .before in
     let no1 = c .before .if1 in
     let yes2 = c .if2 in
-    counts-not (sized-is 4402 (s .args .table .now) _ (no1 .left) ∙ sized-not 3 (s .args .out .now) _ (yes2 .taken))
+    answers-not (sized-is 4402 (s .args .table .now) _ (no1 .left) ∙ sized-not 3 (s .args .out .now) _ (yes2 .taken))
 
 slice-aggregate-begin : tie.Need-slice-aggregate-begin
 slice-aggregate-begin c = search needs
@@ -48,7 +48,7 @@ returns-3 c =
     let bbegin = c .before .before .before .before .before .before .before .before .begin in
     let check = c .before .before .before .before .before .check-on in
     let endverdict = c .before .before .end-verdict in
-    counts (sized-is 4402 (s .args .table .now) _ (no1 .left) ∙ sized-is 3 (s .args .out .now) _ (no2 .left) ∙ (λ x. counted (((λ y. verdictOf (s .args .arena .now) (sym (bbegin .ensures .0) y)) ∙ sym (check .ensures)) x))) (endverdict .ensures)
+    by-counts (sized-is 4402 (s .args .table .now) _ (no1 .left) ∙ sized-is 3 (s .args .out .now) _ (no2 .left) ∙ (λ x. counted (((λ y. verdictOf (s .args .arena .now) (sym (bbegin .ensures .0) y)) ∙ sym (check .ensures)) x))) (endverdict .ensures)
 
 pub dz-check-spec : {M : Type 1} → statement M
 dz-check-spec =

@@ -2,7 +2,7 @@
 use mathlib.Core.Path.{sym, _∙_}
 use Rattle.sefs.specs.Create.{callCreate}
 use Rattle.edge_words.proofs.Words.{time-is}
-use Rattle.edge.proofs.Laws.{sized-is, sized-not, new-is, makes-not, makes}
+use Rattle.edge.proofs.Laws.{sized-is, sized-not, new-is, answers-not, by-made}
 use borrow.Author.Needs.{needs}
 use Rattle.edge.proofs.dz_create.Statement.{statement}
 use Rattle.edge.proofs.dz_create.Tie as tie
@@ -11,14 +11,14 @@ returns : tie.Need-returns
 returns c =
     let s = c .before .before .before .before .before .before in
     let yes1 = c .if1 in
-    makes-not (sized-not 4402 (s .args .table .now) _ (yes1 .taken))
+    answers-not (sized-not 4402 (s .args .table .now) _ (yes1 .taken))
 
 returns-2 : tie.Need-returns-2
 returns-2 c =
     let s = c .before .before .before .before .before .before .before in
     let no1 = c .before .if1 in
     let yes2 = c .if2 in
-    makes-not (sized-is 4402 (s .args .table .now) _ (no1 .left) ∙ sized-not 16 (s .args .file .now) _ (yes2 .taken))
+    answers-not (sized-is 4402 (s .args .table .now) _ (no1 .left) ∙ sized-not 16 (s .args .file .now) _ (yes2 .taken))
 
 returns-3 : tie.Need-returns-3
 returns-3 c =
@@ -26,7 +26,7 @@ returns-3 c =
     let no1 = c .before .before .if1 in
     let no2 = c .before .if2 in
     let yes3 = c .if3 in
-    makes-not (sized-is 4402 (s .args .table .now) _ (no1 .left) ∙ sized-is 16 (s .args .file .now) _ (no2 .left) ∙ sized-not 2 (s .args .out .now) _ (yes3 .taken))
+    answers-not (sized-is 4402 (s .args .table .now) _ (no1 .left) ∙ sized-is 16 (s .args .file .now) _ (no2 .left) ∙ sized-not 2 (s .args .out .now) _ (yes3 .taken))
 
 time-requires : tie.Need-time-requires
 time-requires c κs = search needs
@@ -88,7 +88,10 @@ returns-4 c =
     let create = c .before .before .before .before .before .before .before .before .before .before .before .create-on in
     let endheld = c .before .before .before .before .end-held in
     let new = new-is (newnode .ensures) (time-is (s .fits .sec) (s .fits .nsec) (time .ensures)) (fileof .ensures) in
-    makes (sized-is 4402 (s .args .table .now) _ (no1 .left) ∙ sized-is 16 (s .args .file .now) _ (no2 .left) ∙ sized-is 2 (s .args .out .now) _ (no3 .left) ∙ (λ x. callCreate (s .args .arena .now) (sym (bbegin .ensures .0) x) (s .args .owner) (sym (handle .ensures) x) (s .args .name .now) (sym new x .kind) (sym new x .mode) (sym new x .time) (sym new x .file))) (create .ensures) (endheld .ensures .0) (endheld .ensures .1)
+    by-made
+    (sized-is 4402 (s .args .table .now) _ (no1 .left) ∙ sized-is 16 (s .args .file .now) _ (no2 .left) ∙ sized-is 2 (s .args .out .now) _ (no3 .left)
+    ∙ (λ x. callCreate (s .args .arena .now) (sym (bbegin .ensures .0) x) (s .args .owner) (sym (handle .ensures) x) (s .args .name .now) (sym new x .kind) (sym new x .mode) (sym new x .time) (sym new x .file)))
+    (create .ensures) (endheld .ensures .0) (endheld .ensures .1)
 
 pub dz-create-spec : {M : Type 1} → statement M
 dz-create-spec =

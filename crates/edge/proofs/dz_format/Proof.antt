@@ -3,7 +3,7 @@ use mathlib.Core.Path.{sym, _∙_}
 use Rattle.sefs.specs.Create.{callFormat}
 use Rattle.calls_format.specs.Format.{formatted}
 use Rattle.edge_words.proofs.Words.{time-is}
-use Rattle.edge.proofs.Laws.{sized-is, sized-not, leaves-not, leaves}
+use Rattle.edge.proofs.Laws.{sized-is, sized-not, answers-not, by-end}
 use borrow.Author.Needs.{needs}
 use Rattle.edge.proofs.dz_format.Statement.{statement}
 use Rattle.edge.proofs.dz_format.Tie as tie
@@ -12,14 +12,14 @@ returns : tie.Need-returns
 returns c =
     let s = c .before .before .before .before in
     let yes1 = c .if1 in
-    leaves-not (sized-not 4402 (s .args .table .now) _ (yes1 .taken))
+    answers-not (sized-not 4402 (s .args .table .now) _ (yes1 .taken))
 
 returns-2 : tie.Need-returns-2
 returns-2 c =
     let s = c .before .before .before .before .before in
     let no1 = c .before .if1 in
     let yes2 = c .if2 in
-    leaves-not (sized-is 4402 (s .args .table .now) _ (no1 .left) ∙ sized-not 16 (s .args .file .now) _ (yes2 .taken))
+    answers-not (sized-is 4402 (s .args .table .now) _ (no1 .left) ∙ sized-not 16 (s .args .file .now) _ (yes2 .taken))
 
 time-requires : tie.Need-time-requires
 time-requires c κs = search needs
@@ -48,7 +48,7 @@ returns-3 c =
     let fileof = c .before .before .before .before .before .before .before .file-of in
     let format = c .before .before .before .before .before .before .format-on in
     let endfresh = c .before .before .end-fresh in
-    leaves (sized-is 4402 (s .args .table .now) _ (no1 .left) ∙ sized-is 16 (s .args .file .now) _ (no2 .left) ∙ (λ x. formatted (callFormat (s .args .arena .now) (sym (time-is (s .fits .sec) (s .fits .nsec) (time .ensures)) x) (sym (fileof .ensures) x)))) (format .ensures) (endfresh .ensures)
+    by-end (sized-is 4402 (s .args .table .now) _ (no1 .left) ∙ sized-is 16 (s .args .file .now) _ (no2 .left) ∙ (λ x. formatted (callFormat (s .args .arena .now) (sym (time-is (s .fits .sec) (s .fits .nsec) (time .ensures)) x) (sym (fileof .ensures) x)))) (format .ensures) (endfresh .ensures)
 
 pub dz-format-spec : {M : Type 1} → statement M
 dz-format-spec =

@@ -1,7 +1,7 @@
 -- `edge::dz_metadata`: 255 where a size is wrong; else the call on the table in memory, and how it ends.
 use mathlib.Core.Path.{sym, _∙_}
 use Rattle.sefs.specs.Read.{callMetadata}
-use Rattle.edge.proofs.Laws.{sized-is, sized-not, tells-not, tells}
+use Rattle.edge.proofs.Laws.{sized-is, sized-not, answers-not, by-told}
 use borrow.Author.Needs.{needs}
 use Rattle.edge.proofs.dz_metadata.Statement.{statement}
 use Rattle.edge.proofs.dz_metadata.Tie as tie
@@ -10,14 +10,14 @@ returns : tie.Need-returns
 returns c =
     let s = c .before .before .before .before in
     let yes1 = c .if1 in
-    tells-not (sized-not 4402 (s .args .table .now) _ (yes1 .taken))
+    answers-not (sized-not 4402 (s .args .table .now) _ (yes1 .taken))
 
 returns-2 : tie.Need-returns-2
 returns-2 c =
     let s = c .before .before .before .before .before in
     let no1 = c .before .if1 in
     let yes2 = c .if2 in
-    tells-not (sized-is 4402 (s .args .table .now) _ (no1 .left) ∙ sized-not 14 (s .args .out .now) _ (yes2 .taken))
+    answers-not (sized-is 4402 (s .args .table .now) _ (no1 .left) ∙ sized-not 14 (s .args .out .now) _ (yes2 .taken))
 
 slice-aggregate-begin : tie.Need-slice-aggregate-begin
 slice-aggregate-begin c = search needs
@@ -51,7 +51,7 @@ returns-3 c =
     let handle = c .before .before .before .before .before .handle in
     let metadata = c .before .before .before .before .metadata-on in
     let endtold = c .before .before .end-told in
-    tells (sized-is 4402 (s .args .table .now) _ (no1 .left) ∙ sized-is 14 (s .args .out .now) _ (no2 .left) ∙ (λ x. callMetadata (s .args .arena .now) (sym (bbegin .ensures .0) x) (s .args .owner) (sym (handle .ensures) x))) (metadata .ensures) (endtold .ensures)
+    by-told (sized-is 4402 (s .args .table .now) _ (no1 .left) ∙ sized-is 14 (s .args .out .now) _ (no2 .left) ∙ (λ x. callMetadata (s .args .arena .now) (sym (bbegin .ensures .0) x) (s .args .owner) (sym (handle .ensures) x))) (metadata .ensures) (endtold .ensures)
 
 pub dz-metadata-spec : {M : Type 1} → statement M
 dz-metadata-spec =

@@ -1,7 +1,7 @@
 -- `edge::dz_move`: 255 where a size is wrong; else the call on the table in memory, and how it ends.
 use mathlib.Core.Path.{sym, _∙_}
 use Rattle.sefs.specs.Move.{callMove}
-use Rattle.edge.proofs.Laws.{sized-is, sized-not, leaves-not, moves}
+use Rattle.edge.proofs.Laws.{sized-is, sized-not, answers-not, by-move}
 use borrow.Author.Needs.{needs}
 use Rattle.edge.proofs.dz_move.Statement.{statement}
 use Rattle.edge.proofs.dz_move.Tie as tie
@@ -10,7 +10,7 @@ returns : tie.Need-returns
 returns c =
     let s = c .before .before .before .before .before in
     let yes1 = c .if1 in
-    leaves-not (sized-not 4402 (s .args .table .now) _ (yes1 .taken))
+    answers-not (sized-not 4402 (s .args .table .now) _ (yes1 .taken))
 
 handle-requires : tie.Need-handle-requires
 handle-requires c κs = search needs
@@ -53,7 +53,9 @@ returns-2 c =
     let handle = c .before .before .before .before .before .before .before .before .before .before .before .before .before .before .before .before .handle in
     let move = c .before .before .before .before .before .before .before .before .move-on in
     let endcourse = c .before .before .end-course in
-    moves (sized-is 4402 (s .args .table .now) _ (no1 .left) ∙ (λ x. callMove (s .args .arena .now) (sym (bbegin .ensures .0) x) (s .args .owner) (sym (handle2 .ensures) x) (s .args .old .now) (sym (handle .ensures) x) (s .args .name .now))) (bbegin .ensures .0) (move .ensures) (endcourse .ensures)
+    by-move
+    (sized-is 4402 (s .args .table .now) _ (no1 .left) ∙ (λ x. callMove (s .args .arena .now) (sym (bbegin .ensures .0) x) (s .args .owner) (sym (handle2 .ensures) x) (s .args .old .now) (sym (handle .ensures) x) (s .args .name .now)))
+    (bbegin .ensures .0) (move .ensures) (endcourse .ensures)
 
 pub dz-move-spec : {M : Type 1} → statement M
 dz-move-spec =

@@ -1,5 +1,5 @@
 -- `edge::dz_open`: 255 where the size is wrong; else the call, and the empty table.
-use Rattle.edge.proofs.Laws.{sized-is, sized-not, sets-not, sets}
+use Rattle.edge.proofs.Laws.{sized-is, sized-not, answers-not, by-table}
 use borrow.Author.Needs.{needs}
 use Rattle.edge.proofs.dz_open.Statement.{statement}
 use Rattle.edge.proofs.dz_open.Tie as tie
@@ -8,7 +8,7 @@ returns : tie.Need-returns
 returns c =
     let s = c .before .before .before in
     let yes1 = c .if1 in
-    sets-not (sized-not 4402 (s .args .table .now) _ (yes1 .taken))
+    answers-not (sized-not 4402 (s .args .table .now) _ (yes1 .taken))
 
 open-on-requires : tie.Need-open-on-requires
 open-on-requires c κs = search needs
@@ -25,7 +25,7 @@ returns-2 c =
     let no1 = c .before .before .before .before .before .if1 in
     let oopen = c .before .before .before .before .open-on in
     let endfresh = c .before .before .end-fresh in
-    sets (sized-is 4402 (s .args .table .now) _ (no1 .left)) (oopen .ensures) (endfresh .ensures)
+    by-table (sized-is 4402 (s .args .table .now) _ (no1 .left)) (oopen .ensures) (endfresh .ensures)
 
 pub dz-open-spec : {M : Type 1} → statement M
 dz-open-spec =

@@ -2,7 +2,7 @@
 use mathlib.Core.Path.{sym, _∙_}
 use Rattle.sefs.specs.Read.{callSet}
 use Rattle.edge_words.proofs.Words.{time-is}
-use Rattle.edge.proofs.Laws.{sized-is, sized-not, sets-not, sets}
+use Rattle.edge.proofs.Laws.{sized-is, sized-not, answers-not, by-table}
 use borrow.Author.Needs.{needs}
 use Rattle.edge.proofs.dz_set_metadata.Statement.{statement}
 use Rattle.edge.proofs.dz_set_metadata.Tie as tie
@@ -11,7 +11,7 @@ returns : tie.Need-returns
 returns c =
     let s = c .before .before .before in
     let yes1 = c .if1 in
-    sets-not (sized-not 4402 (s .args .table .now) _ (yes1 .taken))
+    answers-not (sized-not 4402 (s .args .table .now) _ (yes1 .taken))
 
 handle-requires : tie.Need-handle-requires
 handle-requires c κs = search needs
@@ -59,7 +59,11 @@ returns-2 c =
     let time3 = c .before .before .before .before .before .before .before .before .before .before .before .before .time3 in
     let sset = c .before .before .before .before .before .before .set-on in
     let endafter = c .before .before .end-after in
-    sets (sized-is 4402 (s .args .table .now) _ (no1 .left) ∙ (λ x. callSet (s .args .arena .now) (sym (bbegin .ensures .0) x) (s .args .owner) (sym (handle .ensures) x) (s .args .mode) (s .args .uid) (s .args .gid) (sym (time-is (s .fits .asec) (s .fits .ansec) (time .ensures)) x) (sym (time-is (s .fits .msec) (s .fits .mnsec) (time2 .ensures)) x) (sym (time-is (s .fits .csec) (s .fits .cnsec) (time3 .ensures)) x))) (sset .ensures) (endafter .ensures)
+    by-table
+    (sized-is 4402 (s .args .table .now) _ (no1 .left)
+    ∙ (λ x. callSet (s .args .arena .now) (sym (bbegin .ensures .0) x) (s .args .owner) (sym (handle .ensures) x) (s .args .mode) (s .args .uid) (s .args .gid)
+    (sym (time-is (s .fits .asec) (s .fits .ansec) (time .ensures)) x) (sym (time-is (s .fits .msec) (s .fits .mnsec) (time2 .ensures)) x) (sym (time-is (s .fits .csec) (s .fits .cnsec) (time3 .ensures)) x)))
+    (sset .ensures) (endafter .ensures)
 
 pub dz-set-metadata-spec : {M : Type 1} → statement M
 dz-set-metadata-spec =

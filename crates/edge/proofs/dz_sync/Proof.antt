@@ -1,7 +1,7 @@
 -- `edge::dz_sync`: 255 where a size is wrong; else the call on the table in memory, and how it ends.
 use mathlib.Core.Path.{sym, _∙_}
 use Rattle.sefs.specs.Close.{callSync}
-use Rattle.edge.proofs.Laws.{sized-is, sized-not, leaves-not, leaves}
+use Rattle.edge.proofs.Laws.{sized-is, sized-not, answers-not, by-end}
 use borrow.Author.Needs.{needs}
 use Rattle.edge.proofs.dz_sync.Statement.{statement}
 use Rattle.edge.proofs.dz_sync.Tie as tie
@@ -10,7 +10,7 @@ returns : tie.Need-returns
 returns c =
     let s = c .before .before .before in
     let yes1 = c .if1 in
-    leaves-not (sized-not 4402 (s .args .table .now) _ (yes1 .taken))
+    answers-not (sized-not 4402 (s .args .table .now) _ (yes1 .taken))
 
 slice-aggregate-begin : tie.Need-slice-aggregate-begin
 slice-aggregate-begin c = search needs
@@ -45,7 +45,7 @@ returns-2 c =
     let bbegin = c .before .before .before .before .before .before .before .before .before .before .before .before .begin in
     let sync = c .before .before .before .before .before .before .before .before .sync-on in
     let endafter = c .before .before .end-after in
-    leaves (sized-is 4402 (s .args .table .now) _ (no1 .left) ∙ (λ x. callSync (s .args .arena .now) (sym (bbegin .ensures .0) x))) (sync .ensures) (endafter .ensures)
+    by-end (sized-is 4402 (s .args .table .now) _ (no1 .left) ∙ (λ x. callSync (s .args .arena .now) (sym (bbegin .ensures .0) x))) (sync .ensures) (endafter .ensures)
 
 pub dz-sync-spec : {M : Type 1} → statement M
 dz-sync-spec =

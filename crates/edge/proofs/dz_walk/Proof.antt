@@ -2,7 +2,7 @@
 use mathlib.Core.Path.{sym, _∙_}
 use lib.ListN.{length}
 use Rattle.walk.specs.Walk.{callWalk}
-use Rattle.edge.proofs.Laws.{walk-sized, walk-not-sized, walks-not, walks}
+use Rattle.edge.proofs.Laws.{walk-sized, walk-not-sized, walks-not, by-walk}
 use borrow.Author.Needs.{needs}
 use Rattle.edge.proofs.dz_walk.Statement.{statement}
 use Rattle.edge.proofs.dz_walk.Tie as tie
@@ -51,7 +51,10 @@ returns-3 c =
     let w = e .before .before .before .before .before .before .before in
     let b = w .before .before .before .before .before in
     let s = b .before .before .before .before .before .before .before .before .before .before in
-    walks (walk-sized 4402 (s .args .table .now) _ (b .before .before .before .before .if1 .left) ∙ walk-sized 2 (s .args .out .now) _ (b .before .before .before .if2 .left) ∙ (λ x. callWalk (s .args .arena .now) (sym (b .begin .ensures .0) x) (s .args .owner) (sym (w .before .before .handle .ensures) x) (s .args .path .now) (length (s .args .links .now)))) (w .walk-on .ensures .0) (w .walk-on .ensures .1) (e .end-held .ensures .0) (e .end-held .ensures .1)
+    by-walk
+    (walk-sized 4402 (s .args .table .now) _ (b .before .before .before .before .if1 .left) ∙ walk-sized 2 (s .args .out .now) _ (b .before .before .before .if2 .left)
+    ∙ (λ x. callWalk (s .args .arena .now) (sym (b .begin .ensures .0) x) (s .args .owner) (sym (w .before .before .handle .ensures) x) (s .args .path .now) (length (s .args .links .now))))
+    (w .walk-on .ensures .0) (w .walk-on .ensures .1) (e .end-held .ensures .0) (e .end-held .ensures .1)
 
 pub dz-walk-spec : {M : Type 1} → statement M
 dz-walk-spec =

@@ -2,7 +2,7 @@
 use mathlib.Core.Path.{sym, _∙_}
 use lib.ListN.{length}
 use Rattle.sefs.specs.Read.{callEntry}
-use Rattle.edge.proofs.Laws.{sized-is, sized-not, shows-not, shows}
+use Rattle.edge.proofs.Laws.{sized-is, sized-not, answers-not, by-laid}
 use borrow.Author.Needs.{needs}
 use Rattle.edge_contents.proofs.dz_get_entry.Statement.{statement}
 use Rattle.edge_contents.proofs.dz_get_entry.Tie as tie
@@ -11,7 +11,7 @@ returns : tie.Need-returns
 returns c =
     let s = c .before .before .before .before in
     let yes1 = c .if1 in
-    shows-not (sized-not 4402 (s .args .table .now) _ (yes1 .taken))
+    answers-not (sized-not 4402 (s .args .table .now) _ (yes1 .taken))
 
 slice-aggregate-begin : tie.Need-slice-aggregate-begin
 slice-aggregate-begin c = search needs
@@ -44,7 +44,7 @@ returns-2 c =
     let handle = c .before .before .before .before .before .handle in
     let entry = c .before .before .before .entry-on in
     let number = c .number in
-    shows (sized-is 4402 (s .args .table .now) _ (no1 .left) ∙ (λ x. callEntry (s .args .arena .now) (sym (bbegin .ensures .0) x) (s .args .owner) (sym (handle .ensures) x) (s .args .slot) (length (s .args .out .now)))) (entry .ensures) (number .ensures)
+    by-laid (sized-is 4402 (s .args .table .now) _ (no1 .left) ∙ (λ x. callEntry (s .args .arena .now) (sym (bbegin .ensures .0) x) (s .args .owner) (sym (handle .ensures) x) (s .args .slot) (length (s .args .out .now)))) (entry .ensures) (number .ensures)
 
 pub dz-get-entry-spec : {M : Type 1} → statement M
 dz-get-entry-spec =

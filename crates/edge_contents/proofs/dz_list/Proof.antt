@@ -4,7 +4,7 @@ use native.Mathlib.Omega.{arith}
 use lib.ListN.{length}
 use Rattle.edge.specs.Edge.{startIn}
 use Rattle.sefs.specs.Read.{callListing}
-use Rattle.edge.proofs.Laws.{sized-is, sized-not, lists-not, lists, listed-room}
+use Rattle.edge.proofs.Laws.{sized-is, sized-not, answers-not, by-listed, listed-room}
 use borrow.Author.Needs.{needs}
 use Rattle.edge_contents.proofs.dz_list.Statement.{statement}
 use Rattle.edge_contents.proofs.dz_list.Tie as tie
@@ -29,14 +29,14 @@ returns : tie.Need-returns
 returns c =
     let s : tie.Start = search needs in
     let t1 : tie.Then1 = search needs in
-    lists-not (sized-not 4402 (s .args .table .now) _ (t1 .if1 .taken))
+    answers-not (sized-not 4402 (s .args .table .now) _ (t1 .if1 .taken))
 
 returns-2 : tie.Need-returns-2
 returns-2 c =
     let s : tie.Start = search needs in
     let e1 : tie.Else1 = search needs in
     let t2 : tie.Then2 = search needs in
-    lists-not (sized-is 4402 (s .args .table .now) _ (e1 .if1 .left) ∙ sized-not 1 (s .args .next .now) _ (t2 .if2 .taken))
+    answers-not (sized-is 4402 (s .args .table .now) _ (e1 .if1 .left) ∙ sized-not 1 (s .args .next .now) _ (t2 .if2 .taken))
 
 slice-read-at : tie.Need-slice-read-at
 slice-read-at c = search needs
@@ -82,7 +82,10 @@ returns-3 c =
     let handle = c .before .before .before .before .before .before .before .before .handle in
     let listing = c .before .before .before .before .before .before .listing-on in
     let end = c .before .before .end-listed in
-    lists (start .start-of .result) (startIn (s .args .dots) (s .args .next .now)) (start .start-of .ensures) (sized-is 4402 (s .args .table .now) _ (to-one start .if1 .left) ∙ sized-is 1 (s .args .next .now) _ (to-two start .if2 .left) ∙ (λ x. callListing (s .args .arena .now) (sym (b .begin .ensures .0) x) (s .args .owner) (sym (handle .ensures) x) (sym (start .start-of .ensures) x) (length (s .args .out .now)))) (listing .ensures) (end .ensures)
+    by-listed (start .start-of .result) (startIn (s .args .dots) (s .args .next .now)) (start .start-of .ensures)
+    (sized-is 4402 (s .args .table .now) _ (to-one start .if1 .left) ∙ sized-is 1 (s .args .next .now) _ (to-two start .if2 .left)
+    ∙ (λ x. callListing (s .args .arena .now) (sym (b .begin .ensures .0) x) (s .args .owner) (sym (handle .ensures) x) (sym (start .start-of .ensures) x) (length (s .args .out .now))))
+    (listing .ensures) (end .ensures)
 
 pub dz-list-spec : {M : Type 1} → statement M
 dz-list-spec =

@@ -2,7 +2,7 @@
 use mathlib.Core.Path.{sym, _∙_}
 use lib.ListN.{length}
 use Rattle.sefs.specs.Contents.{callRead}
-use Rattle.edge.proofs.Laws.{sized-is, sized-not, takes-not, takes}
+use Rattle.edge.proofs.Laws.{sized-is, sized-not, answers-not, by-taken}
 use borrow.Author.Needs.{needs}
 use Rattle.edge_contents.proofs.dz_read.Statement.{statement}
 use Rattle.edge_contents.proofs.dz_read.Tie as tie
@@ -11,14 +11,14 @@ returns : tie.Need-returns
 returns c =
     let s = c .before .before .before .before .before in
     let yes1 = c .if1 in
-    takes-not (sized-not 4402 (s .args .table .now) _ (yes1 .taken))
+    answers-not (sized-not 4402 (s .args .table .now) _ (yes1 .taken))
 
 returns-2 : tie.Need-returns-2
 returns-2 c =
     let s = c .before .before .before .before .before .before in
     let no1 = c .before .if1 in
     let yes2 = c .if2 in
-    takes-not (sized-is 4402 (s .args .table .now) _ (no1 .left) ∙ sized-not 1 (s .args .count .now) _ (yes2 .taken))
+    answers-not (sized-is 4402 (s .args .table .now) _ (no1 .left) ∙ sized-not 1 (s .args .count .now) _ (yes2 .taken))
 
 slice-aggregate-begin : tie.Need-slice-aggregate-begin
 slice-aggregate-begin c = search needs
@@ -55,7 +55,9 @@ returns-3 c =
     let handle = c .before .before .before .before .before .before .before .before .handle in
     let read = c .before .before .before .before .before .before .read-on in
     let endtaken = c .before .before .end-taken in
-    takes (sized-is 4402 (s .args .table .now) _ (no1 .left) ∙ sized-is 1 (s .args .count .now) _ (no2 .left) ∙ (λ x. callRead (s .args .arena .now) (sym (bbegin .ensures .0) x) (s .args .owner) (sym (handle .ensures) x) (s .args .place) (length (s .args .out .now)))) (read .ensures) (endtaken .ensures)
+    by-taken
+    (sized-is 4402 (s .args .table .now) _ (no1 .left) ∙ sized-is 1 (s .args .count .now) _ (no2 .left) ∙ (λ x. callRead (s .args .arena .now) (sym (bbegin .ensures .0) x) (s .args .owner) (sym (handle .ensures) x) (s .args .place) (length (s .args .out .now))))
+    (read .ensures) (endtaken .ensures)
 
 pub dz-read-spec : {M : Type 1} → statement M
 dz-read-spec =

@@ -2,19 +2,19 @@
 use mathlib.Core.Path.{sym, _∙_}
 use Rattle.sefs.specs.Create.{callCreate}
 use Rattle.edge_words.proofs.Words.{time-is}
-use Rattle.edge.proofs.Laws.{sized-is, sized-not, new-is, makes-not, makes}
+use Rattle.edge.proofs.Laws.{sized-is, sized-not, new-is, answers-not, by-made}
 use Rattle.owners_kept.proofs.Laws.{keeps}
 use borrow.Author.Needs.{needs}
 use Rattle.owners.proofs.dz_own_create.Statement.{statement}
 use Rattle.owners.proofs.dz_own_create.Tie as tie
 
 returns : tie.Need-returns
-returns c = let s = c .before .before .before .before .before .before .before in (makes-not (sized-not 16 (s .args .file .now) _ (c .if1 .taken)), s .pre .chained)
+returns c = let s = c .before .before .before .before .before .before .before in (answers-not (sized-not 16 (s .args .file .now) _ (c .if1 .taken)), s .pre .chained)
 
 returns-2 : tie.Need-returns-2
 returns-2 c =
     let s = c .before .before .before .before .before .before .before .before in
-    (makes-not (sized-is 16 (s .args .file .now) _ (c .before .if1 .left) ∙ sized-not 2 (s .args .out .now) _ (c .if2 .taken)), s .pre .chained)
+    (answers-not (sized-is 16 (s .args .file .now) _ (c .before .if1 .left) ∙ sized-not 2 (s .args .out .now) _ (c .if2 .taken)), s .pre .chained)
 
 time-requires : tie.Need-time-requires
 time-requires c κs = search needs
@@ -70,8 +70,13 @@ returns-3 c =
     let n = b .before .before .before in
     let i = n .before .before .before in
     let s = i .before .before .before .before .before .before .before .before in
-    let new = new-is (n .new-node .ensures) (time-is (s .fits .sec) (s .fits .nsec) (n .before .before .time .ensures)) (n .before .file-of .ensures) in
-    (makes (sized-is 16 (s .args .file .now) _ (i .before .if1 .left) ∙ sized-is 2 (s .args .out .now) _ (i .if2 .left) ∙ (λ x. callCreate (s .args .arena .now) (sym (b .begin .ensures .0) x) (s .args .owner) (sym (o .before .handle .ensures) x) (s .args .name .now) (sym new x .kind) (sym new x .mode) (sym new x .time) (sym new x .file))) (o .create-on .ensures .0) (e .end-held .ensures .0) (e .end-held .ensures .1), o .create-on .ensures .1)
+    let new = new-is (n .new-node .ensures) (time-is (s .fits .sec) (s .fits .nsec) (n .before .before .time .ensures)) (n .before .file-of .ensures) in (
+      by-made
+          (sized-is 16 (s .args .file .now) _ (i .before .if1 .left) ∙ sized-is 2 (s .args .out .now) _ (i .if2 .left)
+          ∙ (λ x. callCreate (s .args .arena .now) (sym (b .begin .ensures .0) x) (s .args .owner) (sym (o .before .handle .ensures) x) (s .args .name .now) (sym new x .kind) (sym new x .mode) (sym new x .time) (sym new x .file)))
+          (o .create-on .ensures .0) (e .end-held .ensures .0) (e .end-held .ensures .1),
+      o .create-on .ensures .1,
+    )
 
 pub dz-own-create-spec : {M : Type 1} → statement M
 dz-own-create-spec =

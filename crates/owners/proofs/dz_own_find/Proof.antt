@@ -2,14 +2,14 @@
 use mathlib.Core.Path.{sym, _∙_}
 use Rattle.sound.proofs.Chains.{length-firsts}
 use Rattle.sefs.specs.Open.{callFind}
-use Rattle.edge.proofs.Laws.{sized-is, sized-not, holds-not, holds}
+use Rattle.edge.proofs.Laws.{sized-is, sized-not, answers-not, by-held}
 use Rattle.owners_kept.proofs.Laws.{admitted}
 use borrow.Author.Needs.{needs}
 use Rattle.owners.proofs.dz_own_find.Statement.{statement}
 use Rattle.owners.proofs.dz_own_find.Tie as tie
 
 returns : tie.Need-returns
-returns c = holds-not (sized-not 2 (c .before .before .before .before .before .before .args .out .now) _ (c .if1 .taken))
+returns c = answers-not (sized-not 2 (c .before .before .before .before .before .before .args .out .now) _ (c .if1 .taken))
 
 slice-aggregate-begin : tie.Need-slice-aggregate-begin
 slice-aggregate-begin c = search needs
@@ -58,7 +58,9 @@ returns-2 c =
     let r = e .before .before .before .before .before in
     let b = r .before .before .before .before .before .before in
     let s = b .before .before .before .before .before .before .before .before .before in
-    holds (sized-is 2 (s .args .out .now) _ (b .before .before .before .if1 .left) ∙ (λ x. callFind (s .args .arena .now) (sym (b .begin .ensures .0) x) (s .args .owner) (sym (r .before .handle .ensures) x) (s .args .name .now))) (r .find-led .ensures) (e .end-held .ensures .0) (e .end-held .ensures .1)
+    by-held
+    (sized-is 2 (s .args .out .now) _ (b .before .before .before .if1 .left) ∙ (λ x. callFind (s .args .arena .now) (sym (b .begin .ensures .0) x) (s .args .owner) (sym (r .before .handle .ensures) x) (s .args .name .now)))
+    (r .find-led .ensures) (e .end-held .ensures .0) (e .end-held .ensures .1)
 
 pub dz-own-find-spec : {M : Type 1} → statement M
 dz-own-find-spec =

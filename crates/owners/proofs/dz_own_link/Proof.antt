@@ -1,7 +1,7 @@
 -- `owners::dz_own_link`: the call on the table in memory; the chains are its own.
 use mathlib.Core.Path.{sym}
 use Rattle.sefs.specs.Create.{callLink}
-use Rattle.edge.proofs.Laws.{leaves}
+use Rattle.edge.proofs.Laws.{by-end}
 use Rattle.owners_kept.proofs.Laws.{keeps}
 use borrow.Author.Needs.{needs}
 use Rattle.owners.proofs.dz_own_link.Statement.{statement}
@@ -46,7 +46,7 @@ returns c =
     let o = e .before .before .before .before .before .before .before .before in
     let b = o .before .before .before .before .before .before in
     let s = b .before .before .before .before .before .before .before .before in
-    (leaves (λ x. callLink (s .args .arena .now) (sym (b .begin .ensures .0) x) (s .args .owner) (sym (o .before .handle2 .ensures) x) (s .args .name .now) (sym (b .before .before .before .handle .ensures) x)) (o .link-on .ensures .0) (e .end-after .ensures), o .link-on .ensures .1)
+    (by-end (λ x. callLink (s .args .arena .now) (sym (b .begin .ensures .0) x) (s .args .owner) (sym (o .before .handle2 .ensures) x) (s .args .name .now) (sym (b .before .before .before .handle .ensures) x)) (o .link-on .ensures .0) (e .end-after .ensures), o .link-on .ensures .1)
 
 pub dz-own-link-spec : {M : Type 1} → statement M
 dz-own-link-spec =

@@ -3,14 +3,14 @@ use mathlib.Core.Path.{sym, _∙_}
 use Rattle.mem.specs.Mem.{tableIn}
 use Rattle.sefs.specs.Read.{callMetadata}
 use Rattle.calls_metadata.proofs.Tells.{metadata-admitted}
-use Rattle.edge.proofs.Laws.{sized-is, sized-not, tells-not, tells}
+use Rattle.edge.proofs.Laws.{sized-is, sized-not, answers-not, by-told}
 use Rattle.owners_kept.proofs.Laws.{not-refused}
 use borrow.Author.Needs.{needs}
 use Rattle.owners.proofs.dz_own_metadata.Statement.{statement}
 use Rattle.owners.proofs.dz_own_metadata.Tie as tie
 
 returns : tie.Need-returns
-returns c = tells-not (sized-not 14 (c .before .before .before .before .before .args .out .now) _ (c .if1 .taken))
+returns c = answers-not (sized-not 14 (c .before .before .before .before .before .args .out .now) _ (c .if1 .taken))
 
 slice-aggregate-begin : tie.Need-slice-aggregate-begin
 slice-aggregate-begin c = search needs
@@ -40,7 +40,10 @@ returns-2 c =
     let b = m .before .before .before .before in
     let s = b .before .before .before .before .before .before .before in
     let q = not-refused (s .pre) (b .begin .ensures .0) (b .begin .ensures .1) in
-    tells (sized-is 14 (s .args .out .now) _ (b .before .before .if1 .left) ∙ (λ x. callMetadata (s .args .arena .now) (sym (b .begin .ensures .0) x) (s .args .owner) (sym (m .before .handle .ensures) x)) ∙ metadata-admitted (s .args .arena .now) (tableIn (b .begin .last .0)) (s .args .owner) (m .before .handle .result) q) (m .metadata-in .ensures) (e .end-told .ensures)
+    by-told
+    (sized-is 14 (s .args .out .now) _ (b .before .before .if1 .left) ∙ (λ x. callMetadata (s .args .arena .now) (sym (b .begin .ensures .0) x) (s .args .owner) (sym (m .before .handle .ensures) x))
+    ∙ metadata-admitted (s .args .arena .now) (tableIn (b .begin .last .0)) (s .args .owner) (m .before .handle .result) q)
+    (m .metadata-in .ensures) (e .end-told .ensures)
 
 pub dz-own-metadata-spec : {M : Type 1} → statement M
 dz-own-metadata-spec =

@@ -1,7 +1,7 @@
 -- `owners::dz_own_move`: the call on the table in memory; the chains are its own.
 use mathlib.Core.Path.{sym}
 use Rattle.sefs.specs.Move.{callMove}
-use Rattle.edge.proofs.Laws.{leaves}
+use Rattle.edge.proofs.Laws.{by-end}
 use Rattle.owners_kept.proofs.Laws.{keeps}
 use borrow.Author.Needs.{needs}
 use Rattle.owners.proofs.dz_own_move.Statement.{statement}
@@ -48,8 +48,12 @@ returns c =
     let e = c .before .before in
     let o = e .before .before .before .before .before .before .before .before in
     let b = o .before .before .before .before .before .before .before in
-    let s = b .before .before .before .before .before .before .before .before .before in
-    (leaves (λ x. callMove (s .args .arena .now) (sym (b .begin .ensures .0) x) (s .args .owner) (sym (o .before .before .before .before .before .handle2 .ensures) x) (s .args .old .now) (sym (b .before .before .before .handle .ensures) x) (s .args .name .now)) (o .move-on .ensures .0) (e .end-after .ensures), o .move-on .ensures .1)
+    let s = b .before .before .before .before .before .before .before .before .before in (
+      by-end
+          (λ x. callMove (s .args .arena .now) (sym (b .begin .ensures .0) x) (s .args .owner) (sym (o .before .before .before .before .before .handle2 .ensures) x) (s .args .old .now) (sym (b .before .before .before .handle .ensures) x) (s .args .name .now))
+          (o .move-on .ensures .0) (e .end-after .ensures),
+      o .move-on .ensures .1,
+    )
 
 pub dz-own-move-spec : {M : Type 1} → statement M
 dz-own-move-spec =

@@ -4,7 +4,7 @@ use Rattle.mem.specs.Mem.{tableIn}
 use Rattle.sefs.specs.Read.{callSet}
 use Rattle.calls_metadata.proofs.Tells.{set-admitted}
 use Rattle.edge_words.proofs.Words.{time-is}
-use Rattle.edge.proofs.Laws.{sets}
+use Rattle.edge.proofs.Laws.{by-table}
 use Rattle.owners_kept.proofs.Laws.{not-refused}
 use borrow.Author.Needs.{needs}
 use Rattle.owners.proofs.dz_own_set_metadata.Statement.{statement}
@@ -52,7 +52,11 @@ returns c =
     let h = t .before .before .before in
     let s = h .before .before .before .before in
     let q = not-refused (s .pre) (b .begin .ensures .0) (b .begin .ensures .1) in
-    sets ((λ x. callSet (s .args .arena .now) (sym (b .begin .ensures .0) x) (s .args .owner) (sym (h .handle .ensures) x) (s .args .mode) (s .args .uid) (s .args .gid) (sym (time-is (s .fits .asec) (s .fits .ansec) (t .before .before .time .ensures)) x) (sym (time-is (s .fits .msec) (s .fits .mnsec) (t .before .time2 .ensures)) x) (sym (time-is (s .fits .csec) (s .fits .cnsec) (t .time3 .ensures)) x)) ∙ set-admitted (s .args .arena .now) (tableIn (b .begin .last .0)) (s .args .owner) (h .handle .result) (s .args .mode) (s .args .uid) (s .args .gid) (t .before .before .time .result) (t .before .time2 .result) (t .time3 .result) q) (f .set-in .ensures) (e .end-after .ensures)
+    by-table
+    ((λ x. callSet (s .args .arena .now) (sym (b .begin .ensures .0) x) (s .args .owner) (sym (h .handle .ensures) x) (s .args .mode) (s .args .uid) (s .args .gid)
+    (sym (time-is (s .fits .asec) (s .fits .ansec) (t .before .before .time .ensures)) x) (sym (time-is (s .fits .msec) (s .fits .mnsec) (t .before .time2 .ensures)) x) (sym (time-is (s .fits .csec) (s .fits .cnsec) (t .time3 .ensures)) x))
+    ∙ set-admitted (s .args .arena .now) (tableIn (b .begin .last .0)) (s .args .owner) (h .handle .result) (s .args .mode) (s .args .uid) (s .args .gid) (t .before .before .time .result) (t .before .time2 .result) (t .time3 .result) q)
+    (f .set-in .ensures) (e .end-after .ensures)
 
 pub dz-own-set-metadata-spec : {M : Type 1} → statement M
 dz-own-set-metadata-spec =

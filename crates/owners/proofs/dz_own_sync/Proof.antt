@@ -1,7 +1,7 @@
 -- `owners::dz_own_sync`: the call on the table in memory; the chains are its own.
 use mathlib.Core.Path.{sym}
 use Rattle.sefs.specs.Close.{callSync}
-use Rattle.edge.proofs.Laws.{leaves}
+use Rattle.edge.proofs.Laws.{by-end}
 use Rattle.owners_kept.proofs.Laws.{keeps}
 use borrow.Author.Needs.{needs}
 use Rattle.owners.proofs.dz_own_sync.Statement.{statement}
@@ -40,7 +40,7 @@ returns c =
     let o = e .before .before .before .before .before .before .before .before in
     let b = o .before .before .before .before .before in
     let s = b .before .before .before .before .before .before in
-    (leaves (λ x. callSync (s .args .arena .now) (sym (b .begin .ensures .0) x)) (o .sync-on .ensures .0) (e .end-after .ensures), o .sync-on .ensures .1)
+    (by-end (λ x. callSync (s .args .arena .now) (sym (b .begin .ensures .0) x)) (o .sync-on .ensures .0) (e .end-after .ensures), o .sync-on .ensures .1)
 
 pub dz-own-sync-spec : {M : Type 1} → statement M
 dz-own-sync-spec =

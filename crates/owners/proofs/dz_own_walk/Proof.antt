@@ -3,7 +3,7 @@ use mathlib.Core.Path.{sym, _∙_}
 use lib.ListN.{length}
 use Rattle.sound.proofs.Chains.{length-firsts}
 use Rattle.walk.specs.Walk.{callWalk}
-use Rattle.edge.proofs.Laws.{walk-sized, walk-not-sized, walks-not, walks}
+use Rattle.edge.proofs.Laws.{walk-sized, walk-not-sized, walks-not, by-walk}
 use Rattle.owners_kept.proofs.Laws.{admitted}
 use borrow.Author.Needs.{needs}
 use Rattle.owners.proofs.dz_own_walk.Statement.{statement}
@@ -62,7 +62,9 @@ returns-2 c =
     let w = e .before .before .before .before .before .before .before in
     let b = w .before .before .before .before .before .before .before in
     let s = b .before .before .before .before .before .before .before .before .before .before in
-    walks (walk-sized 2 (s .args .out .now) _ (b .before .before .before .if1 .left) ∙ (λ x. callWalk (s .args .arena .now) (sym (b .begin .ensures .0) x) (s .args .owner) (sym (w .before .before .handle .ensures) x) (s .args .path .now) (length (s .args .links .now)))) (w .walk-led .ensures .0) (w .walk-led .ensures .1) (e .end-held .ensures .0) (e .end-held .ensures .1)
+    by-walk
+    (walk-sized 2 (s .args .out .now) _ (b .before .before .before .if1 .left) ∙ (λ x. callWalk (s .args .arena .now) (sym (b .begin .ensures .0) x) (s .args .owner) (sym (w .before .before .handle .ensures) x) (s .args .path .now) (length (s .args .links .now))))
+    (w .walk-led .ensures .0) (w .walk-led .ensures .1) (e .end-held .ensures .0) (e .end-held .ensures .1)
 
 pub dz-own-walk-spec : {M : Type 1} → statement M
 dz-own-walk-spec =

@@ -1,7 +1,7 @@
 -- `owners::remove_named`: the call on the table in memory; the chains are its own.
 use mathlib.Core.Path.{sym}
 use Rattle.sefs.specs.Remove.{callRemove}
-use Rattle.edge.proofs.Laws.{leaves}
+use Rattle.edge.proofs.Laws.{by-end}
 use Rattle.owners_kept.proofs.Laws.{keeps}
 use borrow.Author.Needs.{needs}
 use Rattle.owners.proofs.remove_named.Statement.{statement}
@@ -43,7 +43,7 @@ returns c =
     let o = e .before .before .before .before .before .before .before .before in
     let b = o .before .before .before .before .before .before in
     let s = b .before .before .before .before .before .before .before in
-    (leaves (λ x. callRemove (s .args .folder) (s .args .arena .now) (sym (b .begin .ensures .0) x) (s .args .owner) (sym (o .before .handle .ensures) x) (s .args .name .now)) (o .remove-on .ensures .0) (e .end-after .ensures), o .remove-on .ensures .1)
+    (by-end (λ x. callRemove (s .args .folder) (s .args .arena .now) (sym (b .begin .ensures .0) x) (s .args .owner) (sym (o .before .handle .ensures) x) (s .args .name .now)) (o .remove-on .ensures .0) (e .end-after .ensures), o .remove-on .ensures .1)
 
 pub remove-named-spec : {M : Type 1} → statement M
 remove-named-spec =

@@ -4,7 +4,7 @@ use lib.ListN.{length}
 use Rattle.sound.proofs.Chains.{length-firsts}
 use Rattle.sefs.specs.Read.{callEntry}
 use Rattle.owners_kept.proofs.Laws.{admitted}
-use Rattle.owners_contents.proofs.Laws.{own-shows}
+use Rattle.owners_contents.proofs.Laws.{own-laid}
 use borrow.Author.Needs.{needs}
 use Rattle.owners_contents.proofs.dz_own_get_entry.Statement.{statement}
 use Rattle.owners_contents.proofs.dz_own_get_entry.Tie as tie
@@ -47,7 +47,7 @@ returns c =
     let r = c .before .before in
     let b = r .before .before .before .before .before .before .before in
     let s = b .before .before .before .before .before .before in
-    own-shows (λ x. callEntry (s .args .arena .now) (sym (b .begin .ensures .0) x) (s .args .owner) (sym (r .before .before .handle .ensures) x) (s .args .slot) (length (s .args .out .now))) (r .entry-led .ensures)
+    own-laid (λ x. callEntry (s .args .arena .now) (sym (b .begin .ensures .0) x) (s .args .owner) (sym (r .before .before .handle .ensures) x) (s .args .slot) (length (s .args .out .now))) (r .entry-led .ensures)
 
 pub dz-own-get-entry-spec : {M : Type 1} → statement M
 dz-own-get-entry-spec =

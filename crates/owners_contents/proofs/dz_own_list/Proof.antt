@@ -5,7 +5,7 @@ use lib.ListN.{length}
 use Rattle.edge.specs.Edge.{startIn}
 use Rattle.sound.proofs.Chains.{length-firsts}
 use Rattle.sefs.specs.Read.{callListing}
-use Rattle.edge.proofs.Laws.{sized-is, sized-not, lists-not, lists, listed-room}
+use Rattle.edge.proofs.Laws.{sized-is, sized-not, answers-not, by-listed, listed-room}
 use Rattle.owners_kept.proofs.Laws.{admitted}
 use borrow.Author.Needs.{needs}
 use Rattle.owners_contents.proofs.dz_own_list.Statement.{statement}
@@ -25,7 +25,7 @@ abbrev to-bytes : tie.After-start-of → tie.After-shared-slice-known3
 to-bytes c = c .before .before .before .before .before
 
 returns : tie.Need-returns
-returns c = lists-not (sized-not 1 (c .before .before .before .before .before .before .args .next .now) _ (c .if1 .taken))
+returns c = answers-not (sized-not 1 (c .before .before .before .before .before .before .args .next .now) _ (c .if1 .taken))
 
 slice-read-at : tie.Need-slice-read-at
 slice-read-at c = search needs
@@ -83,7 +83,9 @@ returns-2 c =
     let b = l .before .before .before .before .before .before .before in
     let start = to-start b in
     let s = to-first start in
-    lists (start .start-of .result) (startIn (s .args .dots) (s .args .next .now)) (start .start-of .ensures) (sized-is 1 (s .args .next .now) _ (to-one start .if1 .left) ∙ (λ x. callListing (s .args .arena .now) (sym (b .begin .ensures .0) x) (s .args .owner) (sym (l .before .before .handle .ensures) x) (sym (start .start-of .ensures) x) (length (s .args .out .now)))) (l .list-led .ensures) (e .end-listed .ensures)
+    by-listed (start .start-of .result) (startIn (s .args .dots) (s .args .next .now)) (start .start-of .ensures)
+    (sized-is 1 (s .args .next .now) _ (to-one start .if1 .left) ∙ (λ x. callListing (s .args .arena .now) (sym (b .begin .ensures .0) x) (s .args .owner) (sym (l .before .before .handle .ensures) x) (sym (start .start-of .ensures) x) (length (s .args .out .now))))
+    (l .list-led .ensures) (e .end-listed .ensures)
 
 pub dz-own-list-spec : {M : Type 1} → statement M
 dz-own-list-spec =

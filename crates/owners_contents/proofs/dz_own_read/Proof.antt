@@ -3,14 +3,14 @@ use mathlib.Core.Path.{sym, _∙_}
 use lib.ListN.{length}
 use Rattle.sound.proofs.Chains.{length-firsts}
 use Rattle.sefs.specs.Contents.{callRead}
-use Rattle.edge.proofs.Laws.{sized-is, sized-not, takes-not, takes}
+use Rattle.edge.proofs.Laws.{sized-is, sized-not, answers-not, by-taken}
 use Rattle.owners_kept.proofs.Laws.{admitted}
 use borrow.Author.Needs.{needs}
 use Rattle.owners_contents.proofs.dz_own_read.Statement.{statement}
 use Rattle.owners_contents.proofs.dz_own_read.Tie as tie
 
 returns : tie.Need-returns
-returns c = takes-not (sized-not 1 (c .before .before .before .before .before .before .args .count .now) _ (c .if1 .taken))
+returns c = answers-not (sized-not 1 (c .before .before .before .before .before .before .args .count .now) _ (c .if1 .taken))
 
 slice-aggregate-begin : tie.Need-slice-aggregate-begin
 slice-aggregate-begin c = search needs
@@ -54,7 +54,9 @@ returns-2 c =
     let l = e .before .before .before .before in
     let b = l .before .before .before .before .before .before .before in
     let s = b .before .before .before .before .before .before .before .before in
-    takes (sized-is 1 (s .args .count .now) _ (b .before .before .if1 .left) ∙ (λ x. callRead (s .args .arena .now) (sym (b .begin .ensures .0) x) (s .args .owner) (sym (l .before .before .handle .ensures) x) (s .args .place) (length (s .args .out .now)))) (l .read-led .ensures) (e .end-taken .ensures)
+    by-taken
+    (sized-is 1 (s .args .count .now) _ (b .before .before .if1 .left) ∙ (λ x. callRead (s .args .arena .now) (sym (b .begin .ensures .0) x) (s .args .owner) (sym (l .before .before .handle .ensures) x) (s .args .place) (length (s .args .out .now))))
+    (l .read-led .ensures) (e .end-taken .ensures)
 
 pub dz-own-read-spec : {M : Type 1} → statement M
 dz-own-read-spec =

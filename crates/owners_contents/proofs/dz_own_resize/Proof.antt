@@ -1,7 +1,7 @@
 -- `owners_contents::dz_own_resize`: the call on the table in memory; the chains are its own.
 use mathlib.Core.Path.{sym}
 use Rattle.sefs.specs.Contents.{callResize}
-use Rattle.edge.proofs.Laws.{leaves}
+use Rattle.edge.proofs.Laws.{by-end}
 use Rattle.owners_kept.proofs.Laws.{keeps}
 use borrow.Author.Needs.{needs}
 use Rattle.owners_contents.proofs.dz_own_resize.Statement.{statement}
@@ -43,7 +43,7 @@ returns c =
     let o = e .before .before .before .before .before .before .before .before in
     let b = o .before .before .before .before .before .before in
     let s = b .before .before .before .before .before .before in
-    (leaves (λ x. callResize (s .args .arena .now) (sym (b .begin .ensures .0) x) (s .args .owner) (sym (o .before .handle .ensures) x) (s .args .size)) (o .resize-on .ensures .0) (e .end-after .ensures), o .resize-on .ensures .1)
+    (by-end (λ x. callResize (s .args .arena .now) (sym (b .begin .ensures .0) x) (s .args .owner) (sym (o .before .handle .ensures) x) (s .args .size)) (o .resize-on .ensures .0) (e .end-after .ensures), o .resize-on .ensures .1)
 
 pub dz-own-resize-spec : {M : Type 1} → statement M
 dz-own-resize-spec =

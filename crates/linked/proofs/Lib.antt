@@ -1,0 +1,6 @@
+pub mod Functions
+pub mod Tables
+pub mod Transport
+pub mod Walks
+pub mod Linked
+pub mod Starts

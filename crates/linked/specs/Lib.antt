@@ -1,0 +1,4 @@
+pub mod Images
+pub mod Tested
+pub mod Owning
+pub mod Linked
