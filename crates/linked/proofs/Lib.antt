@@ -4,3 +4,4 @@ pub mod Transport
 pub mod Walks
 pub mod Linked
 pub mod Starts
+pub mod Drawings

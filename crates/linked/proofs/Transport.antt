@@ -65,7 +65,7 @@ trusted-written b u y = record {
 }
 
 module _ {s u : Image} (S : Same s u) where
-  same-pair : pairOf u ≡ pairOf s
+  pub same-pair : pairOf u ≡ pairOf s
   same-pair = ap₂ (λ (a t : List ℕ). pair a (tableOf t)) (S .arena) (S .table)
 
   same-trusted : Passes s → Passes u

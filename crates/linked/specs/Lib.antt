@@ -2,3 +2,4 @@ pub mod Images
 pub mod Tested
 pub mod Owning
 pub mod Linked
+pub mod Drawings

@@ -1,0 +1,101 @@
+-- What a designer was told of her drawings (crates/drawings), said of runs of the functions that are linked: she writes by `dz_write` or `dz_own_write`,
+-- and who reads, reads by `dz_read` or `dz_own_read`. A run that answers 255 was made with a slice of a wrong size, and made no call.
+use mathlib.Core.Path.{_≡_}
+use mathlib.Core.List.{List, [], _∷_}
+use mathlib.Core.Logic.{_≢_, _⊎_, _↔_}
+use Prim.Native.Nat.{ℕ, _+_}
+use lib.ListN.{length, take}
+use contract.Lifetimes.{Lfts}
+use denote.Ref.{now}
+use Rattle.base.specs.Parts.{part, paste}
+use Rattle.base.specs.Reasons.{tableFull}
+use Rattle.table.specs.declared.Handle.{Handle}
+use Rattle.table_bytes.specs.Layout.{tableOf}
+use Rattle.edge_words.specs.Words.{handleWords}
+use Rattle.edge.proofs.dz_open.Reads as dz-open
+use Rattle.edge.proofs.dz_check.Reads as dz-check
+use Rattle.sequences.specs.Calls.{Call, find, read, write, resize, Fits, asker}
+use Rattle.sequences.specs.Promises.{Along, On}
+use Rattle.sequences.specs.TableFull.{ReachesCheck, NoPlace}
+use Rattle.drawings.specs.Saved.{Elsewhere, ReadsAll, filledTo}
+use Rattle.drawings.specs.Rests.{Drawing, LeavesBe, Rested}
+use Rattle.drawings.specs.Names.{Named, LeavesName, LeavesBoth}
+use Rattle.linked.specs.Images.{_&_, Slice, Image, pairOf, Places}
+use Rattle.linked.specs.Tested.{Ran}
+use Rattle.linked.specs.Linked.{Functions, Runs}
+
+-- a read that was lent x, left y and returned k: it answers 0, the output begins with those bytes, and the word says how many
+pub record GaveBytes (bytes : List ℕ) (x y : Places) (k : ℕ) : Type 0 where
+  pub number : k ≡ 0
+  pub output : y .output ≡ paste (x .output) 0 bytes
+  pub count : y .words ≡ length bytes ∷ []
+
+module _ (R : Functions) (I : Image → Type 0) where
+  -- she saves: her handle h is on node n, whose file is f, and a write through h of those bytes to that place answers 0
+  pub record SavesRun (w : ℕ) (h : Handle) (n : ℕ) (f : List ℕ) (place : ℕ) (bytes : List ℕ) (s u : Image) : Type 0 where
+    pub on : On (pairOf s .table) w h n f
+    pub fits : Fits (write w h place bytes)
+    pub before : Places
+    pub after : Places
+    pub answers : R (write w h place bytes) s before u after 0
+
+  -- `saved`: she saves; then come any runs, whose calls leave what she saved; and she reads what she wrote
+  unfoldable pub RunsSaved : Type 0
+  RunsSaved = (s u v z : Image) (l : List Call) (w : ℕ) (h : Handle) (n : ℕ) (f : List ℕ) (place : ℕ) (bytes : List ℕ) (x y : Places) (k : ℕ) → I s
+      → SavesRun w h n f place bytes s u → Runs R u l v → Along (Elsewhere w h n) (pairOf u) l
+      → Fits (read w h place (length bytes)) → R (read w h place (length bytes)) v x z y k → k ≢ 255 → GaveBytes bytes x y k
+
+  -- `rests-along`: a node that is no folder, open or not, keeps type, file name, size and every byte
+  unfoldable pub RunsRest : Type 0
+  RunsRest = (s v : Image) (l : List Call) (n : ℕ) → I s → Drawing n (pairOf s) → Runs R s l v → Along (LeavesBe n) (pairOf s) l → Rested n (pairOf s) (pairOf v)
+
+  -- `closed-and-kept`: she saves, closes and goes home; then a read of the place, through any handle on her node, gives what she wrote
+  unfoldable pub RunsKept : Type 0
+  RunsKept = (s u v z : Image) (l : List Call) (w o : ℕ) (h g : Handle) (n : ℕ) (f e : List ℕ) (place : ℕ) (bytes : List ℕ) (x y : Places) (k : ℕ) → I s
+      → SavesRun w h n f place bytes s u → Runs R u l v → Along (LeavesBe n) (pairOf u) l → On (pairOf v .table) o g n e
+      → Fits (read o g place (length bytes)) → R (read o g place (length bytes)) v x z y k → k ≢ 255 → GaveBytes bytes x y k
+
+  -- `names-stay`: a name stays in its folder, unless a call that takes it away is done
+  unfoldable pub RunsNamesStay : Type 0
+  RunsNamesStay = (s v : Image) (l : List Call) (d n : ℕ) (name : List ℕ) → I s → Named d name n (pairOf s) → Runs R s l v → Along (LeavesName d name) (pairOf s) l
+      → Named d name n (pairOf v)
+
+  -- `found-by-name`: she saves, and folder d has a name for her node; then come any runs that leave both; o, who has a handle g on the folder, finds the
+  -- name, and reads by the handle whose words the find gave what she wrote
+  unfoldable pub RunsFound : Type 0
+  RunsFound = (s u v i z : Image) (l : List Call) (w o : ℕ) (h g got : Handle) (n d : ℕ) (f e name : List ℕ) (place : ℕ) (bytes : List ℕ) (p q x y : Places) (k : ℕ) → I s
+      → SavesRun w h n f place bytes s u → Named d name n (pairOf u) → Runs R u l v → Along (LeavesBoth d name n) (pairOf u) l → On (pairOf v .table) o g d e
+      → Fits (find o g name) → R (find o g name) v p i q 0 → q .words ≡ handleWords got
+      → Fits (read o got place (length bytes)) → R (read o got place (length bytes)) i x z y k → k ≢ 255 → GaveBytes bytes x y k
+
+  -- `laid-over`: what any read gives after a write that answers 0, where before it a read of all gave `old`
+  unfoldable pub RunsLaidOver : Type 0
+  RunsLaidOver = (s u z : Image) (w : ℕ) (h : Handle) (place : ℕ) (new old : List ℕ) (at room : ℕ) (a b x y : Places) (k : ℕ) → I s → ReadsAll w h old (pairOf s)
+      → Fits (write w h place new) → R (write w h place new) s a u b 0
+      → Fits (read w h at room) → R (read w h at room) u x z y k → k ≢ 255 → GaveBytes (part (paste (filledTo (place + length new) old) place new) at (at + room)) x y k
+
+  -- `resized-to`: and after a resize that answers 0
+  unfoldable pub RunsResized : Type 0
+  RunsResized = (s u z : Image) (w : ℕ) (h : Handle) (n : ℕ) (old : List ℕ) (at room : ℕ) (a b x y : Places) (k : ℕ) → I s → ReadsAll w h old (pairOf s)
+      → Fits (resize w h n) → R (resize w h n) s a u b 0
+      → Fits (read w h at room) → R (read w h at room) u x z y k → k ≢ 255 → GaveBytes (part (take n (filledTo n old)) at (at + room)) x y k
+
+  pub record Drawings : Type 0 where
+    pub saved : RunsSaved
+    pub rest : RunsRest
+    pub kept : RunsKept
+    pub names-stay : RunsNamesStay
+    pub found : RunsFound
+    pub laid-over : RunsLaidOver
+    pub resized : RunsResized
+
+-- ---- on any bytes
+
+-- `full-exactly`, of a tested function: 16 exactly where its call reaches the check and its asker has no place left
+unfoldable pub NumberFull : Type 0
+NumberFull = (c : Call) (s u : Image) (x y : Places) (n : ℕ) → Ran c s x u y n → n ≢ 255 → (n ≡ tableFull) ↔ (ReachesCheck (pairOf s) c × NoPlace (pairOf s .table) (asker c))
+
+-- `old-open`: "so old projects open": where a check of the arena, with whatever table, answers 0, `dz_open` does
+unfoldable pub OldOpens : Type 0
+OldOpens = (κs : Lfts 3) (λs : Lfts 2) (a t out out' u u' : Slice) (n : ℕ) → dz-check.Learnt κs (a & t & out & tt) 0 (a & t & out' & tt)
+    → dz-open.Learnt λs (a & u & tt) n (a & u' & tt) → n ≢ 255 → n ≡ 0
