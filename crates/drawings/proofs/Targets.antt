@@ -1,35 +1,31 @@
 -- A followed link, said of the calls: what is read of the symlink is the target, and the call goes on with it.
 use mathlib.Core.Path.{_≡_, refl, sym, ap, _∙_, subst}
-use mathlib.Core.Bool.{true, not, _&&_}
+use mathlib.Core.Bool.{true}
 use mathlib.Core.List.{List, [], _∷_, _++_}
 use mathlib.Core.Logic.{_≢_}
 use Prim.Native.Nat.{ℕ, _-_, _≤_, _<_}
 use native.Mathlib.Omega.{arith}
-use lib.Dec.{eqb, leb}
 use lib.ListN.{length}
 use borrow.Author.Tests.{eqb-false, le-leb}
-use Rattle.base.specs.Out.{Out, done, refused, bind, ensure, answer, kept, Ok, said}
+use Rattle.base.specs.Out.{Out, done, refused, bind, ensure, answer, Ok, said}
 use Rattle.base.specs.Parts.{tab}
-use Rattle.base.proofs.Outs.{bind-is-done, ok-done}
+use Rattle.base.proofs.Outs.{ok-done}
 use Rattle.base.specs.declared.Found.the-variants.{At}
 use Rattle.structs.specs.declared.DiskINode.{DiskINode}
-use Rattle.utf8.specs.Names.{isDots}
 use Rattle.files.specs.Read.{there, byteAt}
 use Rattle.table.specs.declared.Table.{Table}
 use Rattle.table.specs.declared.Handle.{Handle}
 use Rattle.table.specs.declared.Added.{Added}
 use Rattle.table.specs.Table.{rowAt, liveRow, canHold}
 use Rattle.table_laws.proofs.Handles.{live-means}
-use Rattle.sefs.specs.State.{Fs}
 use Rattle.sefs.specs.Nodes.{nodeFile}
-use Rattle.sefs.specs.Slots.{findSlot}
-use Rattle.sefs.specs.Ask.{notLong, known, folder, start}
+use Rattle.sefs.specs.Ask.{start}
 use Rattle.sefs.specs.Open.{holdNode}
 use Rattle.sefs.specs.Contents.{readBytes, callRead}
 use Rattle.sefs_laws.specs.Contents.{fileAt, sizeAt}
 use Rattle.sefs_laws.proofs.Says.{Says, says-then, says-ensure}
 use Rattle.sefs_laws.proofs.Handles.{live-owns, handle-done}
-use Rattle.walk.specs.Walk.{Spot, lookAt, partIn, targetOf, mostLinks, walkIn, holdEnd, callWalk}
+use Rattle.walk.specs.Walk.{Spot, lookAt, targetOf, mostLinks, walkIn, holdEnd, callWalk}
 use Rattle.walk.proofs.Ways.{walk-is}
 use Rattle.rules.specs.Image.{recOf, isNode}
 use Rattle.image.specs.Midway.{Used}
@@ -39,24 +35,11 @@ use Rattle.sequences.specs.Chains.{rowSpot}
 use Rattle.sequences.proofs.Passing.{allowed, spelled-any}
 use Rattle.sequences.proofs.Walks.{look-law}
 use Rattle.sequences.proofs.Corner.{on-used}
+use Rattle.sequences.proofs.Chains.{part-done}
 use Rattle.sequences.proofs.Reading.{whole-file}
 use Rattle.sequences.proofs.Reasons.{says-hold}
 use Rattle.drawings.specs.Links.{textOn, PathIsText, FollowsText, FollowsName, FollowsRoot, ContentIsTarget, FollowsCall, FollowsNameCall, FollowsRootCall, NinthLink, NinthLinkCall}
 use Rattle.drawings.proofs.Links.{path-is-text, follows-text, follows-name, follows-root, ninth-link}
-
--- what a part has led to was looked at
-part-looks : (s : Fs) (r : DiskINode) (name : List ℕ) (n : Spot) → partIn s r name ≡ done n → lookAt s (n .id) ≡ done (n .rec)
-unfolding partIn
-part-looks s r name n e =
-    let a = bind-is-done (known r) _ n e in
-    let b = bind-is-done (folder r) _ n (a .2) in
-    let c = bind-is-done (notLong name) _ n (b .2) in
-    let d = bind-is-done (ensure (not (isDots name && eqb (r .nlinks) 0)) 8) _ n (c .2) in
-    let f = bind-is-done (findSlot (s .arena) r name) _ n (d .2) in
-    let g = bind-is-done (lookAt s (f .0 .entry .id)) _ n (f .2) in
-    let h = bind-is-done (ensure (leb (g .0 .kind) 4) 19) _ n (g .2) in
-    let q : _ ≡ n = ap (kept n) (h .2) in
-    subst (λ (x : Spot). lookAt s (x .id) ≡ done (x .rec)) q (g .1)
 
 module _ (p : Pair) (y : Passed p) (v : ℕ) (g : Handle) (i : ℕ) (live : liveRow (p .table) v g ≡ At i) where
   abbrev a : List ℕ
@@ -94,7 +77,7 @@ module _ (p : Pair) (y : Passed p) (v : ℕ) (g : Handle) (i : ℕ) (live : live
 pub content-is-target : ContentIsTarget
 unfolding ContentIsTarget
 content-is-target p v g i room b at node l target all y e link live q reads spare fits =
-    let same : rowAt (p .table) i .rec ≡ node .rec = same-rec p y v g i live node (part-looks (start (p .arena) (p .table)) (at .rec) l node e) q in
+    let same : rowAt (p .table) i .rec ≡ node .rec = same-rec p y v g i live node (part-done (start (p .arena) (p .table)) (at .rec) l node e .3) q in
     record {
       node = node;
       named = e;
