@@ -1,59 +1,45 @@
 -- A find of a name that a folder has gives a handle on the node that it names; so a drawing that rests is found and read.
 use mathlib.Core.Path.{_≡_, refl, sym, ap, _∙_, subst}
-use mathlib.Core.Bool.{Bool, true, false, not, _&&_}
+use mathlib.Core.Bool.{true}
 use mathlib.Core.List.{List, [], _∷_}
 use mathlib.Core.Logic.{_≢_, ⊎-elim}
 use Prim.Native.Nat.{ℕ, zero, suc, _<_}
 use native.Mathlib.Omega.{arith}
-use lib.Dec.{eqb}
 use lib.ListN.{length}
-use Rattle.base.proofs.Bools.{true-T}
-use Rattle.base.specs.Out.{Out, done, bind, ensure, kept, Ok, went}
-use Rattle.base.proofs.Outs.{ok-bind, ok-weaken, ok-done, bind-is-done}
-use Rattle.base.proofs.Bools.{and-parts}
+use Rattle.base.specs.Out.{Out, done, bind, kept, Ok}
+use Rattle.base.specs.declared.Found.the-variants.{At}
+use Rattle.base.proofs.Outs.{ok-done}
+use Rattle.base.proofs.Bools.{true-T, and-parts}
 use Rattle.base.proofs.Numbers.{lt-or-le}
 use Rattle.structs.specs.Types.{isFolder}
 use Rattle.structs.specs.declared.DiskINode.{DiskINode}
 use Rattle.structs.specs.declared.DiskEntry.{DiskEntry}
-use Rattle.utf8.specs.Names.{nameOf, isNamed, isDots}
+use Rattle.utf8.specs.Names.{nameOf, isNamed}
 use Rattle.utf8.proofs.Names.{named-decides, asked-own}
 use Rattle.table.specs.declared.Table.{Table}
-use Rattle.table.specs.declared.Row.{Row}
 use Rattle.table.specs.declared.Handle.{Handle}
 use Rattle.table.specs.declared.Added.{Added}
-use Rattle.table.specs.Table.{rowAt, canHold, addHold}
-use Rattle.table_laws.specs.Rules.{Owner}
-use Rattle.table_laws.proofs.Handles.{live-means, add-live}
-use Rattle.sefs.specs.Nodes.{Opened}
+use Rattle.table.specs.Table.{rowAt, liveRow}
 use Rattle.sefs.specs.Slots.{Slot}
-use Rattle.sefs.specs.Ask.{admit, goodName, notLong, known, folder, start}
-use Rattle.sefs.specs.Open.{holdNode, callFind}
+use Rattle.sefs.specs.Ask.{start}
+use Rattle.sefs.specs.Open.{callFind}
+use Rattle.walk.specs.Walk.{Spot}
 use Rattle.rules.specs.Image.{isNode, recOf, isFolderAt, slotIn}
 use Rattle.rules.specs.Rules.{Allowed, Folder}
-use Rattle.sefs_laws.proofs.Rows.{Any, any}
-use Rattle.sefs_laws.proofs.Handles.{handle-asks}
 use Rattle.image.specs.Midway.{Used}
 use Rattle.image.proofs.Handles.{row-rec}
-use Rattle.image.proofs.Holds.{rows-at, add-rows}
 use Rattle.image.proofs.Lookups.{Hit}
 use Rattle.image.proofs.Hits.{row-hit}
-use Rattle.image.proofs.Takes.{get-law}
-use Rattle.image.proofs.Drops.{mid-rec}
 use Rattle.sequences.specs.Pairs.{Pair, pair, Passed}
 use Rattle.sequences.specs.Calls.{Call, find, does, next}
 use Rattle.sequences.specs.Promises.{On, Through, writes, resizes}
-use Rattle.sequences.proofs.Passing.{allowed, spelled-any, spelled-midway}
+use Rattle.sequences.proofs.Passing.{allowed}
 use Rattle.sequences.proofs.Corner.{on-used}
-use Rattle.sequences.proofs.Chains.{never}
+use Rattle.sequences.proofs.Chains.{part-done, alike-find, by-done, begins}
+use Rattle.sequences.proofs.Reading.{file-is}
 use Rattle.drawings.specs.Saved.{led}
-use Rattle.sequences.specs.TableFull.{findTo}
 use Rattle.drawings.specs.Rests.{Rested, NamedAt, NodeNamed, FoundAndKept}
-use Rattle.sequences.proofs.TableFull.{part-find}
 use Rattle.drawings.proofs.Rests.{one-more, along, node-named, saved-rests}
-
-ensured : (b : Bool) (n : ℕ) → ensure b n ≡ done tt → b ≡ true
-ensured true n e = refl
-ensured false n e = absurd (never (sym e))
 
 is-empty : (l : List ℕ) → length l ≡ 0 → l ≡ []
 is-empty [] e = refl
@@ -73,23 +59,6 @@ module _ (p : Pair) (y : Passed p) where
 
   A : Allowed (p .arena) (p .table)
   A = allowed p y
-
-  -- the hold that is given is on the node
-  hold-on : (w : ℕ) → Owner w → canHold (p .table) w ≡ true → (id : ℕ) → isNode (p .arena) id ≡ true
-      → Ok (λ (x : Added). On (x .table) w (x .handle) id (recOf (p .arena) (p .table) id .file)) Any (holdNode (start (p .arena) (p .table)) w id)
-  unfolding holdNode
-  hold-on w who can id n =
-      ok-bind (get-law {R = Any} a t (spelled-midway a t (spelled-any p y)) id n) λ o G.
-      subst (λ (z : Opened). Ok (λ (x : Added). On (x .table) w (x .handle) id (recOf a t id .file)) Any (done (addHold (z .state .table) w (z .row)))) (sym (G .is))
-      (let v : Table = addHold (G .table) w (G .row) .table in
-      let q : rowAt v (G .row) ≡ rowAt (G .table) (G .row) = rows-at (G .table) v (add-rows (G .table) w (G .row)) (G .row) in
-      went (record {
-        row = G .row;
-        live = live-means v w (addHold (G .table) w (G .row) .handle) (G .row) .1 (add-live (G .table) w (G .row) (G .mid .formed) who (G .can w ∙ can) (G .used .below));
-        node = ap (λ (r : Row). r .id) q ∙ G .same;
-        file = ap (λ (r : Row). r .rec .file) q
-            ∙ ap (λ (r : DiskINode). r .file) (sym (mid-rec a (G .table) (G .mid .formed) (G .row) (G .used)) ∙ ap (recOf a (G .table)) (G .same) ∙ G .recs id n);
-      }))
 
   module _ (d k n : ℕ) (name : List ℕ) (N : NamedAt d k n p) (named : nameOf (slotIn (p .arena) (recOf (p .arena) (p .table) d) k .name) ≡ name) where
     G : Folder (p .arena) (p .table) d
@@ -118,27 +87,32 @@ module _ (p : Pair) (y : Passed p) where
     unfolding isFolderAt
     dir = and-parts (isNode a d) (isFolder (recOf a t d .kind)) (N .folder) .1
 
-    module _ (v : ℕ) (g : Handle) (e : List ℕ) (o : On (p .table) v g d e) where
-      leads : Ok (λ (id : ℕ). (id ≡ n) × Owner v) Any (findTo (p .arena) (p .table) v g name)
-      unfolding findTo
-      leads =
-          ok-bind (any (admit a t)) λ _ _. ok-bind (handle-asks {R = Any} tt tt t v g) λ i w.
-          let q : i ≡ o .row = sym (live-means t v g i .0 (w .live) .names) ∙ live-means t v g (o .row) .0 (o .live) .names in
-          let u : Used t i = subst (Used t) (sym q) (on-used a t A v g d e o) in
-          let r : recOf a t d ≡ rowAt t i .rec = ap (recOf a t) (sym (ap (λ (j : ℕ). rowAt t j .id) q ∙ o .node)) ∙ row-rec a t A i u in
-          ok-bind (any (goodName name)) λ _ _. ok-bind (any (known (rowAt t i .rec))) λ _ _. ok-bind (any (folder (rowAt t i .rec))) λ _ _. ok-bind (any (notLong name)) λ _ _.
-          ok-bind (any (ensure (not (isDots name && eqb (rowAt t i .rec .nlinks) 0)) 8)) λ _ _.
-          ok-bind (ok-weaken (λ s H. hits s (subst (λ (x : DiskINode). Hit a x name s) (sym r) H)) (λ m z. tt) (row-hit a t A (y .typed .bytes) i u (ap (λ (x : DiskINode). isFolder (x .kind)) (sym r) ∙ dir) name)) λ s h.
-          went (h, w .owner)
+    -- the handle that the find gives is on the node
+    found-on : (v : ℕ) (g : Handle) (e : List ℕ) → On (p .table) v g d e → (x : Added) → callFind (p .arena) (p .table) v g name ≡ done x → On (x .table) v (x .handle) n (recOf (p .arena) (p .table) n .file)
+    unfolding NodeNamed
+    found-on v g e o x f =
+        let i : ℕ = o .row in
+        let u : Used t (o .row) = on-used a t A v g d e o in
+        let r : recOf a t d ≡ rowAt t (o .row) .rec = ap (recOf a t) (sym (o .node)) ∙ row-rec a t A i u in
+        let B = by-done a t v (alike-find a t v y t (begins a t v y) g i (o .live) name) x f in
+        let G = B .2 in
+        let S = part-done (start a t) (rowAt t i .rec) name (B .0) (B .1) in
+        let H = ok-done (subst (Ok (Hit a (rowAt t i .rec) name) _) (S .1) (row-hit a t A (y .typed .bytes) i u (ap (λ (z : DiskINode). isFolder (z .kind)) (sym r) ∙ dir) name)) in
+        let q : B .0 .id ≡ n = sym (S .2) ∙ hits (S .0) (subst (λ (z : DiskINode). Hit a z name (S .0)) (sym r) H) in
+        let w : rowAt (x .table) (G .row) .id ≡ n = ap (λ (z : Spot). z .id) (G .is) ∙ q in
+        let P = G .follows .passes in
+        record {
+          row = G .row;
+          live = G .live;
+          node = w;
+          file = sym (file-is (pair a (x .table)) P (row-on x (G .row) (G .live) w)) ∙ ap (λ (z : DiskINode). z .file) (G .follows .recs n node);
+        }
+      where
+        node : isNode (p .arena) n ≡ true
+        node = node-named p d k n y N
 
-      found-on : (x : Added) → callFind (p .arena) (p .table) v g name ≡ done x → On (x .table) v (x .handle) n (recOf (p .arena) (p .table) n .file)
-      unfolding NodeNamed
-      found-on x f =
-          let B = bind-is-done (findTo a t v g name) (λ id. bind (ensure (canHold t v) 16) (λ _. holdNode (start a t) v id)) x (sym (part-find a t v g name) ∙ f) in
-          let D = bind-is-done (ensure (canHold t v) 16) (λ _. holdNode (start a t) v (B .0)) x (B .2) in
-          let L = ok-done (subst (Ok (λ (id : ℕ). (id ≡ n) × Owner v) Any) (B .1) leads) in
-          let h : holdNode (start a t) v n ≡ done x = ap (holdNode (start a t) v) (sym (L .0)) ∙ D .2 in
-          ok-done (subst (Ok (λ (x : Added). On (x .table) v (x .handle) n (recOf a t n .file)) Any) h (hold-on v (L .1) (ensured (canHold t v) 16 (D .1)) n (node-named p d k n y N)))
+        row-on : (x : Added) (row : ℕ) → liveRow (x .table) v (x .handle) ≡ At row → rowAt (x .table) row .id ≡ n → On (x .table) v (x .handle) n (rowAt (x .table) row .rec .file)
+        row-on x row l q = record { row = row; live = l; node = q; file = refl }
 
 pub found-and-kept : FoundAndKept
 unfolding FoundAndKept NodeNamed does

@@ -22,7 +22,7 @@ use Rattle.sequences.proofs.Tracks.{tracks-rec}
 use Rattle.sequences.proofs.Bytes.{Intact, left}
 use Rattle.sequences.proofs.Reading.{node-is, file-is, read-no-folder}
 use Rattle.drawings.specs.Saved.{led, Saves}
-use Rattle.drawings.specs.Rests.{Drawing, SameNode, LeavesBe, Rests, Rested, RestsAlong, NodeNamed, NodeHeld, GoneOnly, ClosedAndKept}
+use Rattle.drawings.specs.Rests.{Drawing, SameNode, LeavesBe, Rests, Rested, RestsAlong, NodeNamed, NodeHeld, GoneOnly, ClosedAndKept, ReadRests}
 use Rattle.drawings.proofs.Saved.{same-reads, after-save, read-saved}
 
 -- ---- one call
@@ -110,6 +110,19 @@ gone-only p n y e = record { unnamed = λ d k N. true-false (node-named p d k n 
 
 -- ---- what she saved
 
+-- where the node has rested, a read through a handle on it gives what it gave
+rested-reads : (p r : Pair) {w v : ℕ} {h g : Handle} {n : ℕ} {f e : List ℕ} → Passed p → Rested n p r → On (p .table) w h n f → On (r .table) v g n e
+    → (at room : ℕ) → callRead (r .arena) (r .table) v g at room ≡ callRead (p .arena) (p .table) w h at room
+rested-reads p r {v = v} {g = g} {n = n} {f = f} {e = e} y R o u at room =
+    let S = R .same in
+    let F = file-is p y o in
+    let x : e ≡ f = sym (file-is r (R .passes) u) ∙ S .file ∙ F in
+    same-reads p r y (R .passes) o (subst (On (r .table) v g n) x u) (S .kind) (λ _. subst (λ (z : List ℕ). SameFile z (p .arena) (r .arena)) F (S .bytes)) at room
+
+pub read-rests : ReadRests
+unfolding ReadRests
+read-rests p l w v h g n f e at room y D o calls u = rested-reads p (led p l) y (along n p l y D calls) o u at room
+
 -- after her save, and through a handle on the node in any pair where it rests
 pub saved-rests : (p q r : Pair) (w v : ℕ) (h g : Handle) (n : ℕ) (f e : List ℕ) (place : ℕ) (bytes : List ℕ) → Passed p → Saves w h n f place bytes p q
     → (Passed q → Drawing n q → Rested n q r × On (r .table) v g n e) → callRead (r .arena) (r .table) v g place (length bytes) ≡ done bytes
@@ -117,11 +130,7 @@ saved-rests p q r w v h g n f e place bytes y S rest =
     let A = after-save p q w h n f place bytes y S in
     let c = read-saved p q w h n f place bytes y S in
     let R = rest (A .passes) (record { node = node-is q (A .passes) (A .on); no-folder = read-no-folder q (A .passes) (A .on) place (length bytes) bytes c }) in
-    let N = R .0 .same in
-    let F = file-is q (A .passes) (A .on) in
-    let x : e ≡ f = sym (file-is r (R .0 .passes) (R .1)) ∙ N .file ∙ F in
-    same-reads q r (A .passes) (R .0 .passes) (A .on) (subst (On (r .table) v g n) x (R .1)) (N .kind)
-    (λ _. subst (λ (z : List ℕ). SameFile z (q .arena) (r .arena)) F (N .bytes)) place (length bytes) ∙ c
+    rested-reads q r (A .passes) (R .0) (A .on) (R .1) place (length bytes) ∙ c
 
 pub closed-and-kept : ClosedAndKept
 unfolding ClosedAndKept

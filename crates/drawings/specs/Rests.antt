@@ -82,6 +82,12 @@ ClosedAndKept = (p q : Pair) (l : List Call) (w v : ℕ) (h g : Handle) (n : ℕ
     → Passed p → Saves w h n f place bytes p q → Along (LeavesBe n) q l → On (led q l .table) v g n e
     → callRead (led q l .arena) (led q l .table) v g place (length bytes) ≡ done bytes
 
+-- not only what she wrote: any read through such a handle gives what it gave by h before those calls
+unfoldable pub ReadRests : Type 0
+ReadRests = (p : Pair) (l : List Call) (w v : ℕ) (h g : Handle) (n : ℕ) (f e : List ℕ) (at room : ℕ)
+    → Passed p → Drawing n p → On (p .table) w h n f → Along (LeavesBe n) p l → On (led p l .table) v g n e
+    → callRead (led p l .arena) (led p l .table) v g at room ≡ callRead (p .arena) (p .table) w h at room
+
 -- and where slot k of a folder d still has the name for it, v, who has a handle g on that folder, finds it by name and reads it
 unfoldable pub FoundAndKept : Type 0
 FoundAndKept = (p q : Pair) (l : List Call) (w v : ℕ) (h g : Handle) (n d k : ℕ) (f e name : List ℕ) (place : ℕ) (bytes : List ℕ) (x : Added)
