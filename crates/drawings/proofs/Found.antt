@@ -47,7 +47,7 @@ use Rattle.sequences.proofs.Corner.{on-used}
 use Rattle.sequences.proofs.Chains.{never}
 use Rattle.drawings.specs.Saved.{led}
 use Rattle.sequences.specs.TableFull.{findTo}
-use Rattle.drawings.specs.Rests.{Rested, NamedAt, NodeNamed, FoundAndKept}
+use Rattle.drawings.specs.Rests.{Rested, Named, NodeNamed, FoundAndKept}
 use Rattle.sequences.proofs.TableFull.{part-find}
 use Rattle.drawings.proofs.Rests.{one-more, along, node-named, saved-rests}
 
@@ -91,32 +91,35 @@ module _ (p : Pair) (y : Passed p) where
             ∙ ap (λ (r : DiskINode). r .file) (sym (mid-rec a (G .table) (G .mid .formed) (G .row) (G .used)) ∙ ap (recOf a (G .table)) (G .same) ∙ G .recs id n);
       }))
 
-  module _ (d k n : ℕ) (name : List ℕ) (N : NamedAt d k n p) (named : nameOf (slotIn (p .arena) (recOf (p .arena) (p .table) d) k .name) ≡ name) where
+  module _ (d n : ℕ) (name : List ℕ) (N : Named d name n p) where
+    abbrev k : ℕ
+    k = N .slot
+
     G : Folder (p .arena) (p .table) d
-    G = A .rule6 .folder d (N .folder)
+    G = A .rule6 .folder d (N .at .folder)
 
     -- the slot with the name is that one
     one-slot : (m : ℕ) → m < recOf (p .arena) (p .table) d .blocks → nameOf (slotIn (p .arena) (recOf (p .arena) (p .table) d) m .name) ≡ name → m ≡ k
-    one-slot zero l e = absurd (G .later k (N .later) (N .inside) .no-dot (named ∙ sym e ∙ G .dot))
-    one-slot (suc zero) l e = absurd (G .later k (N .later) (N .inside) .no-dots (named ∙ sym e ∙ G .dots))
+    one-slot zero l e = absurd (G .later k (N .at .later) (N .at .inside) .no-dot (N .is ∙ sym e ∙ G .dot))
+    one-slot (suc zero) l e = absurd (G .later k (N .at .later) (N .at .inside) .no-dots (N .is ∙ sym e ∙ G .dots))
     one-slot (suc (suc m)) l e =
         ⊎-elim
-        (λ b. absurd (G .distinct (suc (suc m)) k (omega arith) b (N .inside) (e ∙ sym named)))
-        (λ b. ⊎-elim (λ c. absurd (G .distinct k (suc (suc m)) (N .later) c l (named ∙ sym e))) (λ c. omega arith) (lt-or-le k (suc (suc m))))
+        (λ b. absurd (G .distinct (suc (suc m)) k (omega arith) b (N .at .inside) (e ∙ sym (N .is))))
+        (λ b. ⊎-elim (λ c. absurd (G .distinct k (suc (suc m)) (N .at .later) c l (N .is ∙ sym e))) (λ c. omega arith) (lt-or-le k (suc (suc m))))
         (lt-or-le (suc (suc m)) k)
 
-    some : length name ≢ 0
-    some e = G .later k (N .later) (N .inside) .some (named ∙ is-empty name e)
+    pub some : length name ≢ 0
+    some e = G .later k (N .at .later) (N .at .inside) .some (N .is ∙ is-empty name e)
 
     hits : (s : Slot) → Hit (p .arena) (recOf (p .arena) (p .table) d) name s → s .entry .id ≡ n
     hits s H =
         let e : nameOf (slotIn a (recOf a t d) (s .place) .name) ≡ name =
         named-decides (slotIn a (recOf a t d) (s .place) .name) name .right (true-T (isNamed (slotIn a (recOf a t d) (s .place) .name) name) (H .named)) ∙ asked-own name some in
-        ap (λ (x : DiskEntry). x .id) (H .is) ∙ ap (λ (m : ℕ). slotIn a (recOf a t d) m .id) (one-slot (s .place) (H .inside) e) ∙ N .names
+        ap (λ (x : DiskEntry). x .id) (H .is) ∙ ap (λ (m : ℕ). slotIn a (recOf a t d) m .id) (one-slot (s .place) (H .inside) e) ∙ N .at .names
 
     dir : isFolder (recOf (p .arena) (p .table) d .kind) ≡ true
     unfolding isFolderAt
-    dir = and-parts (isNode a d) (isFolder (recOf a t d .kind)) (N .folder) .1
+    dir = and-parts (isNode a d) (isFolder (recOf a t d .kind)) (N .at .folder) .1
 
     module _ (v : ℕ) (g : Handle) (e : List ℕ) (o : On (p .table) v g d e) where
       leads : Ok (λ (id : ℕ). (id ≡ n) × Owner v) Any (findTo (p .arena) (p .table) v g name)
@@ -138,11 +141,11 @@ module _ (p : Pair) (y : Passed p) where
           let D = bind-is-done (ensure (canHold t v) 16) (λ _. holdNode (start a t) v (B .0)) x (B .2) in
           let L = ok-done (subst (Ok (λ (id : ℕ). (id ≡ n) × Owner v) Any) (B .1) leads) in
           let h : holdNode (start a t) v n ≡ done x = ap (holdNode (start a t) v) (sym (L .0)) ∙ D .2 in
-          ok-done (subst (Ok (λ (x : Added). On (x .table) v (x .handle) n (recOf a t n .file)) Any) h (hold-on v (L .1) (ensured (canHold t v) 16 (D .1)) n (node-named p d k n y N)))
+          ok-done (subst (Ok (λ (x : Added). On (x .table) v (x .handle) n (recOf a t n .file)) Any) h (hold-on v (L .1) (ensured (canHold t v) 16 (D .1)) n (node-named p d k n y (N .at))))
 
 pub found-and-kept : FoundAndKept
 unfolding FoundAndKept NodeNamed does
-found-and-kept p q l w v h g n d k f e name place bytes x y S calls u N named fv found =
+found-and-kept p q l w v h g n d f e name place bytes x y S calls u N fv found =
     let E : does (find v g name) (led q l) ≡ done (pair (led q l .arena) (x .table)) = ap (λ (z : Out Added). bind z (λ x. done (pair (led q l .arena) (x .table)))) found in
     let M : next (find v g name) (led q l) ≡ pair (led q l .arena) (x .table) = ap (kept (led q l)) E in
     saved-rests p q (pair (led q l .arena) (x .table)) w v h (x .handle) n f (recOf (led q l .arena) (led q l .table) n .file) place bytes y S (λ z D.
@@ -152,5 +155,5 @@ found-and-kept p q l w v h g n d k f e name place bytes x y S calls u N named fv
         not-written = λ c. absurd (no-through c refl);
         stays-node = subst (λ (m : Pair). isNode (m .arena) n ≡ true) (sym M) (R .drawing .node);
       })),
-      found-on (led q l) (R .passes) d k n name N named v g e u x found,
+      found-on (led q l) (R .passes) d n name N v g e u x found,
     ))
