@@ -38,7 +38,7 @@ use Rattle.sequences.proofs.Corner.{on-used}
 use Rattle.sequences.proofs.Chains.{part-done, alike-find, by-done, begins}
 use Rattle.sequences.proofs.Reading.{file-is}
 use Rattle.drawings.specs.Saved.{led}
-use Rattle.drawings.specs.Rests.{Rested, NamedAt, NodeNamed, FoundAndKept}
+use Rattle.drawings.specs.Rests.{Rested, Named, NodeNamed, FoundAndKept}
 use Rattle.drawings.proofs.Rests.{one-more, along, node-named, saved-rests}
 
 is-empty : (l : List ℕ) → length l ≡ 0 → l ≡ []
@@ -60,32 +60,35 @@ module _ (p : Pair) (y : Passed p) where
   A : Allowed (p .arena) (p .table)
   A = allowed p y
 
-  module _ (d k n : ℕ) (name : List ℕ) (N : NamedAt d k n p) (named : nameOf (slotIn (p .arena) (recOf (p .arena) (p .table) d) k .name) ≡ name) where
+  module _ (d n : ℕ) (name : List ℕ) (N : Named d name n p) where
+    abbrev k : ℕ
+    k = N .slot
+
     G : Folder (p .arena) (p .table) d
-    G = A .rule6 .folder d (N .folder)
+    G = A .rule6 .folder d (N .at .folder)
 
     -- the slot with the name is that one
     one-slot : (m : ℕ) → m < recOf (p .arena) (p .table) d .blocks → nameOf (slotIn (p .arena) (recOf (p .arena) (p .table) d) m .name) ≡ name → m ≡ k
-    one-slot zero l e = absurd (G .later k (N .later) (N .inside) .no-dot (named ∙ sym e ∙ G .dot))
-    one-slot (suc zero) l e = absurd (G .later k (N .later) (N .inside) .no-dots (named ∙ sym e ∙ G .dots))
+    one-slot zero l e = absurd (G .later k (N .at .later) (N .at .inside) .no-dot (N .is ∙ sym e ∙ G .dot))
+    one-slot (suc zero) l e = absurd (G .later k (N .at .later) (N .at .inside) .no-dots (N .is ∙ sym e ∙ G .dots))
     one-slot (suc (suc m)) l e =
         ⊎-elim
-        (λ b. absurd (G .distinct (suc (suc m)) k (omega arith) b (N .inside) (e ∙ sym named)))
-        (λ b. ⊎-elim (λ c. absurd (G .distinct k (suc (suc m)) (N .later) c l (named ∙ sym e))) (λ c. omega arith) (lt-or-le k (suc (suc m))))
+        (λ b. absurd (G .distinct (suc (suc m)) k (omega arith) b (N .at .inside) (e ∙ sym (N .is))))
+        (λ b. ⊎-elim (λ c. absurd (G .distinct k (suc (suc m)) (N .at .later) c l (N .is ∙ sym e))) (λ c. omega arith) (lt-or-le k (suc (suc m))))
         (lt-or-le (suc (suc m)) k)
 
-    some : length name ≢ 0
-    some e = G .later k (N .later) (N .inside) .some (named ∙ is-empty name e)
+    pub some : length name ≢ 0
+    some e = G .later k (N .at .later) (N .at .inside) .some (N .is ∙ is-empty name e)
 
     hits : (s : Slot) → Hit (p .arena) (recOf (p .arena) (p .table) d) name s → s .entry .id ≡ n
     hits s H =
         let e : nameOf (slotIn a (recOf a t d) (s .place) .name) ≡ name =
         named-decides (slotIn a (recOf a t d) (s .place) .name) name .right (true-T (isNamed (slotIn a (recOf a t d) (s .place) .name) name) (H .named)) ∙ asked-own name some in
-        ap (λ (x : DiskEntry). x .id) (H .is) ∙ ap (λ (m : ℕ). slotIn a (recOf a t d) m .id) (one-slot (s .place) (H .inside) e) ∙ N .names
+        ap (λ (x : DiskEntry). x .id) (H .is) ∙ ap (λ (m : ℕ). slotIn a (recOf a t d) m .id) (one-slot (s .place) (H .inside) e) ∙ N .at .names
 
     dir : isFolder (recOf (p .arena) (p .table) d .kind) ≡ true
     unfolding isFolderAt
-    dir = and-parts (isNode a d) (isFolder (recOf a t d .kind)) (N .folder) .1
+    dir = and-parts (isNode a d) (isFolder (recOf a t d .kind)) (N .at .folder) .1
 
     -- the handle that the find gives is on the node
     found-on : (v : ℕ) (g : Handle) (e : List ℕ) → On (p .table) v g d e → (x : Added) → callFind (p .arena) (p .table) v g name ≡ done x → On (x .table) v (x .handle) n (recOf (p .arena) (p .table) n .file)
@@ -109,14 +112,14 @@ module _ (p : Pair) (y : Passed p) where
         }
       where
         node : isNode (p .arena) n ≡ true
-        node = node-named p d k n y N
+        node = node-named p d k n y (N .at)
 
         row-on : (x : Added) (row : ℕ) → liveRow (x .table) v (x .handle) ≡ At row → rowAt (x .table) row .id ≡ n → On (x .table) v (x .handle) n (rowAt (x .table) row .rec .file)
         row-on x row l q = record { row = row; live = l; node = q; file = refl }
 
 pub found-and-kept : FoundAndKept
 unfolding FoundAndKept NodeNamed does
-found-and-kept p q l w v h g n d k f e name place bytes x y S calls u N named fv found =
+found-and-kept p q l w v h g n d f e name place bytes x y S calls u N fv found =
     let E : does (find v g name) (led q l) ≡ done (pair (led q l .arena) (x .table)) = ap (λ (z : Out Added). bind z (λ x. done (pair (led q l .arena) (x .table)))) found in
     let M : next (find v g name) (led q l) ≡ pair (led q l .arena) (x .table) = ap (kept (led q l)) E in
     saved-rests p q (pair (led q l .arena) (x .table)) w v h (x .handle) n f (recOf (led q l .arena) (led q l .table) n .file) place bytes y S (λ z D.
@@ -126,5 +129,5 @@ found-and-kept p q l w v h g n d k f e name place bytes x y S calls u N named fv
         not-written = λ c. absurd (no-through c refl);
         stays-node = subst (λ (m : Pair). isNode (m .arena) n ≡ true) (sym M) (R .drawing .node);
       })),
-      found-on (led q l) (R .passes) d k n name N named v g e u x found,
+      found-on (led q l) (R .passes) d n name N v g e u x found,
     ))

@@ -59,6 +59,12 @@ pub record NamedAt (d k n : ℕ) (p : Pair) : Type 0 where
   pub inside : k < recOf (p .arena) (p .table) d .blocks
   pub names : slotIn (p .arena) (recOf (p .arena) (p .table) d) k .id ≡ n
 
+-- folder d has this name for node n
+pub record Named (d : ℕ) (name : List ℕ) (n : ℕ) (p : Pair) : Type 0 where
+  pub slot : ℕ
+  pub at : NamedAt d slot n p
+  pub is : nameOf (slotIn (p .arena) (recOf (p .arena) (p .table) d) slot .name) ≡ name
+
 unfoldable pub NodeNamed : Type 0
 NodeNamed = (p : Pair) (d k n : ℕ) → Passed p → NamedAt d k n p → isNode (p .arena) n ≡ true
 
@@ -88,10 +94,9 @@ ReadRests = (p : Pair) (l : List Call) (w v : ℕ) (h g : Handle) (n : ℕ) (f e
     → Passed p → Drawing n p → On (p .table) w h n f → Along (LeavesBe n) p l → On (led p l .table) v g n e
     → callRead (led p l .arena) (led p l .table) v g at room ≡ callRead (p .arena) (p .table) w h at room
 
--- and where slot k of a folder d still has the name for it, v, who has a handle g on that folder, finds it by name and reads it
+-- and where a folder d still has a name for it, v, who has a handle g on that folder, finds it by name and reads it
 unfoldable pub FoundAndKept : Type 0
-FoundAndKept = (p q : Pair) (l : List Call) (w v : ℕ) (h g : Handle) (n d k : ℕ) (f e name : List ℕ) (place : ℕ) (bytes : List ℕ) (x : Added)
+FoundAndKept = (p q : Pair) (l : List Call) (w v : ℕ) (h g : Handle) (n d : ℕ) (f e name : List ℕ) (place : ℕ) (bytes : List ℕ) (x : Added)
     → Passed p → Saves w h n f place bytes p q → Along (LeavesBe n) q l → On (led q l .table) v g d e
-    → NamedAt d k n (led q l) → nameOf (slotIn (led q l .arena) (recOf (led q l .arena) (led q l .table) d) k .name) ≡ name
-    → Fits (find v g name) → callFind (led q l .arena) (led q l .table) v g name ≡ done x
+    → Named d name n (led q l) → Fits (find v g name) → callFind (led q l .arena) (led q l .table) v g name ≡ done x
     → callRead (led q l .arena) (x .table) v (x .handle) place (length bytes) ≡ done bytes

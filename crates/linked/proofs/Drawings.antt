@@ -25,8 +25,8 @@ use Rattle.sequences.specs.Reasons.{OldOpen}
 use Rattle.sequences.proofs.TableFull.{full-exactly}
 use Rattle.sequences.proofs.OpenCall.{old-open}
 use Rattle.drawings.specs.Saved.{led, Saves, Elsewhere, Saved, LaidOver, ResizedTo}
-use Rattle.drawings.specs.Rests.{LeavesBe, RestsAlong, Rested, ClosedAndKept}
-use Rattle.drawings.specs.Names.{Named, LeavesName, LeavesBoth, NamesStay, FoundByName}
+use Rattle.drawings.specs.Rests.{LeavesBe, RestsAlong, Rested, ClosedAndKept, Named}
+use Rattle.drawings.specs.Names.{LeavesName, LeavesBoth, NamesStay, FoundByName}
 use Rattle.drawings.proofs.Saved.{saved, laid-over, resized-to}
 use Rattle.drawings.proofs.Rests.{rests-along, closed-and-kept}
 use Rattle.drawings.proofs.Names.{names-stay, found-by-name}

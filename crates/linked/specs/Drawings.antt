@@ -18,8 +18,8 @@ use Rattle.sequences.specs.Calls.{Call, find, read, write, resize, Fits, asker}
 use Rattle.sequences.specs.Promises.{Along, On}
 use Rattle.sequences.specs.TableFull.{ReachesCheck, NoPlace}
 use Rattle.drawings.specs.Saved.{Elsewhere, ReadsAll, filledTo}
-use Rattle.drawings.specs.Rests.{Drawing, LeavesBe, Rested}
-use Rattle.drawings.specs.Names.{Named, LeavesName, LeavesBoth}
+use Rattle.drawings.specs.Rests.{Drawing, LeavesBe, Rested, Named}
+use Rattle.drawings.specs.Names.{LeavesName, LeavesBoth}
 use Rattle.linked.specs.Images.{_&_, Slice, Image, pairOf, Places}
 use Rattle.linked.specs.Tested.{Ran}
 use Rattle.linked.specs.Linked.{Functions, Runs}

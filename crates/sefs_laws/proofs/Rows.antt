@@ -29,6 +29,7 @@ use Rattle.arena.specs.Fields.{File, file}
 use Rattle.files.specs.Read.{there, lengthOf, byteAt, readFile}
 use Rattle.files.specs.Store.{putFile, cutFile, makeFile}
 use Rattle.files_laws.specs.Laws.{Kept, Put, Drop}
+use Rattle.files_laws.proofs.Parts.{file-cases}
 use Rattle.files_laws.proofs.Put.{put-law}
 use Rattle.files_laws.proofs.Cut.{cut-law}
 use Rattle.files_laws.proofs.Drop.{drop-law}
@@ -167,14 +168,40 @@ module _ (P : Table → Type 0) where
     drops = λ a b t g d h. h;
   }
 
--- ---- stores
-
-put-any : (a : List ℕ) (f : File) (pos : ℕ) (src : List ℕ) → Ok (Put a f pos src) Any (putFile a f pos src)
-put-any a f pos src = ok-weaken (λ b p. p) (λ n r. tt) (put-law a f pos src)
+-- ---- what is said of a node's file, where it is there
 
 -- the metadata file is no node's
 meta-apart : (g : List ℕ) → metaFile ≢ file 1 g
 meta-apart g e = let z : _≡_ {A = ℕ} 0 1 = ap (λ (x : File). x .which) e in omega arith
+
+module _ (f : List ℕ) (Q : List ℕ → Type 0) (same : (a b : List ℕ) → Kept a b (file 1 f) → Q a → Q b) where
+  abbrev Filed : List ℕ → Type 0
+  Filed a = there a (file 1 f) ≡ true → Q a
+
+  pub filed-kept : (a b : List ℕ) → Kept a b (file 1 f) → (there a (file 1 f) ≡ true → Q a) → there b (file 1 f) ≡ true → Q b
+  filed-kept a b k h e = same a b k (h (sym (k .exists) ∙ e))
+
+  filed-drop : (a b g : List ℕ) → Drop a (file 1 g) b → Filed a → Filed b
+  filed-drop a b g d h =
+      ⊎-elim
+      (λ (q : file 1 g ≡ file 1 f). λ e. absurd (true-false e (subst (λ (x : File). there b x ≡ false) q (d .gone))))
+      (λ n. filed-kept a b (d .others (file 1 f) n) h)
+      (file-cases (file 1 g) (file 1 f))
+
+  pub filed : Bears (λ a t. there a (file 1 f) ≡ true → Q a)
+  filed = record {
+    changes = λ a t i r e q d m y h. h;
+    loads = λ a t i id free new h. h;
+    frees = λ a t i unused clean h. h;
+    stores = λ a b t i l p. filed-kept a b (p .others (file 1 f) (meta-apart f));
+    metas = λ a b t k q. filed-kept a b (k f);
+    drops = λ a b t g d. filed-drop a b g d;
+  }
+
+-- ---- stores
+
+put-any : (a : List ℕ) (f : File) (pos : ℕ) (src : List ℕ) → Ok (Put a f pos src) Any (putFile a f pos src)
+put-any a f pos src = ok-weaken (λ b p. p) (λ n r. tt) (put-law a f pos src)
 
 -- a store in another block leaves a record
 put-apart : (a b : List ℕ) (pos : ℕ) (src : List ℕ) → Put a metaFile pos src b → (m : ℕ) → ((i : ℕ) → i < 112 → pos ≤ 128 * m + i → pos + length src ≤ 128 * m + i) → storedBytes b m ≡ storedBytes a m
@@ -359,7 +386,7 @@ module _ (P : List ℕ → Table → Type 0) (i : ℕ) (fills : Fills P i) where
 -- ---- rows that change
 
 module _ (P : List ℕ → Table → Type 0) (change : Changes P) where
-  leaves-inc : (s : Fs) (i : ℕ) → P (s .arena) (s .table) → Leaves P (nlinksInc s i)
+  pub leaves-inc : (s : Fs) (i : ℕ) → P (s .arena) (s .table) → Leaves P (nlinksInc s i)
   unfolding nlinksInc
   leaves-inc s i h = any-guard (ltb (recAt s i .nlinks) 65535) 15 (λ _. went (change (s .arena) (s .table) i _ refl refl refl refl refl h))
 
@@ -380,7 +407,7 @@ module _ (P : List ℕ → Table → Type 0) (change : Changes P) where
   unfolding moveDots
   leaves-dots s i j h = ok-bind (leaves-dec s i h) λ u k. leaves-inc u j k
 
-  leaves-links : (s : Fs) (i j c : ℕ) → P (s .arena) (s .table) → Leaves P (moveLinks s i j c)
+  pub leaves-links : (s : Fs) (i j c : ℕ) → P (s .arena) (s .table) → Leaves P (moveLinks s i j c)
   unfolding moveLinks
   leaves-links s i j c h =
       ok-bind (says-ensure (leb (recAt s c .kind) 4) 19 tt) λ _ _. any-pick (isFolder (recAt s c .kind)) (moveDots s i j) (done s) (λ _. leaves-dots s i j h) (λ _. went h)
@@ -440,13 +467,16 @@ module _ (P : List ℕ → Table → Type 0) (K : Bears P) where
   unfolding release
   leaves-release s i h = any-pick (rowUsed (s .table) i) (done s) (dropNode s i) (λ _. went h) (λ e. leaves-drop s i e h)
 
-  leaves-node-remove : (s : Fs) (i : ℕ) → Fills P i → (c k : ℕ) → P (s .arena) (s .table) → Leaves P (direntNodeRemove s i c k)
-  unfolding direntNodeRemove
-  leaves-node-remove s i fills c k h =
-      ok-bind (leaves-remove P i fills (K .changes) s k h) λ u g.
-      ok-bind (leaves-dec P (K .changes) u c g) λ v l.
+  -- once its slot is gone: links fall, and the node is let go
+  pub leaves-unlinked : (s : Fs) (i c : ℕ) → P (s .arena) (s .table) → Leaves P (bind (nlinksDec s c) (λ s. bind (pick (isFolder (recAt s c .kind)) (unlinkFolder s i c) (done s)) (λ s. release s c)))
+  leaves-unlinked s i c h =
+      ok-bind (leaves-dec P (K .changes) s c h) λ v l.
       ok-bind {P = λ (w : Fs). P (w .arena) (w .table)} (any-pick (isFolder (recAt v c .kind)) (unlinkFolder v i c) (done v) (λ _. leaves-unlink-folder P (K .changes) v i c l) (λ _. went l)) λ w m.
       leaves-release w c m
+
+  leaves-node-remove : (s : Fs) (i : ℕ) → Fills P i → (c k : ℕ) → P (s .arena) (s .table) → Leaves P (direntNodeRemove s i c k)
+  unfolding direntNodeRemove
+  leaves-node-remove s i fills c k h = ok-bind (leaves-remove P i fills (K .changes) s k h) λ u g. leaves-unlinked u i c g
 
   pub leaves-steps : (s : Fs) (i : ℕ) → Fills P i → (c k : ℕ) → P (s .arena) (s .table) → LeavesAfter P (removeSteps s i c k)
   unfolding removeSteps

@@ -76,13 +76,13 @@ pub record Intact (p : Pair) (f a : List ℕ) (t : Table) : Type 0 where
   pub tracks : (m : ℕ) → isNode (p .arena) m ≡ true → Tracks m (recOf (p .arena) (p .table) m .kind) (recOf (p .arena) (p .table) m .file) a t
 
 -- row i of table t is in use, a live hold names it, and its file is that of row i in table v
-record Firm (v t : Table) (i : ℕ) : Type 0 where
-  used : rowUsed t i ≡ true
-  some : rowAt t i .id ≢ 0
-  same : rowAt t i .rec .file ≡ rowAt v i .rec .file
+pub record Firm (v t : Table) (i : ℕ) : Type 0 where
+  pub used : rowUsed t i ≡ true
+  pub some : rowAt t i .id ≢ 0
+  pub same : rowAt t i .rec .file ≡ rowAt v i .rec .file
 
 -- rows with handles are firm since table v
-abbrev FirmSince : Table → Table → Type 0
+abbrev pub FirmSince : Table → Table → Type 0
 FirmSince v t = (i : ℕ) → Firm v v i → Firm v t i
 
 module _ (v : Table) where
@@ -95,7 +95,7 @@ module _ (v : Table) where
   }
 
   -- a firm row is not free, and not unheld
-  firm-bears : Bears (λ a t. FirmSince v t)
+  pub firm-bears : Bears (λ a t. FirmSince v t)
   firm-bears = tabled (FirmSince v)
       (λ t i r e q d. firm-put t i r (λ j x z. (λ w. x .some (ap (λ (k : ℕ). rowAt t k .id) z ∙ sym e ∙ w), q ∙ ap (λ (k : ℕ). rowAt t k .rec .file) (sym z))))
       (λ t i r e. firm-put t i r (λ j x z. absurd (x .some (ap (λ (k : ℕ). rowAt t k .id) z ∙ e))))
@@ -177,10 +177,10 @@ module _ (p : Pair) (y : Passed p) where
   track m N = tracks-bears m (K m) (F m) (some-of m N) (node-apart a m N) (omega (arith, A .rule5 .most m N))
 
   module _ (f : List ℕ) where
-    intact-start : Intact p f (p .arena) (p .table)
+    pub intact-start : Intact p f (p .arena) (p .table)
     intact-start = record { stays = λ e. kept-same a (file 1 f); tracks = tracks-start }
 
-    intact-bears : Bears (Intact p f)
+    pub intact-bears : Bears (Intact p f)
     intact-bears = let S = stays-bears a f in record {
       changes = λ b u i r e q d m w c. record { stays = c .stays; tracks = λ x N. track x N .changes b u i r e q d m w (c .tracks x N) };
       loads = λ b u i id free new c. record { stays = c .stays; tracks = λ x N. track x N .loads b u i id free new (c .tracks x N) };
@@ -191,21 +191,21 @@ module _ (p : Pair) (y : Passed p) where
     }
 
     -- the rows alone count
-    intact-rows : (b : List ℕ) (u v : Table) → v .rows ≡ u .rows → Intact p f b u → Intact p f b v
+    pub intact-rows : (b : List ℕ) (u v : Table) → v .rows ≡ u .rows → Intact p f b u → Intact p f b v
     intact-rows b u v e c = record { stays = c .stays; tracks = λ x N. tracks-rows x (K x) (F x) b u v e (c .tracks x N) }
 
-    intact-adds : (b : List ℕ) (u : Table) (w row : ℕ) → Intact p f b u → Intact p f b (addHold u w row .table)
+    pub intact-adds : (b : List ℕ) (u : Table) (w row : ℕ) → Intact p f b u → Intact p f b (addHold u w row .table)
     intact-adds b u w row = intact-rows b u (addHold u w row .table) (add-rows u w row)
 
     -- a file that is not f is filled
-    intact-fill : (i : ℕ) (b d : List ℕ) (u : Table) → rowAt u i .rec .file ≢ f → ((g : File) → nodeFile (rowAt u i .rec) ≢ g → Kept b d g) → Intact p f b u → Intact p f d u
+    pub intact-fill : (i : ℕ) (b d : List ℕ) (u : Table) → rowAt u i .rec .file ≢ f → ((g : File) → nodeFile (rowAt u i .rec) ≢ g → Kept b d g) → Intact p f b u → Intact p f d u
     intact-fill i b d u n k c = record {
       stays = stays-kept a f b d (k (file 1 f) (file-apart (rowAt u i .rec .file) f n)) (c .stays);
       tracks = λ x N. tracks-fills x (K x) (F x) (some-of x N) (node-apart a x N) (omega (arith, A .rule5 .most x N)) i b d u k (c .tracks x N);
     }
 
     -- and the rows that have handles
-    abbrev Calm : List ℕ → Table → Type 0
+    abbrev pub Calm : List ℕ → Table → Type 0
     Calm b u = Intact p f b u × FirmSince (p .table) u
 
     calm-start : Calm (p .arena) (p .table)
@@ -218,7 +218,7 @@ module _ (p : Pair) (y : Passed p) where
     calm-fills i h n b d u k c = (intact-fill i b d u (λ q. n (sym (c .1 i h .same) ∙ q)) k (c .0), c .1)
 
     -- a row for a new node, at the start
-    calm-new : (b : List ℕ) (i : ℕ) (r : Row) → rowAt (p .table) i .id ≡ 0 → isNode (p .arena) (r .id) ≡ false → Wide r → Kept (p .arena) b (file 1 f)
+    pub calm-new : (b : List ℕ) (i : ℕ) (r : Row) → rowAt (p .table) i .id ≡ 0 → isNode (p .arena) (r .id) ≡ false → Wide r → Kept (p .arena) b (file 1 f)
         → ((m : ℕ) → isNode (p .arena) m ≡ true → storedBytes b m ≡ storedBytes (p .arena) m) → Calm b (withRow (p .table) i r)
     calm-new b i r free new wide kept same = (
       record {
@@ -230,10 +230,10 @@ module _ (p : Pair) (y : Passed p) where
 
   -- ---- the rows of live handles
 
-  live-row : (w : ℕ) (g : Handle) (i : ℕ) → Live (p .table) w g i → Used (p .table) i
+  pub live-row : (w : ℕ) (g : Handle) (i : ℕ) → Live (p .table) w g i → Used (p .table) i
   live-row w g i l = record { below = l .is-row; node = live-used t w g i (formed a t A) l }
 
-  live-firm : (w : ℕ) (g : Handle) (i : ℕ) → Live (p .table) w g i → Firm (p .table) (p .table) i
+  pub live-firm : (w : ℕ) (g : Handle) (i : ℕ) → Live (p .table) w g i → Firm (p .table) (p .table) i
   live-firm w g i l = record {
     used = of-holder t i (record { hold = g .hold; is-hold = l .is-hold; live = λ z. l .given (sym (l .stamp) ∙ z); names = l .names });
     some = live-row w g i l .node;

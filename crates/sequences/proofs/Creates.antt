@@ -67,7 +67,7 @@ use Rattle.image.proofs.Births.{bred-fair}
 use Rattle.image.proofs.Breeds.{Stage, Bare, Settled, named-law, birth-law, slot-law}
 
 -- superblock and maps of a fair image
-fair-sane : {style : Spelling} (a : List ℕ) (t : Table) → Fair style a t → Bytes a → Sane (storedMeta a)
+pub fair-sane : {style : Spelling} (a : List ℕ) (t : Table) → Fair style a t → Bytes a → Sane (storedMeta a)
 unfolding storedMaps
 fair-sane a t A b = record {
   magic = A .rule3 .magic;

@@ -60,7 +60,7 @@ use Rattle.table_laws.specs.Rules as rows
 use Rattle.rules.specs.Image as image
 
 -- an outcome, with what it is
-ok-own : {A : Type 0} {Q : A → Type 0} {R : ℕ → Type 0} {m : Out A} → Ok Q R m → Ok (λ x. Q x × (m ≡ done x)) R m
+pub ok-own : {A : Type 0} {Q : A → Type 0} {R : ℕ → Type 0} {m : Out A} → Ok Q R m → Ok (λ x. Q x × (m ≡ done x)) R m
 ok-own (went q) = went (q, refl)
 ok-own (said r) = said r
 

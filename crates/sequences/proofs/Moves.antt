@@ -45,11 +45,11 @@ use Rattle.image.proofs.Moving.{LiveFolder}
 use Rattle.sequences.proofs.MoveSteps.{none-law, node-law}
 
 -- what a lookup tells
-data Looked (a : List ℕ) (r : DiskINode) (name : List ℕ) : Found → Type 0 where
+pub data Looked (a : List ℕ) (r : DiskINode) (name : List ℕ) : Found → Type 0 where
   here : (k : ℕ) → k < r .blocks → isNamed (slotIn a r k .name) name ≡ true → Looked a r name (At k)
   new : NewName a r name → Looked a r name Nothing
 
-look-law : (a : List ℕ) (t : Table) (A : Allowed a t) → Bytes a → (j : ℕ) → Used t j → isFolder (rowAt t j .rec .kind) ≡ true → (name : List ℕ) → NewGood name → length name ≤ 255
+pub look-law : (a : List ℕ) (t : Table) (A : Allowed a t) → Bytes a → (j : ℕ) → Used t j → isFolder (rowAt t j .rec .kind) ≡ true → (name : List ℕ) → NewGood name → length name ≤ 255
     → Ok (Looked a (rowAt t j .rec) name) Clear (lookup a (rowAt t j .rec) name)
 look-law a t A b j u f name g s =
     subst (λ (r : DiskINode). Ok (Looked a r name) Clear (lookup a r name)) (row-rec a t A j u)
