@@ -275,8 +275,8 @@ uint32_t dz_list(const uint8_t *arena, size_t arena_len, const uint8_t *table, s
  * - Nobody else writes arena, chains and table: since the check passed (dz_check gave 0), or since dz_format was done, only calls of this section did.
  * - No dz_format and no dz_open came in between. (After dz_open, dz_check and dz_own_chains make one again; after a dz_format that is done
  *   dz_own_chains alone does.)
- * Who keeps that may always make the next call (theorem `keeps`, docs/PROOFS.md). A call whose promise is broken may do anything: use the calls above
- * for an arena from elsewhere. */
+ * Who keeps that may always make the next call (theorems FormatFresh, CheckTrusts, ChainsOwn and OwnKeeps, crates/linked). A call whose promise
+ * is broken may do anything: use the calls above for an arena from elsewhere. The chains are no result: a call that is refused may make them anew. */
 
 #define DZ_CHAINS 8192
 

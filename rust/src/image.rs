@@ -17,7 +17,7 @@ use crate::{Counts, Editor, FailedRule, FileName, Owner, Reason, Time, Unfit, BL
 /// # Tested once, or in each call
 ///
 /// An image that was just [formatted](Image::format) passes the checker, and so does one that was [checked](Image::checked). Only the calls here write it,
-/// and these leave an image that passes again: that is proved (`fresh` and `keeps`, docs/PROOFS.md). So its calls leave the test of the whole image out,
+/// and these leave an image that passes again: that is proved (`FormatFresh`, `CheckTrusts` and `OwnKeeps`, crate `linked`). So its calls leave the test of the whole image out,
 /// which is nearly all of their time, and give none of the reasons that it could find ([`is_trusted`](Image::is_trusted)). With any other image each call
 /// makes that test first. An image that is [reopened](Image::reopen) becomes such a one; [`trust`](Image::trust) asks the checker again.
 ///

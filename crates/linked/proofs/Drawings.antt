@@ -78,6 +78,7 @@ module _ {R : Functions} where
   -- the last run, and where those before it have led
   last : {s v z : Image} {l : List Call} {c : Call} {x y : Places} {n : ℕ} (m : Runs R s l v) (F : Fits c) (r : R c v x z y n) (k : n ≢ 255)
       → AlongRuns (λ c q. Unit) (append m F r k) → Goes (λ c q. Unit) c v x z y n × (pairOf v ≡ led (pairOf s) l)
+  unfolding append
   last none F r k A = (A .0, refl)
   last (ran {l = l} f q a m) F r k A = let e = last m F r k (A .1) in (e .0, e .1 ∙ ap (λ (p : Pair). led p l) (A .0 .left))
   last {l = l} (wrong q m) F r k A = let e = last m F r k (A .2) in (e .0, e .1 ∙ ap (λ (p : Pair). led p l) (same-pair (A .0)))
@@ -116,11 +117,11 @@ module _ {R : Functions} {I : Image → Type 0} (T : Transports R I) (trusted : 
       let G = ends i none F r not-255 .0 in
       (zero-done c (pairOf s) (G .number) ∙ ap done (sym (G .left)), G .left)
 
-  saves : {s u : Image} {w : ℕ} {h : Handle} {n : ℕ} {f : List ℕ} {place : ℕ} {bytes : List ℕ} → I s → SavesRun R I w h n f place bytes s u → Saves w h n f place bytes (pairOf s) (pairOf u)
+  saves : {s u : Image} {w : ℕ} {h : Handle} {n : ℕ} {f : List ℕ} {place : ℕ} {bytes : List ℕ} → I s → SavesRun R w h n f place bytes s u → Saves w h n f place bytes (pairOf s) (pairOf u)
   saves i S = record { on = S .on; fits = S .fits; leads = went i (S .fits) (S .answers) .0 }
 
   -- where the runs after a save lead
-  from-saved : {s u : Image} {w : ℕ} {h : Handle} {n : ℕ} {f : List ℕ} {place : ℕ} {bytes : List ℕ} → I s → (S : SavesRun R I w h n f place bytes s u) (p : Pair) (l : List Call)
+  from-saved : {s u : Image} {w : ℕ} {h : Handle} {n : ℕ} {f : List ℕ} {place : ℕ} {bytes : List ℕ} → I s → (S : SavesRun R w h n f place bytes s u) (p : Pair) (l : List Call)
       → p ≡ led (pairOf s) (write w h place bytes ∷ l) → p ≡ led (pairOf u) l
   from-saved i S p l e = e ∙ ap (λ (q : Pair). led q l) (sym (went i (S .fits) (S .answers) .1))
 

@@ -30,19 +30,19 @@ pub record GaveBytes (bytes : List ℕ) (x y : Places) (k : ℕ) : Type 0 where
   pub output : y .output ≡ paste (x .output) 0 bytes
   pub count : y .words ≡ length bytes ∷ []
 
-module _ (R : Functions) (I : Image → Type 0) where
-  -- she saves: her handle h is on node n, whose file is f, and a write through h of those bytes to that place answers 0
-  pub record SavesRun (w : ℕ) (h : Handle) (n : ℕ) (f : List ℕ) (place : ℕ) (bytes : List ℕ) (s u : Image) : Type 0 where
-    pub on : On (pairOf s .table) w h n f
-    pub fits : Fits (write w h place bytes)
-    pub before : Places
-    pub after : Places
-    pub answers : R (write w h place bytes) s before u after 0
+-- she saves: her handle h is on node n, whose file is f, and a write through h of those bytes to that place answers 0
+pub record SavesRun (R : Functions) (w : ℕ) (h : Handle) (n : ℕ) (f : List ℕ) (place : ℕ) (bytes : List ℕ) (s u : Image) : Type 0 where
+  pub on : On (pairOf s .table) w h n f
+  pub fits : Fits (write w h place bytes)
+  pub before : Places
+  pub after : Places
+  pub answers : R (write w h place bytes) s before u after 0
 
+module _ (R : Functions) (I : Image → Type 0) where
   -- `saved`: she saves; then come any runs, whose calls leave what she saved; and she reads what she wrote
   unfoldable pub RunsSaved : Type 0
   RunsSaved = (s u v z : Image) (l : List Call) (w : ℕ) (h : Handle) (n : ℕ) (f : List ℕ) (place : ℕ) (bytes : List ℕ) (x y : Places) (k : ℕ) → I s
-      → SavesRun w h n f place bytes s u → Runs R u l v → Along (Elsewhere w h n) (pairOf u) l
+      → SavesRun R w h n f place bytes s u → Runs R u l v → Along (Elsewhere w h n) (pairOf u) l
       → Fits (read w h place (length bytes)) → R (read w h place (length bytes)) v x z y k → k ≢ 255 → GaveBytes bytes x y k
 
   -- `rests-along`: a node that is no folder, open or not, keeps type, file name, size and every byte
@@ -52,7 +52,7 @@ module _ (R : Functions) (I : Image → Type 0) where
   -- `closed-and-kept`: she saves, closes and goes home; then a read of the place, through any handle on her node, gives what she wrote
   unfoldable pub RunsKept : Type 0
   RunsKept = (s u v z : Image) (l : List Call) (w o : ℕ) (h g : Handle) (n : ℕ) (f e : List ℕ) (place : ℕ) (bytes : List ℕ) (x y : Places) (k : ℕ) → I s
-      → SavesRun w h n f place bytes s u → Runs R u l v → Along (LeavesBe n) (pairOf u) l → On (pairOf v .table) o g n e
+      → SavesRun R w h n f place bytes s u → Runs R u l v → Along (LeavesBe n) (pairOf u) l → On (pairOf v .table) o g n e
       → Fits (read o g place (length bytes)) → R (read o g place (length bytes)) v x z y k → k ≢ 255 → GaveBytes bytes x y k
 
   -- `names-stay`: a name stays in its folder, unless a call that takes it away is done
@@ -64,7 +64,7 @@ module _ (R : Functions) (I : Image → Type 0) where
   -- name, and reads by the handle whose words the find gave what she wrote
   unfoldable pub RunsFound : Type 0
   RunsFound = (s u v i z : Image) (l : List Call) (w o : ℕ) (h g got : Handle) (n d : ℕ) (f e name : List ℕ) (place : ℕ) (bytes : List ℕ) (p q x y : Places) (k : ℕ) → I s
-      → SavesRun w h n f place bytes s u → Named d name n (pairOf u) → Runs R u l v → Along (LeavesBoth d name n) (pairOf u) l → On (pairOf v .table) o g d e
+      → SavesRun R w h n f place bytes s u → Named d name n (pairOf u) → Runs R u l v → Along (LeavesBoth d name n) (pairOf u) l → On (pairOf v .table) o g d e
       → Fits (find o g name) → R (find o g name) v p i q 0 → q .words ≡ handleWords got
       → Fits (read o got place (length bytes)) → R (read o got place (length bytes)) i x z y k → k ≢ 255 → GaveBytes bytes x y k
 
