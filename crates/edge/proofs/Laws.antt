@@ -16,6 +16,7 @@ use Rattle.table.specs.declared.Handle.{Handle}
 use Rattle.table.specs.declared.Added.{Added}
 use Rattle.table.specs.Table.{rowAt}
 use Rattle.table_bytes.specs.Layout.{tableOf, tableBytes}
+use Rattle.table_bytes.proofs.Fits.{table-fits}
 use Rattle.sefs.specs.declared.Metadata.{Metadata}
 use Rattle.sefs.specs.Create.{After, Given}
 use Rattle.sefs.specs.Read.{callListing}
@@ -41,7 +42,7 @@ use Rattle.fsck.specs.declared.Verdict.{Verdict}
 use Rattle.fsck.specs.declared.Verdict.the-variants.{Pass}
 use Rattle.edge_words.specs.Words.{handleWords, metadataWords}
 use Rattle.edge_ends.specs.Ends.{toldWordsBy, listedWordsBy, takenWordsBy}
-use Rattle.edge_ends.proofs.Laws.{passed-over, blocks-in}
+use Rattle.edge_ends.proofs.Laws.{passed-over}
 use Rattle.edge.specs.Edge.{sized, sizedWalk, newOf, Answers, leftOf, madeOf, heldOf, Walks, listedIn, readIn, counted, countsOf, courseNumber, courseTableBy}
 
 -- ---- a slice of a fixed size
@@ -166,5 +167,5 @@ pub listed-room : (a t m : List ℕ) (w : ℕ) (h : Handle) (from room : ℕ) (l
 listed-room a t m w h from room l B L e F q n k =
     let s = listed-slots n (callListing a (tableIn m) w h from room) l q k in
     let f = listing-left a (tableIn m) w h from room (s .0) (s .1) in
-    let b : rowAt (tableIn m) (f .0) .rec .blocks < 4294967296 = subst (λ (x : Table). rowAt x (f .0) .rec .blocks < 4294967296) (sym e) (blocks-in t B L (f .0) (f .1)) in
+    let b : rowAt (tableIn m) (f .0) .rec .blocks < 4294967296 = subst (λ (x : Table). rowAt x (f .0) .rec .blocks < 4294967296) (sym e) (table-fits t B L .rows (f .0) (f .1) .rec .blocks) in
     omega (arith, s .2, f .2, b, F)

@@ -1,5 +1,4 @@
 pub mod Functions
-pub mod Tables
 pub mod Transport
 pub mod Walks
 pub mod Linked

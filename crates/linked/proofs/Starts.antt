@@ -20,6 +20,7 @@ use Rattle.table.specs.declared.Table.{Table}
 use Rattle.table.specs.Table.{emptyTable}
 use Rattle.table_bytes.specs.Layout.{tableOf, tableBytes}
 use Rattle.table_bytes.proofs.Layouts.{tableOf-tableBytes}
+use Rattle.table_bytes.proofs.Fits.{table-fits}
 use Rattle.arena.specs.Blocks.{legal}
 use Rattle.files.specs.Read.{readFile}
 use Rattle.sefs.specs.Meta.{metaFile, loadMaps, loadMeta}
@@ -41,7 +42,6 @@ use Rattle.linked.specs.Images.{Kept}
 use Rattle.linked.specs.Linked.{OwnDoes, CheckSays, OpenDoes, FormatFresh, CheckTrusts, ChainsOwn, OwnKeeps}
 use Rattle.linked.specs.Linked as linked
 use Rattle.linked.proofs.Functions.{owned, asked, own-does-calls}
-use Rattle.linked.proofs.Tables.{table-fits}
 use Rattle.linked.proofs.Transport.{trusted-written, not-255, after}
 
 -- where the number is not 255, no slice had a wrong size

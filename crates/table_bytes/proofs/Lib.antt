@@ -1,4 +1,5 @@
 pub mod Runs
 pub mod Layouts
+pub mod Fits
 pub mod Marks
 pub mod Empty
