@@ -67,16 +67,12 @@ use Rattle.sequences.proofs.Corner.{at-put}
 use Rattle.sequences.proofs.Removes.{removable-law}
 use Rattle.sequences.proofs.Tables.{handle-live, folder-asks}
 use Rattle.sequences.proofs.Creates.{fair-sane}
-use Rattle.sequences.proofs.Tracks.{Tracks}
 use Rattle.sequences.proofs.Bytes.{Firm, FirmSince, firm-bears, intact-start, calm-new, live-row, live-firm}
 use Rattle.drawings.proofs.NameSlots.{StandsIn, stands-kept, noFile, Holds, holds-bears, holds-adds, holds-fill, puts, appends, Somewhere, node-takes}
 
--- what is left of a slot of folder d, with those bytes: the folder's type and file, and the slot in some later place
-pub record Remains (p : Pair) (d : ℕ) (l b : List ℕ) (u : Table) : Type 0 where
-  pub tracks : Tracks d (recOf (p .arena) (p .table) d .kind) (recOf (p .arena) (p .table) d .file) b u
-  pub place : ℕ
-  pub later : 2 ≤ place
-  pub stands : StandsIn (recOf (p .arena) (p .table) d .file) place l b
+-- what is left of a slot of folder d, with those bytes
+abbrev pub Remains : Pair → ℕ → List ℕ → List ℕ → Table → Type 0
+Remains p d l b u = Somewhere p (recOf (p .arena) (p .table) d .file) l b u
 
 -- folder x has a later slot
 pub record Filled (p : Pair) (x : ℕ) : Type 0 where
@@ -111,7 +107,7 @@ module _ (p : Pair) (y : Passed p) (d k : ℕ) (dir : isFolderAt (p .arena) (p .
   f = recOf (p .arena) (p .table) d .file
 
   abbrev l : List ℕ
-  l = run (p .arena) (file 1 (recOf (p .arena) (p .table) d .file)) (264 * k) 264
+  l = bytesOf p d k
 
   A : Allowed (p .arena) (p .table)
   A = allowed p y
@@ -128,11 +124,8 @@ module _ (p : Pair) (y : Passed p) (d k : ℕ) (dir : isFolderAt (p .arena) (p .
   pub holds-start : Holds p (recOf (p .arena) (p .table) d .file) k (bytesOf p d k) (p .arena) (p .table)
   holds-start = (intact-start p y noFile, stands-start)
 
-  pub somewhere-remains : (b : List ℕ) (u : Table) → Somewhere p (recOf (p .arena) (p .table) d .file) (bytesOf p d k) b u → Remains p d (bytesOf p d k) b u
-  somewhere-remains b u h = record { tracks = h .holds .0 .tracks d N; place = h .place; later = h .later; stands = h .holds .1 }
-
-  pub holds-remains : (b : List ℕ) (u : Table) → Holds p (recOf (p .arena) (p .table) d .file) k (bytesOf p d k) b u → Remains p d (bytesOf p d k) b u
-  holds-remains b u h = record { tracks = h .0 .tracks d N; place = k; later = later; stands = h .1 }
+  pub remains : (b : List ℕ) (u : Table) → Holds p (recOf (p .arena) (p .table) d .file) k (bytesOf p d k) b u → Remains p d (bytesOf p d k) b u
+  remains b u h = record { place = k; later = later; holds = h }
 
   -- the row with the folder's file is the folder's
   pub same-row : (i : ℕ) → Used (p .table) i → rowAt (p .table) i .rec .file ≡ recOf (p .arena) (p .table) d .file → rowAt (p .table) i .id ≡ d
@@ -165,13 +158,13 @@ module _ (p : Pair) (y : Passed p) (d k : ℕ) (dir : isFolderAt (p .arena) (p .
   unfolding callWrite
   slot-writes w g place bytes =
       ok-bind (any (admit a t)) λ _ _. ok-bind (handle-live t w g) λ i m. ok-bind (contents-asks (rowAt t i .rec)) λ _ e. ok-bind (any (notTooBig (place + length bytes))) λ _ _.
-      ok-bind (leaves-write Firmly i (fills-other i (live-firm p y w g i m) (no-folder i (live-row p y w g i m) e)) firmly-changes (start a t) place bytes (holds-start, λ i x. x)) λ s h. went (holds-remains (s .arena) (s .table) (h .0))
+      ok-bind (leaves-write Firmly i (fills-other i (live-firm p y w g i m) (no-folder i (live-row p y w g i m) e)) firmly-changes (start a t) place bytes (holds-start, λ i x. x)) λ s h. went (remains (s .arena) (s .table) (h .0))
 
   pub slot-resizes : (w : ℕ) (g : Handle) (n : ℕ) → LeavesAfter (Remains p d (bytesOf p d k)) (callResize (p .arena) (p .table) w g n)
   unfolding callResize
   slot-resizes w g n =
       ok-bind (any (admit a t)) λ _ _. ok-bind (handle-live t w g) λ i m. ok-bind (contents-asks (rowAt t i .rec)) λ _ e. ok-bind (any (notTooBig n)) λ _ _.
-      ok-bind (leaves-resize Firmly i (fills-other i (live-firm p y w g i m) (no-folder i (live-row p y w g i m) e)) firmly-changes (start a t) n (holds-start, λ i x. x)) λ s h. went (holds-remains (s .arena) (s .table) (h .0))
+      ok-bind (leaves-resize Firmly i (fills-other i (live-firm p y w g i m) (no-folder i (live-row p y w g i m) e)) firmly-changes (start a t) n (holds-start, λ i x. x)) λ s h. went (remains (s .arena) (s .table) (h .0))
 
   -- ---- a name more
 
@@ -185,7 +178,7 @@ module _ (p : Pair) (y : Passed p) (d k : ℕ) (dir : isFolderAt (p .arena) (p .
       ok-bind (appends p y f k l (start a t) i (entry (idAt (start a t) c) name (recAt (start a t) c .kind)) (entry-length (idAt (start a t) c) name (recAt (start a t) c .kind) short)
       (λ q z. let n = in-row i (live-row p y w g i m) q in omega arith) holds-start) λ s h.
       ok-bind (leaves-inc H (holds-bears p y f k l .changes) s c (h .0)) λ s h.
-      ok-bind (leaves-sync H (holds-bears p y f k l .stores) s c h) λ s h. ok-bind (leaves-sync H (holds-bears p y f k l .stores) s i h) λ s h. went (holds-remains (s .arena) (s .table) h)
+      ok-bind (leaves-sync H (holds-bears p y f k l .stores) s c h) λ s h. ok-bind (leaves-sync H (holds-bears p y f k l .stores) s i h) λ s h. went (remains (s .arena) (s .table) h)
 
   -- ---- a new node
 
@@ -213,7 +206,7 @@ module _ (p : Pair) (y : Passed p) (d k : ℕ) (dir : isFolderAt (p .arena) (p .
   module _ (kd mode : ℕ) (time : Timespec) (uuid : List ℕ) (F : NewFits kd mode time uuid) (absent : there (p .arena) (file 1 uuid) ≡ false) where
     -- it has a row that was free, with a file that was not there; row i is as it was
     record Made (i : ℕ) (o : Opened) : Type 0 where
-      holds : Holds p (recOf (p .arena) (p .table) d .file) k (run (p .arena) (file 1 (recOf (p .arena) (p .table) d .file)) (264 * k) 264) (o .state .arena) (o .state .table)
+      holds : Holds p (recOf (p .arena) (p .table) d .file) k (bytesOf p d k) (o .state .arena) (o .state .table)
       apart : i ≢ o .row
       far : recAt (o .state) (o .row) .file ≢ recOf (p .arena) (p .table) d .file
       same : rowAt (o .state .table) i ≡ rowAt (p .table) i
@@ -252,7 +245,7 @@ module _ (p : Pair) (y : Passed p) (d k : ℕ) (dir : isFolderAt (p .arena) (p .
         ok-bind (leaves-meta H (holds-bears p y f k l .metas) s h) λ s h.
         ok-bind (leaves-sync H (holds-bears p y f k l .stores) s (x .row) h) λ s h.
         ok-bind (leaves-sync H (holds-bears p y f k l .stores) s i h) λ s h.
-        went (holds-remains (s .arena) (addHold (s .table) w (x .row) .table) (holds-adds p y f k l (s .arena) (s .table) w (x .row) h))
+        went (remains (s .arena) (addHold (s .table) w (x .row) .table) (holds-adds p y f k l (s .arena) (s .table) w (x .row) h))
 
   pub slot-creates : (w : ℕ) (g : Handle) (name : List ℕ) (kind mode : ℕ) (time : Timespec) (uuid : List ℕ) → NewFits kind mode time uuid
       → Ok (λ (x : Given). Remains p d (bytesOf p d k) (x .arena) (x .table)) Any (callCreate (p .arena) (p .table) w g name kind mode time uuid)
@@ -341,7 +334,7 @@ module _ (p : Pair) (y : Passed p) (d k : ℕ) (dir : isFolderAt (p .arena) (p .
             subst (λ (r : Row). s .place < r .rec .blocks) (sym row-i) (hit .inside),
           )) holds (T .row)) λ x g.
           ok-bind (leaves-sync (Holds p f (g .place) l) (holds-bears p y f (g .place) l .stores) x i (g .holds)) λ x h.
-          went (somewhere-remains (x .arena) (x .table) (record { place = g .place; later = g .later; holds = h })))
+          went (record { place = g .place; later = g .later; holds = h }))
 
   pub slot-removes : (folders : Bool) (w : ℕ) (g : Handle) (name : List ℕ)
       → ((i : ℕ) → Live (p .table) w g i → rowAt (p .table) i .id ≡ d → nameOf (slotIn (p .arena) (recOf (p .arena) (p .table) d) k .name) ≡ name → ⊥) ⊎ Filled p (slotIn (p .arena) (recOf (p .arena) (p .table) d) k .id)

@@ -4,7 +4,7 @@ use mathlib.Core.Path.{_≡_, refl, sym, ap, _∙_, subst}
 use mathlib.Core.Bool.{true, false, not}
 use mathlib.Core.List.{List}
 use mathlib.Core.Logic.{_≢_, _⊎_, inl, inr, ⊎-elim}
-use Prim.Native.Nat.{ℕ, _+_, _*_, _-_, _≤_, _<_}
+use Prim.Native.Nat.{ℕ, _+_, _-_, _≤_, _<_}
 use native.Mathlib.Omega.{arith}
 use lib.Dec.{eqb}
 use lib.ListN.{length, List·getD-eq-default}
@@ -41,13 +41,13 @@ use Rattle.sefs.specs.Folders.{dotsEntry, putSlot, direntRemove}
 use Rattle.sefs.specs.Ask.{admit, goodName, known, typeInRange, notLong, start}
 use Rattle.sefs.specs.Create.{after}
 use Rattle.sefs.specs.Move.{Replaced, none, node, removeReplaced, renamed, moveWithin, moveLinks, moveParent, moveBetween, moveSteps, notBelow, moveOnto, replace, moveFree, moveTo, callMove}
-use Rattle.rules.specs.Image.{run, isNode, recOf, isFolderAt, slotIn}
+use Rattle.rules.specs.Image.{isNode, recOf, isFolderAt, slotIn}
 use Rattle.rules.specs.Image as image
 use Rattle.rules.specs.Rules.{Allowed}
 use Rattle.rules.proofs.Files.{node-below}
 use Rattle.tree.specs.Tree as tree
 use Rattle.sefs_laws.proofs.Says.{ensure-asks}
-use Rattle.sefs_laws.proofs.Rows.{Any, any, any-pick, ok-and, Leaves, LeavesAfter, leaves-node, leaves-links, leaves-sync, leaves-release}
+use Rattle.sefs_laws.proofs.Rows.{Any, any, any-pick, ok-and, Leaves, LeavesAfter, leaves-node, leaves-sync, leaves-release, leaves-moved}
 use Rattle.image.specs.Midway.{Used, plain}
 use Rattle.image.proofs.Handles.{formed, row-rec, row-node, row-folder}
 use Rattle.image.proofs.Images.{fair}
@@ -67,7 +67,7 @@ use Rattle.sequences.proofs.Moves.{Looked, here, new, look-law}
 use Rattle.sequences.proofs.Tables.{handle-live}
 use Rattle.sequences.proofs.Bytes.{live-row}
 use Rattle.drawings.proofs.NameSlots.{Holds, holds-bears, puts, puts-new, appends, appends-new, Somewhere, takes, node-takes}
-use Rattle.drawings.proofs.NameCalls.{Remains, Filled, bytesOf, entry-length, short-asks, holds-start, somewhere-remains, same-row, same-rec, in-row, hit-later, hit-node, hit-name, this-name, this-id, not-empty}
+use Rattle.drawings.proofs.NameCalls.{Remains, Filled, bytesOf, entry-length, short-asks, holds-start, same-row, same-rec, in-row, hit-later, hit-node, hit-name, this-name, this-id, not-empty}
 
 -- ---- the slot that goes with a replaced node, where there is one: it is one of the folder's n, and not slot k
 
@@ -91,6 +91,13 @@ module _ (p : Pair) (y : Passed p) (f l : List ℕ) where
       ok-bind (replaces s i r k lk lr past h) λ s S.
       ok-bind (leaves-sync (Holds p f (S .place) l) (holds-bears p y f (S .place) l .stores) s i (S .holds)) λ s h. went (record { place = S .place; later = S .later; holds = h })
 
+  -- slot 1 of a folder that moves
+  parent : (k : ℕ) → 2 ≤ k → (j : ℕ) (s : Fs) (c : ℕ) → Holds p f k l (s .arena) (s .table) → Leaves (Holds p f k l) (moveParent s j c)
+  unfolding moveParent
+  parent k lk j s c h =
+      any-pick (isFolder (recAt s c .kind)) (putSlot s c 1 (entryBytes (dotsEntry (idAt s j)))) (done s)
+      (λ _. ok-weaken (λ x g. g .0) (λ r q. q) (puts p y f k l s c 1 (entryBytes (dotsEntry (idAt s j))) (entry-length (idAt s j) _ typeDir (omega arith)) (λ _ z. omega arith) h)) (λ _. went h)
+
   -- once the target has the slot of a move between two folders
   between-ends : (s : Fs) (i j : ℕ) (e : Slot) (r : Replaced) (k : ℕ) → 2 ≤ k → 2 ≤ e .place → j ≢ i → LaterOne r
       → (recAt s i .file ≡ f → (e .place ≢ k) × (k < recAt s i .blocks) × (e .place < recAt s i .blocks))
@@ -98,7 +105,6 @@ module _ (p : Pair) (y : Passed p) (f l : List ℕ) where
       → Holds p f k l (s .arena) (s .table)
       → LeavesAfter (Somewhere p f l) (bind (direntRemove s i (e .place)) (λ s. bind (removeReplaced s j r) (λ s. bind (getNode s (e .entry .id)) (λ o. bind (moveLinks (o .state) i j (o .row)) (λ s.
       bind (moveParent s j (o .row)) (λ s. bind (syncRow s i) (λ s. bind (syncRow s j) (λ s. bind (release s (o .row)) (λ s. done (after s))))))))))
-  unfolding moveParent
   between-ends s i j e r k lk le apart lr goes past h =
       ok-bind (takes p y f l s i (e .place) k lk le goes h) λ x T.
       let row : rowAt (x .table) j ≡ rowAt (s .table) j = ap (λ (z : Fs). rowAt (z .table) j) (T .is) ∙ row-apart (s .table) i (record { id = idAt s i; dirty = true; rec = withBlocks (recAt s i) (recAt s i .blocks - 1) }) j apart in
@@ -107,16 +113,8 @@ module _ (p : Pair) (y : Passed p) (f l : List ℕ) where
       let z = past (ap (λ (w : Row). w .rec .file) (sym row) ∙ q) in
       subst (λ (w : Row). Past r (w .rec .blocks) (T .some .place)) (sym row) (subst (Past r (recAt s j .blocks)) (sym (T .fixed (z .0))) (z .1)))
       (T .some .holds)) λ x S.
-      ok-bind (leaves-node (Holds p f (S .place) l) (holds-bears p y f (S .place) l .loads) x (e .entry .id) (S .holds)) λ o h.
-      ok-bind (leaves-links (Holds p f (S .place) l) (holds-bears p y f (S .place) l .changes) (o .state) i j (o .row) h) λ s h.
-      ok-bind {P = λ (z : Fs). Holds p f (S .place) l (z .arena) (z .table)}
-      (any-pick (isFolder (recAt s (o .row) .kind)) (putSlot s (o .row) 1 (entryBytes (dotsEntry (idAt s j)))) (done s)
-      (λ _. ok-weaken (λ x g. g .0) (λ r q. q) (puts p y f (S .place) l s (o .row) 1 (entryBytes (dotsEntry (idAt s j))) (entry-length (idAt s j) _ typeDir (omega arith)) (λ _ z. let m = S .later in omega arith) h))
-      (λ _. went h)) λ s h.
-      ok-bind (leaves-sync (Holds p f (S .place) l) (holds-bears p y f (S .place) l .stores) s i h) λ s h.
-      ok-bind (leaves-sync (Holds p f (S .place) l) (holds-bears p y f (S .place) l .stores) s j h) λ s h.
-      ok-bind (leaves-release (Holds p f (S .place) l) (holds-bears p y f (S .place) l) s (o .row) h) λ s h.
-      went (record { place = S .place; later = S .later; holds = h })
+      ok-weaken (λ x h. record { place = S .place; later = S .later; holds = h }) (λ r q. q)
+      (leaves-moved (Holds p f (S .place) l) (holds-bears p y f (S .place) l) i j (parent (S .place) (S .later) j) x (e .entry .id) (S .holds))
 
 -- ---- of slot k of folder d
 
@@ -138,7 +136,7 @@ module _ (p : Pair) (y : Passed p) (d k : ℕ) (dir : isFolderAt (p .arena) (p .
   f = recOf (p .arena) (p .table) d .file
 
   abbrev l : List ℕ
-  l = run (p .arena) (file 1 (recOf (p .arena) (p .table) d .file)) (264 * k) 264
+  l = bytesOf p d k
 
   abbrev H : List ℕ → Table → Type 0
   H b u = Holds p f k l b u
@@ -226,8 +224,8 @@ module _ (p : Pair) (y : Passed p) (d k : ℕ) (dir : isFolderAt (p .arena) (p .
       stays b u S = go spared
         where
           go : (s : Spared i j old name) → Fate i j old name s b u
-          go (inl free) = somewhere-remains p y d k dir later inside b u S
-          go (inr full) = inl (somewhere-remains p y d k dir later inside b u S)
+          go (inl free) = S
+          go (inr full) = inl S
 
       -- the file of the target
       abbrev g : List ℕ
@@ -246,7 +244,7 @@ module _ (p : Pair) (y : Passed p) (d k : ℕ) (dir : isFolderAt (p .arena) (p .
             folder = row-folder a t A j uj to;
             bytes = bytes;
             id = ap (λ (x : DiskEntry). x .id) (entryOf-entryBytes (renamed (e .entry) name) fits) ∙ sym (this-id p y d k dir later inside i ui from old plain-old e hit q z);
-            home = record { tracks = S .holds .0 .tracks (rowAt t j .id) (row-node a t A j uj); place = S .place; later = S .later; stands = S .holds .1 };
+            home = S;
           })
 
       -- either

@@ -24,6 +24,7 @@ use Rattle.sefs.specs.Move.{callMove}
 use Rattle.sefs.specs.Read.{callMetadata, callEntry, callListing}
 use Rattle.sefs.specs.Contents.{callRead}
 use Rattle.rules.specs.Image.{run, isNode, recOf, isFolderAt, slotIn}
+use Rattle.rules.proofs.Folders.{folder-node}
 use Rattle.sefs_laws.proofs.Rows.{Any, any, LeavesAfter, Bears}
 use Rattle.tree.specs.Tree.{Tree, folderAt, parent, up, LinkedIn, RemovedIn, Lives, Tidy}
 use Rattle.tree.specs.Tree as tree
@@ -46,17 +47,17 @@ use Rattle.drawings.proofs.Saved.{after-save}
 use Rattle.drawings.proofs.Rests.{node-named}
 use Rattle.drawings.proofs.Found.{found-and-kept}
 use Rattle.drawings.proofs.NameSlots.{Stands, noFile, Holds, holds-bears, holds-adds}
-use Rattle.drawings.proofs.NameCalls.{Remains, Filled, bytesOf, holds-start, holds-remains, slot-writes, slot-resizes, slot-links, slot-creates, slot-removes}
+use Rattle.drawings.proofs.NameCalls.{Remains, Filled, bytesOf, holds-start, remains, slot-writes, slot-resizes, slot-links, slot-creates, slot-removes}
 use Rattle.drawings.proofs.NameMoves.{Rehomed, slot-moves, folder-moves}
 
 -- ---- a slot that is left, in a pair that passes and has the folder
 
 module _ (p q : Pair) (z : Passed q) (d : ℕ) (dir : isFolderAt (p .arena) (p .table) d ≡ true) (l : List ℕ) (R : Remains p d l (q .arena) (q .table)) (N : isNode (q .arena) d ≡ true) where
   same : As (recOf (p .arena) (p .table) d .kind) (recOf (p .arena) (p .table) d .file) (recOf (q .arena) (q .table) d)
-  same = tracks-rec d (recOf (p .arena) (p .table) d .kind) (recOf (p .arena) (p .table) d .file) (q .arena) (q .table) (R .tracks)
+  same = tracks-rec d (recOf (p .arena) (p .table) d .kind) (recOf (p .arena) (p .table) d .file) (q .arena) (q .table) (R .holds .0 .tracks d (folder-node (p .arena) (p .table) d dir))
 
   stands : Stands (recOf (p .arena) (p .table) d .file) (R .place) l (q .arena)
-  stands = R .stands (ap (λ (x : List ℕ). there (q .arena) (file 1 x)) (sym (same .file)) ∙ allowed q z .rule5 .own d N)
+  stands = R .holds .1 (ap (λ (x : List ℕ). there (q .arena) (file 1 x)) (sym (same .file)) ∙ allowed q z .rule5 .own d N)
 
   folder : isFolderAt (q .arena) (q .table) d ≡ true
   unfolding isFolderAt
@@ -108,7 +109,7 @@ module _ (p : Pair) (y : Passed p) (d k : ℕ) (dir : isFolderAt (p .arena) (p .
 
   module _ (R : List ℕ → Table → Type 0) (so : (b : List ℕ) (u : Table) → Remains p d (bytesOf p d k) b u → R b u) where
     holds : (b : List ℕ) (u : Table) → H b u → R b u
-    holds b u h = so b u (holds-remains p y d k dir later inside b u h)
+    holds b u h = so b u (remains p y d k dir later inside b u h)
 
     each : (c : Call) → Fits c
         → ((w : ℕ) (g : Handle) (name : List ℕ) → (c ≡ removeFile w g name) ⊎ (c ≡ removeFolder w g name) → Spared w g name)
