@@ -4,7 +4,7 @@ use mathlib.Core.Path.{_≡_, refl, sym, ap, _∙_, subst}
 use mathlib.Core.Bool.{true, false, not}
 use mathlib.Core.List.{List}
 use mathlib.Core.Logic.{_≢_, _⊎_, inl, inr, ⊎-elim}
-use Prim.Native.Nat.{ℕ, _+_, _*_, _-_, _≤_, _<_}
+use Prim.Native.Nat.{ℕ, _+_, _-_, _≤_, _<_}
 use native.Mathlib.Omega.{arith}
 use lib.Dec.{eqb}
 use lib.ListN.{length, List·getD-eq-default}
@@ -41,13 +41,13 @@ use Rattle.sefs.specs.Folders.{dotsEntry, putSlot, direntRemove}
 use Rattle.sefs.specs.Ask.{admit, goodName, known, typeInRange, notLong, start}
 use Rattle.sefs.specs.Create.{after}
 use Rattle.sefs.specs.Move.{Replaced, none, node, removeReplaced, renamed, moveWithin, moveLinks, moveParent, moveBetween, moveSteps, notBelow, moveOnto, replace, moveFree, moveTo, callMove}
-use Rattle.rules.specs.Image.{run, isNode, recOf, isFolderAt, slotIn}
+use Rattle.rules.specs.Image.{isNode, recOf, isFolderAt, slotIn}
 use Rattle.rules.specs.Image as image
 use Rattle.rules.specs.Rules.{Allowed}
 use Rattle.rules.proofs.Files.{node-below}
 use Rattle.tree.specs.Tree as tree
 use Rattle.sefs_laws.proofs.Says.{ensure-asks}
-use Rattle.sefs_laws.proofs.Rows.{Any, any, any-pick, ok-and, Leaves, LeavesAfter, leaves-node, leaves-links, leaves-sync, leaves-release}
+use Rattle.sefs_laws.proofs.Rows.{Any, any, any-pick, ok-and, Leaves, LeavesAfter, leaves-node, leaves-sync, leaves-release, leaves-moved}
 use Rattle.image.specs.Midway.{Used, plain}
 use Rattle.image.proofs.Handles.{formed, row-rec, row-node, row-folder}
 use Rattle.image.proofs.Images.{fair}
@@ -60,6 +60,7 @@ use Rattle.image.proofs.Drops.{mid-rec}
 use Rattle.image.proofs.Movings.{named-links, live-named}
 use Rattle.image.proofs.MoveAsks.{judge-law, ends-law}
 use Rattle.sequences.specs.Pairs.{Pair, Passed}
+use Rattle.drawings.specs.Rests.{Named}
 use Rattle.sequences.proofs.Passing.{allowed, spelled-any, spelled-midway}
 use Rattle.sequences.proofs.Asks.{live-folder}
 use Rattle.sequences.proofs.MoveSteps.{ok-own}
@@ -67,7 +68,7 @@ use Rattle.sequences.proofs.Moves.{Looked, here, new, look-law}
 use Rattle.sequences.proofs.Tables.{handle-live}
 use Rattle.sequences.proofs.Bytes.{live-row}
 use Rattle.drawings.proofs.NameSlots.{Holds, holds-bears, puts, puts-new, appends, appends-new, Somewhere, takes, node-takes}
-use Rattle.drawings.proofs.NameCalls.{Remains, Filled, bytesOf, entry-length, short-asks, holds-start, somewhere-remains, same-row, same-rec, in-row, hit-later, hit-node, hit-name, this-name, this-id, not-empty}
+use Rattle.drawings.proofs.NameCalls.{Remains, Filled, bytesOf, entry-length, short-asks, holds-start, remains, same-row, same-rec, in-row, hit-later, hit-node, hit-name, this-name, this-id, not-empty}
 
 -- ---- the slot that goes with a replaced node, where there is one: it is one of the folder's n, and not slot k
 
@@ -91,6 +92,13 @@ module _ (p : Pair) (y : Passed p) (f l : List ℕ) where
       ok-bind (replaces s i r k lk lr past h) λ s S.
       ok-bind (leaves-sync (Holds p f (S .place) l) (holds-bears p y f (S .place) l .stores) s i (S .holds)) λ s h. went (record { place = S .place; later = S .later; holds = h })
 
+  -- slot 1 of a folder that moves
+  parent : (k : ℕ) → 2 ≤ k → (j : ℕ) (s : Fs) (c : ℕ) → Holds p f k l (s .arena) (s .table) → Leaves (Holds p f k l) (moveParent s j c)
+  unfolding moveParent
+  parent k lk j s c h =
+      any-pick (isFolder (recAt s c .kind)) (putSlot s c 1 (entryBytes (dotsEntry (idAt s j)))) (done s)
+      (λ _. ok-weaken (λ x g. g .0) (λ r q. q) (puts p y f k l s c 1 (entryBytes (dotsEntry (idAt s j))) (entry-length (idAt s j) _ typeDir (omega arith)) (λ _ z. omega arith) h)) (λ _. went h)
+
   -- once the target has the slot of a move between two folders
   between-ends : (s : Fs) (i j : ℕ) (e : Slot) (r : Replaced) (k : ℕ) → 2 ≤ k → 2 ≤ e .place → j ≢ i → LaterOne r
       → (recAt s i .file ≡ f → (e .place ≢ k) × (k < recAt s i .blocks) × (e .place < recAt s i .blocks))
@@ -98,7 +106,6 @@ module _ (p : Pair) (y : Passed p) (f l : List ℕ) where
       → Holds p f k l (s .arena) (s .table)
       → LeavesAfter (Somewhere p f l) (bind (direntRemove s i (e .place)) (λ s. bind (removeReplaced s j r) (λ s. bind (getNode s (e .entry .id)) (λ o. bind (moveLinks (o .state) i j (o .row)) (λ s.
       bind (moveParent s j (o .row)) (λ s. bind (syncRow s i) (λ s. bind (syncRow s j) (λ s. bind (release s (o .row)) (λ s. done (after s))))))))))
-  unfolding moveParent
   between-ends s i j e r k lk le apart lr goes past h =
       ok-bind (takes p y f l s i (e .place) k lk le goes h) λ x T.
       let row : rowAt (x .table) j ≡ rowAt (s .table) j = ap (λ (z : Fs). rowAt (z .table) j) (T .is) ∙ row-apart (s .table) i (record { id = idAt s i; dirty = true; rec = withBlocks (recAt s i) (recAt s i .blocks - 1) }) j apart in
@@ -107,18 +114,10 @@ module _ (p : Pair) (y : Passed p) (f l : List ℕ) where
       let z = past (ap (λ (w : Row). w .rec .file) (sym row) ∙ q) in
       subst (λ (w : Row). Past r (w .rec .blocks) (T .some .place)) (sym row) (subst (Past r (recAt s j .blocks)) (sym (T .fixed (z .0))) (z .1)))
       (T .some .holds)) λ x S.
-      ok-bind (leaves-node (Holds p f (S .place) l) (holds-bears p y f (S .place) l .loads) x (e .entry .id) (S .holds)) λ o h.
-      ok-bind (leaves-links (Holds p f (S .place) l) (holds-bears p y f (S .place) l .changes) (o .state) i j (o .row) h) λ s h.
-      ok-bind {P = λ (z : Fs). Holds p f (S .place) l (z .arena) (z .table)}
-      (any-pick (isFolder (recAt s (o .row) .kind)) (putSlot s (o .row) 1 (entryBytes (dotsEntry (idAt s j)))) (done s)
-      (λ _. ok-weaken (λ x g. g .0) (λ r q. q) (puts p y f (S .place) l s (o .row) 1 (entryBytes (dotsEntry (idAt s j))) (entry-length (idAt s j) _ typeDir (omega arith)) (λ _ z. let m = S .later in omega arith) h))
-      (λ _. went h)) λ s h.
-      ok-bind (leaves-sync (Holds p f (S .place) l) (holds-bears p y f (S .place) l .stores) s i h) λ s h.
-      ok-bind (leaves-sync (Holds p f (S .place) l) (holds-bears p y f (S .place) l .stores) s j h) λ s h.
-      ok-bind (leaves-release (Holds p f (S .place) l) (holds-bears p y f (S .place) l) s (o .row) h) λ s h.
-      went (record { place = S .place; later = S .later; holds = h })
+      ok-weaken (λ x h. record { place = S .place; later = S .later; holds = h }) (λ r q. q)
+      (leaves-moved (Holds p f (S .place) l) (holds-bears p y f (S .place) l) i j (parent (S .place) (S .later) j) x (e .entry .id) (S .holds))
 
--- ---- of slot k of folder d
+-- ---- of slot k of folder d, which has the name `own` for node n
 
 -- a slot with that id stands in folder g
 pub record Rehomed (p : Pair) (g x : ℕ) (b : List ℕ) (u : Table) : Type 0 where
@@ -127,18 +126,21 @@ pub record Rehomed (p : Pair) (g x : ℕ) (b : List ℕ) (u : Table) : Type 0 wh
   pub id : entryOf bytes .id ≡ x
   pub home : Remains p g bytes b u
 
-module _ (p : Pair) (y : Passed p) (d k : ℕ) (dir : isFolderAt (p .arena) (p .table) d ≡ true) (later : 2 ≤ k) (inside : k < recOf (p .arena) (p .table) d .blocks) where
+module _ (p : Pair) (y : Passed p) {d n : ℕ} {own : List ℕ} (N : Named d own n p) where
   abbrev a : List ℕ
   a = p .arena
 
   abbrev t : Table
   t = p .table
 
+  abbrev k : ℕ
+  k = N .slot
+
   abbrev f : List ℕ
   f = recOf (p .arena) (p .table) d .file
 
   abbrev l : List ℕ
-  l = run (p .arena) (file 1 (recOf (p .arena) (p .table) d .file)) (264 * k) 264
+  l = bytesOf p d (N .slot)
 
   abbrev H : List ℕ → Table → Type 0
   H b u = Holds p f k l b u
@@ -148,14 +150,12 @@ module _ (p : Pair) (y : Passed p) (d k : ℕ) (dir : isFolderAt (p .arena) (p .
 
   -- it is neither the slot that moves nor the one that is replaced; or it names a folder that has names
   abbrev Spared : ℕ → ℕ → List ℕ → List ℕ → Type 0
-  Spared i j old name =
-      ((rowAt t i .id ≡ d → nameOf (slotIn a (recOf a t d) k .name) ≡ old → ⊥) × (rowAt t j .id ≡ d → nameOf (slotIn a (recOf a t d) k .name) ≡ name → ⊥))
-      ⊎ Filled p (slotIn a (recOf a t d) k .id)
+  Spared i j old name = ((rowAt t i .id ≡ d → own ≡ old → ⊥) × (rowAt t j .id ≡ d → own ≡ name → ⊥)) ⊎ Filled p n
 
   -- then it stands in its folder; or it is the one that moves
   abbrev Fate : (i j : ℕ) (old name : List ℕ) → Spared i j old name → List ℕ → Table → Type 0
   Fate i j old name (inl free) b u = Remains p d l b u
-  Fate i j old name (inr full) b u = Remains p d l b u ⊎ Rehomed p (rowAt t j .id) (slotIn a (recOf a t d) k .id) b u
+  Fate i j old name (inr full) b u = Remains p d l b u ⊎ Rehomed p (rowAt t j .id) n b u
 
   module _ (i j : ℕ) (ui : Used (p .table) i) (uj : Used (p .table) j) (from : isFolder (rowAt (p .table) i .rec .kind) ≡ true) (to : isFolder (rowAt (p .table) j .rec .kind) ≡ true)
       (old name : List ℕ) (plain-old : isSpecial old ≡ false) (short : length name ≤ 255) (nb : Bytes name) (spared : Spared i j old name) where
@@ -164,10 +164,10 @@ module _ (p : Pair) (y : Passed p) (d k : ℕ) (dir : isFolderAt (p .arena) (p .
 
     module _ (e : Slot) (hit : Hit (p .arena) (rowAt (p .table) i .rec) old e) where
       place-later : 2 ≤ e .place
-      place-later = hit-later p y d k dir later inside i ui from old plain-old e hit
+      place-later = hit-later p y i ui from old plain-old e hit
 
       node-e : isNode (p .arena) (e .entry .id) ≡ true
-      node-e = hit-node p y d k dir later inside i ui from old plain-old e hit
+      node-e = hit-node p y i ui from old plain-old e hit
 
       -- the slot as it will be
       abbrev bytes : List ℕ
@@ -211,12 +211,12 @@ module _ (p : Pair) (y : Passed p) (d k : ℕ) (dir : isFolderAt (p .arena) (p .
       past : (r : Replaced) → Onto r → (n : ℕ) → rowAt (p .table) j .rec .blocks ≤ n → rowAt (p .table) j .rec .file ≡ f → Past r n k
       past none o n b q = tt
       past (node c m) o n b q =
-          let z : k < rowAt t j .rec .blocks = in-row p y d k dir later inside j uj q in
-          let w : m ≡ k → slotIn a (recOf a t d) k ≡ slotIn a (rowAt t j .rec) m = λ s. ap (λ (r : DiskINode). slotIn a r k) (same-rec p y d k dir later inside j uj q) ∙ ap (slotIn a (rowAt t j .rec)) (sym s) in (
+          let z : k < rowAt t j .rec .blocks = in-row p y N j uj q in
+          let w : m ≡ k → slotIn a (recOf a t d) k ≡ slotIn a (rowAt t j .rec) m = λ s. ap (λ (r : DiskINode). slotIn a r k) (same-rec p y N j uj q) ∙ ap (slotIn a (rowAt t j .rec)) (sym s) in (
             λ s. ⊎-elim
-                (λ (free : (rowAt t i .id ≡ d → nameOf (slotIn a (recOf a t d) k .name) ≡ old → ⊥) × (rowAt t j .id ≡ d → nameOf (slotIn a (recOf a t d) k .name) ≡ name → ⊥)).
-                free .1 (same-row p y d k dir later inside j uj q) (ap (λ (x : DiskEntry). nameOf (x .name)) (w s) ∙ o .named))
-                (λ F. o .empty (subst (λ (x : DiskEntry). Filled p (x .id)) (w s) F))
+                (λ (free : (rowAt t i .id ≡ d → own ≡ old → ⊥) × (rowAt t j .id ≡ d → own ≡ name → ⊥)).
+                free .1 (same-row p y N j uj q) (sym (N .is) ∙ ap (λ (x : DiskEntry). nameOf (x .name)) (w s) ∙ o .named))
+                (λ F. o .empty (subst (Filled p) (sym (N .at .names) ∙ ap (λ (x : DiskEntry). x .id) (w s)) F))
                 spared,
             omega arith,
             omega (arith, o .below),
@@ -226,8 +226,8 @@ module _ (p : Pair) (y : Passed p) (d k : ℕ) (dir : isFolderAt (p .arena) (p .
       stays b u S = go spared
         where
           go : (s : Spared i j old name) → Fate i j old name s b u
-          go (inl free) = somewhere-remains p y d k dir later inside b u S
-          go (inr full) = inl (somewhere-remains p y d k dir later inside b u S)
+          go (inl free) = S
+          go (inr full) = inl S
 
       -- the file of the target
       abbrev g : List ℕ
@@ -241,12 +241,12 @@ module _ (p : Pair) (y : Passed p) (d k : ℕ) (dir : isFolderAt (p .arena) (p .
       moves q z b u S = go spared
         where
           go : (s : Spared i j old name) → Fate i j old name s b u
-          go (inl free) = absurd (free .0 (same-row p y d k dir later inside i ui q) (this-name p y d k dir later inside i ui from old plain-old e hit q z))
+          go (inl free) = absurd (free .0 (same-row p y N i ui q) (this-name p y N i ui from old plain-old e hit q z))
           go (inr full) = inr (record {
             folder = row-folder a t A j uj to;
             bytes = bytes;
-            id = ap (λ (x : DiskEntry). x .id) (entryOf-entryBytes (renamed (e .entry) name) fits) ∙ sym (this-id p y d k dir later inside i ui from old plain-old e hit q z);
-            home = record { tracks = S .holds .0 .tracks (rowAt t j .id) (row-node a t A j uj); place = S .place; later = S .later; stands = S .holds .1 };
+            id = ap (λ (x : DiskEntry). x .id) (entryOf-entryBytes (renamed (e .entry) name) fits) ∙ sym (this-id p y N i ui from old plain-old e hit q z);
+            home = S;
           })
 
       -- either
@@ -272,7 +272,7 @@ module _ (p : Pair) (y : Passed p) (d k : ℕ) (dir : isFolderAt (p .arena) (p .
             ok-bind (puts p y f k l (start a v) i (e .place) bytes long (λ q. n (ap (λ (x : Row). x .rec .file) (sym row-i) ∙ q)) h) λ x w.
             let rec : recAt x i ≡ rowAt t j .rec = ap (λ (y : Fs). recAt y i) (w .1 .1) ∙ ap (λ (x : Row). x .rec) row-i ∙ ap (λ (m : ℕ). rowAt t m .rec) same in
             ok-weaken (λ x S. stays (x .arena) (x .table) S) (λ n r. r)
-            (within-ends p y f l x i r k later (later-one r o)
+            (within-ends p y f l x i r k (N .at .later) (later-one r o)
             (λ q. subst (λ (m : DiskINode). Past r (m .blocks) k) (sym rec) (past r o (rowAt t j .rec .blocks) (omega arith) (ap (λ (m : DiskINode). m .file) (sym rec) ∙ q))) (w .0)))
           where
             -- the slot that moves is not the one that is replaced
@@ -296,13 +296,13 @@ module _ (p : Pair) (y : Passed p) (d k : ℕ) (dir : isFolderAt (p .arena) (p .
             (λ s. (λ n. files (ap (λ (m : DiskINode). m .file) (sym (E .0)) ∙ n ∙ sym file-j), subst (λ (m : ℕ). Past r m (rowAt v j .rec .blocks)) (sym (E .1 ∙ ap (λ (m : Row). m .rec .blocks + 1) (sym row-j))) (apart r o))) (w .0)))
             (λ n.
             ok-bind (appends p y f k l (start a v) j (renamed (e .entry) name) long
-            (λ q s. let m = in-row p y d k dir later inside j uj (ap (λ (x : Row). x .rec .file) (sym row-j) ∙ q) in omega (arith, m, s, ap (λ (x : Row). x .rec .blocks) row-j)) h) λ x w.
+            (λ q s. let m = in-row p y N j uj (ap (λ (x : Row). x .rec .file) (sym row-j) ∙ q) in omega (arith, m, s, ap (λ (x : Row). x .rec .blocks) row-j)) h) λ x w.
             let E = after-append x (w .1 .0) (w .1 .1) in
             ok-weaken (λ x S. stays (x .arena) (x .table) S) (λ n r. r)
-            (between-ends p y f l x i j e r k later place-later (λ s. ids (ap (λ (m : ℕ). rowAt t m .id) (sym s))) (later-one r o)
+            (between-ends p y f l x i j e r k (N .at .later) place-later (λ s. ids (ap (λ (m : ℕ). rowAt t m .id) (sym s))) (later-one r o)
             (λ s.
             let q : rowAt t i .rec .file ≡ f = ap (λ (m : DiskINode). m .file) (sym (E .0)) ∙ s in
-            subst (λ (m : DiskINode). (e .place ≢ k) × (k < m .blocks) × (e .place < m .blocks)) (sym (E .0)) (n q, in-row p y d k dir later inside i ui q, hit .inside))
+            subst (λ (m : DiskINode). (e .place ≢ k) × (k < m .blocks) × (e .place < m .blocks)) (sym (E .0)) (n q, in-row p y N i ui q, hit .inside))
             (λ s.
             let q : rowAt t j .rec .file ≡ f = sym (E .2) ∙ s in
             (λ m. files (ap (λ (x : DiskINode). x .file) (sym (E .0)) ∙ m ∙ sym q), subst (λ (m : ℕ). Past r m k) (sym (E .1)) (past r o (rowAt t j .rec .blocks + 1) (omega arith) q))) (w .0)))
@@ -366,7 +366,7 @@ module _ (p : Pair) (y : Passed p) (d k : ℕ) (dir : isFolderAt (p .arena) (p .
         (λ m. ok-bind (any (typeInRange (rowAt (g .1 .table) (g .1 .row) .rec))) λ _ _. ok-bind (any (notBelow (start a (g .1 .table)) i j (g .1 .row))) λ _ _. steps e (h .0) (g .1 .table) (g .1 .rows i ui) (g .1 .rows j uj) m none tt (h .1)) (g .0))
       where
         start-h : Holds p f k l (p .arena) (p .table)
-        start-h = holds-start p y d k dir later inside
+        start-h = holds-start p y N
 
     -- a node has it, and both are opened
     module _ (lives : rowAt (p .table) i .rec .nlinks ≢ 0) (plain-new : isSpecial name ≡ false) (m : ℕ) (below : m < rowAt (p .table) j .rec .blocks) (named : isNamed (slotIn (p .arena) (rowAt (p .table) j .rec) m .name) name ≡ true) where
@@ -380,7 +380,7 @@ module _ (p : Pair) (y : Passed p) (d k : ℕ) (dir : isFolderAt (p .arena) (p .
       new-hit = record { inside = below; is = refl; named = named }
 
       node-d : isNode (p .arena) idd ≡ true
-      node-d = hit-node p y d k dir later inside j uj to name plain-new there-is new-hit
+      node-d = hit-node p y j uj to name plain-new there-is new-hit
 
       module _ (e : Slot) (hit : Hit (p .arena) (rowAt (p .table) i .rec) old e) (found : findSlot (p .arena) (rowAt (p .table) i .rec) old ≡ done e) (o : Opened) (D : Got tree.any (p .arena) (p .table) idd o)
           (w : Opened) (W : Gets (plain tree.any) (rows.also rows.none (D .row)) (p .arena) (D .table) (e .entry .id) w) where
@@ -410,11 +410,11 @@ module _ (p : Pair) (y : Passed p) (d k : ℕ) (dir : isFolderAt (p .arena) (p .
             let E = g .1 in
             subst (λ (z : Fs). H (z .arena) (z .table) → LeavesAfter Q (moveSteps z i j old name (node (D .row) m))) (sym (E .is))
             (λ s. steps e hit (E .table) (E .rows i ui) (E .rows j uj) s (node (D .row) m) (record {
-              late = hit-later p y d k dir later inside j uj to name plain-new there-is new-hit;
+              late = hit-later p y j uj to name plain-new there-is new-hit;
               below = below;
-              named = hit-name p y d k dir later inside j uj to name plain-new there-is new-hit;
+              named = hit-name p y j uj to name plain-new there-is new-hit;
               other = λ q. other (sym q);
-              empty = λ F. not-empty p y d k dir later inside (rowAt (W .table) (D .row) .rec) idd F rec-d (J .small);
+              empty = λ F. not-empty p y (rowAt (W .table) (D .row) .rec) idd F rec-d (J .small);
             }) found) (g .0))
 
       onto-moves : LeavesAfter Q (replace (start (p .arena) (p .table)) i j old name m)
@@ -422,7 +422,7 @@ module _ (p : Pair) (y : Passed p) (d k : ℕ) (dir : isFolderAt (p .arena) (p .
       onto-moves =
           rw is-slot
           (ok-bind hits λ e h.
-          ok-bind (ok-and (leaves-node H (holds-bears p y f k l .loads) (start a t) idd (holds-start p y d k dir later inside)) (get-law {R = Any} a t (spelled-midway a t (spelled-any p y)) idd node-d)) λ o q.
+          ok-bind (ok-and (leaves-node H (holds-bears p y f k l .loads) (start a t) idd (holds-start p y N)) (get-law {R = Any} a t (spelled-midway a t (spelled-any p y)) idd node-d)) λ o q.
           let D = q .1 in
           subst (λ (z : Opened). H (z .state .arena) (z .state .table) → LeavesAfter Q (bind (getNode (z .state) (e .entry .id)) (λ c. bind (known (recAt (c .state) (c .row))) (λ _. bind (known (recAt (c .state) (z .row)))
           (λ _. pick (eqb (e .entry .id) idd) (done (after (start a t))) (moveOnto (c .state) i j old name (c .row) (z .row) m)))))) (sym (D .is))
@@ -432,7 +432,7 @@ module _ (p : Pair) (y : Passed p) (d k : ℕ) (dir : isFolderAt (p .arena) (p .
           (λ _. pick (eqb (e .entry .id) idd) (done (after (start a t))) (moveOnto (z .state) i j old name (z .row) (D .row) m))))) (sym (W .is))
           (λ s. ok-bind (any (known (rowAt (W .table) (W .row) .rec))) λ _ _. ok-bind (any (known (rowAt (W .table) (D .row) .rec))) λ _ _.
           any-pick (eqb (e .entry .id) idd) (done (after (start a t))) (moveOnto (start a (W .table)) i j old name (W .row) (D .row) m)
-          (λ _. went (stays e (h .0) a t (record { place = k; later = later; holds = holds-start p y d k dir later inside })))
+          (λ _. went (stays e (h .0) a t (remains p y N a t (holds-start p y N))))
           (λ z. onto e (h .0) (h .1) o D w W (eqb-false (e .entry .id) idd z) s)) (x .0)) (q .0))
         where
           is-slot : slotAt (p .arena) (rowAt (p .table) j .rec) m ≡ done (slotIn (p .arena) (rowAt (p .table) j .rec) m)
@@ -462,14 +462,14 @@ module _ (p : Pair) (y : Passed p) (d k : ℕ) (dir : isFolderAt (p .arena) (p .
         (goes i j ui uj (from .0) (to .0) old name (not-true (isSpecial old) plain-old) short nb (spared i j m n) (from .1) (not-true (isSpecial name) plain-new) x found)
 
     -- neither its source nor its target
-    pub slot-moves : ((i : ℕ) → Live (p .table) w g i → rowAt (p .table) i .id ≡ d → nameOf (slotIn (p .arena) (recOf (p .arena) (p .table) d) k .name) ≡ old → ⊥)
-        → ((j : ℕ) → Live (p .table) w target j → rowAt (p .table) j .id ≡ d → nameOf (slotIn (p .arena) (recOf (p .arena) (p .table) d) k .name) ≡ name → ⊥)
-        → LeavesAfter (Remains p d (bytesOf p d k)) (callMove (p .arena) (p .table) w g old target name)
+    pub slot-moves : ((i : ℕ) → Live (p .table) w g i → rowAt (p .table) i .id ≡ d → own ≡ old → ⊥)
+        → ((j : ℕ) → Live (p .table) w target j → rowAt (p .table) j .id ≡ d → own ≡ name → ⊥)
+        → LeavesAfter (Remains p d (bytesOf p d (N .slot))) (callMove (p .arena) (p .table) w g old target name)
     slot-moves source onto = call (λ i j m n. inl (source i m, onto j n)) (Remains p d l) (λ i j m n b u q. q)
 
     -- a folder that has names: it is named where it was, or by the target
-    pub folder-moves : Filled p (slotIn (p .arena) (recOf (p .arena) (p .table) d) k .id)
-        → LeavesAfter (λ b u. Remains p d (bytesOf p d k) b u ⊎ ((j : ℕ) × Live (p .table) w target j × Rehomed p (rowAt (p .table) j .id) (slotIn (p .arena) (recOf (p .arena) (p .table) d) k .id) b u)) (callMove (p .arena) (p .table) w g old target name)
+    pub folder-moves : Filled p n
+        → LeavesAfter (λ b u. Remains p d (bytesOf p d (N .slot)) b u ⊎ ((j : ℕ) × Live (p .table) w target j × Rehomed p (rowAt (p .table) j .id) n b u)) (callMove (p .arena) (p .table) w g old target name)
     folder-moves F =
-        call (λ i j m n. inr F) (λ b u. Remains p d l b u ⊎ ((j : ℕ) × Live t w target j × Rehomed p (rowAt t j .id) (slotIn a (recOf a t d) k .id) b u))
+        call (λ i j m n. inr F) (λ b u. Remains p d l b u ⊎ ((j : ℕ) × Live t w target j × Rehomed p (rowAt t j .id) n b u))
         (λ i j m n b u q. ⊎-elim (λ r. inl r) (λ r. inr (j, n, r)) q)

@@ -20,7 +20,6 @@ use Rattle.files.specs.Read.{there, lengthOf, byteAt, readFile}
 use Rattle.files.specs.Store.{cutFile}
 use Rattle.files_laws.specs.Laws.{Kept, Put, Cut}
 use Rattle.files_laws.proofs.Parts.{file-cases}
-use Rattle.files_laws.proofs.Put.{put-law}
 use Rattle.files_laws.proofs.Cut.{cut-law}
 use Rattle.table.specs.declared.Table.{Table}
 use Rattle.table.specs.declared.Row.{Row}
@@ -32,7 +31,7 @@ use Rattle.sefs.specs.Slots.{slotBytes}
 use Rattle.sefs.specs.Folders.{putSlot, direntAppend, direntRemove, direntNodeRemove}
 use Rattle.structs.specs.declared.DiskINode.{DiskINode}
 use Rattle.rules.specs.Image.{run}
-use Rattle.sefs_laws.proofs.Rows.{Any, any-guard, any-pick, Leaves, Bears, bears-and, filed-kept, filed, leaves-unlinked}
+use Rattle.sefs_laws.proofs.Rows.{Any, any-guard, any-pick, Leaves, Changes, Bears, bears-and, filed-kept, filed, put-any, leaves-unlinked}
 use Rattle.image.proofs.Images.{fair, root-node}
 use Rattle.image.proofs.Appends.{file-apart}
 use Rattle.sequences.specs.Pairs.{Pair, Passed}
@@ -91,7 +90,7 @@ module _ (f : List ℕ) (k : ℕ) (l b d : List ℕ) where
       (file-cases (file 1 g) (file 1 f))
 
 -- what was put stands
-pub stands-new : (f : List ℕ) (k : ℕ) (l b d : List ℕ) → length l ≡ 264 → Put b (file 1 f) (264 * k) l d → Stands f k l d
+stands-new : (f : List ℕ) (k : ℕ) (l b d : List ℕ) → length l ≡ 264 → Put b (file 1 f) (264 * k) l d → Stands f k l d
 stands-new f k l b d long P = record {
   inside = omega (arith, long, P .long);
   is = tab-cong (byteAt d (file 1 f)) (λ i. getD l i 0) (264 * k) 0 264
@@ -133,38 +132,45 @@ module _ (p : Pair) (y : Passed p) (f : List ℕ) (k : ℕ) (l : List ℕ) where
   pub holds-fill : (i : ℕ) (b d : List ℕ) (u : Table) → rowAt u i .rec .file ≢ f → ((g : File) → nodeFile (rowAt u i .rec) ≢ g → Kept b d g) → Holds p f k l b u → Holds p f k l d u
   holds-fill i b d u n K h = (intact-any p y i b d u K (h .0), stands-kept f k l b d (K (file 1 f) (file-apart (rowAt u i .rec .file) f n)) (h .1))
 
-  -- ---- slots
+-- ---- slots
 
-  -- of this or another file, but another slot
-  pub puts : (s : Fs) (i j : ℕ) (src : List ℕ) → length src ≡ 264 → (recAt s i .file ≡ f → j ≢ k) → Holds p f k l (s .arena) (s .table)
-      → Ok (λ (x : Fs). Holds p f k l (x .arena) (x .table) × ((b : List ℕ) × (x ≡ withArena s b))) Any (putSlot s i j src)
+-- P holds of what is left, and all but the arena stays
+abbrev pub AfterPut : (List ℕ → Table → Type 0) → Fs → Fs → Type 0
+AfterPut P s x = P (x .arena) (x .table) × ((b : List ℕ) × (x ≡ withArena s b))
+
+-- and folder i has a slot more
+abbrev pub AfterAppend : (List ℕ → Table → Type 0) → Fs → ℕ → Fs → Type 0
+AfterAppend P s i x = P (x .arena) (x .table) × ((b : List ℕ) × (x ≡ setRec (withArena s b) i (withBlocks (recAt s i) (recAt s i .blocks + 1))))
+
+append-by : (P : List ℕ → Table → Type 0) → Changes P → (s : Fs) (i : ℕ) (e : DiskEntry) → Ok (AfterPut P s) Any (putSlot s i (recAt s i .blocks) (entryBytes e)) → Ok (AfterAppend P s i) Any (direntAppend s i e)
+unfolding direntAppend
+append-by P change s i e put =
+    ok-bind put λ u g.
+    went (change (u .arena) (u .table) i _ refl refl refl refl refl (g .0), (g .1 .0, ap (λ (x : Fs). setRec x i (withBlocks (recAt x i) (recAt x i .blocks + 1))) (g .1 .1)))
+
+-- another slot of this file, or a slot of another
+module _ (p : Pair) (y : Passed p) (f : List ℕ) (k : ℕ) (l : List ℕ) where
+  pub puts : (s : Fs) (i j : ℕ) (src : List ℕ) → length src ≡ 264 → (recAt s i .file ≡ f → j ≢ k) → Holds p f k l (s .arena) (s .table) → Ok (AfterPut (Holds p f k l) s) Any (putSlot s i j src)
   unfolding putSlot
   puts s i j src long n h =
-      ok-bind (ok-weaken (λ b P. P) (λ r _. tt) (put-law (s .arena) (nodeFile (recAt s i)) (264 * j) src)) λ b P.
+      ok-bind (put-any (s .arena) (nodeFile (recAt s i)) (264 * j) src) λ b P.
       went ((intact-any p y i (s .arena) b (s .table) (P .others) (h .0), stands-put f k l (s .arena) b (recAt s i .file) j src long P n (h .1)), (b, refl))
 
-  -- a slot more at the end
   pub appends : (s : Fs) (i : ℕ) (e : DiskEntry) → length (entryBytes e) ≡ 264 → (recAt s i .file ≡ f → recAt s i .blocks ≢ k) → Holds p f k l (s .arena) (s .table)
-      → Ok (λ (x : Fs). Holds p f k l (x .arena) (x .table) × ((b : List ℕ) × (x ≡ setRec (withArena s b) i (withBlocks (recAt s i) (recAt s i .blocks + 1))))) Any (direntAppend s i e)
-  unfolding direntAppend
-  appends s i e long n h =
-      ok-bind (puts s i (recAt s i .blocks) (entryBytes e) long n h) λ u g.
-      went (holds-bears .changes (u .arena) (u .table) i _ refl refl refl refl refl (g .0), (g .1 .0, ap (λ (x : Fs). setRec x i (withBlocks (recAt x i) (recAt x i .blocks + 1))) (g .1 .1)))
+      → Ok (AfterAppend (Holds p f k l) s i) Any (direntAppend s i e)
+  appends s i e long n h = append-by (Holds p f k l) (holds-bears p y f k l .changes) s i e (puts s i (recAt s i .blocks) (entryBytes e) long n h)
 
 -- what is put, or appended, stands
 module _ (p : Pair) (y : Passed p) (f : List ℕ) (s : Fs) (i : ℕ) (own : recAt s i .file ≡ f) (c : Intact p noFile (s .arena) (s .table)) where
-  pub puts-new : (j : ℕ) (src : List ℕ) → length src ≡ 264 → Ok (λ (x : Fs). Holds p f j src (x .arena) (x .table) × ((b : List ℕ) × (x ≡ withArena s b))) Any (putSlot s i j src)
+  pub puts-new : (j : ℕ) (src : List ℕ) → length src ≡ 264 → Ok (AfterPut (Holds p f j src) s) Any (putSlot s i j src)
   unfolding putSlot
   puts-new j src long =
-      ok-bind (ok-weaken (λ b P. P) (λ r _. tt) (put-law (s .arena) (nodeFile (recAt s i)) (264 * j) src)) λ b P.
+      ok-bind (put-any (s .arena) (nodeFile (recAt s i)) (264 * j) src) λ b P.
       went ((intact-any p y i (s .arena) b (s .table) (P .others) c, λ _. stands-new f j src (s .arena) b long (subst (λ (g : List ℕ). Put (s .arena) (file 1 g) (264 * j) src b) own P)), (b, refl))
 
-  pub appends-new : (e : DiskEntry) → length (entryBytes e) ≡ 264
-      → Ok (λ (x : Fs). Holds p f (recAt s i .blocks) (entryBytes e) (x .arena) (x .table) × ((b : List ℕ) × (x ≡ setRec (withArena s b) i (withBlocks (recAt s i) (recAt s i .blocks + 1))))) Any (direntAppend s i e)
-  unfolding direntAppend
+  pub appends-new : (e : DiskEntry) → length (entryBytes e) ≡ 264 → Ok (AfterAppend (Holds p f (recAt s i .blocks) (entryBytes e)) s i) Any (direntAppend s i e)
   appends-new e long =
-      ok-bind (puts-new (recAt s i .blocks) (entryBytes e) long) λ u g.
-      went (holds-bears p y f (recAt s i .blocks) (entryBytes e) .changes (u .arena) (u .table) i _ refl refl refl refl refl (g .0), (g .1 .0, ap (λ (x : Fs). setRec x i (withBlocks (recAt x i) (recAt x i .blocks + 1))) (g .1 .1)))
+      append-by (Holds p f (recAt s i .blocks) (entryBytes e)) (holds-bears p y f (recAt s i .blocks) (entryBytes e) .changes) s i e (puts-new (recAt s i .blocks) (entryBytes e) long)
 
 -- ---- a slot goes
 
@@ -208,7 +214,7 @@ module _ (p : Pair) (y : Passed p) (f : List ℕ) (l : List ℕ) where
     copies : (src : List ℕ) → src ≡ run (s .arena) (nodeFile (recAt s i)) (264 * (recAt s i .blocks - 1)) 264 → j ≢ recAt s i .blocks - 1 → Ok (Copied s i k) Any (putSlot s i j src)
     unfolding putSlot
     copies src e far =
-        ok-bind (ok-weaken (λ b P. P) (λ r _. tt) (put-law (s .arena) (nodeFile (recAt s i)) (264 * j) src)) λ b P.
+        ok-bind (put-any (s .arena) (nodeFile (recAt s i)) (264 * j) src) λ b P.
         let c : Intact p noFile b (s .table) = intact-any p y i (s .arena) b (s .table) (P .others) (h .0) in
         let still : (recAt s i .file ≡ f → k < recAt s i .blocks - 1) → Copied s i k (withArena s b) = λ low. record {
           arena = b;

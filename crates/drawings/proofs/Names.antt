@@ -3,7 +3,7 @@ use mathlib.Core.Path.{_≡_, refl, sym, ap, _∙_, subst}
 use mathlib.Core.Bool.{true, false}
 use mathlib.Core.List.{List, [], _∷_}
 use mathlib.Core.Logic.{_⊎_, inl, inr, ⊎-elim}
-use Prim.Native.Nat.{ℕ, zero, suc, _*_, _≤_, _<_}
+use Prim.Native.Nat.{ℕ, zero, suc, _*_}
 use native.Mathlib.Omega.{arith}
 use Rattle.base.specs.Out.{Out, done, refused, answer, kept, Ok, went}
 use Rattle.base.proofs.Outs.{ok-bind, ok-weaken, ok-done}
@@ -24,6 +24,7 @@ use Rattle.sefs.specs.Move.{callMove}
 use Rattle.sefs.specs.Read.{callMetadata, callEntry, callListing}
 use Rattle.sefs.specs.Contents.{callRead}
 use Rattle.rules.specs.Image.{run, isNode, recOf, isFolderAt, slotIn}
+use Rattle.rules.proofs.Folders.{folder-node}
 use Rattle.sefs_laws.proofs.Rows.{Any, any, LeavesAfter, Bears}
 use Rattle.tree.specs.Tree.{Tree, folderAt, parent, up, LinkedIn, RemovedIn, Lives, Tidy}
 use Rattle.tree.specs.Tree as tree
@@ -46,17 +47,17 @@ use Rattle.drawings.proofs.Saved.{after-save}
 use Rattle.drawings.proofs.Rests.{node-named}
 use Rattle.drawings.proofs.Found.{found-and-kept}
 use Rattle.drawings.proofs.NameSlots.{Stands, noFile, Holds, holds-bears, holds-adds}
-use Rattle.drawings.proofs.NameCalls.{Remains, Filled, bytesOf, holds-start, holds-remains, slot-writes, slot-resizes, slot-links, slot-creates, slot-removes}
+use Rattle.drawings.proofs.NameCalls.{Remains, Filled, bytesOf, holds-start, remains, slot-writes, slot-resizes, slot-links, slot-creates, slot-removes}
 use Rattle.drawings.proofs.NameMoves.{Rehomed, slot-moves, folder-moves}
 
 -- ---- a slot that is left, in a pair that passes and has the folder
 
 module _ (p q : Pair) (z : Passed q) (d : ℕ) (dir : isFolderAt (p .arena) (p .table) d ≡ true) (l : List ℕ) (R : Remains p d l (q .arena) (q .table)) (N : isNode (q .arena) d ≡ true) where
   same : As (recOf (p .arena) (p .table) d .kind) (recOf (p .arena) (p .table) d .file) (recOf (q .arena) (q .table) d)
-  same = tracks-rec d (recOf (p .arena) (p .table) d .kind) (recOf (p .arena) (p .table) d .file) (q .arena) (q .table) (R .tracks)
+  same = tracks-rec d (recOf (p .arena) (p .table) d .kind) (recOf (p .arena) (p .table) d .file) (q .arena) (q .table) (R .holds .0 .tracks d (folder-node (p .arena) (p .table) d dir))
 
   stands : Stands (recOf (p .arena) (p .table) d .file) (R .place) l (q .arena)
-  stands = R .stands (ap (λ (x : List ℕ). there (q .arena) (file 1 x)) (sym (same .file)) ∙ allowed q z .rule5 .own d N)
+  stands = R .holds .1 (ap (λ (x : List ℕ). there (q .arena) (file 1 x)) (sym (same .file)) ∙ allowed q z .rule5 .own d N)
 
   folder : isFolderAt (q .arena) (q .table) d ≡ true
   unfolding isFolderAt
@@ -80,35 +81,32 @@ module _ (p q : Pair) (z : Passed q) (d : ℕ) (dir : isFolderAt (p .arena) (p .
 data Carried (p : Pair) (x : ℕ) : Call → List ℕ → Table → Type 0 where
   carried : {w : ℕ} {g target : Handle} {old name : List ℕ} {j : ℕ} {b : List ℕ} {u : Table} → Live (p .table) w target j → Rehomed p (rowAt (p .table) j .id) x b u → Carried p x (move w g old target name) b u
 
-module _ (p : Pair) (y : Passed p) (d k : ℕ) (dir : isFolderAt (p .arena) (p .table) d ≡ true) (later : 2 ≤ k) (inside : k < recOf (p .arena) (p .table) d .blocks) where
+module _ (p : Pair) (y : Passed p) {d n : ℕ} {own : List ℕ} (N : Named d own n p) where
   abbrev a : List ℕ
   a = p .arena
 
   abbrev t : Table
   t = p .table
 
-  abbrev this : DiskEntry
-  this = slotIn (p .arena) (recOf (p .arena) (p .table) d) k
-
   -- a removal does not take it
   abbrev Spared : ℕ → Handle → List ℕ → Type 0
-  Spared w g name = ((i : ℕ) → Live t w g i → rowAt t i .id ≡ d → nameOf (this .name) ≡ name → ⊥) ⊎ Filled p (this .id)
+  Spared w g name = ((i : ℕ) → Live t w g i → rowAt t i .id ≡ d → own ≡ name → ⊥) ⊎ Filled p n
 
   abbrev H : List ℕ → Table → Type 0
-  H b u = Holds p (recOf (p .arena) (p .table) d .file) k (bytesOf p d k) b u
+  H b u = Holds p (recOf (p .arena) (p .table) d .file) (N .slot) (bytesOf p d (N .slot)) b u
 
   K : Bears H
-  K = holds-bears p y (recOf a t d .file) k (bytesOf p d k)
+  K = holds-bears p y (recOf a t d .file) (N .slot) (bytesOf p d (N .slot))
 
   begin : H (p .arena) (p .table)
-  begin = holds-start p y d k dir later inside
+  begin = holds-start p y N
 
   adds : (b : List ℕ) (u : Table) (w row : ℕ) → H b u → H b (addHold u w row .table)
-  adds = holds-adds p y (recOf a t d .file) k (bytesOf p d k)
+  adds = holds-adds p y (recOf a t d .file) (N .slot) (bytesOf p d (N .slot))
 
-  module _ (R : List ℕ → Table → Type 0) (so : (b : List ℕ) (u : Table) → Remains p d (bytesOf p d k) b u → R b u) where
+  module _ (R : List ℕ → Table → Type 0) (so : (b : List ℕ) (u : Table) → Remains p d (bytesOf p d (N .slot)) b u → R b u) where
     holds : (b : List ℕ) (u : Table) → H b u → R b u
-    holds b u h = so b u (holds-remains p y d k dir later inside b u h)
+    holds b u h = so b u (remains p y N b u h)
 
     each : (c : Call) → Fits c
         → ((w : ℕ) (g : Handle) (name : List ℕ) → (c ≡ removeFile w g name) ⊎ (c ≡ removeFolder w g name) → Spared w g name)
@@ -118,45 +116,45 @@ module _ (p : Pair) (y : Passed p) (d k : ℕ) (dir : isFolderAt (p .arena) (p .
     each (root w) F gone moved = ok-bind (keeps-root H (K .loads) adds a t w begin) λ x h. went (holds a (x .table) h)
     each (find w g name) F gone moved = ok-bind (keeps-find H (K .loads) adds a t w g name begin) λ x h. went (holds a (x .table) h)
     each (walk w g path room) F gone moved = ok-bind (keeps-walk H (K .loads) adds a t w g path room begin) λ x h. went (holds a (x .table) h)
-    each (create w g name kind mode time uuid) F gone moved = ok-bind (slot-creates p y d k dir later inside w g name kind mode time uuid (F .3)) λ x r. went (so (x .arena) (x .table) r)
-    each (link w g name child) F gone moved = ok-bind (slot-links p y d k dir later inside w g name child) λ x r. went (so (x .arena) (x .table) r)
-    each (removeFile w g name) F gone moved = ok-bind (slot-removes p y d k dir later inside false w g name (gone w g name (inl refl))) λ x r. went (so (x .arena) (x .table) r)
-    each (removeFolder w g name) F gone moved = ok-bind (slot-removes p y d k dir later inside true w g name (gone w g name (inr refl))) λ x r. went (so (x .arena) (x .table) r)
+    each (create w g name kind mode time uuid) F gone moved = ok-bind (slot-creates p y N w g name kind mode time uuid (F .3)) λ x r. went (so (x .arena) (x .table) r)
+    each (link w g name child) F gone moved = ok-bind (slot-links p y N w g name child) λ x r. went (so (x .arena) (x .table) r)
+    each (removeFile w g name) F gone moved = ok-bind (slot-removes p y N false w g name (gone w g name (inl refl))) λ x r. went (so (x .arena) (x .table) r)
+    each (removeFolder w g name) F gone moved = ok-bind (slot-removes p y N true w g name (gone w g name (inr refl))) λ x r. went (so (x .arena) (x .table) r)
     each (move w g old target name) F gone moved = ok-bind (moved w g old target name refl) λ x r. went r
     each (metadata w g) F gone moved = ok-bind (any (callMetadata a t w g)) λ x _. went (holds a t begin)
     each (setMetadata w g mode uid gid at mt ct) F gone moved = ok-bind (keeps-set H K a t w g mode uid gid at mt ct begin) λ u h. went (holds a u h)
     each (getEntry w g j room) F gone moved = ok-bind (any (callEntry a t w g j room)) λ x _. went (holds a t begin)
     each (listing w g m room) F gone moved = ok-bind (any (callListing a t w g m room)) λ x _. went (holds a t begin)
     each (read w g place room) F gone moved = ok-bind (any (callRead a t w g place room)) λ x _. went (holds a t begin)
-    each (write w g place bytes) F gone moved = ok-bind (slot-writes p y d k dir later inside w g place bytes) λ x r. went (so (x .arena) (x .table) r)
-    each (resize w g n) F gone moved = ok-bind (slot-resizes p y d k dir later inside w g n) λ x r. went (so (x .arena) (x .table) r)
+    each (write w g place bytes) F gone moved = ok-bind (slot-writes p y N w g place bytes) λ x r. went (so (x .arena) (x .table) r)
+    each (resize w g n) F gone moved = ok-bind (slot-resizes p y N w g n) λ x r. went (so (x .arena) (x .table) r)
     each sync F gone moved = ok-bind (keeps-sync H K a t begin) λ x h. went (holds (x .arena) (x .table) h)
     each (close w g) F gone moved = ok-bind (keeps-close H K a t w g (λ i m. (intact-rows p y noFile a t (closeHold t (g .hold) .table) (close-rows t (g .hold)) (begin .0), begin .1))) λ x h. went (holds (x .arena) (x .table) h)
     each check F gone moved = went (holds a t begin)
 
   -- where it does not take the name
-  untaken : (c : Call) → Fits c → (TakesName d (nameOf (slotIn (p .arena) (recOf (p .arena) (p .table) d) k .name)) (p .table) c → ⊥) → Ok (λ (q : Pair). Remains p d (bytesOf p d k) (q .arena) (q .table)) Any (does c p)
+  untaken : (c : Call) → Fits c → (TakesName d own (p .table) c → ⊥) → Ok (λ (q : Pair). Remains p d (bytesOf p d (N .slot)) (q .arena) (q .table)) Any (does c p)
   untaken c F free =
-      each (Remains p d (bytesOf p d k)) (λ b u r. r) c F
+      each (Remains p d (bytesOf p d (N .slot))) (λ b u r. r) c F
       (λ w g name e. inl (λ i m q s. free (subst (λ (l : List ℕ). TakesName d l t c) (sym s) (⊎-elim
       (λ z. subst (TakesName d name t) (sym z) (removes-file (live-means t w g i .1 m) q))
       (λ z. subst (TakesName d name t) (sym z) (removes-folder (live-means t w g i .1 m) q)) e))))
       moved
     where
-      moved : (w : ℕ) (g : Handle) (old : List ℕ) (target : Handle) (name : List ℕ) → c ≡ move w g old target name → LeavesAfter (Remains p d (bytesOf p d k)) (callMove (p .arena) (p .table) w g old target name)
+      moved : (w : ℕ) (g : Handle) (old : List ℕ) (target : Handle) (name : List ℕ) → c ≡ move w g old target name → LeavesAfter (Remains p d (bytesOf p d (N .slot))) (callMove (p .arena) (p .table) w g old target name)
       moved w g old target name e =
-          slot-moves p y d k dir later inside w g old target name (subst Fits e F .4)
+          slot-moves p y N w g old target name (subst Fits e F .4)
           (λ i m q s. free (subst (λ (l : List ℕ). TakesName d l t c) (sym s) (subst (TakesName d old t) (sym e) (moves-away (live-means t w g i .1 m) q))))
           (λ j m q s. free (subst (λ (l : List ℕ). TakesName d l t c) (sym s) (subst (TakesName d name t) (sym e) (moves-onto (live-means t w target j .1 m) q))))
 
   -- where it names a folder that has names
-  full : (c : Call) → Fits c → Filled p (slotIn (p .arena) (recOf (p .arena) (p .table) d) k .id)
-      → Ok (λ (q : Pair). Remains p d (bytesOf p d k) (q .arena) (q .table) ⊎ Carried p (slotIn (p .arena) (recOf (p .arena) (p .table) d) k .id) c (q .arena) (q .table)) Any (does c p)
+  full : (c : Call) → Fits c → Filled p n
+      → Ok (λ (q : Pair). Remains p d (bytesOf p d (N .slot)) (q .arena) (q .table) ⊎ Carried p n c (q .arena) (q .table)) Any (does c p)
   full c F fill =
-      each (λ b u. Remains p d (bytesOf p d k) b u ⊎ Carried p (this .id) c b u) (λ b u r. inl r) c F (λ w g name e. inr fill)
-      (λ w g old target name e. ok-weaken (λ x r. ⊎-elim (λ s. inl s) (λ (s : (j : ℕ) × Live t w target j × Rehomed p (rowAt t j .id) (this .id) (x .arena) (x .table)).
-      inr (subst (λ (m : Call). Carried p (this .id) m (x .arena) (x .table)) (sym e) (carried (s .1) (s .2)))) r) (λ n r. r)
-      (folder-moves p y d k dir later inside w g old target name (subst Fits e F .4) fill))
+      each (λ b u. Remains p d (bytesOf p d (N .slot)) b u ⊎ Carried p n c b u) (λ b u r. inl r) c F (λ w g name e. inr fill)
+      (λ w g old target name e. ok-weaken (λ x r. ⊎-elim (λ s. inl s) (λ (s : (j : ℕ) × Live t w target j × Rehomed p (rowAt t j .id) n (x .arena) (x .table)).
+      inr (subst (λ (m : Call). Carried p n m (x .arena) (x .table)) (sym e) (carried (s .1) (s .2)))) r) (λ n r. r)
+      (folder-moves p y N w g old target name (subst Fits e F .4) fill))
 
 -- ---- a folder that has names stays a node: its parent names it, and so on up to node 2
 
@@ -188,14 +186,13 @@ module _ (p : Pair) (y : Passed p) (c : Call) (F : Fits c) (q : Pair) (did : doe
       not-close : {x : Call} → x ≡ move w g old target name → x ≡ close w target → ⊥
       not-close e s = let z : _≡_ {A = ℕ} 0 1 = cc in omega arith
 
-  named-still : (e k : ℕ) (dir : isFolderAt (p .arena) (p .table) e ≡ true) → 2 ≤ k → k < recOf (p .arena) (p .table) e .blocks → Filled p (slotIn (p .arena) (recOf (p .arena) (p .table) e) k .id)
-      → isNode (q .arena) e ≡ true → isNode (q .arena) (slotIn (p .arena) (recOf (p .arena) (p .table) e) k .id) ≡ true
+  named-still : (e x : ℕ) (name : List ℕ) → Named e name x p → Filled p x → isNode (q .arena) e ≡ true → isNode (q .arena) x ≡ true
   unfolding NodeNamed slotIn
-  named-still e k dir later inside fill N =
+  named-still e x name N fill M =
       ⊎-elim
-      (λ R. node-named q e (R .place) (entryOf (bytesOf p e k) .id) z (named-left p q z e dir (bytesOf p e k) R N))
+      (λ R. ap (isNode (q .arena)) (sym (N .at .names)) ∙ node-named q e (R .place) (entryOf (bytesOf p e (N .slot)) .id) z (named-left p q z e (N .at .folder) (bytesOf p e (N .slot)) R M))
       (λ C. by c refl C)
-      (ok-done (subst (Ok (λ (q : Pair). Remains p e (bytesOf p e k) (q .arena) (q .table) ⊎ Carried p (slotIn (p .arena) (recOf (p .arena) (p .table) e) k .id) c (q .arena) (q .table)) Any) did (full p y e k dir later inside c F fill)))
+      (ok-done (subst (Ok (λ (q : Pair). Remains p e (bytesOf p e (N .slot)) (q .arena) (q .table) ⊎ Carried p x c (q .arena) (q .table)) Any) did (full p y N c F fill)))
     where
       by : {x : ℕ} (m : Call) → c ≡ m → Carried p x m (q .arena) (q .table) → isNode (q .arena) x ≡ true
       by m s (carried {w = w} {g = g} {target = target} {old = old} {name = name} {j = j} live R) =
@@ -214,8 +211,8 @@ module _ (p : Pair) (y : Passed p) (c : Call) (F : Fits c) (q : Pair) (did : doe
       (λ r.
       let B = I .names x (lives x E) r in
       let dir : folderAt v (parent v x) ≡ true = I .parents x (lives x E) r in
-      let N = climbs n (parent v x) (record { folder = dir; many = omega (arith, B .later, B .inside) }) (sym (up-first v x n) ∙ e) in
-      ap (isNode (q .arena)) (sym (B .is)) ∙ named-still (parent v x) (B .at) dir (B .later) (B .inside) (subst (Filled p) (sym (B .is)) E) N)
+      let M = climbs n (parent v x) (record { folder = dir; many = omega (arith, B .later, B .inside) }) (sym (up-first v x n) ∙ e) in
+      named-still (parent v x) x _ (record { slot = B .at; at = record { folder = dir; later = B .later; inside = B .inside; names = B .is }; is = refl }) E M)
       (eq-cases x 2)
 
   folder-stays : (x : ℕ) → Filled p x → isNode (q .arena) x ≡ true
@@ -224,14 +221,12 @@ module _ (p : Pair) (y : Passed p) (c : Call) (F : Fits c) (q : Pair) (did : doe
   done-stays : (d n : ℕ) (name : List ℕ) → Named d name n p → (TakesName d name (p .table) c → ⊥) → Named d name n q
   unfolding slotIn
   done-stays d n name N free =
-      let D = N .at in
-      let R : Remains p d (bytesOf p d (N .slot)) (q .arena) (q .table) = ok-done (subst (Ok (λ (q : Pair). Remains p d (bytesOf p d (N .slot)) (q .arena) (q .table)) Any) did
-      (untaken p y d (N .slot) (D .folder) (D .later) (D .inside) c F (λ T. free (subst (λ (l : List ℕ). TakesName d l (p .table) c) (N .is) T)))) in
-      let M = folder-stays d (record { folder = D .folder; many = omega (arith, D .later, D .inside) }) in
+      let R : Remains p d (bytesOf p d (N .slot)) (q .arena) (q .table) = ok-done (subst (Ok (λ (q : Pair). Remains p d (bytesOf p d (N .slot)) (q .arena) (q .table)) Any) did (untaken p y N c F free)) in
+      let M = folder-stays d (record { folder = N .at .folder; many = omega (arith, N .at .later, N .at .inside) }) in
       record {
         slot = R .place;
-        at = subst (λ (m : ℕ). NamedAt d (R .place) m q) (D .names) (named-left p q z d (D .folder) (bytesOf p d (N .slot)) R M);
-        is = ap (λ (x : DiskEntry). nameOf (x .name)) (slot-left p q z d (D .folder) (bytesOf p d (N .slot)) R M) ∙ N .is;
+        at = subst (λ (m : ℕ). NamedAt d (R .place) m q) (N .at .names) (named-left p q z d (N .at .folder) (bytesOf p d (N .slot)) R M);
+        is = ap (λ (x : DiskEntry). nameOf (x .name)) (slot-left p q z d (N .at .folder) (bytesOf p d (N .slot)) R M) ∙ N .is;
       }
 
 -- ---- the theorems

@@ -5,6 +5,7 @@ use mathlib.Core.Logic.{_≢_, _⊎_}
 use Prim.Native.Nat.{ℕ}
 use lib.ListN.{length}
 use Rattle.base.specs.Out.{done}
+use Rattle.base.specs.Reasons.{tableFull}
 use Rattle.base.specs.declared.Found.the-variants.{At}
 use Rattle.table.specs.declared.Table.{Table}
 use Rattle.table.specs.declared.Handle.{Handle}
@@ -18,15 +19,15 @@ use Rattle.sequences.specs.Promises.{Along, On, Through}
 use Rattle.drawings.specs.Saved.{led, Saves}
 use Rattle.drawings.specs.Rests.{Named}
 
--- the calls that can take folder d's name for a node away, each through a live handle of its asker's on the folder: a removal of that name, a move of that name to
--- elsewhere or to another name, and a move to that name, which replaces what has it (or, where the same node moves there, changes nothing)
+-- the calls that can take a name of folder d away, each through a live handle of its asker's on the folder: a removal of that name, a move of that
+-- name to elsewhere or to another name, and a move to that name, which replaces what has it (or, where the same node moves there, changes nothing)
 pub data TakesName (d : ℕ) (name : List ℕ) (t : Table) : Call → Type 0 where
   removes-file : {v : ℕ} {g : Handle} {i : ℕ} → liveRow t v g ≡ At i → rowAt t i .id ≡ d → TakesName d name t (removeFile v g name)
   removes-folder : {v : ℕ} {g : Handle} {i : ℕ} → liveRow t v g ≡ At i → rowAt t i .id ≡ d → TakesName d name t (removeFolder v g name)
   moves-away : {v : ℕ} {g target : Handle} {i : ℕ} {new : List ℕ} → liveRow t v g ≡ At i → rowAt t i .id ≡ d → TakesName d name t (move v g name target new)
   moves-onto : {v : ℕ} {g target : Handle} {i : ℕ} {old : List ℕ} → liveRow t v target ≡ At i → rowAt t i .id ≡ d → TakesName d name t (move v g old target name)
 
--- a call that leaves the name: it fits, and none that is done takes it
+-- a call that leaves the name: it fits its types, and where it is one of these it is refused
 pub record LeavesName (d : ℕ) (name : List ℕ) (c : Call) (p : Pair) : Type 0 where
   pub fits : Fits c
   pub not-taken : TakesName d name (p .table) c → reasonOf c p ≢ 0
@@ -58,4 +59,4 @@ FoundByName = (p q : Pair) (l : List Call) (w v : ℕ) (h g : Handle) (n d : ℕ
 -- and it is found: of who has a handle on the folder, a find of the name is done, or he has no place for a hold more (16)
 unfoldable pub FindsIt : Type 0
 FindsIt = (p : Pair) (v : ℕ) (g : Handle) (n d : ℕ) (e name : List ℕ) → Passed p → On (p .table) v g d e → Named d name n p
-    → (reasonOf (find v g name) p ≡ 0) ⊎ (reasonOf (find v g name) p ≡ 16)
+    → (reasonOf (find v g name) p ≡ 0) ⊎ (reasonOf (find v g name) p ≡ tableFull)

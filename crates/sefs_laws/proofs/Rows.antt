@@ -200,7 +200,7 @@ module _ (f : List ℕ) (Q : List ℕ → Type 0) (same : (a b : List ℕ) → K
 
 -- ---- stores
 
-put-any : (a : List ℕ) (f : File) (pos : ℕ) (src : List ℕ) → Ok (Put a f pos src) Any (putFile a f pos src)
+pub put-any : (a : List ℕ) (f : File) (pos : ℕ) (src : List ℕ) → Ok (Put a f pos src) Any (putFile a f pos src)
 put-any a f pos src = ok-weaken (λ b p. p) (λ n r. tt) (put-law a f pos src)
 
 -- a store in another block leaves a record
@@ -407,7 +407,7 @@ module _ (P : List ℕ → Table → Type 0) (change : Changes P) where
   unfolding moveDots
   leaves-dots s i j h = ok-bind (leaves-dec s i h) λ u k. leaves-inc u j k
 
-  pub leaves-links : (s : Fs) (i j c : ℕ) → P (s .arena) (s .table) → Leaves P (moveLinks s i j c)
+  leaves-links : (s : Fs) (i j c : ℕ) → P (s .arena) (s .table) → Leaves P (moveLinks s i j c)
   unfolding moveLinks
   leaves-links s i j c h =
       ok-bind (says-ensure (leb (recAt s c .kind) 4) 19 tt) λ _ _. any-pick (isFolder (recAt s c .kind)) (moveDots s i j) (done s) (λ _. leaves-dots s i j h) (λ _. went h)
@@ -493,6 +493,18 @@ module _ (P : List ℕ → Table → Type 0) (K : Bears P) where
 
   -- ---- a move, whose two folders are rows i and j. It fills the moved folder too
 
+  -- once the slots are in place
+  pub leaves-moved : (i j : ℕ) → ((s : Fs) (c : ℕ) → P (s .arena) (s .table) → Leaves P (moveParent s j c)) → (s : Fs) (id : ℕ) → P (s .arena) (s .table)
+      → LeavesAfter P (bind (getNode s id) (λ o. bind (moveLinks (o .state) i j (o .row)) (λ s. bind (moveParent s j (o .row)) (λ s.
+      bind (syncRow s i) (λ s. bind (syncRow s j) (λ s. bind (release s (o .row)) (λ s. done (after s))))))))
+  leaves-moved i j parent s id h =
+      ok-bind (leaves-node P (K .loads) s id h) λ o h.
+      ok-bind (leaves-links P (K .changes) (o .state) i j (o .row) h) λ s h.
+      ok-bind (parent s (o .row) h) λ s h.
+      ok-bind (leaves-sync P (K .stores) s i h) λ s h.
+      ok-bind (leaves-sync P (K .stores) s j h) λ s h.
+      ok-bind (leaves-release s (o .row) h) λ s h. went h
+
   module _ (i j : ℕ) (fills : (c : ℕ) → Fills P c) where
     leaves-between : (s : Fs) (old : Slot) (name : List ℕ) (r : Replaced) → P (s .arena) (s .table) → LeavesAfter P (moveBetween s i j old name r)
     unfolding moveBetween
@@ -500,12 +512,7 @@ module _ (P : List ℕ → Table → Type 0) (K : Bears P) where
         ok-bind (leaves-append P j (fills j) (K .changes) s _ h) λ s h.
         ok-bind (leaves-remove P i (fills i) (K .changes) s _ h) λ s h.
         ok-bind (leaves-replaced s j (fills j) r h) λ s h.
-        ok-bind (leaves-node P (K .loads) s _ h) λ o h.
-        ok-bind (leaves-links P (K .changes) (o .state) i j (o .row) h) λ s h.
-        ok-bind (leaves-parent P (o .row) (fills (o .row)) s j h) λ s h.
-        ok-bind (leaves-sync P (K .stores) s i h) λ s h.
-        ok-bind (leaves-sync P (K .stores) s j h) λ s h.
-        ok-bind (leaves-release s (o .row) h) λ s h. went h
+        leaves-moved i j (λ s c. leaves-parent P c (fills c) s j) s (old .entry .id) h
 
     leaves-move-steps : (s : Fs) (old name : List ℕ) (r : Replaced) → P (s .arena) (s .table) → LeavesAfter P (moveSteps s i j old name r)
     unfolding moveSteps
