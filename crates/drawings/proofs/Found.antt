@@ -35,7 +35,8 @@ use Rattle.sequences.specs.Calls.{Call, find, does, next}
 use Rattle.sequences.specs.Promises.{On, Through, writes, resizes}
 use Rattle.sequences.proofs.Passing.{allowed}
 use Rattle.sequences.proofs.Corner.{on-used}
-use Rattle.sequences.proofs.Chains.{part-done, alike-find, by-done, begins}
+use Rattle.walk.proofs.Chains.{part-done}
+use Rattle.sequences.proofs.Chains.{alike-find, by-done, begins}
 use Rattle.sequences.proofs.Reading.{file-is}
 use Rattle.drawings.specs.Saved.{led}
 use Rattle.drawings.specs.Rests.{Rested, Named, NodeNamed, FoundAndKept}

@@ -21,7 +21,7 @@ use Rattle.sefs.specs.Ask.{start}
 use Rattle.sefs.specs.Contents.{readBytes, callRead}
 use Rattle.sefs_laws.specs.Contents.{fileAt, sizeAt}
 use Rattle.walk.specs.Walk.{Spot, lookAt, targetOf}
-use Rattle.walk.proofs.Chains.{part-shows}
+use Rattle.walk.proofs.Chains.{part-done}
 use Rattle.rules.specs.Image.{recOf, isNode}
 use Rattle.image.specs.Midway.{Used}
 use Rattle.image.proofs.Handles.{row-node, row-rec}
@@ -68,7 +68,7 @@ module _ (p : Pair) (y : Passed p) (v : ℕ) (g : Handle) (i : ℕ) (live : live
 pub content-is-target : ContentIsTarget
 unfolding ContentIsTarget
 content-is-target p v g i room b at node l target all y e link live q reads spare fits =
-    let same : rowAt (p .table) i .rec ≡ node .rec = same-rec p y v g i live node (ok-done (subst (Ok _ _) e (part-shows (start (p .arena) (p .table)) (at .rec) l)) .3) q in
+    let same : rowAt (p .table) i .rec ≡ node .rec = same-rec p y v g i live node (part-done (start (p .arena) (p .table)) (at .rec) l node e .3) q in
     record {
       node = node;
       named = e;

@@ -1,5 +1,5 @@
 -- What a designer was told of her drawings, of runs: a list of runs leads where its calls lead, and a read at its end gives what the call gives there.
-use mathlib.Core.Path.{_≡_, refl, sym, ap, ap₂, _∙_, subst}
+use mathlib.Core.Path.{_≡_, refl, sym, ap, _∙_, subst}
 use mathlib.Core.List.{List, [], _∷_, _++_}
 use mathlib.Core.Logic.{_≢_, _↔_}
 use Prim.Native.Nat.{ℕ, _+_}
@@ -9,7 +9,6 @@ use Rattle.base.specs.Out.{done, answer}
 use Rattle.base.specs.Parts.{paste}
 use Rattle.base.specs.Reasons.{tableFull}
 use Rattle.base.proofs.Outs.{bind-is-done}
-use Rattle.table.specs.declared.Table.{Table}
 use Rattle.table.specs.declared.Handle.{Handle}
 use Rattle.table.specs.declared.Added.{Added}
 use Rattle.table_bytes.specs.Layout.{tableOf}
@@ -17,16 +16,16 @@ use Rattle.sefs.specs.Open.{callFind}
 use Rattle.sefs.specs.Contents.{callRead}
 use Rattle.edge_words.specs.Words.{handleWords}
 use Rattle.sequences.specs.Pairs.{Pair, pair}
-use Rattle.sequences.specs.Calls.{Call, find, read, write, resize, Fits, does, reasonOf, next, asker}
+use Rattle.sequences.specs.Calls.{Call, find, read, write, Fits, does, reasonOf, next, asker}
 use Rattle.sequences.specs.Promises.{Along, On}
 use Rattle.sequences.specs.Promises as along
 use Rattle.sequences.specs.TableFull.{ReachesCheck, NoPlace, FullExactly}
 use Rattle.sequences.specs.Reasons.{OldOpen}
 use Rattle.sequences.proofs.TableFull.{full-exactly}
 use Rattle.sequences.proofs.OpenCall.{old-open}
-use Rattle.drawings.specs.Saved.{led, Saves, Elsewhere, Saved, LaidOver, ResizedTo}
-use Rattle.drawings.specs.Rests.{LeavesBe, RestsAlong, Rested, ClosedAndKept, Named}
-use Rattle.drawings.specs.Names.{LeavesName, LeavesBoth, NamesStay, FoundByName}
+use Rattle.drawings.specs.Saved.{led, Saves, Saved, LaidOver, ResizedTo}
+use Rattle.drawings.specs.Rests.{RestsAlong, Rested, ClosedAndKept, Named}
+use Rattle.drawings.specs.Names.{NamesStay, FoundByName}
 use Rattle.drawings.proofs.Saved.{saved, laid-over, resized-to}
 use Rattle.drawings.proofs.Rests.{rests-along, closed-and-kept}
 use Rattle.drawings.proofs.Names.{names-stay, found-by-name}

@@ -2,15 +2,13 @@
 -- and who reads, reads by `dz_read` or `dz_own_read`. A run that answers 255 was made with a slice of a wrong size, and made no call.
 use mathlib.Core.Path.{_≡_}
 use mathlib.Core.List.{List, [], _∷_}
-use mathlib.Core.Logic.{_≢_, _⊎_, _↔_}
+use mathlib.Core.Logic.{_≢_, _↔_}
 use Prim.Native.Nat.{ℕ, _+_}
 use lib.ListN.{length, take}
 use contract.Lifetimes.{Lfts}
-use denote.Ref.{now}
 use Rattle.base.specs.Parts.{part, paste}
 use Rattle.base.specs.Reasons.{tableFull}
 use Rattle.table.specs.declared.Handle.{Handle}
-use Rattle.table_bytes.specs.Layout.{tableOf}
 use Rattle.edge_words.specs.Words.{handleWords}
 use Rattle.edge.proofs.dz_open.Reads as dz-open
 use Rattle.edge.proofs.dz_check.Reads as dz-check

@@ -19,13 +19,13 @@ use Rattle.files.specs.Store.{longest, putFile, cutFile}
 use Rattle.sefs.specs.State.{Fs, withArena}
 use Rattle.sefs.specs.Records.{withSize}
 use Rattle.sefs.specs.Nodes.{nodeFile, recAt, setRec}
-use Rattle.sefs.specs.Ask.{admit, byHandle, start}
+use Rattle.sefs.specs.Ask.{admit, byHandle, typeInRange, start}
 use Rattle.sefs.specs.Create.{After, after}
 
 -- "21 NotFile for a folder or type 0". 000 looks at the type, so one above 4 sticks
 unfoldable pub hasContents : DiskINode → Out Unit
 hasContents r = do
-  _ ← ensure (leb (r .kind) 4) stuck
+  _ ← typeInRange r
   ensure (isType (r .kind) && not (isFolder (r .kind))) notFile
 
 -- "22 FileTooBig where a write's or resize's end passes 4,294,967,295"

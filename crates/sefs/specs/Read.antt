@@ -16,7 +16,7 @@ use Rattle.table.specs.declared.Handle.{Handle}
 use Rattle.table.specs.Table.{rowAt, takeRow}
 use Rattle.sefs.specs.Slots.{slotBytes, isEnded}
 use Rattle.sefs.specs.declared.Metadata.{Metadata}
-use Rattle.sefs.specs.Ask.{admit, byHandle, known, folder}
+use Rattle.sefs.specs.Ask.{admit, byHandle, known, typeInRange, folder}
 
 -- ---- metadata: "A folder's size field stays 0; metadata answers its `blocks` as size"
 
@@ -71,7 +71,7 @@ callSet a t w h mode uid gid atime mtime ctime = do
 
 unfoldable pub readable : DiskINode → Out Unit
 readable r = do
-  _ ← ensure (leb (r .kind) 4) stuck
+  _ ← typeInRange r
   folder r
 
 -- a slot whose name is looked at, as stored

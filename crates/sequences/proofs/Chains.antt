@@ -7,7 +7,7 @@ use Prim.Native.Nat.{ℕ, _≤_}
 use native.Mathlib.Omega.{arith}
 use lib.Dec.{eqb, leb}
 use Rattle.base.specs.Out.{Out, done, refused, bind, ensure, answer, kept, Ok, went}
-use Rattle.base.proofs.Outs.{ok-bind, ok-weaken, ok-done, ok-does, bind-is-done}
+use Rattle.base.proofs.Outs.{ok-bind, ok-weaken, ok-done, ok-does}
 use Rattle.base.proofs.Tests.{decides-leb}
 use Rattle.base.proofs.Sames.{decided-yes}
 use Rattle.base.specs.declared.Found.the-variants.{At}
@@ -21,9 +21,8 @@ use Rattle.table.specs.declared.Added.{Added}
 use Rattle.table.specs.Table.{rowAt, liveRow, canHold, addHold}
 use Rattle.table_laws.specs.Rules.{Owner}
 use Rattle.table_laws.proofs.Handles.{live-means, live-used, add-live}
-use Rattle.sefs.specs.State.{Fs}
 use Rattle.sefs.specs.Nodes.{Opened}
-use Rattle.sefs.specs.Slots.{Slot, findSlot}
+use Rattle.sefs.specs.Slots.{findSlot}
 use Rattle.sefs.specs.Ask.{notLong, known, folder, start}
 use Rattle.sefs.specs.Open.{holdNode, callRoot, callFind}
 use Rattle.rules.specs.Image.{isNode, recOf}
@@ -54,21 +53,6 @@ never e = let z : _≡_ {A = ℕ} 0 1 = cc in omega arith
 ensured : (b : Bool) (n : ℕ) → ensure b n ≡ done tt → b ≡ true
 ensured true n e = refl
 ensured false n e = absurd (never (sym e))
-
--- a part that has led on: the slot with the name was found, and the node that it names was looked at
-pub part-done : (s : Fs) (r : DiskINode) (name : List ℕ) (n : Spot) → partIn s r name ≡ done n
-    → (e : Slot) × (findSlot (s .arena) r name ≡ done e) × (e .entry .id ≡ n .id) × (lookAt s (n .id) ≡ done (n .rec))
-unfolding partIn
-part-done s r name n e =
-    let x = bind-is-done (known r) _ n e in
-    let y = bind-is-done (folder r) _ n (x .2) in
-    let z = bind-is-done (notLong name) _ n (y .2) in
-    let d = bind-is-done (ensure (not (isDots name && eqb (r .nlinks) 0)) 8) _ n (z .2) in
-    let f = bind-is-done (findSlot (s .arena) r name) _ n (d .2) in
-    let g = bind-is-done (lookAt s (f .0 .entry .id)) _ n (f .2) in
-    let h = bind-is-done (ensure (leb (g .0 .kind) 4) 19) _ n (g .2) in
-    let q : spot (f .0 .entry .id) (g .0) ≡ n = ap (kept n) (h .2) in
-    (f .0, f .1, ap (λ (x : Spot). x .id) q, subst (λ (x : Spot). lookAt s (x .id) ≡ done (x .rec)) q (g .1))
 
 module _ (a : List ℕ) (t : Table) (w : ℕ) where
   -- a table that finds have led to: it passes, and each node has the record that it had

@@ -8,12 +8,12 @@ use native.Mathlib.Omega.{arith}
 use lib.Dec.{eqb, leb}
 use lib.ListN.{length, getD}
 use borrow.Author.Tests.{ne-eqb, lt-ltb}
-use Rattle.base.specs.Out.{Out, done, refused, bind, ensure, answer, Ok, went, said}
+use Rattle.base.specs.Out.{Out, done, refused, bind, ensure, answer, kept}
 use Rattle.base.specs.Decides.{same}
 use Rattle.base.proofs.Bools.{and-both, or-first, or-second}
 use Rattle.base.proofs.Sames.{and-true}
 use Rattle.base.proofs.Counts.{allTo-all}
-use Rattle.base.proofs.Outs.{ok-bind, ok-done}
+use Rattle.base.proofs.Outs.{bind-is-done}
 use Rattle.structs.specs.declared.DiskINode.{DiskINode}
 use Rattle.utf8.specs.Names.{NoSlash, isDots, nameVerdict, earlyReason}
 use Rattle.table.specs.declared.Table.{Table}
@@ -97,21 +97,19 @@ part-finds a t w h name i e l g can plain =
     is (look-then (start a t) w (x .entry .id) (canHold t w) can (λ n r. plain x n q r .0))))
 
 -- where a part has led, in the words of find; and it was looked at
-pub part-shows : (s : Fs) (r : DiskINode) (name : List ℕ)
-    → Ok (λ (n : Spot). (e : Slot) × (findSlot (s .arena) r name ≡ done e) × (lookAt s (e .entry .id) ≡ done (n .rec)) × (lookAt s (n .id) ≡ done (n .rec))) (λ _. Unit) (partIn s r name)
+pub part-done : (s : Fs) (r : DiskINode) (name : List ℕ) (n : Spot) → partIn s r name ≡ done n
+    → (e : Slot) × (findSlot (s .arena) r name ≡ done e) × (e .entry .id ≡ n .id) × (lookAt s (n .id) ≡ done (n .rec))
 unfolding partIn
-part-shows s r name =
-    ok-bind (own (known r)) λ _ _.
-    ok-bind (own (folder r)) λ _ _.
-    ok-bind (own (notLong name)) λ _ _.
-    ok-bind (own (ensure (not (isDots name && eqb (r .nlinks) 0)) 8)) λ _ _.
-    ok-bind (own (findSlot (s .arena) r name)) λ e q.
-    ok-bind (own (lookAt s (e .entry .id))) λ n l.
-    ok-bind (own (ensure (leb (n .kind) 4) 19)) λ _ _. went (e, q, l, l)
-  where
-    own : {A : Type 0} (m : Out A) → Ok (λ x. m ≡ done x) (λ _. Unit) m
-    own (done x) = went refl
-    own (refused n) = said tt
+part-done s r name n e =
+    let x = bind-is-done (known r) _ n e in
+    let y = bind-is-done (folder r) _ n (x .2) in
+    let z = bind-is-done (notLong name) _ n (y .2) in
+    let d = bind-is-done (ensure (not (isDots name && eqb (r .nlinks) 0)) 8) _ n (z .2) in
+    let f = bind-is-done (findSlot (s .arena) r name) _ n (d .2) in
+    let g = bind-is-done (lookAt s (f .0 .entry .id)) _ n (f .2) in
+    let h = bind-is-done (ensure (leb (g .0 .kind) 4) 19) _ n (g .2) in
+    let q : spot (f .0 .entry .id) (g .0) ≡ n = ap (kept n) (h .2) in
+    (f .0, f .1, ap (λ (x : Spot). x .id) q, subst (λ (x : Spot). lookAt s (x .id) ≡ done (x .rec)) q (g .1))
 
 -- ---- a path that is a name
 
@@ -172,8 +170,9 @@ module _ (a : List ℕ) (t : Table) (w : ℕ) (h : Handle) (name : List ℕ) (ro
     where
       go : (o : Out Spot) → partIn s (rowAt t i .rec) name ≡ o → walkOn s room mostLinks [] (spot (rowAt t i .id) (rowAt t i .rec)) (name ∷ []) .end ≡ o
       go (done n) q =
-          let x = ok-done (subst (Ok _ _) q (part-shows s (rowAt t i .rec) name)) in
-          ap (λ (x : Walked Spot). x .end) (leads s room mostLinks [] (spot (rowAt t i .id) (rowAt t i .rec)) n (name ∷ []) (on q (plain i l (x .0) (n .rec) (x .1) (x .2) .1) here))
+          let x = part-done s (rowAt t i .rec) name n q in
+          let l' : lookAt s (x .0 .entry .id) ≡ done (n .rec) = ap (lookAt s) (x .2) ∙ x .3 in
+          ap (λ (x : Walked Spot). x .end) (leads s room mostLinks [] (spot (rowAt t i .id) (rowAt t i .rec)) n (name ∷ []) (on q (plain i l (x .0) (n .rec) (x .1) l' .1) here))
       go (refused m) q = ap (λ (x : Walked Spot). x .end) (halts s room mostLinks [] (spot (rowAt t i .id) (rowAt t i .rec)) (spot (rowAt t i .id) (rowAt t i .rec)) [] name [] m here q)
 
   good-name : (i : ℕ) → admit a t ≡ done tt → byHandle t w h ≡ done i → eqb (earlyReason (nameVerdict name)) 0 ≡ true → rest i ≡ callFind a t w h name

@@ -4,11 +4,11 @@ use mathlib.Core.Path.{_≡_}
 use mathlib.Core.List.{List}
 use Prim.Native.Nat.{ℕ, _<_}
 use lib.ListN.{drop}
-use lib.Dec.{eqb, leb}
-use Rattle.base.specs.Out.{Out, done, refused, ensure, _>>=_}
-use Rattle.base.specs.Reasons.{stuck}
+use lib.Dec.{eqb}
+use Rattle.base.specs.Out.{Out, done, refused, _>>=_}
 use Rattle.base.specs.Search.{pick}
 use Rattle.sefs.specs.State.{Fs}
+use Rattle.sefs.specs.Ask.{typeInRange}
 use Rattle.walk.specs.Walk.{cut, lookAt, Spot, spot, Way, ended, met}
 use Rattle.walk_parts.specs.declared.Passed.{Passed}
 use Rattle.walk_parts.specs.declared.Going.{Going}
@@ -17,7 +17,7 @@ use Rattle.walk_parts.specs.declared.Going.{Going}
 unfoldable pub standOn : Fs → ℕ → Out Spot
 standOn s id = do
   n ← lookAt s id
-  _ ← ensure (leb (n .kind) 4) stuck
+  _ ← typeInRange n
   done (spot id n)
 
 -- how the walk along what is left of a text went
