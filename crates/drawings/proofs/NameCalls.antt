@@ -97,8 +97,6 @@ contents-asks r =
     ok-bind (any (ensure (leb (r .kind) 4) 19)) λ _ _.
     ok-weaken (λ _ e. not-true (isFolder (r .kind)) (and-parts (isType (r .kind)) (not (isFolder (r .kind))) e .1)) (λ n q. q) (ensure-asks {R = Any} (isType (r .kind) && not (isFolder (r .kind))) 21 tt)
 
--- ---- a slot that is found by its name
-
 module _ (p : Pair) (y : Passed p) where
   abbrev a : List ℕ
   a = p .arena
@@ -109,13 +107,14 @@ module _ (p : Pair) (y : Passed p) where
   A : Allowed (p .arena) (p .table)
   A = allowed p y
 
-  -- a folder that has a name in it is no such child
+  -- a folder that has a name in it has more than two slots
   pub not-empty : (r : DiskINode) (x : ℕ) → Filled p x → r ≡ recOf (p .arena) (p .table) x → (isFolder (r .kind) ≡ true → r .blocks ≤ 2) → ⊥
   unfolding isFolderAt
   not-empty r x F q small =
       let m = small (ap (λ (r : DiskINode). isFolder (r .kind)) q ∙ and-parts (isNode a x) (isFolder (recOf a t x .kind)) (F .folder) .1) in
       omega (arith, m, F .many, ap (λ (r : DiskINode). r .blocks) q)
 
+  -- a slot that is found by its name
   module _ (i : ℕ) (u : Used (p .table) i) (is : isFolder (rowAt (p .table) i .rec .kind) ≡ true) (name : List ℕ) (plain : isSpecial name ≡ false) (s : Slot) (hit : Hit (p .arena) (rowAt (p .table) i .rec) name s) where
     G : Folder (p .arena) (p .table) (rowAt (p .table) i .id)
     G = A .rule6 .folder (rowAt t i .id) (row-folder a t A i u is)
@@ -123,7 +122,7 @@ module _ (p : Pair) (y : Passed p) where
     rec-i : recOf (p .arena) (p .table) (rowAt (p .table) i .id) ≡ rowAt (p .table) i .rec
     rec-i = row-rec a t A i u
 
-    -- the slot that is found is a later one, and its node one
+    -- it is a later one, and its node one
     pub hit-later : 2 ≤ s .place
     hit-later = later-place a t (rowAt t i .id) G name plain (s .place) (ap (λ (r : DiskINode). isNamed (slotIn a r (s .place) .name) name) rec-i ∙ hit .named)
 
@@ -134,6 +133,16 @@ module _ (p : Pair) (y : Passed p) where
 
     pub hit-name : nameOf (slotIn (p .arena) (rowAt (p .table) i .rec) (s .place) .name) ≡ name
     hit-name = named-decides (slotIn a (rowAt t i .rec) (s .place) .name) name .right (true-T (isNamed (slotIn a (rowAt t i .rec) (s .place) .name) name) (hit .named)) ∙ asked-own name (not-special name plain .0)
+
+  -- a new node, where no file has its file's name
+  new-node : (kind mode : ℕ) (time : Timespec) (uuid : List ℕ) → NewFits kind mode time uuid → there (p .arena) (file 1 uuid) ≡ false
+      → Ok (Makes (start (p .arena) (p .table)) (storedMeta (p .arena)) (newRecord kind mode time uuid)) (λ r. r ≡ 17) (newNode (start (p .arena) (p .table)) kind mode time uuid)
+  unfolding isNode
+  new-node kind mode time uuid F absent =
+      let s = first-spare t (formed a t A) in
+      let B = fair a t A in
+      new-node-law (start a t) (storedMeta a) (meta-is a t B) (fair-sane a t B (y .typed .bytes)) (there-meta a t B) (A .rule3 .length) (y .typed .bytes) (A .rule1 .sound) (A .rule4 .node)
+      (s .0) (s .1) uuid (named-node uuid (F .file) (F .bytes)) absent kind mode time
 
   -- ---- slot k of folder d, which has the name `own` for node n
 
@@ -216,16 +225,6 @@ module _ (p : Pair) (y : Passed p) where
         ok-bind (leaves-sync H (holds-bears p y f k l .stores) s c h) λ s h. ok-bind (leaves-sync H (holds-bears p y f k l .stores) s i h) λ s h. went (remains (s .arena) (s .table) h)
 
     -- ---- a new node
-
-    -- where no file has its file's name
-    new-node : (kind mode : ℕ) (time : Timespec) (uuid : List ℕ) → NewFits kind mode time uuid → there (p .arena) (file 1 uuid) ≡ false
-        → Ok (Makes (start (p .arena) (p .table)) (storedMeta (p .arena)) (newRecord kind mode time uuid)) (λ r. r ≡ 17) (newNode (start (p .arena) (p .table)) kind mode time uuid)
-    unfolding isNode
-    new-node kind mode time uuid F absent =
-        let s = first-spare t (formed a t A) in
-        let B = fair a t A in
-        new-node-law (start a t) (storedMeta a) (meta-is a t B) (fair-sane a t B (y .typed .bytes)) (there-meta a t B) (A .rule3 .length) (y .typed .bytes) (A .rule1 .sound) (A .rule4 .node)
-        (s .0) (s .1) uuid (named-node uuid (F .file) (F .bytes)) absent kind mode time
 
     -- a new folder's two slots: another's row stays
     begins : (s : Fs) (c i up : ℕ) → i ≢ c → recAt s c .file ≢ f → H (s .arena) (s .table) → Ok (λ (x : Fs). H (x .arena) (x .table) × (rowAt (x .table) i ≡ rowAt (s .table) i)) Any (direntInit s c up)
