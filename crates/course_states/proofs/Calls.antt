@@ -28,7 +28,7 @@ use Rattle.sefs.specs.Records.{withBlocks}
 use Rattle.sefs.specs.Meta.{metaFile, isUsed}
 use Rattle.sefs.specs.Nodes.{Opened, nodeFile, recAt, idAt, setRec, openIn, openAt, loadNode, getNode, syncRow, release}
 use Rattle.sefs.specs.Folders.{putSlot, direntRemove, nlinksDec, unlinkFolder, direntNodeRemove}
-use Rattle.sefs.specs.Ask.{admit, anOwner, byHandle, goodName, newName, notLong, notSpecial, known, folder, liveFolder, orExists, start}
+use Rattle.sefs.specs.Ask.{admit, anOwner, byHandle, goodName, newName, notLong, notSpecial, known, typeInRange, folder, liveFolder, orExists, start}
 use Rattle.sefs.specs.Open.{holdNode, callRoot, callFind}
 use Rattle.sefs.specs.Create.{After, after, Given, canMake, createSteps, callCreate, linkSteps, callLink}
 use Rattle.sefs.specs.Remove.{removable, removeSteps, callRemove}
@@ -296,6 +296,7 @@ unfoldable pub moveFreeNear : Fs → ℕ → ℕ → List ℕ → List ℕ → O
 moveFreeNear s i j old name = pick (eqb (idAt s i) (idAt s j)) (moveStepsNear s i j old name none) (do
   was ← findNear (s .arena) (recAt s i) old
   c ← getNear s (was .entry .id)
+  _ ← typeInRange (recAt (c .state) (c .row))
   _ ← notBelow (c .state) i j (c .row)
   moveStepsNear (c .state) i j old name none)
 
@@ -305,7 +306,8 @@ move-free-near s i j old name =
     λ z. pick (eqb (idAt s i) (idAt s j)) (move-steps-near s i j old name none z)
     (bind (find-near (s .arena) (recAt s i) old z)
     (λ was. bind (get-near s (was .entry .id) z)
-    (λ c. bind (notBelow (c .state) i j (c .row)) (λ _. move-steps-near (c .state) i j old name none z))))
+    (λ c. bind (typeInRange (recAt (c .state) (c .row)))
+    (λ _. bind (notBelow (c .state) i j (c .row)) (λ _. move-steps-near (c .state) i j old name none z)))))
 
 unfoldable pub moveToNear : Fs → ℕ → ℕ → List ℕ → List ℕ → Found → Out After
 moveToNear s i j old name (At k) = moveTo s i j old name (At k)
