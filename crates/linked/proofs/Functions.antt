@@ -25,7 +25,7 @@ use Rattle.owners_kept.specs.Owned.{Chained, Owned}
 use Rattle.rules.proofs.Check.{check-pass}
 use Rattle.sequences.specs.Pairs.{Pair, pair}
 use Rattle.sequences.specs.Calls.{Call, check, does}
-use Rattle.linked.specs.Images.{Image, image, pairOf, Same, Trusted, Kept, Places, places, inWords, nowhere, handed, Has, written, looked, Did, did, denied, uncalled, reasonIn}
+use Rattle.linked.specs.Images.{Image, image, pairOf, Same, Trusted, Ready, Places, places, inWords, nowhere, handed, Has, written, looked, Did, did, denied, uncalled, reasonIn}
 use Rattle.linked.specs.Tested.{Ran}
 use Rattle.linked.specs.Tested as tested
 use Rattle.linked.specs.Owning.{Owns}
@@ -65,7 +65,7 @@ still = record { arena = refl; table = refl }
 abbrev imageAt : List ℕ × List ℕ × Places → List ℕ → Image
 imageAt x k = image (x .0) k (x .1)
 
--- they hold w, which is v
+-- w is what these slices hold, and it is v
 did-at : {P : Type 0} {c : Call} {s : Image} {x : Places} {n : ℕ} {l : List ℕ} (at : P → List ℕ × List ℕ × Places) {v w : P} → w ≡ v
     → Did c s x (imageAt (at v) l) (at v .2) n → Did c s x (imageAt (at w) l) (at w .2) n
 did-at {P} {c} {s} {x} {n} {l} at e d = subst (λ (z : P). Did c s x (imageAt (at z) l) (at z .2) n) (sym e) d
@@ -162,10 +162,10 @@ owned {a = a} {t = t} y k =
     let A = check-pass a (tableOf t) (y .passes .passes) in
     record { whole = A .rule1 .length; fine = A .rule1 .sound; chained = k; size = y .size; formed = A .rule2 .formed }
 
-pub asked : {s : Image} → Kept s → Owned (s .arena) (s .chains) (s .table)
+pub asked : {s : Image} → Ready s → Owned (s .arena) (s .chains) (s .table)
 asked y = owned (y .trusted) (y .chained)
 
-owns-did : {c : Call} {s u : Image} {x y : Places} {n : ℕ} → Kept s → Owns c s x u y n → Did c s x u y n × Chained (u .arena) (u .chains)
+owns-did : {c : Call} {s u : Image} {x y : Places} {n : ℕ} → Ready s → Owns c s x u y n → Did c s x u y n × Chained (u .arena) (u .chains)
 unfolding does handed
 owns-did y (owning.roots _ a _ _ _ out _ _ _ L) = (answers-did (λ x. (now a, x .0, inWords (x .1))) (L (asked y)) (fixed 2 (now out) same) refl refl (λ _. written refl refl), y .chained)
 owns-did y (owning.finds _ a _ _ _ _ out _ _ _ _ _ L) = (answers-did (λ x. (now a, x .0, inWords (x .1))) (L (asked y)) (fixed 2 (now out) same) refl refl (λ _. written refl refl), y .chained)

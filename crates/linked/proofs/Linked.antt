@@ -31,7 +31,7 @@ use Rattle.sequences.proofs.Sequences.{sequence, apart, no-slashes}
 use Rattle.sequences.proofs.Places.{full-means, root-full, full-by-own, refused-others, apart-by-owner}
 use Rattle.sequences.proofs.Ends.{closed, ended}
 use Rattle.sequences.proofs.Reasons.{reasons}
-use Rattle.linked.specs.Images.{Image, pairOf, Passes, Kept, Places, handed, Did}
+use Rattle.linked.specs.Images.{Image, pairOf, Passes, Ready, Places, handed, Did}
 use Rattle.linked.specs.Tested.{Ran}
 use Rattle.linked.specs.Owning.{Owns}
 use Rattle.linked.specs.Linked.{Does, OwnDoes, Functions, none, ran, Goes, Transports, Linked, OwnLinked, Mixed, tested, owning, MixedLinked, RunsWell, RunsApart, RunsElse, RunsByOwner, RunsRefused, RunsFull, RunsRootFull, RunsFullByOwn, RunsClosed, RunsSlashless, RunsWalk, RunsHalt, Theorems, Numbers}
@@ -213,7 +213,7 @@ pub tested-theorems : Theorems Ran Passes
 unfolding Linked
 tested-theorems = theorems linked (λ s y. y)
 
-pub own-theorems : Theorems Owns Kept
+pub own-theorems : Theorems Owns Ready
 unfolding OwnLinked
 own-theorems = theorems own-linked (λ s y. y .trusted)
 

@@ -38,9 +38,8 @@ use Rattle.edge.proofs.Laws.{sized-is, sized-not}
 use Rattle.sequences.specs.Pairs.{pair}
 use Rattle.sequences.specs.Promises.{Fresh, Slashless, FreshSlashless}
 use Rattle.sequences.proofs.Fresh.{format-goes, fresh, fresh-slashless}
-use Rattle.linked.specs.Images.{Kept}
-use Rattle.linked.specs.Linked.{OwnDoes, CheckSays, OpenDoes, FormatFresh, CheckTrusts, ChainsOwn, OwnKeeps}
-use Rattle.linked.specs.Linked as linked
+use Rattle.linked.specs.Images.{Ready}
+use Rattle.linked.specs.Linked.{OwnDoes, CheckSays, OpenDoes, FreshImage, FormatFresh, CheckTrusts, ChainsOwn, OwnKeeps}
 use Rattle.linked.proofs.Functions.{owned, asked, own-does-calls}
 use Rattle.linked.proofs.Transport.{trusted-written, not-255, after}
 
@@ -63,11 +62,11 @@ format-fresh κs a a' t t' file sec nsec B M F L =
     let e : sized 4402 (now t) (sized 16 (now file) o) ≡ done (record { arena = g .0; table = emptyTable }) = is ∙ ap formatted (g .1) in
     let K = subst (λ (o : Out After). Answers o leftOf (now a, now t) (now a', now t') 0) e L in
     let p = fresh (now a) (timeOf sec nsec) (now file) B M (y .0) F (g .0) (g .1) in
-    let w : linked.Fresh (g .0) (tableBytes emptyTable) = record {
+    let w : FreshImage (g .0) (tableBytes emptyTable) = record {
       trusted = trusted-written (g .0) emptyTable p;
       slashless = subst (λ (v : Table). Slashless (pair (g .0) v)) (sym (tableOf-tableBytes emptyTable (p .typed .fits))) (fresh-slashless (now a) (timeOf sec nsec) (now file) B M (y .0) F (g .0) (g .1));
     } in
-    subst (λ (x : List ℕ × List ℕ). linked.Fresh (x .0) (x .1)) (sym (K .places)) w)
+    subst (λ (x : List ℕ × List ℕ). FreshImage (x .0) (x .1)) (sym (K .places)) w)
     (λ l.
     let e : o ≡ refused 1 = rw l in
     let q : 0 ≡ 1 = L .number ∙ ap answer (is ∙ e) in
@@ -147,5 +146,5 @@ pub own-keeps : OwnKeeps
 unfolding OwnKeeps OwnDoes
 own-keeps c s u x y n k F r =
     let d = own-does-calls c s u x y n k r in
-    let K : Kept u = record { trusted = after c s u (k .trusted) F (d .0); chained = d .1 } in
+    let K : Ready u = record { trusted = after c s u (k .trusted) F (d .0); chained = d .1 } in
     (K, asked K)

@@ -57,8 +57,8 @@ pub record Trusted (a t : List ℕ) : Type 0 where
 abbrev pub Passes : Image → Type 0
 Passes s = Trusted (s .arena) (s .table)
 
--- and the chains that an owner keeps are the arena's
-pub record Kept (s : Image) : Type 0 where
+-- and the chains beside it are the arena's: an owner's functions may be run
+pub record Ready (s : Image) : Type 0 where
   pub trusted : Passes s
   pub chained : Chained (s .arena) (s .chains)
 

@@ -34,7 +34,7 @@ use Rattle.sequences.specs.Promises.{Along, Well, On, Safe, Spent, Slashless}
 use Rattle.sequences.specs.Places.{Makes, SameFor, Arrives, Names}
 use Rattle.sequences.specs.Reasons.{reasonsOf, has}
 use Rattle.sequences.specs.Chains.{Finds}
-use Rattle.linked.specs.Images.{_&_, Slice, Image, image, pairOf, Same, Trusted, Passes, Kept, Places, handed, Did}
+use Rattle.linked.specs.Images.{_&_, Slice, Image, image, pairOf, Same, Trusted, Passes, Ready, Places, handed, Did}
 use Rattle.linked.specs.Tested.{Ran}
 use Rattle.linked.specs.Owning.{Owns}
 
@@ -44,9 +44,9 @@ use Rattle.linked.specs.Owning.{Owns}
 unfoldable pub Does : Type 0
 Does = (c : Call) (s u : Image) (x y : Places) (n : ℕ) → Ran c s x u y n → Did c s x u y n
 
--- of an owner's, where he keeps an image that passes, with its chains: the same, and the chains are the arena's again
+-- of an owner's, where the image is ready for them: the same, and the chains are the arena's again
 unfoldable pub OwnDoes : Type 0
-OwnDoes = (c : Call) (s u : Image) (x y : Places) (n : ℕ) → Kept s → Owns c s x u y n → Did c s x u y n × Chained (u .arena) (u .chains)
+OwnDoes = (c : Call) (s u : Image) (x y : Places) (n : ℕ) → Ready s → Owns c s x u y n → Did c s x u y n × Chained (u .arena) (u .chains)
 
 -- ---- a list of runs, of any functions R with any arguments that their types hold (`Fits`) and any places: from s to v, and l are the calls that they made.
 -- A run that answers 255 made none
@@ -85,7 +85,7 @@ Linked = Transports Ran Passes
 
 -- of an owner's: each finds what it requires
 unfoldable pub OwnLinked : Type 1
-OwnLinked = Transports Owns Kept
+OwnLinked = Transports Owns Ready
 
 -- of both, mixed, where an owner's is run with chains that are the arena's
 pub data Mixed (c : Call) (s : Image) (x : Places) (u : Image) (y : Places) (n : ℕ) : Type 0 where
@@ -104,7 +104,7 @@ pub record Handles (words : List ℕ) (t : Table) (w n : ℕ) (f : List ℕ) : T
   pub on : On t w handle n f
 
 -- they are one on another node than n, with another file than f
-pub record Else (words : List ℕ) (t : Table) (w n : ℕ) (f : List ℕ) : Type 0 where
+pub record Elsewhere (words : List ℕ) (t : Table) (w n : ℕ) (f : List ℕ) : Type 0 where
   pub id : ℕ
   pub file : List ℕ
   pub handles : Handles words t w id file
@@ -124,7 +124,7 @@ module _ (R : Functions) (I : Image → Type 0) where
   -- its new nodes, by the words that a create gives with 0: where v's handle h is live on node n, they are one on another
   unfoldable pub RunsElse : Type 0
   RunsElse = (s u : Image) (x y : Places) (w : ℕ) (g : Handle) (name : List ℕ) (kind mode : ℕ) (time : Timespec) (file : List ℕ) (v : ℕ) (h : Handle) (n : ℕ) (f : List ℕ) → I s
-      → Fits (create w g name kind mode time file) → R (create w g name kind mode time file) s x u y 0 → On (pairOf s .table) v h n f → Else (y .words) (pairOf u .table) w n f
+      → Fits (create w g name kind mode time file) → R (create w g name kind mode time file) s x u y 0 → On (pairOf s .table) v h n f → Elsewhere (y .words) (pairOf u .table) w n f
 
   -- `apart-by-owner`
   unfoldable pub RunsByOwner : Type 0
@@ -202,13 +202,13 @@ OpenDoes = (κs : Lfts 2) (a t t' : Slice) (n : ℕ) → dz-open.Learnt κs (a &
 -- ---- how an owner begins, and goes on
 
 -- a format that answers 0 (of the arguments, what their types give): arena and table pass, and no name has a slash
-pub record Fresh (a t : List ℕ) : Type 0 where
+pub record FreshImage (a t : List ℕ) : Type 0 where
   pub trusted : Trusted a t
   pub slashless : Slashless (pair a (tableOf t))
 
 unfoldable pub FormatFresh : Type 0
 FormatFresh = (κs : Lfts 3) (a a' t t' file : Slice) (sec nsec : ℤ) → Bytes (now a) → TimeFits (timeOf sec nsec) → Bytes (now file)
-    → dz-format.Learnt κs (a & t & sec & nsec & file & tt) 0 (a' & t' & sec & nsec & file & tt) → Fresh (now a') (now t')
+    → dz-format.Learnt κs (a & t & sec & nsec & file & tt) 0 (a' & t' & sec & nsec & file & tt) → FreshImage (now a') (now t')
 
 -- or a check that answers 0
 unfoldable pub CheckTrusts : Type 0
@@ -217,8 +217,8 @@ CheckTrusts = (κs : Lfts 3) (a t out out' : Slice) → Bytes (now a) → Bytes 
 -- and then chains that answer 0: what is kept is what each of an owner's functions requires
 unfoldable pub ChainsOwn : Type 0
 ChainsOwn = (κs : Lfts 2) (a k k' : Slice) (t : List ℕ) → Trusted (now a) t → own-chains.Learnt κs (a & k & tt) 0 (a & k' & tt)
-    → Kept (image (now a) (now k') t) × Owned (now a) (now k') t
+    → Ready (image (now a) (now k') t) × Owned (now a) (now k') t
 
 -- each of them keeps it
 unfoldable pub OwnKeeps : Type 0
-OwnKeeps = (c : Call) (s u : Image) (x y : Places) (n : ℕ) → Kept s → Fits c → Owns c s x u y n → Kept u × Owned (u .arena) (u .chains) (u .table)
+OwnKeeps = (c : Call) (s u : Image) (x y : Places) (n : ℕ) → Ready s → Fits c → Owns c s x u y n → Ready u × Owned (u .arena) (u .chains) (u .table)
