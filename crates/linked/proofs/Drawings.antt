@@ -29,7 +29,7 @@ use Rattle.drawings.specs.Names.{NamesStay, FoundByName}
 use Rattle.drawings.proofs.Saved.{saved, laid-over, resized-to}
 use Rattle.drawings.proofs.Rests.{rests-along, closed-and-kept}
 use Rattle.drawings.proofs.Names.{names-stay, found-by-name}
-use Rattle.linked.specs.Images.{Image, pairOf, Passes, Kept, Places, handed}
+use Rattle.linked.specs.Images.{Image, pairOf, Passes, Ready, Places, handed}
 use Rattle.linked.specs.Tested.{Ran}
 use Rattle.linked.specs.Owning.{Owns}
 use Rattle.linked.specs.Linked.{Does, Functions, Runs, none, ran, wrong, Goes, AlongRuns, Transports, Linked, OwnLinked, Mixed, MixedLinked, CheckSays, OpenDoes}
@@ -192,7 +192,7 @@ pub tested-drawings : Drawings Ran Passes
 unfolding Linked
 tested-drawings = drawings linked (λ s y. y)
 
-pub own-drawings : Drawings Owns Kept
+pub own-drawings : Drawings Owns Ready
 unfolding OwnLinked
 own-drawings = drawings own-linked (λ s y. y .trusted)
 

@@ -104,7 +104,7 @@ pub record Handles (words : List ℕ) (t : Table) (w n : ℕ) (f : List ℕ) : T
   pub on : On t w handle n f
 
 -- they are one on another node than n, with another file than f
-pub record Elsewhere (words : List ℕ) (t : Table) (w n : ℕ) (f : List ℕ) : Type 0 where
+pub record OnAnother (words : List ℕ) (t : Table) (w n : ℕ) (f : List ℕ) : Type 0 where
   pub id : ℕ
   pub file : List ℕ
   pub handles : Handles words t w id file
@@ -124,7 +124,7 @@ module _ (R : Functions) (I : Image → Type 0) where
   -- its new nodes, by the words that a create gives with 0: where v's handle h is live on node n, they are one on another
   unfoldable pub RunsElse : Type 0
   RunsElse = (s u : Image) (x y : Places) (w : ℕ) (g : Handle) (name : List ℕ) (kind mode : ℕ) (time : Timespec) (file : List ℕ) (v : ℕ) (h : Handle) (n : ℕ) (f : List ℕ) → I s
-      → Fits (create w g name kind mode time file) → R (create w g name kind mode time file) s x u y 0 → On (pairOf s .table) v h n f → Elsewhere (y .words) (pairOf u .table) w n f
+      → Fits (create w g name kind mode time file) → R (create w g name kind mode time file) s x u y 0 → On (pairOf s .table) v h n f → OnAnother (y .words) (pairOf u .table) w n f
 
   -- `apart-by-owner`
   unfoldable pub RunsByOwner : Type 0
