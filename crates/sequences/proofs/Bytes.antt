@@ -20,9 +20,8 @@ use Rattle.structs.specs.declared.DiskINode.{DiskINode}
 use Rattle.structs.specs.declared.Timespec.{Timespec}
 use Rattle.arena.specs.Fields.{File, file}
 use Rattle.files.specs.Read.{there, byteAt}
-use Rattle.files_laws.specs.Laws.{Kept, Drop}
+use Rattle.files_laws.specs.Laws.{Kept}
 use Rattle.files_laws.proofs.Bounds.{named-node}
-use Rattle.files_laws.proofs.Parts.{file-cases}
 use Rattle.table.specs.declared.Table.{Table}
 use Rattle.table.specs.declared.Row.{Row}
 use Rattle.table.specs.declared.Handle.{Handle}
@@ -42,19 +41,19 @@ use Rattle.sefs.specs.Ask.{start}
 use Rattle.sefs.specs.Create.{Given, createSteps}
 use Rattle.sefs.specs.Read.{callMetadata, callEntry, callListing}
 use Rattle.sefs.specs.Contents.{callRead}
-use Rattle.rules.specs.Image.{isNode, storedBytes, recBy, recOf, storedSuper, storedMaps}
+use Rattle.rules.specs.Image.{isNode, storedBytes, recBy, recOf}
 use Rattle.rules.specs.Rules.{Allowed}
 use Rattle.rules.proofs.Files.{node-below}
-use Rattle.sefs_laws.proofs.Rows.{Any, any, Changes, Stores, Metas, Bears, bears-and, Fills, tabled, leaves-meta, leaves-sync, leaves-append, leaves-birth, leaves-named, row-below}
+use Rattle.sefs_laws.proofs.Rows.{Any, any, Changes, Stores, Metas, Bears, bears-and, Fills, tabled, filed-kept, filed, leaves-meta, leaves-sync, leaves-append, leaves-birth, leaves-named, row-below}
 use Rattle.image.specs.Midway.{Used, storedMeta}
 use Rattle.image.proofs.Handles.{formed, row-rec, row-node}
 use Rattle.image.proofs.Images.{fair}
 use Rattle.image.proofs.Holds.{add-rows}
 use Rattle.image.proofs.Nodes.{there-meta, meta-is, node-some}
 use Rattle.image.proofs.Stores.{node-apart}
-use Rattle.image.proofs.Metas.{kept-same, kept-then, length-mapsTo, bytes-mapsTo, node-other}
+use Rattle.image.proofs.Metas.{kept-same, kept-then}
 use Rattle.image.proofs.Appends.{file-apart}
-use Rattle.image.proofs.Allocs.{Sane, taken-new}
+use Rattle.image.proofs.Allocs.{taken-new}
 use Rattle.image.proofs.Makes.{Makes, new-node-law}
 use Rattle.sequences.specs.Pairs.{Pair, Passed}
 use Rattle.sequences.specs.Calls.{Call, root, find, walk, create, link, removeFile, removeFolder, move, metadata, setMetadata, getEntry, listing, read, write, resize, sync, close, check, NewFits, Fits, does, next}
@@ -62,6 +61,7 @@ use Rattle.sequences.specs.Promises.{Through, writes, resizes}
 use Rattle.sequences.proofs.Passing.{allowed, spelled-any}
 use Rattle.sequences.proofs.Tables.{FillsFolders, Turns, keeps-create, keeps-root, keeps-find, keeps-walk, keeps-set, keeps-link, keeps-remove, keeps-write, keeps-resize, keeps-sync, keeps-close}
 use Rattle.sequences.proofs.Closes.{close-rows}
+use Rattle.sequences.proofs.Creates.{fair-sane}
 use Rattle.sequences.proofs.Moves.{move-call}
 use Rattle.sequences.proofs.Corner.{at-put}
 use Rattle.sequences.proofs.Tracks.{As, Wide, Dirty, Tracks, tracks-rows, tracks-bears, tracks-fills, tracks-new}
@@ -102,25 +102,14 @@ module _ (v : Table) where
       (λ t i e. firm-put t i _ (λ j x z. absurd (true-false (ap (rowUsed t) (sym z) ∙ x .used) e)))
 
 module _ (o f : List ℕ) where
-  stays-kept : (a b : List ℕ) → Kept a b (file 1 f) → KeptIfThere o f a → KeptIfThere o f b
-  stays-kept a b k s e = kept-then o a b (file 1 f) (s (sym (k .exists) ∙ e)) k
+  then-kept : (a b : List ℕ) → Kept a b (file 1 f) → Kept o a (file 1 f) → Kept o b (file 1 f)
+  then-kept a b k s = kept-then o a b (file 1 f) s k
 
-  stays-drop : (a b g : List ℕ) → Drop a (file 1 g) b → KeptIfThere o f a → KeptIfThere o f b
-  stays-drop a b g d s =
-      ⊎-elim
-      (λ (q : file 1 g ≡ file 1 f). λ e. absurd (true-false e (subst (λ (x : File). there b x ≡ false) q (d .gone))))
-      (λ n. stays-kept a b (d .others (file 1 f) n) s)
-      (file-cases (file 1 g) (file 1 f))
+  stays-kept : (a b : List ℕ) → Kept a b (file 1 f) → KeptIfThere o f a → KeptIfThere o f b
+  stays-kept = filed-kept f (λ a. Kept o a (file 1 f)) then-kept
 
   stays-bears : Bears (λ a t. KeptIfThere o f a)
-  stays-bears = record {
-    changes = λ a t i r e q d m y h. h;
-    loads = λ a t i id free new h. h;
-    frees = λ a t i unused clean h. h;
-    stores = λ a b t i l p. stays-kept a b (p .others (file 1 f) (node-other f));
-    metas = λ a b t k q. stays-kept a b (k f);
-    drops = λ a b t g d. stays-drop a b g d;
-  }
+  stays-bears = filed f (λ a. Kept o a (file 1 f)) then-kept
 
 -- ---- as a call begins, and goes on
 
@@ -228,6 +217,60 @@ module _ (p : Pair) (y : Passed p) where
       firm-put t t i r (λ j x z. absurd (x .some (ap (λ (k : ℕ). rowAt t k .id) z ∙ free))) (λ j h. h),
     )
 
+    -- ---- a new node, whose file is not f
+
+    module _ (kind mode : ℕ) (time : Timespec) (uuid : List ℕ) (fits : NewFits kind mode time uuid) (absent : there (p .arena) (file 1 uuid) ≡ false) (other : f ≢ uuid) where
+      pub make : Ok (Makes (start (p .arena) (p .table)) (storedMeta (p .arena)) (newRecord kind mode time uuid)) (λ r. r ≡ 17) (newNode (start (p .arena) (p .table)) kind mode time uuid)
+      unfolding isNode
+      make =
+          let s = first-spare t (formed a t A) in
+          let B = fair a t A in
+          new-node-law (start a t) (storedMeta a) (meta-is a t B) (fair-sane a t B (y .typed .bytes)) (there-meta a t B) (A .rule3 .length) (y .typed .bytes) (A .rule1 .sound) (A .rule4 .node)
+          (s .0) (s .1) uuid (named-node uuid (fits .file) (fits .bytes)) absent kind mode time
+
+      module _ (c : ℕ) where
+        -- row c has the new file
+        abbrev pub New : List ℕ → Table → Type 0
+        New b u = Calm b u × (rowAt u c .rec .file ≡ uuid)
+
+        new-changes : Changes New
+        new-changes b u i r e q d m w h =
+            (calm-bears .changes b u i r e q d m w (h .0), at-put (λ (x : Row). x .rec .file ≡ uuid) u i r c (λ z. q ∙ ap (λ (j : ℕ). rowAt u j .rec .file) (sym z) ∙ h .1) (h .1))
+
+        new-stores : Stores New
+        new-stores b d u i l P h = (calm-bears .stores b d u i l P (h .0), at-put (λ (x : Row). x .rec .file ≡ uuid) u i _ c (λ z. ap (λ (j : ℕ). rowAt u j .rec .file) (sym z) ∙ h .1) (h .1))
+
+        new-metas : Metas New
+        new-metas b d u files same h = (calm-bears .metas b d u files same (h .0), h .1)
+
+        new-own : Fills New c
+        new-own b d u q h = ((intact-fill c b d u (λ e. other (sym e ∙ h .1)) q (h .0 .0), h .0 .1), h .1)
+
+      pub made : (o : Opened) → Makes (start (p .arena) (p .table)) (storedMeta (p .arena)) (newRecord kind mode time uuid) o → New (o .row) (o .state .arena) (o .state .table)
+      unfolding isNode storedBytes
+      made o Q =
+          let w = row-found t 0 (o .row) (Q .free) in
+          let r : Row = record { id = Q .id; dirty = true; rec = newRecord kind mode time uuid } in
+          subst (λ (s : Fs). New (o .row) (s .arena) (s .table)) (sym (Q .is)) (
+            calm-new (Q .arena) (o .row) r (w .1) (taken-new (storedMeta a) (Q .meta) (Q .id) (Q .taken)) (record { file = fits .file; mac = refl }) (Q .others f other)
+                (λ m M. tab-cong (byteAt (Q .arena) metaFile) (byteAt a metaFile) (128 * m) (128 * m) 112 (λ i l. Q .ground .below (128 * m + i) (omega (arith, A .rule3 .length, node-below a m M)))),
+            ap (λ (x : Row). x .rec .file) (row-here t (o .row) r (omega (arith, w .0, y .typed .fits .rows-34))),
+          )
+
+      create-steps : (w i : ℕ) (name : List ℕ) → Fills Calm i → Ok (λ (x : Given). Intact p f (x .arena) (x .table)) Any (createSteps (start (p .arena) (p .table)) w i name kind mode time uuid)
+      unfolding createSteps
+      create-steps w i name fills =
+          ok-bind (ok-weaken made (λ r q. tt) make) λ x h.
+          let M : List ℕ → Table → Type 0 = New (x .row) in
+          let own : Fills M i = λ b d u q h. (fills b d u q (h .0), h .1) in
+          ok-bind (leaves-birth M (x .row) (new-own (x .row)) (new-changes (x .row)) (x .state) i kind h) λ s h.
+          ok-bind (leaves-append M i own (new-changes (x .row)) s (entry (idAt s (x .row)) name kind) h) λ s h.
+          ok-bind (leaves-named M (new-changes (x .row)) s i (x .row) kind h) λ s h.
+          ok-bind (leaves-meta M (new-metas (x .row)) s h) λ s h.
+          ok-bind (leaves-sync M (new-stores (x .row)) s (x .row) h) λ s h.
+          ok-bind (leaves-sync M (new-stores (x .row)) s i h) λ s h.
+          went (intact-adds (s .arena) (s .table) w (x .row) (h .0 .0))
+
   -- ---- the rows of live handles
 
   pub live-row : (w : ℕ) (g : Handle) (i : ℕ) → Live (p .table) w g i → Used (p .table) i
@@ -275,77 +318,6 @@ module _ (p : Pair) (y : Passed p) where
     turns : Turns C (p .arena) (p .table)
     turns c row M dir b d u e k h = (intact-fill f row b d u (λ q. folder-file c M dir (sym (h .0 .tracks c M .rows row e .file) ∙ q)) k (h .0), h .1)
 
-    -- ---- a new node
-
-    module _ (kind mode : ℕ) (time : Timespec) (uuid : List ℕ) (fits : NewFits kind mode time uuid) (absent : there (p .arena) (file 1 uuid) ≡ false) where
-      other : f ≢ uuid
-      other e = true-false (A .rule5 .own n N) (ap (λ (x : List ℕ). there a (file 1 x)) e ∙ absent)
-
-      sane : Sane (storedMeta (p .arena))
-      unfolding storedMaps
-      sane = record {
-        magic = A .rule3 .magic;
-        some = A .rule3 .some;
-        few = A .rule3 .few;
-        blocks = A .rule3 .blocks;
-        unused = A .rule3 .unused;
-        long = length-mapsTo a (storedSuper a .groups);
-        bytes = bytes-mapsTo a (y .typed .bytes) (storedSuper a .groups);
-        none = A .rule4 .zero;
-        owns = A .rule4 .maps;
-      }
-
-      make : Ok (Makes (start (p .arena) (p .table)) (storedMeta (p .arena)) (newRecord kind mode time uuid)) (λ r. r ≡ 17) (newNode (start (p .arena) (p .table)) kind mode time uuid)
-      unfolding isNode
-      make =
-          let s = first-spare t (formed a t A) in
-          let B = fair a t A in
-          new-node-law (start a t) (storedMeta a) (meta-is a t B) sane (there-meta a t B) (A .rule3 .length) (y .typed .bytes) (A .rule1 .sound) (A .rule4 .node)
-          (s .0) (s .1) uuid (named-node uuid (fits .file) (fits .bytes)) absent kind mode time
-
-      module _ (c : ℕ) where
-        -- row c has the new file
-        abbrev New : List ℕ → Table → Type 0
-        New b u = C b u × (rowAt u c .rec .file ≡ uuid)
-
-        new-changes : Changes New
-        new-changes b u i r e q d m w h =
-            (calm-bears f .changes b u i r e q d m w (h .0), at-put (λ (x : Row). x .rec .file ≡ uuid) u i r c (λ z. q ∙ ap (λ (j : ℕ). rowAt u j .rec .file) (sym z) ∙ h .1) (h .1))
-
-        new-stores : Stores New
-        new-stores b d u i l P h = (calm-bears f .stores b d u i l P (h .0), at-put (λ (x : Row). x .rec .file ≡ uuid) u i _ c (λ z. ap (λ (j : ℕ). rowAt u j .rec .file) (sym z) ∙ h .1) (h .1))
-
-        new-metas : Metas New
-        new-metas b d u files same h = (calm-bears f .metas b d u files same (h .0), h .1)
-
-        new-own : Fills New c
-        new-own b d u q h = ((intact-fill f c b d u (λ e. other (sym e ∙ h .1)) q (h .0 .0), h .0 .1), h .1)
-
-      made : (o : Opened) → Makes (start (p .arena) (p .table)) (storedMeta (p .arena)) (newRecord kind mode time uuid) o → New (o .row) (o .state .arena) (o .state .table)
-      unfolding isNode storedBytes
-      made o Q =
-          let w = row-found t 0 (o .row) (Q .free) in
-          let r : Row = record { id = Q .id; dirty = true; rec = newRecord kind mode time uuid } in
-          subst (λ (s : Fs). New (o .row) (s .arena) (s .table)) (sym (Q .is)) (
-            calm-new f (Q .arena) (o .row) r (w .1) (taken-new (storedMeta a) (Q .meta) (Q .id) (Q .taken)) (record { file = fits .file; mac = refl }) (Q .others f other)
-                (λ m M. tab-cong (byteAt (Q .arena) metaFile) (byteAt a metaFile) (128 * m) (128 * m) 112 (λ i l. Q .ground .below (128 * m + i) (omega (arith, A .rule3 .length, node-below a m M)))),
-            ap (λ (x : Row). x .rec .file) (row-here t (o .row) r (omega (arith, w .0, y .typed .fits .rows-34))),
-          )
-
-      create-steps : (w i : ℕ) (name : List ℕ) → Fills C i → Ok (λ (x : Given). I (x .arena) (x .table)) Any (createSteps (start (p .arena) (p .table)) w i name kind mode time uuid)
-      unfolding createSteps
-      create-steps w i name fills =
-          ok-bind (ok-weaken made (λ r q. tt) make) λ x h.
-          let M : List ℕ → Table → Type 0 = New (x .row) in
-          let own : Fills M i = λ b d u q h. (fills b d u q (h .0), h .1) in
-          ok-bind (leaves-birth M (x .row) (new-own (x .row)) (new-changes (x .row)) (x .state) i kind h) λ s h.
-          ok-bind (leaves-append M i own (new-changes (x .row)) s (entry (idAt s (x .row)) name kind) h) λ s h.
-          ok-bind (leaves-named M (new-changes (x .row)) s i (x .row) kind h) λ s h.
-          ok-bind (leaves-meta M (new-metas (x .row)) s h) λ s h.
-          ok-bind (leaves-sync M (new-stores (x .row)) s (x .row) h) λ s h.
-          ok-bind (leaves-sync M (new-stores (x .row)) s i h) λ s h.
-          went (intact-adds f (s .arena) (s .table) w (x .row) (h .0 .0))
-
     -- ---- all of them
 
     pub leaves : (c : Call) → Fits c → (Through n (p .table) c → ⊥) → Ok (λ (q : Pair). Intact p (recOf (p .arena) (p .table) n .file) (q .arena) (q .table)) Any (does c p)
@@ -354,7 +326,7 @@ module _ (p : Pair) (y : Passed p) where
     leaves (find w g name) x z = ok-bind (keeps-find I (intact-bears f .loads) (intact-adds f) a t w g name (intact-start f)) λ x l. went l
     leaves (walk w g path room) x z = ok-bind (keeps-walk I (intact-bears f .loads) (intact-adds f) a t w g path room (intact-start f)) λ x l. went l
     leaves (create w g name kind mode time uuid) x z =
-        ok-bind (keeps-create I a t w g name kind mode time uuid (λ i l dir none. create-steps kind mode time uuid (x .3) none w i name (folders w g i l dir))) λ x l. went l
+        ok-bind (keeps-create I a t w g name kind mode time uuid (λ i l dir none. create-steps f kind mode time uuid (x .3) none (λ e. true-false (A .rule5 .own n N) (ap (λ (x : List ℕ). there a (file 1 x)) e ∙ none)) w i name (folders w g i l dir))) λ x l. went l
     leaves (link w g name child) x z = ok-bind (keeps-link C (calm-bears f) a t folders w g name child (calm-start f)) λ x l. went (l .0)
     leaves (removeFile w g name) x z = ok-bind (keeps-remove C (calm-bears f) false a t folders w g name (calm-start f)) λ x l. went (l .0)
     leaves (removeFolder w g name) x z = ok-bind (keeps-remove C (calm-bears f) true a t folders w g name (calm-start f)) λ x l. went (l .0)
