@@ -5,7 +5,7 @@ use mathlib.Core.Path.{_≡_, refl, sym, ap, _∙_, subst}
 use mathlib.Core.Bool.{true, false}
 use mathlib.Core.List.{List}
 use mathlib.Core.Logic.{_≢_, _⊎_, inl, inr, ⊎-elim}
-use Prim.Native.Nat.{ℕ, _+_, _*_}
+use Prim.Native.Nat.{ℕ, _+_, _*_, _<_, _^_}
 use native.Mathlib.Omega.{arith}
 use Rattle.base.specs.Out.{Out, kept, Ok, went, said}
 use Rattle.base.proofs.Outs.{ok-bind, ok-weaken}
@@ -70,10 +70,13 @@ use Rattle.sequences.proofs.Tracks.{As, Wide, Dirty, Tracks, tracks-row
 abbrev pub KeptIfThere : List ℕ → List ℕ → List ℕ → Type 0
 KeptIfThere o f a = there a (file 1 f) ≡ true → Kept o a (file 1 f)
 
--- since pair p: file f as it was, and of every node its type and its file
-pub record Intact (p : Pair) (f a : List ℕ) (t : Table) : Type 0 where
-  pub stays : KeptIfThere (p .arena) f a
-  pub tracks : (m : ℕ) → isNode (p .arena) m ≡ true → Tracks m (recOf (p .arena) (p .table) m .kind) (recOf (p .arena) (p .table) m .file) a t
+-- every node has the type and the file that it had in pair p
+abbrev pub Nodes : Pair → List ℕ → Table → Type 0
+Nodes p a t = (m : ℕ) → isNode (p .arena) m ≡ true → Tracks m (recOf (p .arena) (p .table) m .kind) (recOf (p .arena) (p .table) m .file) a t
+
+-- and file f is as it was
+abbrev pub Intact : Pair → List ℕ → List ℕ → Table → Type 0
+Intact p f a t = KeptIfThere (p .arena) f a × Nodes p a t
 
 -- row i of table t is in use, a live hold names it, and its file is that of row i in table v
 pub record Firm (v t : Table) (i : ℕ) : Type 0 where
@@ -135,9 +138,9 @@ module _ (p : Pair) (y : Passed p) where
   some-of : (m : ℕ) → isNode (p .arena) m ≡ true → m ≢ 0
   some-of m N = node-some a t (fair a t A) m N
 
-  tracks-start : (m : ℕ) → isNode (p .arena) m ≡ true → Tracks m (K m) (F m) (p .arena) (p .table)
+  pub nodes-start : Nodes p (p .arena) (p .table)
   unfolding recOf
-  tracks-start m N = record {
+  nodes-start m N = record {
     rows = λ j e. of j (used-row j (λ z. some-of m N (sym e ∙ z))) e;
     stored = by (rowOf t m) refl;
     wide = λ j l. let F = y .typed .fits .rows j (omega (arith, y .typed .fits .rows-34)) .rec in record { file = F .file; mac = F .mac };
@@ -162,36 +165,45 @@ module _ (p : Pair) (y : Passed p) where
           let q : recOf a t m ≡ recordOf (storedBytes a m) = ap (recBy a t m) e in
           inl (record { kind = ap (λ (r : DiskINode). r .kind) (sym q); file = ap (λ (r : DiskINode). r .file) (sym q) })
 
-  track : (m : ℕ) → isNode (p .arena) m ≡ true → Bears (Tracks m (K m) (F m))
-  track m N = tracks-bears m (K m) (F m) (some-of m N) (node-apart a m N) (omega (arith, A .rule5 .most m N))
+  most-of : (m : ℕ) → isNode (p .arena) m ≡ true → K m < 2 ^ 32
+  most-of m N = omega (arith, A .rule5 .most m N)
+
+  pub nodes-bears : Bears (Nodes p)
+  nodes-bears = record {
+    changes = λ b u i r e q d m w c x N. track x N .changes b u i r e q d m w (c x N);
+    loads = λ b u i id free new c x N. track x N .loads b u i id free new (c x N);
+    frees = λ b u i unused clean c x N. track x N .frees b u i unused clean (c x N);
+    stores = λ b d u i l P c x N. track x N .stores b d u i l P (c x N);
+    metas = λ b d u files same c x N. track x N .metas b d u files same (c x N);
+    drops = λ b d u g D c x N. track x N .drops b d u g D (c x N);
+  }
+    where
+      track : (m : ℕ) → isNode (p .arena) m ≡ true → Bears (Tracks m (K m) (F m))
+      track m N = tracks-bears m (K m) (F m) (some-of m N) (node-apart a m N) (most-of m N)
+
+  -- the rows alone count
+  pub nodes-rows : (b : List ℕ) (u v : Table) → v .rows ≡ u .rows → Nodes p b u → Nodes p b v
+  nodes-rows b u v e c x N = tracks-rows x (K x) (F x) b u v e (c x N)
+
+  pub nodes-adds : (b : List ℕ) (u : Table) (w row : ℕ) → Nodes p b u → Nodes p b (addHold u w row .table)
+  nodes-adds b u w row = nodes-rows b u (addHold u w row .table) (add-rows u w row)
+
+  pub nodes-fills : (i : ℕ) → Fills (Nodes p) i
+  nodes-fills i b d u k c x N = tracks-fills x (K x) (F x) (some-of x N) (node-apart a x N) (most-of x N) i b d u k (c x N)
 
   module _ (f : List ℕ) where
-    pub intact-start : Intact p f (p .arena) (p .table)
-    intact-start = record { stays = λ e. kept-same a (file 1 f); tracks = tracks-start }
+    intact-start : Intact p f (p .arena) (p .table)
+    intact-start = (λ e. kept-same a (file 1 f), nodes-start)
 
-    pub intact-bears : Bears (Intact p f)
-    intact-bears = let S = stays-bears a f in record {
-      changes = λ b u i r e q d m w c. record { stays = c .stays; tracks = λ x N. track x N .changes b u i r e q d m w (c .tracks x N) };
-      loads = λ b u i id free new c. record { stays = c .stays; tracks = λ x N. track x N .loads b u i id free new (c .tracks x N) };
-      frees = λ b u i unused clean c. record { stays = c .stays; tracks = λ x N. track x N .frees b u i unused clean (c .tracks x N) };
-      stores = λ b d u i l P c. record { stays = S .stores b d u i l P (c .stays); tracks = λ x N. track x N .stores b d u i l P (c .tracks x N) };
-      metas = λ b d u files same c. record { stays = S .metas b d u files same (c .stays); tracks = λ x N. track x N .metas b d u files same (c .tracks x N) };
-      drops = λ b d u g D c. record { stays = S .drops b d u g D (c .stays); tracks = λ x N. track x N .drops b d u g D (c .tracks x N) };
-    }
+    intact-bears : Bears (Intact p f)
+    intact-bears = bears-and (stays-bears a f) nodes-bears
 
-    -- the rows alone count
-    pub intact-rows : (b : List ℕ) (u v : Table) → v .rows ≡ u .rows → Intact p f b u → Intact p f b v
-    intact-rows b u v e c = record { stays = c .stays; tracks = λ x N. tracks-rows x (K x) (F x) b u v e (c .tracks x N) }
-
-    pub intact-adds : (b : List ℕ) (u : Table) (w row : ℕ) → Intact p f b u → Intact p f b (addHold u w row .table)
-    intact-adds b u w row = intact-rows b u (addHold u w row .table) (add-rows u w row)
+    intact-adds : (b : List ℕ) (u : Table) (w row : ℕ) → Intact p f b u → Intact p f b (addHold u w row .table)
+    intact-adds b u w row c = (c .0, nodes-adds b u w row (c .1))
 
     -- a file that is not f is filled
-    pub intact-fill : (i : ℕ) (b d : List ℕ) (u : Table) → rowAt u i .rec .file ≢ f → ((g : File) → nodeFile (rowAt u i .rec) ≢ g → Kept b d g) → Intact p f b u → Intact p f d u
-    intact-fill i b d u n k c = record {
-      stays = stays-kept a f b d (k (file 1 f) (file-apart (rowAt u i .rec .file) f n)) (c .stays);
-      tracks = λ x N. tracks-fills x (K x) (F x) (some-of x N) (node-apart a x N) (omega (arith, A .rule5 .most x N)) i b d u k (c .tracks x N);
-    }
+    intact-fill : (i : ℕ) (b d : List ℕ) (u : Table) → rowAt u i .rec .file ≢ f → ((g : File) → nodeFile (rowAt u i .rec) ≢ g → Kept b d g) → Intact p f b u → Intact p f d u
+    intact-fill i b d u n k c = (stays-kept a f b d (k (file 1 f) (file-apart (rowAt u i .rec .file) f n)) (c .0), nodes-fills i b d u k (c .1))
 
     -- and the rows that have handles
     abbrev pub Calm : List ℕ → Table → Type 0
@@ -207,13 +219,13 @@ module _ (p : Pair) (y : Passed p) where
     calm-fills i h n b d u k c = (intact-fill i b d u (λ q. n (sym (c .1 i h .same) ∙ q)) k (c .0), c .1)
 
     -- a row for a new node, at the start
-    pub calm-new : (b : List ℕ) (i : ℕ) (r : Row) → rowAt (p .table) i .id ≡ 0 → isNode (p .arena) (r .id) ≡ false → Wide r → Kept (p .arena) b (file 1 f)
+    calm-new : (b : List ℕ) (i : ℕ) (r : Row) → rowAt (p .table) i .id ≡ 0 → isNode (p .arena) (r .id) ≡ false → Wide r → Kept (p .arena) b (file 1 f)
         → ((m : ℕ) → isNode (p .arena) m ≡ true → storedBytes b m ≡ storedBytes (p .arena) m) → Calm b (withRow (p .table) i r)
     calm-new b i r free new wide kept same = (
-      record {
-        stays = λ e. kept;
-        tracks = λ x N. tracks-new x (K x) (F x) (some-of x N) (node-apart a x N) (omega (arith, A .rule5 .most x N)) a b t i r free (λ q. true-false (ap (isNode a) q ∙ N) new) wide (same x N) (tracks-start x N);
-      },
+      (
+        λ e. kept,
+        λ x N. tracks-new x (K x) (F x) (some-of x N) (node-apart a x N) (most-of x N) a b t i r free (λ q. true-false (ap (isNode a) q ∙ N) new) wide (same x N) (nodes-start x N),
+      ),
       firm-put t t i r (λ j x z. absurd (x .some (ap (λ (k : ℕ). rowAt t k .id) z ∙ free))) (λ j h. h),
     )
 
@@ -316,7 +328,7 @@ module _ (p : Pair) (y : Passed p) where
 
     -- a folder that moves
     turns : Turns C (p .arena) (p .table)
-    turns c row M dir b d u e k h = (intact-fill f row b d u (λ q. folder-file c M dir (sym (h .0 .tracks c M .rows row e .file) ∙ q)) k (h .0), h .1)
+    turns c row M dir b d u e k h = (intact-fill f row b d u (λ q. folder-file c M dir (sym (h .0 .1 c M .rows row e .file) ∙ q)) k (h .0), h .1)
 
     -- ---- all of them
 
@@ -344,7 +356,7 @@ module _ (p : Pair) (y : Passed p) where
     leaves sync x z = ok-bind (keeps-sync C (calm-bears f) a t (calm-start f)) λ x l. went (l .0)
     -- the closed hold's row is firm no more
     leaves (close w g) x z =
-        ok-bind (keeps-close I (intact-bears f) a t w g (λ i l. intact-rows f a t (closeHold t (g .hold) .table) (close-rows t (g .hold)) (intact-start f))) λ x l. went l
+        ok-bind (keeps-close I (intact-bears f) a t w g (λ i l. (intact-start f .0, nodes-rows a t (closeHold t (g .hold) .table) (close-rows t (g .hold)) nodes-start))) λ x l. went l
     leaves check x z = went (intact-start f)
 
     -- afterwards
