@@ -52,7 +52,7 @@ same-stands f k l b d K S = record {
 }
 
 module _ (f : List ℕ) (k : ℕ) (l b d : List ℕ) where
-  pub stands-kept : Kept b d (file 1 f) → StandsIn f k l b → StandsIn f k l d
+  stands-kept : Kept b d (file 1 f) → StandsIn f k l b → StandsIn f k l d
   stands-kept = filed-kept f (Stands f k l) (same-stands f k l) b d
 
   -- a slot is put, of another file or another number
