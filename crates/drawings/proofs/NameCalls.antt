@@ -11,7 +11,6 @@ use borrow.Author.Tests.{not-true}
 use Rattle.base.specs.Out.{done, bind, ensure, Ok, went}
 use Rattle.base.proofs.Outs.{ok-bind, ok-weaken}
 use Rattle.base.proofs.Bools.{true-false, true-T, and-parts}
-use Rattle.base.proofs.Lists.{tab-cong}
 use Rattle.base.proofs.Tests.{decides-leb}
 use Rattle.structs.specs.Constants.{typeDir}
 use Rattle.structs.specs.Layout.{entryBytes}
@@ -23,29 +22,25 @@ use Rattle.structs.specs.declared.Timespec.{Timespec}
 use Rattle.utf8.specs.Names.{nameOf, isSpecial, isNamed}
 use Rattle.utf8.proofs.Names.{named-decides, asked-own, not-special, length-nameBytes}
 use Rattle.arena.specs.Fields.{file}
-use Rattle.files.specs.Read.{there, byteAt}
-use Rattle.files_laws.proofs.Bounds.{named-node}
+use Rattle.files.specs.Read.{there}
 use Rattle.table.specs.declared.Table.{Table}
 use Rattle.table.specs.declared.Row.{Row}
 use Rattle.table.specs.declared.Handle.{Handle}
-use Rattle.table.specs.Table.{rowAt, canHold, addHold, takeRow}
+use Rattle.table.specs.Table.{rowAt, canHold, addHold}
 use Rattle.table_laws.specs.Rules.{Live}
 use Rattle.table_laws.proofs.Finds.{row-found}
-use Rattle.table_laws.proofs.Rows.{row-here, row-apart}
-use Rattle.table_laws.proofs.Spare.{first-spare}
+use Rattle.table_laws.proofs.Rows.{row-apart}
 use Rattle.sefs.specs.State.{Fs, withArena, withTable}
 use Rattle.sefs.specs.Records.{newRecord, withBlocks}
-use Rattle.sefs.specs.Meta.{metaFile}
-use Rattle.sefs.specs.Nodes.{Opened, recAt, idAt, setRec, newNode}
+use Rattle.sefs.specs.Nodes.{Opened, recAt, idAt, setRec}
 use Rattle.sefs.specs.Folders.{entry, direntInit}
 use Rattle.sefs.specs.Slots.{Slot, lookup}
 use Rattle.sefs.specs.Ask.{admit, byHandle, goodName, newName, notLong, known, orExists, start}
 use Rattle.sefs.specs.Create.{Given, canMake, birth, createSteps, callCreate, linkSteps, callLink}
 use Rattle.sefs.specs.Remove.{removable, removeSteps, callRemove}
 use Rattle.sefs.specs.Contents.{hasContents, notTooBig, callWrite, callResize}
-use Rattle.rules.specs.Image.{run, isNode, storedBytes, recOf, isFolderAt, slotIn}
+use Rattle.rules.specs.Image.{run, isNode, recOf, isFolderAt, slotIn}
 use Rattle.rules.specs.Rules.{Allowed, Folder}
-use Rattle.rules.proofs.Files.{node-below}
 use Rattle.rules.proofs.Folders.{folder-node}
 use Rattle.sefs_laws.proofs.Says.{ensure-asks}
 use Rattle.sefs_laws.proofs.Rows.{Any, any, any-pick, ok-and, LeavesAfter, Changes, bears-and, Fills, leaves-meta, leaves-node, leaves-resize, leaves-write, leaves-inc, leaves-named, leaves-sync}
@@ -55,10 +50,7 @@ use Rattle.image.proofs.Lookups.{Hit}
 use Rattle.image.proofs.Hits.{later-place, row-hit}
 use Rattle.image.proofs.Takes.{Got, get-law}
 use Rattle.image.proofs.Drops.{mid-rec}
-use Rattle.image.proofs.Images.{fair}
-use Rattle.image.proofs.Nodes.{there-meta, meta-is}
-use Rattle.image.proofs.Allocs.{taken-new}
-use Rattle.image.proofs.Makes.{Makes, new-node-law}
+use Rattle.image.proofs.Makes.{Makes}
 use Rattle.tree.specs.Tree as tree
 use Rattle.sequences.specs.Pairs.{Pair, Passed}
 use Rattle.sequences.specs.Calls.{NewFits}
@@ -67,9 +59,8 @@ use Rattle.sequences.proofs.Passing.{allowed, spelled-any, spelled-midway}
 use Rattle.sequences.proofs.Corner.{at-put}
 use Rattle.sequences.proofs.Removes.{removable-law}
 use Rattle.sequences.proofs.Tables.{handle-live, folder-asks}
-use Rattle.sequences.proofs.Creates.{fair-sane}
-use Rattle.sequences.proofs.Bytes.{Firm, FirmSince, firm-bears, intact-start, calm-new, live-row, live-firm}
-use Rattle.drawings.proofs.NameSlots.{StandsIn, stands-kept, noFile, Holds, holds-bears, holds-adds, holds-fill, puts, appends, Somewhere, node-takes}
+use Rattle.sequences.proofs.Bytes.{Firm, FirmSince, firm-bears, nodes-start, make, made, live-row, live-firm}
+use Rattle.drawings.proofs.NameSlots.{StandsIn, same-stands, Holds, holds-bears, holds-adds, holds-fill, puts, appends, Somewhere, node-takes}
 
 -- what is left of a slot of folder d, with those bytes
 abbrev pub Remains : Pair → ℕ → List ℕ → List ℕ → Table → Type 0
@@ -134,16 +125,6 @@ module _ (p : Pair) (y : Passed p) where
     pub hit-name : nameOf (slotIn (p .arena) (rowAt (p .table) i .rec) (s .place) .name) ≡ name
     hit-name = named-decides (slotIn a (rowAt t i .rec) (s .place) .name) name .right (true-T (isNamed (slotIn a (rowAt t i .rec) (s .place) .name) name) (hit .named)) ∙ asked-own name (not-special name plain .0)
 
-  -- a new node, where no file has its file's name
-  new-node : (kind mode : ℕ) (time : Timespec) (uuid : List ℕ) → NewFits kind mode time uuid → there (p .arena) (file 1 uuid) ≡ false
-      → Ok (Makes (start (p .arena) (p .table)) (storedMeta (p .arena)) (newRecord kind mode time uuid)) (λ r. r ≡ 17) (newNode (start (p .arena) (p .table)) kind mode time uuid)
-  unfolding isNode
-  new-node kind mode time uuid F absent =
-      let s = first-spare t (formed a t A) in
-      let B = fair a t A in
-      new-node-law (start a t) (storedMeta a) (meta-is a t B) (fair-sane a t B (y .typed .bytes)) (there-meta a t B) (A .rule3 .length) (y .typed .bytes) (A .rule1 .sound) (A .rule4 .node)
-      (s .0) (s .1) uuid (named-node uuid (F .file) (F .bytes)) absent kind mode time
-
   -- ---- slot k of folder d, which has the name `own` for node n
 
   module _ {d n : ℕ} {own : List ℕ} (N : Named d own n p) where
@@ -166,7 +147,7 @@ module _ (p : Pair) (y : Passed p) where
     H b u = Holds p f k l b u
 
     pub holds-start : Holds p (recOf (p .arena) (p .table) d .file) (N .slot) (bytesOf p d (N .slot)) (p .arena) (p .table)
-    holds-start = (intact-start p y noFile, stands-start)
+    holds-start = (nodes-start p y, stands-start)
 
     pub remains : (b : List ℕ) (u : Table) → Holds p (recOf (p .arena) (p .table) d .file) (N .slot) (bytesOf p d (N .slot)) b u → Remains p d (bytesOf p d (N .slot)) b u
     remains b u h = record { place = k; later = N .at .later; holds = h }
@@ -245,30 +226,25 @@ module _ (p : Pair) (y : Passed p) where
         far : recAt (o .state) (o .row) .file ≢ recOf (p .arena) (p .table) d .file
         same : rowAt (o .state .table) i ≡ rowAt (p .table) i
 
-      made : (i : ℕ) → Used (p .table) i → (o : Opened) → Makes (start (p .arena) (p .table)) (storedMeta (p .arena)) (newRecord kd mode time uuid) o → Made i o
-      unfolding isNode storedBytes
-      made i ui o Q =
+      other : f ≢ uuid
+      other e = true-false (A .rule5 .own d is-node) (ap (λ (x : List ℕ). there a (file 1 x)) e ∙ absent)
+
+      is-made : (i : ℕ) → Used (p .table) i → (o : Opened) → Makes (start (p .arena) (p .table)) (storedMeta (p .arena)) (newRecord kd mode time uuid) o → Made i o
+      is-made i ui o Q =
           let w = row-found t 0 (o .row) (Q .free) in
-          let r : Row = record { id = Q .id; dirty = true; rec = newRecord kd mode time uuid } in
-          let other : f ≢ uuid = λ e. true-false (A .rule5 .own d is-node) (ap (λ (x : List ℕ). there a (file 1 x)) e ∙ absent) in
-          let none : noFile ≢ uuid = λ e. let z : _≡_ {A = ℕ} 16 1 = sym (F .file) ∙ ap (λ (x : List ℕ). length x) (sym e) in omega arith in
+          let M = made p y f kd mode time uuid F absent other o Q in
           let n : i ≢ o .row = λ q. ui .node (ap (λ (j : ℕ). rowAt t j .id) q ∙ w .1) in
-          let e : o .state .table ≡ takeRow t (o .row) (Q .id) (newRecord kd mode time uuid) true = ap (λ (s : Fs). s .table) (Q .is) in
           record {
-            holds = subst (λ (s : Fs). H (s .arena) (s .table)) (sym (Q .is)) (
-              calm-new p y noFile (Q .arena) (o .row) r (w .1) (taken-new (storedMeta a) (Q .meta) (Q .id) (Q .taken)) (record { file = F .file; mac = refl }) (Q .others noFile none)
-                  (λ m M. tab-cong (byteAt (Q .arena) metaFile) (byteAt a metaFile) (128 * m) (128 * m) 112 (λ i l. Q .ground .below (128 * m + i) (omega (arith, A .rule3 .length, node-below a m M)))) .0,
-              stands-kept f k l a (Q .arena) (Q .others f other) stands-start,
-            );
+            holds = (M .0 .0 .1, λ e. let S = M .0 .0 .0 e in same-stands f k l a (o .state .arena) S (stands-start (sym (S .exists) ∙ e)));
             apart = n;
-            far = λ q. other (sym q ∙ ap (λ (x : Table). rowAt x (o .row) .rec .file) e ∙ ap (λ (x : Row). x .rec .file) (row-here t (o .row) r (omega (arith, w .0, y .typed .fits .rows-34))));
-            same = ap (λ (x : Table). rowAt x i) e ∙ row-apart t (o .row) r i n;
+            far = λ q. other (sym q ∙ M .1);
+            same = ap (λ (s : Fs). rowAt (s .table) i) (Q .is) ∙ row-apart t (o .row) (record { id = Q .id; dirty = true; rec = newRecord kd mode time uuid }) i n;
           }
 
       creates : (w i : ℕ) (name : List ℕ) → Used (p .table) i → length name ≤ 255 → Ok (λ (x : Given). Remains p d l (x .arena) (x .table)) Any (createSteps (start (p .arena) (p .table)) w i name kd mode time uuid)
       unfolding createSteps birth
       creates w i name ui short =
-          ok-bind (ok-weaken (made i ui) (λ r q. tt) (new-node kd mode time uuid F absent)) λ x M.
+          ok-bind (ok-weaken (is-made i ui) (λ r q. tt) (make p y f kd mode time uuid F absent other)) λ x M.
           ok-bind {P = λ (s : Fs). H (s .arena) (s .table) × (rowAt (s .table) i ≡ rowAt t i)}
           (any-pick (isFolder kd) (direntInit (x .state) (x .row) (idAt (x .state) i)) (done (x .state))
           (λ _. ok-weaken (λ s h. (h .0, h .1 ∙ M .same)) (λ r q. q) (begins (x .state) (x .row) i (idAt (x .state) i) (M .apart) (M .far) (M .holds)))

@@ -1,12 +1,12 @@
 -- A slot of a folder's file while a call works: its 264 bytes stand, where the file is still there. A slot that goes may take another's place.
 use mathlib.Core.Path.{_≡_, refl, sym, ap, _∙_, subst}
 use mathlib.Core.Bool.{true}
-use mathlib.Core.List.{List, [], _∷_}
+use mathlib.Core.List.{List}
 use mathlib.Core.Logic.{_≢_, ⊎-elim}
 use Prim.Native.Nat.{ℕ, _+_, _*_, _-_, _≤_, _<_}
 use native.Mathlib.Omega.{arith}
 use lib.Dec.{eqb, ltb, leb}
-use lib.ListN.{length, getD, List·getD-eq-default}
+use lib.ListN.{length, getD}
 use borrow.Author.Tests.{eqb-true, eqb-false}
 use Rattle.base.specs.Out.{done, bind, Ok, went}
 use Rattle.base.specs.Parts.{tab}
@@ -22,8 +22,7 @@ use Rattle.files_laws.specs.Laws.{Kept, Put, Cut}
 use Rattle.files_laws.proofs.Parts.{file-cases}
 use Rattle.files_laws.proofs.Cut.{cut-law}
 use Rattle.table.specs.declared.Table.{Table}
-use Rattle.table.specs.declared.Row.{Row}
-use Rattle.table.specs.Table.{offRow, rowAt, addHold}
+use Rattle.table.specs.Table.{rowAt, addHold}
 use Rattle.sefs.specs.State.{Fs, withArena}
 use Rattle.sefs.specs.Records.{withBlocks}
 use Rattle.sefs.specs.Nodes.{recAt, setRec, nodeFile}
@@ -32,11 +31,9 @@ use Rattle.sefs.specs.Folders.{putSlot, direntAppend, direntRemove, direntNodeR
 use Rattle.structs.specs.declared.DiskINode.{DiskINode}
 use Rattle.rules.specs.Image.{run}
 use Rattle.sefs_laws.proofs.Rows.{Any, any-guard, any-pick, Leaves, Changes, Bears, bears-and, filed-kept, filed, put-any, leaves-unlinked}
-use Rattle.image.proofs.Images.{fair, root-node}
 use Rattle.image.proofs.Appends.{file-apart}
 use Rattle.sequences.specs.Pairs.{Pair, Passed}
-use Rattle.sequences.proofs.Passing.{allowed}
-use Rattle.sequences.proofs.Bytes.{Intact, intact-bears, intact-adds, intact-fill}
+use Rattle.sequences.proofs.Bytes.{Nodes, nodes-bears, nodes-adds, nodes-fills}
 
 -- the bytes l stand in slot k of file f
 pub record Stands (f : List ℕ) (k : ℕ) (l b : List ℕ) : Type 0 where
@@ -48,14 +45,14 @@ abbrev pub StandsIn : List ℕ → ℕ → List ℕ → List ℕ → Type 0
 StandsIn f k l b = there b (file 1 f) ≡ true → Stands f k l b
 
 -- while the file is as it was
-same-stands : (f : List ℕ) (k : ℕ) (l b d : List ℕ) → Kept b d (file 1 f) → Stands f k l b → Stands f k l d
+pub same-stands : (f : List ℕ) (k : ℕ) (l b d : List ℕ) → Kept b d (file 1 f) → Stands f k l b → Stands f k l d
 same-stands f k l b d K S = record {
   inside = omega (arith, S .inside, K .long);
   is = tab-cong (byteAt d (file 1 f)) (byteAt b (file 1 f)) (264 * k) (264 * k) 264 (λ i m. K .byte (264 * k + i)) ∙ S .is;
 }
 
 module _ (f : List ℕ) (k : ℕ) (l b d : List ℕ) where
-  pub stands-kept : Kept b d (file 1 f) → StandsIn f k l b → StandsIn f k l d
+  stands-kept : Kept b d (file 1 f) → StandsIn f k l b → StandsIn f k l d
   stands-kept = filed-kept f (Stands f k l) (same-stands f k l) b d
 
   -- a slot is put, of another file or another number
@@ -100,37 +97,20 @@ stands-new f k l b d long P = record {
 
 -- ---- while a call works
 
--- no row's file has this name, which has one byte
-abbrev pub noFile : List ℕ
-noFile = 0 ∷ []
-
 -- that slot, and of every node its type and its file
 abbrev pub Holds : Pair → List ℕ → ℕ → List ℕ → List ℕ → Table → Type 0
-Holds p f k l b u = Intact p noFile b u × StandsIn f k l b
-
--- any file is filled
-module _ (p : Pair) (y : Passed p) (i : ℕ) (b d : List ℕ) (u : Table) where
-  row-named : Intact p noFile b u → rowAt u i .rec .file ≢ noFile
-  row-named c q =
-      let e : length (rowAt u i .rec .file) ≡ 1 = ap (λ (x : List ℕ). length x) q in
-      ⊎-elim
-      (λ m. omega (arith, e, c .tracks 2 (root-node (p .arena) (p .table) (fair (p .arena) (p .table) (allowed p y))) .wide i m .file))
-      (λ m. omega (arith, e, ap (λ (x : Row). length (x .rec .file)) (List·getD-eq-default (u .rows) offRow m)))
-      (lt-or-le i (length (u .rows)))
-
-  intact-any : ((g : File) → nodeFile (rowAt u i .rec) ≢ g → Kept b d g) → Intact p noFile b u → Intact p noFile d u
-  intact-any K c = intact-fill p y noFile i b d u (row-named c) K c
+Holds p f k l b u = Nodes p b u × StandsIn f k l b
 
 module _ (p : Pair) (y : Passed p) (f : List ℕ) (k : ℕ) (l : List ℕ) where
   pub holds-bears : Bears (Holds p f k l)
-  holds-bears = bears-and (intact-bears p y noFile) (filed f (Stands f k l) (same-stands f k l))
+  holds-bears = bears-and (nodes-bears p y) (filed f (Stands f k l) (same-stands f k l))
 
   pub holds-adds : (b : List ℕ) (u : Table) (w row : ℕ) → Holds p f k l b u → Holds p f k l b (addHold u w row .table)
-  holds-adds b u w row h = (intact-adds p y noFile b u w row (h .0), h .1)
+  holds-adds b u w row h = (nodes-adds p y b u w row (h .0), h .1)
 
   -- another file is filled
   pub holds-fill : (i : ℕ) (b d : List ℕ) (u : Table) → rowAt u i .rec .file ≢ f → ((g : File) → nodeFile (rowAt u i .rec) ≢ g → Kept b d g) → Holds p f k l b u → Holds p f k l d u
-  holds-fill i b d u n K h = (intact-any p y i b d u K (h .0), stands-kept f k l b d (K (file 1 f) (file-apart (rowAt u i .rec .file) f n)) (h .1))
+  holds-fill i b d u n K h = (nodes-fills p y i b d u K (h .0), stands-kept f k l b d (K (file 1 f) (file-apart (rowAt u i .rec .file) f n)) (h .1))
 
 -- ---- slots
 
@@ -154,19 +134,19 @@ module _ (p : Pair) (y : Passed p) (f : List ℕ) (k : ℕ) (l : List ℕ) where
   unfolding putSlot
   puts s i j src long n h =
       ok-bind (put-any (s .arena) (nodeFile (recAt s i)) (264 * j) src) λ b P.
-      went ((intact-any p y i (s .arena) b (s .table) (P .others) (h .0), stands-put f k l (s .arena) b (recAt s i .file) j src long P n (h .1)), (b, refl))
+      went ((nodes-fills p y i (s .arena) b (s .table) (P .others) (h .0), stands-put f k l (s .arena) b (recAt s i .file) j src long P n (h .1)), (b, refl))
 
   pub appends : (s : Fs) (i : ℕ) (e : DiskEntry) → length (entryBytes e) ≡ 264 → (recAt s i .file ≡ f → recAt s i .blocks ≢ k) → Holds p f k l (s .arena) (s .table)
       → Ok (AfterAppend (Holds p f k l) s i) Any (direntAppend s i e)
   appends s i e long n h = append-by (Holds p f k l) (holds-bears p y f k l .changes) s i e (puts s i (recAt s i .blocks) (entryBytes e) long n h)
 
 -- what is put, or appended, stands
-module _ (p : Pair) (y : Passed p) (f : List ℕ) (s : Fs) (i : ℕ) (own : recAt s i .file ≡ f) (c : Intact p noFile (s .arena) (s .table)) where
+module _ (p : Pair) (y : Passed p) (f : List ℕ) (s : Fs) (i : ℕ) (own : recAt s i .file ≡ f) (c : Nodes p (s .arena) (s .table)) where
   pub puts-new : (j : ℕ) (src : List ℕ) → length src ≡ 264 → Ok (AfterPut (Holds p f j src) s) Any (putSlot s i j src)
   unfolding putSlot
   puts-new j src long =
       ok-bind (put-any (s .arena) (nodeFile (recAt s i)) (264 * j) src) λ b P.
-      went ((intact-any p y i (s .arena) b (s .table) (P .others) c, λ _. stands-new f j src (s .arena) b long (subst (λ (g : List ℕ). Put (s .arena) (file 1 g) (264 * j) src b) own P)), (b, refl))
+      went ((nodes-fills p y i (s .arena) b (s .table) (P .others) c, λ _. stands-new f j src (s .arena) b long (subst (λ (g : List ℕ). Put (s .arena) (file 1 g) (264 * j) src b) own P)), (b, refl))
 
   pub appends-new : (e : DiskEntry) → length (entryBytes e) ≡ 264 → Ok (AfterAppend (Holds p f (recAt s i .blocks) (entryBytes e)) s i) Any (direntAppend s i e)
   appends-new e long =
@@ -191,7 +171,7 @@ module _ (p : Pair) (y : Passed p) (f : List ℕ) (l : List ℕ) where
   -- the file is cut to its first n slots
   cuts : (s : Fs) (i k n : ℕ) → (recAt s i .file ≡ f → k < n) → Holds p f k l (s .arena) (s .table) → Ok (λ (b : List ℕ). Holds p f k l b (s .table)) Any (cutFile (s .arena) (nodeFile (recAt s i)) (264 * n))
   cuts s i k n below h =
-      ok-weaken (λ b C. (intact-any p y i (s .arena) b (s .table) (C .others) (h .0), stands-cut f k l (s .arena) b (recAt s i .file) n C below (h .1))) (λ r _. tt) (cut-law (s .arena) (nodeFile (recAt s i)) (264 * n))
+      ok-weaken (λ b C. (nodes-fills p y i (s .arena) b (s .table) (C .others) (h .0), stands-cut f k l (s .arena) b (recAt s i .file) n C below (h .1))) (λ r _. tt) (cut-law (s .arena) (nodeFile (recAt s i)) (264 * n))
 
   -- the last slot was copied over slot j, or is it
   record Copied (s : Fs) (i k : ℕ) (u : Fs) : Type 0 where
@@ -215,7 +195,7 @@ module _ (p : Pair) (y : Passed p) (f : List ℕ) (l : List ℕ) where
     unfolding putSlot
     copies src e far =
         ok-bind (put-any (s .arena) (nodeFile (recAt s i)) (264 * j) src) λ b P.
-        let c : Intact p noFile b (s .table) = intact-any p y i (s .arena) b (s .table) (P .others) (h .0) in
+        let c : Nodes p b (s .table) = nodes-fills p y i (s .arena) b (s .table) (P .others) (h .0) in
         let still : (recAt s i .file ≡ f → k < recAt s i .blocks - 1) → Copied s i k (withArena s b) = λ low. record {
           arena = b;
           is = refl;

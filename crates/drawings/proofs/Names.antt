@@ -39,14 +39,14 @@ use Rattle.sequences.proofs.Sequences.{keeps, apart}
 use Rattle.sequences.proofs.Tables.{keeps-root, keeps-find, keeps-walk, keeps-set, keeps-sync, keeps-close}
 use Rattle.sequences.proofs.Closes.{close-rows}
 use Rattle.sequences.proofs.Tracks.{As, tracks-rec}
-use Rattle.sequences.proofs.Bytes.{intact-rows}
+use Rattle.sequences.proofs.Bytes.{nodes-rows}
 use Rattle.drawings.specs.Saved.{led}
 use Rattle.drawings.specs.Rests.{LeavesBe, NamedAt, Named, NodeNamed, FoundAndKept}
 use Rattle.drawings.specs.Names.{TakesName, removes-file, removes-folder, moves-away, moves-onto, NameStays, LeavesName, NamesStay, LeavesBoth, FoundByName}
 use Rattle.drawings.proofs.Saved.{after-save}
 use Rattle.drawings.proofs.Rests.{node-named}
 use Rattle.drawings.proofs.Found.{found-and-kept}
-use Rattle.drawings.proofs.NameSlots.{Stands, noFile, Holds, holds-bears, holds-adds}
+use Rattle.drawings.proofs.NameSlots.{Stands, Holds, holds-bears, holds-adds}
 use Rattle.drawings.proofs.NameCalls.{Remains, Filled, bytesOf, holds-start, remains, slot-writes, slot-resizes, slot-links, slot-creates, slot-removes}
 use Rattle.drawings.proofs.NameMoves.{Rehomed, slot-moves, folder-moves}
 
@@ -54,7 +54,7 @@ use Rattle.drawings.proofs.NameMoves.{Rehomed, slot-moves, folder-moves
 
 module _ (p q : Pair) (z : Passed q) (d : ℕ) (dir : isFolderAt (p .arena) (p .table) d ≡ true) (l : List ℕ) (R : Remains p d l (q .arena) (q .table)) (N : isNode (q .arena) d ≡ true) where
   same : As (recOf (p .arena) (p .table) d .kind) (recOf (p .arena) (p .table) d .file) (recOf (q .arena) (q .table) d)
-  same = tracks-rec d (recOf (p .arena) (p .table) d .kind) (recOf (p .arena) (p .table) d .file) (q .arena) (q .table) (R .holds .0 .tracks d (folder-node (p .arena) (p .table) d dir))
+  same = tracks-rec d (recOf (p .arena) (p .table) d .kind) (recOf (p .arena) (p .table) d .file) (q .arena) (q .table) (R .holds .0 d (folder-node (p .arena) (p .table) d dir))
 
   stands : Stands (recOf (p .arena) (p .table) d .file) (R .place) l (q .arena)
   stands = R .holds .1 (ap (λ (x : List ℕ). there (q .arena) (file 1 x)) (sym (same .file)) ∙ allowed q z .rule5 .own d N)
@@ -129,7 +129,7 @@ module _ (p : Pair) (y : Passed p) {d n : ℕ} {own : List ℕ} (N : Named d own
     each (write w g place bytes) F gone moved = ok-bind (slot-writes p y N w g place bytes) λ x r. went (so (x .arena) (x .table) r)
     each (resize w g n) F gone moved = ok-bind (slot-resizes p y N w g n) λ x r. went (so (x .arena) (x .table) r)
     each sync F gone moved = ok-bind (keeps-sync H K a t begin) λ x h. went (holds (x .arena) (x .table) h)
-    each (close w g) F gone moved = ok-bind (keeps-close H K a t w g (λ i m. (intact-rows p y noFile a t (closeHold t (g .hold) .table) (close-rows t (g .hold)) (begin .0), begin .1))) λ x h. went (holds (x .arena) (x .table) h)
+    each (close w g) F gone moved = ok-bind (keeps-close H K a t w g (λ i m. (nodes-rows p y a t (closeHold t (g .hold) .table) (close-rows t (g .hold)) (begin .0), begin .1))) λ x h. went (holds (x .arena) (x .table) h)
     each check F gone moved = went (holds a t begin)
 
   -- where it does not take the name

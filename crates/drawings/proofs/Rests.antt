@@ -41,8 +41,8 @@ same-self n p = record { kind = refl; file = refl; size = refl; bytes = record {
 -- what a call left, in a pair that passes and has the node
 same-left : (p q : Pair) (n : ℕ) → Passed p → Drawing n p → Passed q → isNode (q .arena) n ≡ true → Intact p (recOf (p .arena) (p .table) n .file) (q .arena) (q .table) → SameNode n p q
 same-left p q n y D z M L =
-    let w = tracks-rec n (recOf (p .arena) (p .table) n .kind) (recOf (p .arena) (p .table) n .file) (q .arena) (q .table) (L .tracks n (D .node)) in
-    let K : Kept (p .arena) (q .arena) (file 1 (recOf (p .arena) (p .table) n .file)) = L .stays (ap (λ (x : List ℕ). there (q .arena) (file 1 x)) (sym (w .file)) ∙ allowed q z .rule5 .own n M) in
+    let w = tracks-rec n (recOf (p .arena) (p .table) n .kind) (recOf (p .arena) (p .table) n .file) (q .arena) (q .table) (L .1 n (D .node)) in
+    let K : Kept (p .arena) (q .arena) (file 1 (recOf (p .arena) (p .table) n .file)) = L .0 (ap (λ (x : List ℕ). there (q .arena) (file 1 x)) (sym (w .file)) ∙ allowed q z .rule5 .own n M) in
     record {
       kind = w .kind;
       file = w .file;

@@ -5,7 +5,7 @@ use mathlib.Core.Path.{_≡_, refl, sym, ap, _∙_, subst}
 use mathlib.Core.Bool.{true, false}
 use mathlib.Core.List.{List}
 use mathlib.Core.Logic.{_≢_, _⊎_, inl, inr, ⊎-elim}
-use Prim.Native.Nat.{ℕ, _+_, _*_}
+use Prim.Native.Nat.{ℕ, _+_, _*_, _<_, _^_}
 use native.Mathlib.Omega.{arith}
 use Rattle.base.specs.Out.{Out, kept, Ok, went, said}
 use Rattle.base.proofs.Outs.{ok-bind, ok-weaken}
@@ -20,9 +20,8 @@ use Rattle.structs.specs.declared.DiskINode.{DiskINode}
 use Rattle.structs.specs.declared.Timespec.{Timespec}
 use Rattle.arena.specs.Fields.{File, file}
 use Rattle.files.specs.Read.{there, byteAt}
-use Rattle.files_laws.specs.Laws.{Kept, Drop}
+use Rattle.files_laws.specs.Laws.{Kept}
 use Rattle.files_laws.proofs.Bounds.{named-node}
-use Rattle.files_laws.proofs.Parts.{file-cases}
 use Rattle.table.specs.declared.Table.{Table}
 use Rattle.table.specs.declared.Row.{Row}
 use Rattle.table.specs.declared.Handle.{Handle}
@@ -42,19 +41,19 @@ use Rattle.sefs.specs.Ask.{start}
 use Rattle.sefs.specs.Create.{Given, createSteps}
 use Rattle.sefs.specs.Read.{callMetadata, callEntry, callListing}
 use Rattle.sefs.specs.Contents.{callRead}
-use Rattle.rules.specs.Image.{isNode, storedBytes, recBy, recOf, storedSuper, storedMaps}
+use Rattle.rules.specs.Image.{isNode, storedBytes, recBy, recOf}
 use Rattle.rules.specs.Rules.{Allowed}
 use Rattle.rules.proofs.Files.{node-below}
-use Rattle.sefs_laws.proofs.Rows.{Any, any, Changes, Stores, Metas, Bears, bears-and, Fills, tabled, leaves-meta, leaves-sync, leaves-append, leaves-birth, leaves-named, row-below}
+use Rattle.sefs_laws.proofs.Rows.{Any, any, Changes, Stores, Metas, Bears, bears-and, Fills, tabled, filed-kept, filed, leaves-meta, leaves-sync, leaves-append, leaves-birth, leaves-named, row-below}
 use Rattle.image.specs.Midway.{Used, storedMeta}
 use Rattle.image.proofs.Handles.{formed, row-rec, row-node}
 use Rattle.image.proofs.Images.{fair}
 use Rattle.image.proofs.Holds.{add-rows}
 use Rattle.image.proofs.Nodes.{there-meta, meta-is, node-some}
 use Rattle.image.proofs.Stores.{node-apart}
-use Rattle.image.proofs.Metas.{kept-same, kept-then, length-mapsTo, bytes-mapsTo, node-other}
+use Rattle.image.proofs.Metas.{kept-same, kept-then}
 use Rattle.image.proofs.Appends.{file-apart}
-use Rattle.image.proofs.Allocs.{Sane, taken-new}
+use Rattle.image.proofs.Allocs.{taken-new}
 use Rattle.image.proofs.Makes.{Makes, new-node-law}
 use Rattle.sequences.specs.Pairs.{Pair, Passed}
 use Rattle.sequences.specs.Calls.{Call, root, find, walk, create, link, removeFile, removeFolder, move, metadata, setMetadata, getEntry, listing, read, write, resize, sync, close, check, NewFits, Fits, does, next}
@@ -62,6 +61,7 @@ use Rattle.sequences.specs.Promises.{Through, writes, resizes}
 use Rattle.sequences.proofs.Passing.{allowed, spelled-any}
 use Rattle.sequences.proofs.Tables.{FillsFolders, Turns, keeps-create, keeps-root, keeps-find, keeps-walk, keeps-set, keeps-link, keeps-remove, keeps-write, keeps-resize, keeps-sync, keeps-close}
 use Rattle.sequences.proofs.Closes.{close-rows}
+use Rattle.sequences.proofs.Creates.{fair-sane}
 use Rattle.sequences.proofs.Moves.{move-call}
 use Rattle.sequences.proofs.Corner.{at-put}
 use Rattle.sequences.proofs.Tracks.{As, Wide, Dirty, Tracks, tracks-rows, tracks-bears, tracks-fills, tracks-new}
@@ -70,10 +70,13 @@ use Rattle.sequences.proofs.Tracks.{As, Wide, Dirty, Tracks, tracks-row
 abbrev pub KeptIfThere : List ℕ → List ℕ → List ℕ → Type 0
 KeptIfThere o f a = there a (file 1 f) ≡ true → Kept o a (file 1 f)
 
--- since pair p: file f as it was, and of every node its type and its file
-pub record Intact (p : Pair) (f a : List ℕ) (t : Table) : Type 0 where
-  pub stays : KeptIfThere (p .arena) f a
-  pub tracks : (m : ℕ) → isNode (p .arena) m ≡ true → Tracks m (recOf (p .arena) (p .table) m .kind) (recOf (p .arena) (p .table) m .file) a t
+-- every node has the type and the file that it had in pair p
+abbrev pub Nodes : Pair → List ℕ → Table → Type 0
+Nodes p a t = (m : ℕ) → isNode (p .arena) m ≡ true → Tracks m (recOf (p .arena) (p .table) m .kind) (recOf (p .arena) (p .table) m .file) a t
+
+-- and file f is as it was
+abbrev pub Intact : Pair → List ℕ → List ℕ → Table → Type 0
+Intact p f a t = KeptIfThere (p .arena) f a × Nodes p a t
 
 -- row i of table t is in use, a live hold names it, and its file is that of row i in table v
 pub record Firm (v t : Table) (i : ℕ) : Type 0 where
@@ -102,25 +105,14 @@ module _ (v : Table) where
       (λ t i e. firm-put t i _ (λ j x z. absurd (true-false (ap (rowUsed t) (sym z) ∙ x .used) e)))
 
 module _ (o f : List ℕ) where
-  stays-kept : (a b : List ℕ) → Kept a b (file 1 f) → KeptIfThere o f a → KeptIfThere o f b
-  stays-kept a b k s e = kept-then o a b (file 1 f) (s (sym (k .exists) ∙ e)) k
+  then-kept : (a b : List ℕ) → Kept a b (file 1 f) → Kept o a (file 1 f) → Kept o b (file 1 f)
+  then-kept a b k s = kept-then o a b (file 1 f) s k
 
-  stays-drop : (a b g : List ℕ) → Drop a (file 1 g) b → KeptIfThere o f a → KeptIfThere o f b
-  stays-drop a b g d s =
-      ⊎-elim
-      (λ (q : file 1 g ≡ file 1 f). λ e. absurd (true-false e (subst (λ (x : File). there b x ≡ false) q (d .gone))))
-      (λ n. stays-kept a b (d .others (file 1 f) n) s)
-      (file-cases (file 1 g) (file 1 f))
+  stays-kept : (a b : List ℕ) → Kept a b (file 1 f) → KeptIfThere o f a → KeptIfThere o f b
+  stays-kept = filed-kept f (λ a. Kept o a (file 1 f)) then-kept
 
   stays-bears : Bears (λ a t. KeptIfThere o f a)
-  stays-bears = record {
-    changes = λ a t i r e q d m y h. h;
-    loads = λ a t i id free new h. h;
-    frees = λ a t i unused clean h. h;
-    stores = λ a b t i l p. stays-kept a b (p .others (file 1 f) (node-other f));
-    metas = λ a b t k q. stays-kept a b (k f);
-    drops = λ a b t g d. stays-drop a b g d;
-  }
+  stays-bears = filed f (λ a. Kept o a (file 1 f)) then-kept
 
 -- ---- as a call begins, and goes on
 
@@ -146,9 +138,9 @@ module _ (p : Pair) (y : Passed p) where
   some-of : (m : ℕ) → isNode (p .arena) m ≡ true → m ≢ 0
   some-of m N = node-some a t (fair a t A) m N
 
-  tracks-start : (m : ℕ) → isNode (p .arena) m ≡ true → Tracks m (K m) (F m) (p .arena) (p .table)
+  pub nodes-start : Nodes p (p .arena) (p .table)
   unfolding recOf
-  tracks-start m N = record {
+  nodes-start m N = record {
     rows = λ j e. of j (used-row j (λ z. some-of m N (sym e ∙ z))) e;
     stored = by (rowOf t m) refl;
     wide = λ j l. let F = y .typed .fits .rows j (omega (arith, y .typed .fits .rows-34)) .rec in record { file = F .file; mac = F .mac };
@@ -173,36 +165,45 @@ module _ (p : Pair) (y : Passed p) where
           let q : recOf a t m ≡ recordOf (storedBytes a m) = ap (recBy a t m) e in
           inl (record { kind = ap (λ (r : DiskINode). r .kind) (sym q); file = ap (λ (r : DiskINode). r .file) (sym q) })
 
-  track : (m : ℕ) → isNode (p .arena) m ≡ true → Bears (Tracks m (K m) (F m))
-  track m N = tracks-bears m (K m) (F m) (some-of m N) (node-apart a m N) (omega (arith, A .rule5 .most m N))
+  most-of : (m : ℕ) → isNode (p .arena) m ≡ true → K m < 2 ^ 32
+  most-of m N = omega (arith, A .rule5 .most m N)
+
+  pub nodes-bears : Bears (Nodes p)
+  nodes-bears = record {
+    changes = λ b u i r e q d m w c x N. track x N .changes b u i r e q d m w (c x N);
+    loads = λ b u i id free new c x N. track x N .loads b u i id free new (c x N);
+    frees = λ b u i unused clean c x N. track x N .frees b u i unused clean (c x N);
+    stores = λ b d u i l P c x N. track x N .stores b d u i l P (c x N);
+    metas = λ b d u files same c x N. track x N .metas b d u files same (c x N);
+    drops = λ b d u g D c x N. track x N .drops b d u g D (c x N);
+  }
+    where
+      track : (m : ℕ) → isNode (p .arena) m ≡ true → Bears (Tracks m (K m) (F m))
+      track m N = tracks-bears m (K m) (F m) (some-of m N) (node-apart a m N) (most-of m N)
+
+  -- the rows alone count
+  pub nodes-rows : (b : List ℕ) (u v : Table) → v .rows ≡ u .rows → Nodes p b u → Nodes p b v
+  nodes-rows b u v e c x N = tracks-rows x (K x) (F x) b u v e (c x N)
+
+  pub nodes-adds : (b : List ℕ) (u : Table) (w row : ℕ) → Nodes p b u → Nodes p b (addHold u w row .table)
+  nodes-adds b u w row = nodes-rows b u (addHold u w row .table) (add-rows u w row)
+
+  pub nodes-fills : (i : ℕ) → Fills (Nodes p) i
+  nodes-fills i b d u k c x N = tracks-fills x (K x) (F x) (some-of x N) (node-apart a x N) (most-of x N) i b d u k (c x N)
 
   module _ (f : List ℕ) where
-    pub intact-start : Intact p f (p .arena) (p .table)
-    intact-start = record { stays = λ e. kept-same a (file 1 f); tracks = tracks-start }
+    intact-start : Intact p f (p .arena) (p .table)
+    intact-start = (λ e. kept-same a (file 1 f), nodes-start)
 
-    pub intact-bears : Bears (Intact p f)
-    intact-bears = let S = stays-bears a f in record {
-      changes = λ b u i r e q d m w c. record { stays = c .stays; tracks = λ x N. track x N .changes b u i r e q d m w (c .tracks x N) };
-      loads = λ b u i id free new c. record { stays = c .stays; tracks = λ x N. track x N .loads b u i id free new (c .tracks x N) };
-      frees = λ b u i unused clean c. record { stays = c .stays; tracks = λ x N. track x N .frees b u i unused clean (c .tracks x N) };
-      stores = λ b d u i l P c. record { stays = S .stores b d u i l P (c .stays); tracks = λ x N. track x N .stores b d u i l P (c .tracks x N) };
-      metas = λ b d u files same c. record { stays = S .metas b d u files same (c .stays); tracks = λ x N. track x N .metas b d u files same (c .tracks x N) };
-      drops = λ b d u g D c. record { stays = S .drops b d u g D (c .stays); tracks = λ x N. track x N .drops b d u g D (c .tracks x N) };
-    }
+    intact-bears : Bears (Intact p f)
+    intact-bears = bears-and (stays-bears a f) nodes-bears
 
-    -- the rows alone count
-    pub intact-rows : (b : List ℕ) (u v : Table) → v .rows ≡ u .rows → Intact p f b u → Intact p f b v
-    intact-rows b u v e c = record { stays = c .stays; tracks = λ x N. tracks-rows x (K x) (F x) b u v e (c .tracks x N) }
-
-    pub intact-adds : (b : List ℕ) (u : Table) (w row : ℕ) → Intact p f b u → Intact p f b (addHold u w row .table)
-    intact-adds b u w row = intact-rows b u (addHold u w row .table) (add-rows u w row)
+    intact-adds : (b : List ℕ) (u : Table) (w row : ℕ) → Intact p f b u → Intact p f b (addHold u w row .table)
+    intact-adds b u w row c = (c .0, nodes-adds b u w row (c .1))
 
     -- a file that is not f is filled
-    pub intact-fill : (i : ℕ) (b d : List ℕ) (u : Table) → rowAt u i .rec .file ≢ f → ((g : File) → nodeFile (rowAt u i .rec) ≢ g → Kept b d g) → Intact p f b u → Intact p f d u
-    intact-fill i b d u n k c = record {
-      stays = stays-kept a f b d (k (file 1 f) (file-apart (rowAt u i .rec .file) f n)) (c .stays);
-      tracks = λ x N. tracks-fills x (K x) (F x) (some-of x N) (node-apart a x N) (omega (arith, A .rule5 .most x N)) i b d u k (c .tracks x N);
-    }
+    intact-fill : (i : ℕ) (b d : List ℕ) (u : Table) → rowAt u i .rec .file ≢ f → ((g : File) → nodeFile (rowAt u i .rec) ≢ g → Kept b d g) → Intact p f b u → Intact p f d u
+    intact-fill i b d u n k c = (stays-kept a f b d (k (file 1 f) (file-apart (rowAt u i .rec .file) f n)) (c .0), nodes-fills i b d u k (c .1))
 
     -- and the rows that have handles
     abbrev pub Calm : List ℕ → Table → Type 0
@@ -218,15 +219,69 @@ module _ (p : Pair) (y : Passed p) where
     calm-fills i h n b d u k c = (intact-fill i b d u (λ q. n (sym (c .1 i h .same) ∙ q)) k (c .0), c .1)
 
     -- a row for a new node, at the start
-    pub calm-new : (b : List ℕ) (i : ℕ) (r : Row) → rowAt (p .table) i .id ≡ 0 → isNode (p .arena) (r .id) ≡ false → Wide r → Kept (p .arena) b (file 1 f)
+    calm-new : (b : List ℕ) (i : ℕ) (r : Row) → rowAt (p .table) i .id ≡ 0 → isNode (p .arena) (r .id) ≡ false → Wide r → Kept (p .arena) b (file 1 f)
         → ((m : ℕ) → isNode (p .arena) m ≡ true → storedBytes b m ≡ storedBytes (p .arena) m) → Calm b (withRow (p .table) i r)
     calm-new b i r free new wide kept same = (
-      record {
-        stays = λ e. kept;
-        tracks = λ x N. tracks-new x (K x) (F x) (some-of x N) (node-apart a x N) (omega (arith, A .rule5 .most x N)) a b t i r free (λ q. true-false (ap (isNode a) q ∙ N) new) wide (same x N) (tracks-start x N);
-      },
+      (
+        λ e. kept,
+        λ x N. tracks-new x (K x) (F x) (some-of x N) (node-apart a x N) (most-of x N) a b t i r free (λ q. true-false (ap (isNode a) q ∙ N) new) wide (same x N) (nodes-start x N),
+      ),
       firm-put t t i r (λ j x z. absurd (x .some (ap (λ (k : ℕ). rowAt t k .id) z ∙ free))) (λ j h. h),
     )
+
+    -- ---- a new node, whose file is not f
+
+    module _ (kind mode : ℕ) (time : Timespec) (uuid : List ℕ) (fits : NewFits kind mode time uuid) (absent : there (p .arena) (file 1 uuid) ≡ false) (other : f ≢ uuid) where
+      pub make : Ok (Makes (start (p .arena) (p .table)) (storedMeta (p .arena)) (newRecord kind mode time uuid)) (λ r. r ≡ 17) (newNode (start (p .arena) (p .table)) kind mode time uuid)
+      unfolding isNode
+      make =
+          let s = first-spare t (formed a t A) in
+          let B = fair a t A in
+          new-node-law (start a t) (storedMeta a) (meta-is a t B) (fair-sane a t B (y .typed .bytes)) (there-meta a t B) (A .rule3 .length) (y .typed .bytes) (A .rule1 .sound) (A .rule4 .node)
+          (s .0) (s .1) uuid (named-node uuid (fits .file) (fits .bytes)) absent kind mode time
+
+      module _ (c : ℕ) where
+        -- row c has the new file
+        abbrev pub New : List ℕ → Table → Type 0
+        New b u = Calm b u × (rowAt u c .rec .file ≡ uuid)
+
+        new-changes : Changes New
+        new-changes b u i r e q d m w h =
+            (calm-bears .changes b u i r e q d m w (h .0), at-put (λ (x : Row). x .rec .file ≡ uuid) u i r c (λ z. q ∙ ap (λ (j : ℕ). rowAt u j .rec .file) (sym z) ∙ h .1) (h .1))
+
+        new-stores : Stores New
+        new-stores b d u i l P h = (calm-bears .stores b d u i l P (h .0), at-put (λ (x : Row). x .rec .file ≡ uuid) u i _ c (λ z. ap (λ (j : ℕ). rowAt u j .rec .file) (sym z) ∙ h .1) (h .1))
+
+        new-metas : Metas New
+        new-metas b d u files same h = (calm-bears .metas b d u files same (h .0), h .1)
+
+        new-own : Fills New c
+        new-own b d u q h = ((intact-fill c b d u (λ e. other (sym e ∙ h .1)) q (h .0 .0), h .0 .1), h .1)
+
+      pub made : (o : Opened) → Makes (start (p .arena) (p .table)) (storedMeta (p .arena)) (newRecord kind mode time uuid) o → New (o .row) (o .state .arena) (o .state .table)
+      unfolding isNode storedBytes
+      made o Q =
+          let w = row-found t 0 (o .row) (Q .free) in
+          let r : Row = record { id = Q .id; dirty = true; rec = newRecord kind mode time uuid } in
+          subst (λ (s : Fs). New (o .row) (s .arena) (s .table)) (sym (Q .is)) (
+            calm-new (Q .arena) (o .row) r (w .1) (taken-new (storedMeta a) (Q .meta) (Q .id) (Q .taken)) (record { file = fits .file; mac = refl }) (Q .others f other)
+                (λ m M. tab-cong (byteAt (Q .arena) metaFile) (byteAt a metaFile) (128 * m) (128 * m) 112 (λ i l. Q .ground .below (128 * m + i) (omega (arith, A .rule3 .length, node-below a m M)))),
+            ap (λ (x : Row). x .rec .file) (row-here t (o .row) r (omega (arith, w .0, y .typed .fits .rows-34))),
+          )
+
+      create-steps : (w i : ℕ) (name : List ℕ) → Fills Calm i → Ok (λ (x : Given). Intact p f (x .arena) (x .table)) Any (createSteps (start (p .arena) (p .table)) w i name kind mode time uuid)
+      unfolding createSteps
+      create-steps w i name fills =
+          ok-bind (ok-weaken made (λ r q. tt) make) λ x h.
+          let M : List ℕ → Table → Type 0 = New (x .row) in
+          let own : Fills M i = λ b d u q h. (fills b d u q (h .0), h .1) in
+          ok-bind (leaves-birth M (x .row) (new-own (x .row)) (new-changes (x .row)) (x .state) i kind h) λ s h.
+          ok-bind (leaves-append M i own (new-changes (x .row)) s (entry (idAt s (x .row)) name kind) h) λ s h.
+          ok-bind (leaves-named M (new-changes (x .row)) s i (x .row) kind h) λ s h.
+          ok-bind (leaves-meta M (new-metas (x .row)) s h) λ s h.
+          ok-bind (leaves-sync M (new-stores (x .row)) s (x .row) h) λ s h.
+          ok-bind (leaves-sync M (new-stores (x .row)) s i h) λ s h.
+          went (intact-adds (s .arena) (s .table) w (x .row) (h .0 .0))
 
   -- ---- the rows of live handles
 
@@ -273,78 +328,7 @@ module _ (p : Pair) (y : Passed p) where
 
     -- a folder that moves
     turns : Turns C (p .arena) (p .table)
-    turns c row M dir b d u e k h = (intact-fill f row b d u (λ q. folder-file c M dir (sym (h .0 .tracks c M .rows row e .file) ∙ q)) k (h .0), h .1)
-
-    -- ---- a new node
-
-    module _ (kind mode : ℕ) (time : Timespec) (uuid : List ℕ) (fits : NewFits kind mode time uuid) (absent : there (p .arena) (file 1 uuid) ≡ false) where
-      other : f ≢ uuid
-      other e = true-false (A .rule5 .own n N) (ap (λ (x : List ℕ). there a (file 1 x)) e ∙ absent)
-
-      sane : Sane (storedMeta (p .arena))
-      unfolding storedMaps
-      sane = record {
-        magic = A .rule3 .magic;
-        some = A .rule3 .some;
-        few = A .rule3 .few;
-        blocks = A .rule3 .blocks;
-        unused = A .rule3 .unused;
-        long = length-mapsTo a (storedSuper a .groups);
-        bytes = bytes-mapsTo a (y .typed .bytes) (storedSuper a .groups);
-        none = A .rule4 .zero;
-        owns = A .rule4 .maps;
-      }
-
-      make : Ok (Makes (start (p .arena) (p .table)) (storedMeta (p .arena)) (newRecord kind mode time uuid)) (λ r. r ≡ 17) (newNode (start (p .arena) (p .table)) kind mode time uuid)
-      unfolding isNode
-      make =
-          let s = first-spare t (formed a t A) in
-          let B = fair a t A in
-          new-node-law (start a t) (storedMeta a) (meta-is a t B) sane (there-meta a t B) (A .rule3 .length) (y .typed .bytes) (A .rule1 .sound) (A .rule4 .node)
-          (s .0) (s .1) uuid (named-node uuid (fits .file) (fits .bytes)) absent kind mode time
-
-      module _ (c : ℕ) where
-        -- row c has the new file
-        abbrev New : List ℕ → Table → Type 0
-        New b u = C b u × (rowAt u c .rec .file ≡ uuid)
-
-        new-changes : Changes New
-        new-changes b u i r e q d m w h =
-            (calm-bears f .changes b u i r e q d m w (h .0), at-put (λ (x : Row). x .rec .file ≡ uuid) u i r c (λ z. q ∙ ap (λ (j : ℕ). rowAt u j .rec .file) (sym z) ∙ h .1) (h .1))
-
-        new-stores : Stores New
-        new-stores b d u i l P h = (calm-bears f .stores b d u i l P (h .0), at-put (λ (x : Row). x .rec .file ≡ uuid) u i _ c (λ z. ap (λ (j : ℕ). rowAt u j .rec .file) (sym z) ∙ h .1) (h .1))
-
-        new-metas : Metas New
-        new-metas b d u files same h = (calm-bears f .metas b d u files same (h .0), h .1)
-
-        new-own : Fills New c
-        new-own b d u q h = ((intact-fill f c b d u (λ e. other (sym e ∙ h .1)) q (h .0 .0), h .0 .1), h .1)
-
-      made : (o : Opened) → Makes (start (p .arena) (p .table)) (storedMeta (p .arena)) (newRecord kind mode time uuid) o → New (o .row) (o .state .arena) (o .state .table)
-      unfolding isNode storedBytes
-      made o Q =
-          let w = row-found t 0 (o .row) (Q .free) in
-          let r : Row = record { id = Q .id; dirty = true; rec = newRecord kind mode time uuid } in
-          subst (λ (s : Fs). New (o .row) (s .arena) (s .table)) (sym (Q .is)) (
-            calm-new f (Q .arena) (o .row) r (w .1) (taken-new (storedMeta a) (Q .meta) (Q .id) (Q .taken)) (record { file = fits .file; mac = refl }) (Q .others f other)
-                (λ m M. tab-cong (byteAt (Q .arena) metaFile) (byteAt a metaFile) (128 * m) (128 * m) 112 (λ i l. Q .ground .below (128 * m + i) (omega (arith, A .rule3 .length, node-below a m M)))),
-            ap (λ (x : Row). x .rec .file) (row-here t (o .row) r (omega (arith, w .0, y .typed .fits .rows-34))),
-          )
-
-      create-steps : (w i : ℕ) (name : List ℕ) → Fills C i → Ok (λ (x : Given). I (x .arena) (x .table)) Any (createSteps (start (p .arena) (p .table)) w i name kind mode time uuid)
-      unfolding createSteps
-      create-steps w i name fills =
-          ok-bind (ok-weaken made (λ r q. tt) make) λ x h.
-          let M : List ℕ → Table → Type 0 = New (x .row) in
-          let own : Fills M i = λ b d u q h. (fills b d u q (h .0), h .1) in
-          ok-bind (leaves-birth M (x .row) (new-own (x .row)) (new-changes (x .row)) (x .state) i kind h) λ s h.
-          ok-bind (leaves-append M i own (new-changes (x .row)) s (entry (idAt s (x .row)) name kind) h) λ s h.
-          ok-bind (leaves-named M (new-changes (x .row)) s i (x .row) kind h) λ s h.
-          ok-bind (leaves-meta M (new-metas (x .row)) s h) λ s h.
-          ok-bind (leaves-sync M (new-stores (x .row)) s (x .row) h) λ s h.
-          ok-bind (leaves-sync M (new-stores (x .row)) s i h) λ s h.
-          went (intact-adds f (s .arena) (s .table) w (x .row) (h .0 .0))
+    turns c row M dir b d u e k h = (intact-fill f row b d u (λ q. folder-file c M dir (sym (h .0 .1 c M .rows row e .file) ∙ q)) k (h .0), h .1)
 
     -- ---- all of them
 
@@ -354,7 +338,7 @@ module _ (p : Pair) (y : Passed p) where
     leaves (find w g name) x z = ok-bind (keeps-find I (intact-bears f .loads) (intact-adds f) a t w g name (intact-start f)) λ x l. went l
     leaves (walk w g path room) x z = ok-bind (keeps-walk I (intact-bears f .loads) (intact-adds f) a t w g path room (intact-start f)) λ x l. went l
     leaves (create w g name kind mode time uuid) x z =
-        ok-bind (keeps-create I a t w g name kind mode time uuid (λ i l dir none. create-steps kind mode time uuid (x .3) none w i name (folders w g i l dir))) λ x l. went l
+        ok-bind (keeps-create I a t w g name kind mode time uuid (λ i l dir none. create-steps f kind mode time uuid (x .3) none (λ e. true-false (A .rule5 .own n N) (ap (λ (x : List ℕ). there a (file 1 x)) e ∙ none)) w i name (folders w g i l dir))) λ x l. went l
     leaves (link w g name child) x z = ok-bind (keeps-link C (calm-bears f) a t folders w g name child (calm-start f)) λ x l. went (l .0)
     leaves (removeFile w g name) x z = ok-bind (keeps-remove C (calm-bears f) false a t folders w g name (calm-start f)) λ x l. went (l .0)
     leaves (removeFolder w g name) x z = ok-bind (keeps-remove C (calm-bears f) true a t folders w g name (calm-start f)) λ x l. went (l .0)
@@ -372,7 +356,7 @@ module _ (p : Pair) (y : Passed p) where
     leaves sync x z = ok-bind (keeps-sync C (calm-bears f) a t (calm-start f)) λ x l. went (l .0)
     -- the closed hold's row is firm no more
     leaves (close w g) x z =
-        ok-bind (keeps-close I (intact-bears f) a t w g (λ i l. intact-rows f a t (closeHold t (g .hold) .table) (close-rows t (g .hold)) (intact-start f))) λ x l. went l
+        ok-bind (keeps-close I (intact-bears f) a t w g (λ i l. (intact-start f .0, nodes-rows a t (closeHold t (g .hold) .table) (close-rows t (g .hold)) nodes-start))) λ x l. went l
     leaves check x z = went (intact-start f)
 
     -- afterwards

@@ -56,7 +56,7 @@ spared p c w h n f y o s q =
       kind = v .1 ∙ sym (m .1);
       new = makes-else p c w h n f y o;
       same = λ no-dir not-through.
-          let L : KeptIfThere (p .arena) f (next c p .arena) = subst (λ (x : List ℕ). KeptIfThere (p .arena) x (next c p .arena)) (m .2) (left p y n (m .0) no-dir c (s .fits) not-through .stays) in
+          let L : KeptIfThere (p .arena) f (next c p .arena) = subst (λ (x : List ℕ). KeptIfThere (p .arena) x (next c p .arena)) (m .2) (left p y n (m .0) no-dir c (s .fits) not-through .0) in
           let K = L (on-there (next c p .arena) (next c p .table) (allowed (next c p) q) w h n f (as-on z)) in
           record { long = K .long; bytes = K .byte };
     }
