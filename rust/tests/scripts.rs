@@ -49,7 +49,7 @@ fn folder(path: &Path) -> Option<(usize, usize)> {
 #[test]
 fn acceptance() {
     if let Some((scripts, lines)) = folder(&top().join("../shared/vectors-02/level-9")) {
-        assert!(scripts >= 14 && lines >= 2_332);
+        assert!(scripts >= 15 && lines >= 2_472);
     }
     // scripts of earlier levels, made scripts of this one by tests/model/lifted.py
     for (level, least) in [31_347, 3_578, 3_611, 3_606, 3_365, 3_548, 3_750, 3_394, 2_125].into_iter().enumerate() {

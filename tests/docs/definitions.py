@@ -26,16 +26,22 @@ def crates():
 
 
 def definitions(path):
-    """(name, comment) of each public definition of a file of specs/, in its order.
+    """(name, comment) of each public definition of a file of specs/, in its order, those indented under a `module .. where` too.
 
-    Where none stands above it, it has the comment of its section ("-- ----"), or else the file's own.
+    Where none stands above it, it has the comment of its section ("-- ----" and the lines that go on with it), or else the file's own.
     """
-    found, comment, section, first = [], [], "", True
+    found, comment, section, first, in_section, in_module = [], [], "", True, False, False
     with open(path, encoding="utf-8") as lines:
         for line in lines:
             line = line.rstrip("\n")
+            if line and not line.startswith(" "):
+                in_module = line.startswith("module ")
+            elif in_module:
+                line = line[2:]
             if line.startswith("-- ---- "):
-                section, comment = line[8:], []
+                section, comment, in_section = line[8:], [], True
+            elif line.startswith("-- ") and in_section:
+                section += " " + line[3:]
             elif line.startswith("-- "):
                 comment.append(line[3:])
             else:
@@ -44,7 +50,7 @@ def definitions(path):
                     found.append((head.group(2), " ".join(comment) or section))
                 elif comment and (first or not line):
                     section = " ".join(comment)
-                first, comment = False, []
+                first, comment, in_section = False, [], False
     return found
 
 
