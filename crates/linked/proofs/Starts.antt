@@ -2,11 +2,13 @@
 use mathlib.Core.Path.{_≡_, refl, sym, ap, _∙_, subst}
 use mathlib.Core.Bool.{Bool, true, false, _&&_}
 use mathlib.Core.List.{List}
-use mathlib.Core.Logic.{_≢_, ⊎-elim}
+use mathlib.Core.Logic.{_≢_, inl, inr, ⊎-elim}
 use Prim.Native.Nat.{ℕ, _<_}
 use native.Mathlib.Omega.{arith}
 use lib.Dec.{eqb, ltb}
+use lib.IntN.{ℤ}
 use lib.ListN.{length}
+use contract.Lifetimes.{Lfts}
 use denote.Ref.{now}
 use borrow.Author.Tests.{eqb-true}
 use Rattle.base.specs.Out.{Out, done, refused, bind, answer, Ok, went, said, Went, well, ill}
@@ -35,11 +37,12 @@ use Rattle.calls_format.specs.Format.{formatted}
 use Rattle.edge_words.specs.Words.{timeOf}
 use Rattle.edge.specs.Edge.{sized, Answers, leftOf, counted}
 use Rattle.edge.proofs.Laws.{sized-is, sized-not}
+use Rattle.edge.proofs.dz_format.Reads as dz-format
 use Rattle.sequences.specs.Pairs.{pair}
 use Rattle.sequences.specs.Promises.{Fresh, Slashless, FreshSlashless}
 use Rattle.sequences.proofs.Fresh.{format-goes, fresh, fresh-slashless}
-use Rattle.linked.specs.Images.{Ready}
-use Rattle.linked.specs.Linked.{OwnDoes, CheckSays, OpenDoes, FreshImage, FormatFresh, CheckTrusts, ChainsOwn, OwnKeeps}
+use Rattle.linked.specs.Images.{_&_, Slice, Ready}
+use Rattle.linked.specs.Linked.{OwnDoes, CheckSays, OpenDoes, FormatDid, FormatDoes, FreshImage, FormatFresh, CheckTrusts, ChainsOwn, OwnKeeps}
 use Rattle.linked.proofs.Functions.{owned, asked, own-does-calls}
 use Rattle.linked.proofs.Transport.{trusted-written, not-255, after}
 
@@ -49,29 +52,63 @@ sized-said k l o x = ⊎-elim (λ e. (e, sized-is k l o e)) (λ z. absurd (x (ap
 
 -- ---- a format, a check, the chains
 
-pub format-fresh : FormatFresh
-unfolding FormatFresh Fresh FreshSlashless callFormat
-format-fresh κs a a' t t' file sec nsec B M F L =
-    let o : Out After = formatted (callFormat (now a) (timeOf sec nsec) (now file)) in
-    let x = sized-said 4402 (now t) (sized 16 (now file) o) (λ e. not-255 (L .number ∙ e)) in
-    let y = sized-said 16 (now file) o (λ e. not-255 (L .number ∙ ap answer (x .1) ∙ e)) in
-    let is : sized 4402 (now t) (sized 16 (now file) o) ≡ o = x .1 ∙ y .1 in
+module _ (κs : Lfts 3) (a a' t t' file : Slice) (sec nsec : ℤ) where
+  abbrev o : Out (List ℕ)
+  o = callFormat (now a) (timeOf sec nsec) (now file)
+
+  abbrev Left : Out (List ℕ) → ℕ → Type 0
+  Left o n = Answers (formatted o) leftOf (now a, now t) (now a', now t') n
+
+  -- where the number is not 255, the outcome is format's own
+  format-sized : (n : ℕ) → dz-format.Learnt κs (a & t & sec & nsec & file & tt) n (a' & t' & sec & nsec & file & tt) → n ≢ 255 → (length (now file) ≡ 16) × Left o n
+  format-sized n L z =
+      let x = sized-said 4402 (now t) (sized 16 (now file) (formatted o)) (λ e. z (L .number ∙ e)) in
+      let y = sized-said 16 (now file) (formatted o) (λ e. z (L .number ∙ ap answer (x .1) ∙ e)) in
+      (y .0, subst (λ (o : Out After). Answers o leftOf (now a, now t) (now a', now t') n) (x .1 ∙ y .1) L)
+
+  abbrev Formats : ℕ → Type 0
+  Formats n = FormatDid (now a) (now t) (timeOf sec nsec) (now file) (now a') (now t') n
+
+  format-made : (n : ℕ) (b : List ℕ) → o ≡ done b → Left o n → Formats n
+  format-made n b e L =
+      let K = subst (λ (o : Out (List ℕ)). Left o n) e L in
+      record {
+        number = K .number ∙ sym (ap answer e);
+        says = inl (K .number);
+        made = λ _. (e ∙ ap done (λ i. sym (K .places) i .0), λ i. K .places i .1);
+        stays = λ z. absurd (z (K .number));
+      }
+
+  format-refused : (n : ℕ) → o ≡ refused 1 → Left o n → Formats n
+  format-refused n e L =
+      let K = subst (λ (o : Out (List ℕ)). Left o n) e L in
+      record {
+        number = K .number ∙ sym (ap answer e);
+        says = inr (K .number);
+        made = λ z. absurd (omega (arith, z, K .number));
+        stays = λ _. (λ i. K .places i .0, λ i. K .places i .1);
+      }
+
+pub format-does : FormatDoes
+unfolding FormatDoes callFormat
+format-does κs a a' t t' file sec nsec n B M F L z =
+    let S = format-sized κs a a' t t' file sec nsec n L z in
     ⊎-elim
-    (λ l.
-    let g = format-goes (now a) (timeOf sec nsec) (now file) M (named-node (now file) (y .0) F) l in
-    let e : sized 4402 (now t) (sized 16 (now file) o) ≡ done (record { arena = g .0; table = emptyTable }) = is ∙ ap formatted (g .1) in
-    let K = subst (λ (o : Out After). Answers o leftOf (now a, now t) (now a', now t') 0) e L in
-    let p = fresh (now a) (timeOf sec nsec) (now file) B M (y .0) F (g .0) (g .1) in
-    let w : FreshImage (g .0) (tableBytes emptyTable) = record {
-      trusted = trusted-written (g .0) emptyTable p;
-      slashless = subst (λ (v : Table). Slashless (pair (g .0) v)) (sym (tableOf-tableBytes emptyTable (p .typed .fits))) (fresh-slashless (now a) (timeOf sec nsec) (now file) B M (y .0) F (g .0) (g .1));
-    } in
-    subst (λ (x : List ℕ × List ℕ). FreshImage (x .0) (x .1)) (sym (K .places)) w)
-    (λ l.
-    let e : o ≡ refused 1 = rw l in
-    let q : 0 ≡ 1 = L .number ∙ ap answer (is ∙ e) in
-    absurd (omega (arith, q)))
+    (λ l. let g = format-goes (now a) (timeOf sec nsec) (now file) M (named-node (now file) (S .0) F) l in format-made κs a a' t t' file sec nsec n (g .0) (g .1) (S .1))
+    (λ l. format-refused κs a a' t t' file sec nsec n (rw l) (S .1))
     (bool-cases (legal (now a)))
+
+pub format-fresh : FormatFresh
+unfolding FormatFresh FormatDoes Fresh FreshSlashless
+format-fresh κs a a' t t' file sec nsec B M F L =
+    let S = format-sized κs a a' t t' file sec nsec 0 L not-255 in
+    let g = format-does κs a a' t t' file sec nsec 0 B M F L not-255 .made refl in
+    let p = fresh (now a) (timeOf sec nsec) (now file) B M (S .0) F (now a') (g .0) in
+    let w : FreshImage (now a') (tableBytes emptyTable) = record {
+      trusted = trusted-written (now a') emptyTable p;
+      slashless = subst (λ (v : Table). Slashless (pair (now a') v)) (sym (tableOf-tableBytes emptyTable (p .typed .fits))) (fresh-slashless (now a) (timeOf sec nsec) (now file) B M (S .0) F (now a') (g .0));
+    } in
+    subst (FreshImage (now a')) (sym (g .1)) w
 
 pub check-says : CheckSays
 unfolding CheckSays verdictOf passOf
@@ -136,9 +173,10 @@ open-does κs a t t' n L x =
     let s = sized-said 4402 (now t) (callOpen (now a)) (λ e. x (L .number ∙ e)) in
     by (callOpen (now a)) (open-law (now a)) (subst (λ (o : Out Table). Answers o tableBytes (now t) (now t') n) (s .1) L)
   where
-    by : (o : Out Table) → Ok (λ u. u ≡ emptyTable) (λ k. k ≢ 0) o → Answers o tableBytes (now t) (now t') n → (n ≡ answer o) × (n ≡ 0 → now t' ≡ tableBytes emptyTable)
-    by (done u) (went e) K = (K .number, λ _. K .places ∙ ap tableBytes e)
-    by (refused m) (said r) K = (K .number, λ z. absurd (r (sym (K .number) ∙ z)))
+    by : (o : Out Table) → Ok (λ u. u ≡ emptyTable) (λ k. k ≢ 0) o → Answers o tableBytes (now t) (now t') n
+        → (n ≡ answer o) × (n ≡ 0 → now t' ≡ tableBytes emptyTable) × (n ≢ 0 → now t' ≡ now t)
+    by (done u) (went e) K = (K .number, λ _. K .places ∙ ap tableBytes e, λ z. absurd (z (K .number)))
+    by (refused m) (said r) K = (K .number, λ z. absurd (r (sym (K .number) ∙ z)), λ _. K .places)
 
 -- ---- the next call
 
