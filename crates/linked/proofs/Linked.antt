@@ -22,7 +22,7 @@ use Rattle.rules.proofs.Check.{check-pass}
 use Rattle.edge_words.specs.Words.{handleWords}
 use Rattle.owners_kept.specs.Owned.{Chained}
 use Rattle.sequences.specs.Pairs.{Pair, pair}
-use Rattle.sequences.specs.Calls.{Call, root, walk, create, close, Fits, does, reasonOf, next}
+use Rattle.sequences.specs.Calls.{Call, walk, create, close, does, reasonOf, next}
 use Rattle.sequences.specs.Promises.{Along, Well, Sequence, On, Safe, Apart, Spent, Closed, Ended, Slashless, NoSlashes}
 use Rattle.sequences.specs.Promises as along
 use Rattle.sequences.specs.Places.{Full, FullMeans, RootFull, FullByOwn, Refused, ApartByOwner}

@@ -18,6 +18,7 @@ use Rattle.base.proofs.Finds.{eq-cases}
 use Rattle.base.proofs.Outs.{ok-bind}
 use Rattle.structs.specs.Constants.{sefsMagic}
 use Rattle.structs.specs.Layout.{superOf}
+use Rattle.structs.specs.declared.Timespec.{Timespec}
 use Rattle.table.specs.declared.Table.{Table}
 use Rattle.table.specs.Table.{emptyTable}
 use Rattle.table_bytes.specs.Layout.{tableOf, tableBytes}
@@ -52,50 +53,43 @@ sized-said k l o x = ⊎-elim (λ e. (e, sized-is k l o e)) (λ z. absurd (x (ap
 
 -- ---- a format, a check, the chains
 
-module _ (κs : Lfts 3) (a a' t t' file : Slice) (sec nsec : ℤ) where
-  abbrev o : Out (List ℕ)
-  o = callFormat (now a) (timeOf sec nsec) (now file)
+-- where the number is not 255, what format has left is by its own outcome
+format-sized : (κs : Lfts 3) (a a' t t' file : Slice) (sec nsec : ℤ) (n : ℕ) → dz-format.Learnt κs (a & t & sec & nsec & file & tt) n (a' & t' & sec & nsec & file & tt) → n ≢ 255
+    → (length (now file) ≡ 16) × Answers (formatted (callFormat (now a) (timeOf sec nsec) (now file))) leftOf (now a, now t) (now a', now t') n
+format-sized κs a a' t t' file sec nsec n L z =
+    let o : Out After = formatted (callFormat (now a) (timeOf sec nsec) (now file)) in
+    let x = sized-said 4402 (now t) (sized 16 (now file) o) (λ e. z (L .number ∙ e)) in
+    let y = sized-said 16 (now file) o (λ e. z (L .number ∙ ap answer (x .1) ∙ e)) in
+    (y .0, subst (λ (o : Out After). Answers o leftOf (now a, now t) (now a', now t') n) (x .1 ∙ y .1) L)
 
-  abbrev Left : Out (List ℕ) → ℕ → Type 0
-  Left o n = Answers (formatted o) leftOf (now a, now t) (now a', now t') n
+-- by a done one, and by a refused one
+module _ {a t : List ℕ} (time : Timespec) (file : List ℕ) {a' t' : List ℕ} {n : ℕ} (L : Answers (formatted (callFormat a time file)) leftOf (a, t) (a', t') n) where
+  left-by : {o : Out (List ℕ)} → callFormat a time file ≡ o → Answers (formatted o) leftOf (a, t) (a', t') n
+  left-by e = subst (λ (o : Out (List ℕ)). Answers (formatted o) leftOf (a, t) (a', t') n) e L
 
-  -- where the number is not 255, the outcome is format's own
-  format-sized : (n : ℕ) → dz-format.Learnt κs (a & t & sec & nsec & file & tt) n (a' & t' & sec & nsec & file & tt) → n ≢ 255 → (length (now file) ≡ 16) × Left o n
-  format-sized n L z =
-      let x = sized-said 4402 (now t) (sized 16 (now file) (formatted o)) (λ e. z (L .number ∙ e)) in
-      let y = sized-said 16 (now file) (formatted o) (λ e. z (L .number ∙ ap answer (x .1) ∙ e)) in
-      (y .0, subst (λ (o : Out After). Answers o leftOf (now a, now t) (now a', now t') n) (x .1 ∙ y .1) L)
+  format-made : (b : List ℕ) → callFormat a time file ≡ done b → FormatDid a t time file a' t' n
+  format-made b e = let K = left-by e in record {
+    number = K .number ∙ sym (ap answer e);
+    says = inl (K .number);
+    made = λ _. (e ∙ ap done (λ i. sym (K .places) i .0), λ i. K .places i .1);
+    stays = λ z. absurd (z (K .number));
+  }
 
-  abbrev Formats : ℕ → Type 0
-  Formats n = FormatDid (now a) (now t) (timeOf sec nsec) (now file) (now a') (now t') n
-
-  format-made : (n : ℕ) (b : List ℕ) → o ≡ done b → Left o n → Formats n
-  format-made n b e L =
-      let K = subst (λ (o : Out (List ℕ)). Left o n) e L in
-      record {
-        number = K .number ∙ sym (ap answer e);
-        says = inl (K .number);
-        made = λ _. (e ∙ ap done (λ i. sym (K .places) i .0), λ i. K .places i .1);
-        stays = λ z. absurd (z (K .number));
-      }
-
-  format-refused : (n : ℕ) → o ≡ refused 1 → Left o n → Formats n
-  format-refused n e L =
-      let K = subst (λ (o : Out (List ℕ)). Left o n) e L in
-      record {
-        number = K .number ∙ sym (ap answer e);
-        says = inr (K .number);
-        made = λ z. absurd (omega (arith, z, K .number));
-        stays = λ _. (λ i. K .places i .0, λ i. K .places i .1);
-      }
+  format-refused : callFormat a time file ≡ refused 1 → FormatDid a t time file a' t' n
+  format-refused e = let K = left-by e in record {
+    number = K .number ∙ sym (ap answer e);
+    says = inr (K .number);
+    made = λ z. absurd (omega (arith, z, K .number));
+    stays = λ _. (λ i. K .places i .0, λ i. K .places i .1);
+  }
 
 pub format-does : FormatDoes
 unfolding FormatDoes callFormat
 format-does κs a a' t t' file sec nsec n B M F L z =
     let S = format-sized κs a a' t t' file sec nsec n L z in
     ⊎-elim
-    (λ l. let g = format-goes (now a) (timeOf sec nsec) (now file) M (named-node (now file) (S .0) F) l in format-made κs a a' t t' file sec nsec n (g .0) (g .1) (S .1))
-    (λ l. format-refused κs a a' t t' file sec nsec n (rw l) (S .1))
+    (λ l. let g = format-goes (now a) (timeOf sec nsec) (now file) M (named-node (now file) (S .0) F) l in format-made (timeOf sec nsec) (now file) (S .1) (g .0) (g .1))
+    (λ l. format-refused (timeOf sec nsec) (now file) (S .1) (rw l))
     (bool-cases (legal (now a)))
 
 pub format-fresh : FormatFresh

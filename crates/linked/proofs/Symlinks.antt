@@ -1,13 +1,13 @@
 -- A symlink that is followed, and the ninth, of runs: a run of walk did the walk that its definition is.
 use mathlib.Core.Path.{_≡_, refl, sym, ap, _∙_, subst}
-use mathlib.Core.List.{List, _∷_, _++_}
+use mathlib.Core.List.{List}
 use Prim.Native.Nat.{ℕ}
 use native.Mathlib.Omega.{arith}
 use Rattle.base.specs.Out.{Out, done, refused, bind, answer, kept}
 use Rattle.base.specs.Reasons.{symLoop}
 use Rattle.table.specs.declared.Handle.{Handle}
 use Rattle.table.specs.declared.Added.{Added}
-use Rattle.walk.specs.Walk.{slash, Walked, callWalk}
+use Rattle.walk.specs.Walk.{Walked, callWalk}
 use Rattle.edge.specs.Edge.{lent}
 use Rattle.sequences.specs.Pairs.{Pair, pair}
 use Rattle.sequences.specs.Calls.{walk, does}

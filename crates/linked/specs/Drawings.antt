@@ -28,7 +28,7 @@ pub record GaveBytes (bytes : List ℕ) (x y : Places) (k : ℕ) : Type 0 where
   pub output : y .output ≡ paste (x .output) 0 bytes
   pub count : y .words ≡ length bytes ∷ []
 
--- two reads, of which the first was lent x, left y and returned k, and the second p, q and j, gave the same: both those bytes; or both one reason, and then
+-- two reads, of which the first was lent x, left y and returned k, and the second p, q and j, gave the same: both the same bytes; or both one reason, and then
 -- neither wrote anything
 pub data GaveSame (x y : Places) (k : ℕ) (p q : Places) (j : ℕ) : Type 0 where
   both-gave : (bytes : List ℕ) → GaveBytes bytes x y k → GaveBytes bytes p q j → GaveSame x y k p q j
