@@ -1,12 +1,12 @@
 -- What a designer was told of her drawings, of runs: a list of runs leads where its calls lead, and a read at its end gives what the call gives there.
 use mathlib.Core.Path.{_≡_, refl, sym, ap, _∙_, subst}
-use mathlib.Core.List.{List, [], _∷_, _++_}
-use mathlib.Core.Logic.{_≢_, _↔_}
-use Prim.Native.Nat.{ℕ, _+_}
+use mathlib.Core.List.{List, _∷_}
+use mathlib.Core.Logic.{_≢_, _⊎_, _↔_}
+use Prim.Native.Nat.{ℕ}
+use native.Mathlib.Omega.{arith}
 use lib.ListN.{length, getD}
 use denote.Ref.{now}
-use Rattle.base.specs.Out.{done, answer}
-use Rattle.base.specs.Parts.{paste}
+use Rattle.base.specs.Out.{Out, done, refused, bind, answer, kept}
 use Rattle.base.specs.Reasons.{tableFull}
 use Rattle.base.proofs.Outs.{bind-is-done}
 use Rattle.table.specs.declared.Handle.{Handle}
@@ -17,41 +17,72 @@ use Rattle.sefs.specs.Contents.{callRead}
 use Rattle.edge_words.specs.Words.{handleWords}
 use Rattle.sequences.specs.Pairs.{Pair, pair}
 use Rattle.sequences.specs.Calls.{Call, find, read, write, Fits, does, reasonOf, next, asker}
-use Rattle.sequences.specs.Promises.{Along, On}
-use Rattle.sequences.specs.Promises as along
+use Rattle.sequences.specs.Promises.{On}
 use Rattle.sequences.specs.TableFull.{ReachesCheck, NoPlace, FullExactly}
 use Rattle.sequences.specs.Reasons.{OldOpen}
 use Rattle.sequences.proofs.TableFull.{full-exactly}
 use Rattle.sequences.proofs.OpenCall.{old-open}
-use Rattle.drawings.specs.Saved.{led, Saves, Saved, LaidOver, ResizedTo}
-use Rattle.drawings.specs.Rests.{RestsAlong, Rested, ClosedAndKept, Named}
-use Rattle.drawings.specs.Names.{NamesStay, FoundByName}
-use Rattle.drawings.proofs.Saved.{saved, laid-over, resized-to}
-use Rattle.drawings.proofs.Rests.{rests-along, closed-and-kept}
+use Rattle.drawings.specs.Saved.{led, Saves, Saved, BothSaved, ReadStays, LaidOver, ResizedTo}
+use Rattle.drawings.specs.Rests.{Drawing, RestsAlong, Rested, ClosedAndKept, ReadRests, Named}
+use Rattle.drawings.specs.Names.{NamesStay, FoundByName, FindsIt}
+use Rattle.drawings.proofs.Saved.{saved, both-saved, read-stays, laid-over, resized-to}
+use Rattle.drawings.proofs.Rests.{rests-along, closed-and-kept, read-rests}
 use Rattle.drawings.proofs.Names.{names-stay, found-by-name}
+use Rattle.drawings.proofs.NameFinds.{finds-it}
 use Rattle.linked.specs.Images.{Image, pairOf, Passes, Ready, Places, handed}
 use Rattle.linked.specs.Tested.{Ran}
 use Rattle.linked.specs.Owning.{Owns}
-use Rattle.linked.specs.Linked.{Does, Functions, Runs, none, ran, wrong, Goes, AlongRuns, Transports, Linked, OwnLinked, Mixed, MixedLinked, CheckSays, OpenDoes}
-use Rattle.linked.specs.Drawings.{GaveBytes, SavesRun, RunsSaved, RunsRest, RunsKept, RunsNamesStay, RunsFound, RunsLaidOver, RunsResized, Drawings, NumberFull, OldOpens}
+use Rattle.linked.specs.Linked.{Does, Functions, Runs, none, ran, Goes, Transports, Linked, OwnLinked, Mixed, MixedLinked, CheckSays, OpenDoes}
+use Rattle.linked.specs.Drawings.{GaveBytes, GaveSame, both-gave, both-refused, SavesRun, RunsSaved, RunsBothSaved, RunsReadStays, RunsRest, RunsKept, RunsReadRests, RunsNamesStay, RunsFound, RunsFindsIt, RunsLaidOver, RunsResized, Drawings, NumberFull, OldOpens}
 use Rattle.linked.proofs.Functions.{does-calls}
-use Rattle.linked.proofs.Transport.{zero-done, not-255, number-is, same-pair}
+use Rattle.linked.proofs.Transport.{zero-done, not-255, number-is}
+use Rattle.linked.proofs.Runs.{Free, joined, one, goes-after, led-after, passes-after}
 use Rattle.linked.proofs.Linked.{linked, own-linked, mixed-linked}
 use Rattle.linked.proofs.Starts.{check-says, open-does}
 
--- what a read leaves that gives those bytes
-module _ (p : Pair) (w : ℕ) (h : Handle) (at room : ℕ) (bytes : List ℕ) (gives : callRead (p .arena) (p .table) w h at room ≡ done bytes) where
-  read-reason : reasonOf (read w h at room) p ≡ 0
-  unfolding does
-  read-reason = rw gives refl
+-- a read changes nothing
+read-next : (p : Pair) (w : ℕ) (h : Handle) (at room : ℕ) → next (read w h at room) p ≡ p
+unfolding does
+read-next p w h at room = by (callRead (p .arena) (p .table) w h at room)
+  where
+    by : (o : Out (List ℕ)) → kept p (bind o (λ _. done p)) ≡ p
+    by (done l) = refl
+    by (refused n) = refl
 
-  read-output : (x : Places) → handed (read w h at room) p x .output ≡ paste (x .output) 0 bytes
-  unfolding handed
-  read-output x = rw gives refl
+-- what a read leaves: those bytes, or what was there
+module _ (p : Pair) (w : ℕ) (h : Handle) (at room : ℕ) where
+  read-done : (bytes : List ℕ) → callRead (p .arena) (p .table) w h at room ≡ done bytes → {x y : Places} {k : ℕ} → k ≡ reasonOf (read w h at room) p → y ≡ handed (read w h at room) p x
+      → GaveBytes bytes x y k
+  unfolding does handed
+  read-done bytes d n e = record {
+    number = n ∙ rw d refl;
+    output = ap (λ (a : Places). a .output) e ∙ rw d refl;
+    count = ap (λ (a : Places). a .words) e ∙ rw d refl;
+  }
 
-  read-count : (x : Places) → handed (read w h at room) p x .words ≡ length bytes ∷ []
-  unfolding handed
-  read-count x = rw gives refl
+  read-refused : (m : ℕ) → callRead (p .arena) (p .table) w h at room ≡ refused m → {x y : Places} {k : ℕ} → k ≡ reasonOf (read w h at room) p → y ≡ handed (read w h at room) p x
+      → (k ≢ 0) × (k ≡ m) × (y ≡ x)
+  unfolding does handed
+  read-refused m d n e = (
+    λ z.
+        let is : does (read w h at room) p ≡ refused m = rw d refl in
+        let q = sym (zero-done (read w h at room) p (sym z ∙ n)) ∙ is in
+        absurd (let u : _≡_ {A = ℕ} 0 1 = cc in omega arith),
+    n ∙ rw d refl,
+    e ∙ rw d refl,
+  )
+
+-- reads of one outcome, on v by h and on i by g
+reads-alike : {v z i j : Image} {x y p q : Places} {k m : ℕ} (w o : ℕ) (h g : Handle) (at room : ℕ) → Goes Free (read w h at room) v x z y k → Goes Free (read o g at room) i p j q m
+    → callRead (i .arena) (pairOf i .table) o g at room ≡ callRead (v .arena) (pairOf v .table) w h at room → GaveSame x y k p q m
+reads-alike {v} {z} {i} {j} {x} {y} {p} {q} {k} {m} w o h g at room G H e = by (callRead (v .arena) (pairOf v .table) w h at room) refl
+  where
+    by : (a : Out (List ℕ)) → callRead (v .arena) (pairOf v .table) w h at room ≡ a → GaveSame x y k p q m
+    by (done l) d = both-gave l (read-done (pairOf v) w h at room l d (G .number) (G .given)) (read-done (pairOf i) o g at room l (e ∙ d) (H .number) (H .given))
+    by (refused n) d =
+        let A = read-refused (pairOf v) w h at room n d (G .number) (G .given) in
+        let B = read-refused (pairOf i) o g at room n (e ∙ d) (H .number) (H .given) in
+        both-refused (A .0) (B .1 ∙ sym (A .1)) (A .2) (B .2)
 
 -- a find that is done leaves the pair with what it gives, and its handle's words
 module _ (p : Pair) (w : ℕ) (h : Handle) (name : List ℕ) (g : Added) (d : callFind (p .arena) (p .table) w h name ≡ done g) where
@@ -67,122 +98,125 @@ module _ (p : Pair) (w : ℕ) (h : Handle) (name : List ℕ) (g : Added) (d : ca
 words-one : (g h : Handle) → handleWords g ≡ handleWords h → g ≡ h
 words-one g h e = λ i. record { hold = getD (e i) 0 0; stamp = getD (e i) 1 0 }
 
-module _ {R : Functions} where
-  -- one run more
-  append : {s v z : Image} {l : List Call} {c : Call} {x y : Places} {n : ℕ} → Runs R s l v → Fits c → R c v x z y n → n ≢ 255 → Runs R s (l ++ (c ∷ [])) z
-  append none F r k = ran F r k none
-  append (ran f q a m) F r k = ran f q a (append m F r k)
-  append (wrong q m) F r k = wrong q (append m F r k)
-
-  -- the last run, and where those before it have led
-  last : {s v z : Image} {l : List Call} {c : Call} {x y : Places} {n : ℕ} (m : Runs R s l v) (F : Fits c) (r : R c v x z y n) (k : n ≢ 255)
-      → AlongRuns (λ c q. Unit) (append m F r k) → Goes (λ c q. Unit) c v x z y n × (pairOf v ≡ led (pairOf s) l)
-  unfolding append
-  last none F r k A = (A .0, refl)
-  last (ran {l = l} f q a m) F r k A = let e = last m F r k (A .1) in (e .0, e .1 ∙ ap (λ (p : Pair). led p l) (A .0 .left))
-  last {l = l} (wrong q m) F r k A = let e = last m F r k (A .2) in (e .0, e .1 ∙ ap (λ (p : Pair). led p l) (same-pair (A .0)))
-
-  -- where all of them have led
-  leads : {s v : Image} {l : List Call} (m : Runs R s l v) → AlongRuns (λ c q. Unit) m → pairOf v ≡ led (pairOf s) l
-  leads none A = refl
-  leads (ran {l = l} f q a m) A = leads m (A .1) ∙ ap (λ (p : Pair). led p l) (A .0 .left)
-  leads {l = l} (wrong q m) A = leads m (A .2) ∙ ap (λ (p : Pair). led p l) (same-pair (A .0))
-
--- any list has this
-freely : (p : Pair) (l : List Call) → Along (λ c q. Unit) p l
-freely p [] = along.ends
-freely p (c ∷ l) = along.goes tt (freely (next c p) l)
-
 module _ {R : Functions} {I : Image → Type 0} (T : Transports R I) (trusted : (s : Image) → I s → Passes s) where
-  ends : {s v z : Image} {l : List Call} {c : Call} {x y : Places} {n : ℕ} → I s → Runs R s l v → Fits c → R c v x z y n → n ≢ 255
-      → Goes (λ c q. Unit) c v x z y n × (pairOf v ≡ led (pairOf s) l)
-  ends {s = s} {z = z} {l = l} {c = c} i m F r k = last m F r k (T (λ c q. Unit) s z (l ++ (c ∷ [])) (append m F r k) i (freely (pairOf s) (l ++ (c ∷ []))))
-
   -- a read after a list of runs, where the definitions say what it gives there
   gave : {s v z : Image} {l : List Call} {x y : Places} {k : ℕ} (w : ℕ) (h : Handle) (at room : ℕ) (bytes : List ℕ) → I s → Runs R s l v → Fits (read w h at room) → R (read w h at room) v x z y k → k ≢ 255
-      → (pairOf v ≡ led (pairOf s) l → callRead (pairOf v .arena) (pairOf v .table) w h at room ≡ done bytes) → GaveBytes bytes x y k
-  gave {v = v} {x = x} w h at room bytes i m F r z f =
-      let E = ends i m F r z in
-      let d = f (E .1) in
-      record {
-        number = E .0 .number ∙ read-reason (pairOf v) w h at room bytes d;
-        output = ap (λ (p : Places). p .output) (E .0 .given) ∙ read-output (pairOf v) w h at room bytes d x;
-        count = ap (λ (p : Places). p .words) (E .0 .given) ∙ read-count (pairOf v) w h at room bytes d x;
-      }
+      → callRead (pairOf v .arena) (pairOf v .table) w h at room ≡ done bytes → GaveBytes bytes x y k
+  gave {v = v} w h at room bytes i m F r q d = let G = goes-after T i m F r q in read-done (pairOf v) w h at room bytes d (G .number) (G .given)
 
-  -- a run that answers 0 is done, and leaves the pair that the call is done with
-  went : {s u : Image} {c : Call} {x y : Places} → I s → Fits c → R c s x u y 0 → (does c (pairOf s) ≡ done (pairOf u)) × (pairOf u ≡ next c (pairOf s))
-  went {s = s} {u = u} {c = c} i F r =
-      let G = ends i none F r not-255 .0 in
-      (zero-done c (pairOf s) (G .number) ∙ ap done (sym (G .left)), G .left)
+  -- a run that answers 0, after others, is done, and leaves the pair that the call is done with
+  went : {s v u : Image} {l : List Call} {c : Call} {x y : Places} → I s → Runs R s l v → Fits c → R c v x u y 0 → does c (pairOf v) ≡ done (pairOf u)
+  went {v = v} {c = c} i m F r = let G = goes-after T i m F r not-255 in zero-done c (pairOf v) (G .number) ∙ ap done (sym (G .left))
 
-  saves : {s u : Image} {w : ℕ} {h : Handle} {n : ℕ} {f : List ℕ} {place : ℕ} {bytes : List ℕ} → I s → SavesRun R w h n f place bytes s u → Saves w h n f place bytes (pairOf s) (pairOf u)
-  saves i S = record { on = S .on; fits = S .fits; leads = went i (S .fits) (S .answers) .0 }
+  module _ {w : ℕ} {h : Handle} {n : ℕ} {f : List ℕ} {place : ℕ} {bytes : List ℕ} where
+    saves : {s v u : Image} {l : List Call} → I s → Runs R s l v → SavesRun R w h n f place bytes v u → Saves w h n f place bytes (pairOf v) (pairOf u)
+    saves i m S = record { on = S .on; fits = S .fits; leads = went i m (S .fits) (S .answers) }
 
-  -- where the runs after a save lead
-  from-saved : {s u : Image} {w : ℕ} {h : Handle} {n : ℕ} {f : List ℕ} {place : ℕ} {bytes : List ℕ} → I s → (S : SavesRun R w h n f place bytes s u) (p : Pair) (l : List Call)
-      → p ≡ led (pairOf s) (write w h place bytes ∷ l) → p ≡ led (pairOf u) l
-  from-saved i S p l e = e ∙ ap (λ (q : Pair). led q l) (sym (went i (S .fits) (S .answers) .1))
+    -- her write, and the runs after it
+    from-save : {s u v : Image} {l : List Call} → SavesRun R w h n f place bytes s u → Runs R u l v → Runs R s (write w h place bytes ∷ l) v
+    from-save S m = ran (S .fits) (S .answers) not-255 m
+
+    after-save : {s u v : Image} {l : List Call} → I s → SavesRun R w h n f place bytes s u → Runs R u l v → pairOf v ≡ led (pairOf u) l
+    after-save i S m = led-after T i (from-save S none) m
 
   runs-saved : RunsSaved R I
   unfolding RunsSaved Saved
   runs-saved s u v z l w h n f place bytes x y k i S m A F r q =
-      gave w h place (length bytes) bytes i (ran (S .fits) (S .answers) not-255 m) F r q λ e.
-      subst (λ (p : Pair). callRead (p .arena) (p .table) w h place (length bytes) ≡ done bytes) (sym (from-saved i S (pairOf v) l e))
-      (saved (pairOf s) (pairOf u) l w h n f place bytes (trusted s i .passes) (saves i S) A .gives)
+      gave w h place (length bytes) bytes i (from-save S m) F r q
+      (subst (λ (p : Pair). callRead (p .arena) (p .table) w h place (length bytes) ≡ done bytes) (sym (after-save i S m))
+      (saved (pairOf s) (pairOf u) l w h n f place bytes (trusted s i .passes) (saves i none S) A .gives))
+
+  runs-both-saved : RunsBothSaved R I
+  unfolding RunsBothSaved BothSaved
+  runs-both-saved s u v c z a b l t w o h g n m f e place at hers his x y p q k j i S M A d S' N B C F r G F' r' G' =
+      let first : Runs R s (write w h place hers ∷ l) v = from-save S M in
+      let till : pairOf z ≡ led (pairOf c) t = led-after T i (joined first (from-save S' none)) N in
+      let K = both-saved (pairOf s) (pairOf u) (pairOf c) l t w o h g n m f e place at hers his (trusted s i .passes) (saves i none S) A d
+      (subst (λ (P : Pair). Saves o g m e at his P (pairOf c)) (after-save i S M) (saves i first S')) B C in (
+        gave w h place (length hers) hers i (joined first (from-save S' N)) F r G (subst (λ (P : Pair). callRead (P .arena) (P .table) w h place (length hers) ≡ done hers) (sym till) (K .0 .gives)),
+        gave o g at (length his) his i (joined first (from-save S' N)) F' r' G' (subst (λ (P : Pair). callRead (P .arena) (P .table) o g at (length his) ≡ done his) (sym till) (K .1 .gives)),
+      )
+
+  runs-read-stays : RunsReadStays R I
+  unfolding RunsReadStays ReadStays
+  runs-read-stays s u v z l w h n f at room x y p q k j i O F r a m A t b =
+      let G = one T i F r a in
+      let same : pairOf u ≡ pairOf s = G .left ∙ read-next (pairOf s) w h at room in
+      reads-alike w w h h at room G (goes-after T i (ran F r a m) F t b)
+      (ap (λ (P : Pair). callRead (P .arena) (P .table) w h at room) (led-after T i (ran F r a none) m)
+      ∙ read-stays (pairOf u) l w h n f at room (G .trusted .passes) (subst (λ (P : Pair). On (P .table) w h n f) (sym same) O) A
+      ∙ ap (λ (P : Pair). callRead (P .arena) (P .table) w h at room) same)
 
   runs-rest : RunsRest R I
   unfolding RunsRest RestsAlong
-  runs-rest s v l n i D m A =
-      subst (Rested n (pairOf s)) (sym (leads m (T (λ c q. Unit) s v l m i (freely (pairOf s) l)))) (rests-along (pairOf s) l n (trusted s i .passes) D A)
+  runs-rest s v l n i D m A = subst (Rested n (pairOf s)) (sym (led-after T i none m)) (rests-along (pairOf s) l n (trusted s i .passes) D A)
 
   runs-kept : RunsKept R I
   unfolding RunsKept ClosedAndKept
   runs-kept s u v z l w o h g n f e place bytes x y k i S m A O F r q =
-      gave o g place (length bytes) bytes i (ran (S .fits) (S .answers) not-255 m) F r q λ d.
-      let c : pairOf v ≡ led (pairOf u) l = from-saved i S (pairOf v) l d in
-      subst (λ (p : Pair). callRead (p .arena) (p .table) o g place (length bytes) ≡ done bytes) (sym c)
-      (closed-and-kept (pairOf s) (pairOf u) l w o h g n f e place bytes (trusted s i .passes) (saves i S) A (subst (λ (p : Pair). On (p .table) o g n e) c O))
+      let c : pairOf v ≡ led (pairOf u) l = after-save i S m in
+      gave o g place (length bytes) bytes i (from-save S m) F r q
+      (subst (λ (p : Pair). callRead (p .arena) (p .table) o g place (length bytes) ≡ done bytes) (sym c)
+      (closed-and-kept (pairOf s) (pairOf u) l w o h g n f e place bytes (trusted s i .passes) (saves i none S) A (subst (λ (p : Pair). On (p .table) o g n e) c O)))
+
+  runs-read-rests : RunsReadRests R I
+  unfolding RunsReadRests ReadRests
+  runs-read-rests s u v z l w o h g n f e at room x y p q k j i D O F r a m A E F' t b =
+      let G = one T i F r a in
+      let same : pairOf u ≡ pairOf s = G .left ∙ read-next (pairOf s) w h at room in
+      let c : pairOf v ≡ led (pairOf u) l = led-after T i (ran F r a none) m in
+      reads-alike w o h g at room G (goes-after T i (ran F r a m) F' t b)
+      (ap (λ (P : Pair). callRead (P .arena) (P .table) o g at room) c
+      ∙ read-rests (pairOf u) l w o h g n f e at room (G .trusted .passes) (subst (Drawing n) (sym same) D) (subst (λ (P : Pair). On (P .table) w h n f) (sym same) O) A (subst (λ (P : Pair). On (P .table) o g n e) c E)
+      ∙ ap (λ (P : Pair). callRead (P .arena) (P .table) w h at room) same)
 
   runs-names-stay : RunsNamesStay R I
   unfolding RunsNamesStay NamesStay
-  runs-names-stay s v l d n name i N m A =
-      subst (Named d name n) (sym (leads m (T (λ c q. Unit) s v l m i (freely (pairOf s) l)))) (names-stay (pairOf s) l d n name (trusted s i .passes) N A)
+  runs-names-stay s v l d n name i N m A = subst (Named d name n) (sym (led-after T i none m)) (names-stay (pairOf s) l d n name (trusted s i .passes) N A)
 
   runs-found : RunsFound R I
   unfolding RunsFound FoundByName does
   runs-found s u v j z l w o h g got n d f e name place bytes p q x y k i S N m A O F r words G t b =
-      let first : Runs R s (write w h place bytes ∷ l) v = ran (S .fits) (S .answers) not-255 m in
-      let E = ends i first F r not-255 in
-      let c : pairOf v ≡ led (pairOf u) l = from-saved i S (pairOf v) l (E .1) in
-      let X = bind-is-done (callFind (pairOf v .arena) (pairOf v .table) o g name) (λ a. done (pair (pairOf v .arena) (a .table))) (next (find o g name) (pairOf v)) (zero-done (find o g name) (pairOf v) (E .0 .number)) in
-      let left : pairOf j ≡ pair (pairOf v .arena) (X .0 .table) = E .0 .left ∙ find-next (pairOf v) o g name (X .0) (X .1) in
-      let same : got ≡ X .0 .handle = words-one got (X .0 .handle) (sym words ∙ ap (λ (a : Places). a .words) (E .0 .given) ∙ find-words (pairOf v) o g name (X .0) (X .1) p) in
-      gave o got place (length bytes) bytes i (append first F r not-255) G t b λ _.
-      ap (λ (a : Pair). callRead (a .arena) (a .table) o got place (length bytes)) left
+      let first : Runs R s (write w h place bytes ∷ l) v = from-save S m in
+      let E = goes-after T i first F r not-255 in
+      let c : pairOf v ≡ led (pairOf u) l = after-save i S m in
+      let X = bind-is-done (callFind (pairOf v .arena) (pairOf v .table) o g name) (λ a. done (pair (pairOf v .arena) (a .table))) (next (find o g name) (pairOf v)) (zero-done (find o g name) (pairOf v) (E .number)) in
+      let left : pairOf j ≡ pair (pairOf v .arena) (X .0 .table) = E .left ∙ find-next (pairOf v) o g name (X .0) (X .1) in
+      let same : got ≡ X .0 .handle = words-one got (X .0 .handle) (sym words ∙ ap (λ (a : Places). a .words) (E .given) ∙ find-words (pairOf v) o g name (X .0) (X .1) p) in
+      gave o got place (length bytes) bytes i (joined first (ran F r not-255 none)) G t b
+      (ap (λ (a : Pair). callRead (a .arena) (a .table) o got place (length bytes)) left
       ∙ ap (λ (a : Handle). callRead (pairOf v .arena) (X .0 .table) o a place (length bytes)) same
       ∙ ap (λ (a : Pair). callRead (a .arena) (X .0 .table) o (X .0 .handle) place (length bytes)) c
-      ∙ found-by-name (pairOf s) (pairOf u) l w o h g n d f e name place bytes (X .0) (trusted s i .passes) (saves i S) N A (subst (λ (a : Pair). On (a .table) o g d e) c O) F
-      (subst (λ (a : Pair). callFind (a .arena) (a .table) o g name ≡ done (X .0)) c (X .1))
+      ∙ found-by-name (pairOf s) (pairOf u) l w o h g n d f e name place bytes (X .0) (trusted s i .passes) (saves i none S) N A (subst (λ (a : Pair). On (a .table) o g d e) c O) F
+      (subst (λ (a : Pair). callFind (a .arena) (a .table) o g name ≡ done (X .0)) c (X .1)))
+
+  runs-finds-it : RunsFindsIt R I
+  unfolding RunsFindsIt RunsNamesStay FindsIt
+  runs-finds-it s v z l o g n d e name x y k i N m A O F r b =
+      subst (λ (q : ℕ). (q ≡ 0) ⊎ (q ≡ tableFull)) (sym (goes-after T i m F r b .number))
+      (finds-it (pairOf v) o g n d e name (passes-after T i (trusted s i) m .passes) O (runs-names-stay s v l d n name i N m A))
 
   runs-laid-over : RunsLaidOver R I
   unfolding RunsLaidOver LaidOver
   runs-laid-over s u z w h place new old at room a b x y k i O F r G t q =
-      gave w h at room _ i (ran F r not-255 none) G t q λ _.
-      laid-over (pairOf s) (pairOf u) w h place new old at room (trusted s i .passes) O F (went i F r .0)
+      gave w h at room _ i (ran F r not-255 none) G t q (laid-over (pairOf s) (pairOf u) w h place new old at room (trusted s i .passes) O F (went i none F r))
 
   runs-resized : RunsResized R I
   unfolding RunsResized ResizedTo
   runs-resized s u z w h n old at room a b x y k i O F r G t q =
-      gave w h at room _ i (ran F r not-255 none) G t q λ _. resized-to (pairOf s) (pairOf u) w h n old at room (trusted s i .passes) O F (went i F r .0)
+      gave w h at room _ i (ran F r not-255 none) G t q (resized-to (pairOf s) (pairOf u) w h n old at room (trusted s i .passes) O F (went i none F r))
 
   drawings : Drawings R I
   drawings = record {
     saved = runs-saved;
+    both-saved = runs-both-saved;
+    read-stays = runs-read-stays;
     rest = runs-rest;
     kept = runs-kept;
+    read-rests = runs-read-rests;
     names-stay = runs-names-stay;
     found = runs-found;
+    finds-it = runs-finds-it;
     laid-over = runs-laid-over;
     resized = runs-resized;
   }

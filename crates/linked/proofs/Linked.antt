@@ -22,7 +22,7 @@ use Rattle.rules.proofs.Check.{check-pass}
 use Rattle.edge_words.specs.Words.{handleWords}
 use Rattle.owners_kept.specs.Owned.{Chained}
 use Rattle.sequences.specs.Pairs.{Pair, pair}
-use Rattle.sequences.specs.Calls.{Call, root, walk, create, close, Fits, does, reasonOf, next}
+use Rattle.sequences.specs.Calls.{Call, walk, create, close, does, reasonOf, next}
 use Rattle.sequences.specs.Promises.{Along, Well, Sequence, On, Safe, Apart, Spent, Closed, Ended, Slashless, NoSlashes}
 use Rattle.sequences.specs.Promises as along
 use Rattle.sequences.specs.Places.{Full, FullMeans, RootFull, FullByOwn, Refused, ApartByOwner}
@@ -37,6 +37,7 @@ use Rattle.linked.specs.Owning.{Owns}
 use Rattle.linked.specs.Linked.{Does, OwnDoes, Functions, none, ran, Goes, Transports, Linked, OwnLinked, Mixed, tested, owning, MixedLinked, RunsWell, RunsApart, RunsElse, RunsByOwner, RunsRefused, RunsFull, RunsRootFull, RunsFullByOwn, RunsClosed, RunsSlashless, RunsWalk, RunsHalt, Theorems, Numbers}
 use Rattle.linked.proofs.Functions.{does-calls, own-does-calls}
 use Rattle.linked.proofs.Transport.{zero-done, not-255, number-is, fitting, transport}
+use Rattle.linked.proofs.Runs.{Free, one}
 use Rattle.linked.proofs.Walks.{walked-finds, walked-halts}
 
 -- ---- the transport
@@ -85,7 +86,7 @@ module _ (p : Pair) (w : ℕ) (h : Handle) (path : List ℕ) (room : ℕ) where
   unfolding handed
   walk-words g d x = rw d refl
 
-  walk-reason : (o : Out Added) → callWalk (p .arena) (p .table) w h path room .end ≡ o → reasonOf (walk w h path room) p ≡ answer o
+  pub walk-reason : (o : Out Added) → callWalk (p .arena) (p .table) w h path room .end ≡ o → reasonOf (walk w h path room) p ≡ answer o
   unfolding does
   walk-reason (done g) d = rw d refl
   walk-reason (refused n) d = rw d refl
@@ -107,25 +108,21 @@ module _ {R : Functions} {I : Image → Type 0} (T : Transports R I) (trusted : 
   unfolding RunsSlashless NoSlashes
   runs-slashless s v l m i n = T (λ c q. Slashless (next c q)) s v l m i (no-slashes (pairOf s) l (trusted s i .passes) n (fitting m (pairOf s)))
 
-  -- a run, as a list of one
-  one : (c : Call) (s u : Image) (x y : Places) (n : ℕ) → I s → Fits c → R c s x u y n → n ≢ 255 → Goes (λ c q. Unit) c s x u y n
-  one c s u x y n i F r z = T (λ c q. Unit) s u (c ∷ []) (ran F r z none) i (along.goes tt along.ends) .0
-
   runs-refused : RunsRefused R I
   unfolding RunsRefused Refused
-  runs-refused c s u x y n w h k i F r z e o d N = one c s u x y n i F r z .number ∙ refused-others (pairOf s) c w h k (trusted s i .passes) e o d N
+  runs-refused c s u x y n w h k i F r z e o d N = one T i F r z .number ∙ refused-others (pairOf s) c w h k (trusted s i .passes) e o d N
 
   runs-full : RunsFull R I
   unfolding RunsFull FullMeans
   runs-full c s u x y n i F r z =
-      let g = one c s u x y n i F r z in
+      let g = one T i F r z in
       let f : Full c (pairOf s) = full-means c (pairOf s) in
       (λ e. f .only (sym (g .number) ∙ e), λ k e. g .left ∙ f .none-made k e)
 
   runs-root-full : RunsRootFull R I
   unfolding RunsRootFull RootFull
   runs-root-full s u x y n w i F r z o =
-      subst (λ (k : ℕ). (k ≡ tableFull) ↔ (canHold (pairOf s .table) w ≡ false)) (sym (one (root w) s u x y n i F r z .number)) (root-full (pairOf s) w (trusted s i .passes) o)
+      subst (λ (k : ℕ). (k ≡ tableFull) ↔ (canHold (pairOf s .table) w ≡ false)) (sym (one T i F r z .number)) (root-full (pairOf s) w (trusted s i .passes) o)
 
   formed : (s : Image) → I s → wellFormed (pairOf s .table) ≡ true
   formed s i = check-pass (s .arena) (tableOf (s .table)) (trusted s i .passes .passes) .rule2 .formed
@@ -133,14 +130,14 @@ module _ {R : Functions} {I : Image → Type 0} (T : Transports R I) (trusted : 
   runs-full-by-own : RunsFullByOwn R I
   unfolding RunsFullByOwn FullByOwn
   runs-full-by-own c s u t v x y z q n m i j F r k a b e S A f =
-      one c t v z q m j F k b .number ∙ ap (λ (a : List ℕ). reasonOf c (pair a (tableOf (t .table)))) e
-      ∙ full-by-own (s .arena) (tableOf (s .table)) (tableOf (t .table)) c (formed s i) (formed t j) S A (sym (one c s u x y n i F r a .number) ∙ f)
+      one T j F k b .number ∙ ap (λ (a : List ℕ). reasonOf c (pair a (tableOf (t .table)))) e
+      ∙ full-by-own (s .arena) (tableOf (s .table)) (tableOf (t .table)) c (formed s i) (formed t j) S A (sym (one T i F r a .number) ∙ f)
 
   runs-closed : RunsClosed R I
   unfolding RunsClosed Closed Ended
   runs-closed s u v x y l w h i F r m =
       let c : Call = close w h in
-      let g : Goes (λ c q. Unit) c s x u y 0 = one c s u x y 0 i F r not-255 in
+      let g : Goes Free c s x u y 0 = one T i F r not-255 in
       let e : Spent (next c (pairOf s) .table) h = closed (pairOf s) (next c (pairOf s)) w h (trusted s i .passes) (zero-done c (pairOf s) (g .number)) in (
         subst (λ (p : Pair). Spent (p .table) h) (sym (g .left)) e,
         T (λ c q. Spent (next c q .table) h) s v (c ∷ l) (ran F r not-255 m) i (along.goes e (ended (next c (pairOf s)) l h e)) .1,
@@ -173,7 +170,7 @@ module _ {R : Functions} {I : Image → Type 0} (T : Transports R I) (trusted : 
   unfolding RunsWalk
   runs-walk s u x y n w h g j k path room t i F r z l m good rel c =
       let p : Pair = pairOf s in
-      let G = one (walk w h path room) s u x y n i F r z in
+      let G = one T i F r z in
       ⊎-elim
       (λ W. inl (
         G .number ∙ walk-reason p w h path room (done (W .0)) (W .1),
@@ -189,7 +186,7 @@ module _ {R : Functions} {I : Image → Type 0} (T : Transports R I) (trusted : 
   runs-halt : RunsHalt R I
   unfolding RunsHalt
   runs-halt s u x y n w h g j path room t ps p qs m i F r z l good rel parts c e b f =
-      one (walk w h path room) s u x y n i F r z .number
+      one T i F r z .number
       ∙ walk-reason (pairOf s) w h path room (refused m) (walked-halts (s .arena) (pairOf s .table) w h j path room (trusted s i .passes) l good rel t g ps p qs m parts c e b f)
 
   theorems : Theorems R I

@@ -2,11 +2,13 @@
 use mathlib.Core.Path.{_≡_, refl, sym, ap, _∙_, subst}
 use mathlib.Core.Bool.{Bool, true, false, _&&_}
 use mathlib.Core.List.{List}
-use mathlib.Core.Logic.{_≢_, ⊎-elim}
+use mathlib.Core.Logic.{_≢_, inl, inr, ⊎-elim}
 use Prim.Native.Nat.{ℕ, _<_}
 use native.Mathlib.Omega.{arith}
 use lib.Dec.{eqb, ltb}
+use lib.IntN.{ℤ}
 use lib.ListN.{length}
+use contract.Lifetimes.{Lfts}
 use denote.Ref.{now}
 use borrow.Author.Tests.{eqb-true}
 use Rattle.base.specs.Out.{Out, done, refused, bind, answer, Ok, went, said, Went, well, ill}
@@ -16,6 +18,7 @@ use Rattle.base.proofs.Finds.{eq-cases}
 use Rattle.base.proofs.Outs.{ok-bind}
 use Rattle.structs.specs.Constants.{sefsMagic}
 use Rattle.structs.specs.Layout.{superOf}
+use Rattle.structs.specs.declared.Timespec.{Timespec}
 use Rattle.table.specs.declared.Table.{Table}
 use Rattle.table.specs.Table.{emptyTable}
 use Rattle.table_bytes.specs.Layout.{tableOf, tableBytes}
@@ -35,11 +38,12 @@ use Rattle.calls_format.specs.Format.{formatted}
 use Rattle.edge_words.specs.Words.{timeOf}
 use Rattle.edge.specs.Edge.{sized, Answers, leftOf, counted}
 use Rattle.edge.proofs.Laws.{sized-is, sized-not}
+use Rattle.edge.proofs.dz_format.Reads as dz-format
 use Rattle.sequences.specs.Pairs.{pair}
 use Rattle.sequences.specs.Promises.{Fresh, Slashless, FreshSlashless}
 use Rattle.sequences.proofs.Fresh.{format-goes, fresh, fresh-slashless}
-use Rattle.linked.specs.Images.{Ready}
-use Rattle.linked.specs.Linked.{OwnDoes, CheckSays, OpenDoes, FreshImage, FormatFresh, CheckTrusts, ChainsOwn, OwnKeeps}
+use Rattle.linked.specs.Images.{_&_, Slice, Ready}
+use Rattle.linked.specs.Linked.{OwnDoes, CheckSays, OpenDoes, FormatDid, FormatDoes, FreshImage, FormatFresh, CheckTrusts, ChainsOwn, OwnKeeps}
 use Rattle.linked.proofs.Functions.{owned, asked, own-does-calls}
 use Rattle.linked.proofs.Transport.{trusted-written, not-255, after}
 
@@ -49,29 +53,56 @@ sized-said k l o x = ⊎-elim (λ e. (e, sized-is k l o e)) (λ z. absurd (x (ap
 
 -- ---- a format, a check, the chains
 
-pub format-fresh : FormatFresh
-unfolding FormatFresh Fresh FreshSlashless callFormat
-format-fresh κs a a' t t' file sec nsec B M F L =
+-- where the number is not 255, what format has left is by its own outcome
+format-sized : (κs : Lfts 3) (a a' t t' file : Slice) (sec nsec : ℤ) (n : ℕ) → dz-format.Learnt κs (a & t & sec & nsec & file & tt) n (a' & t' & sec & nsec & file & tt) → n ≢ 255
+    → (length (now file) ≡ 16) × Answers (formatted (callFormat (now a) (timeOf sec nsec) (now file))) leftOf (now a, now t) (now a', now t') n
+format-sized κs a a' t t' file sec nsec n L z =
     let o : Out After = formatted (callFormat (now a) (timeOf sec nsec) (now file)) in
-    let x = sized-said 4402 (now t) (sized 16 (now file) o) (λ e. not-255 (L .number ∙ e)) in
-    let y = sized-said 16 (now file) o (λ e. not-255 (L .number ∙ ap answer (x .1) ∙ e)) in
-    let is : sized 4402 (now t) (sized 16 (now file) o) ≡ o = x .1 ∙ y .1 in
+    let x = sized-said 4402 (now t) (sized 16 (now file) o) (λ e. z (L .number ∙ e)) in
+    let y = sized-said 16 (now file) o (λ e. z (L .number ∙ ap answer (x .1) ∙ e)) in
+    (y .0, subst (λ (o : Out After). Answers o leftOf (now a, now t) (now a', now t') n) (x .1 ∙ y .1) L)
+
+-- by a done one, and by a refused one
+module _ {a t : List ℕ} (time : Timespec) (file : List ℕ) {a' t' : List ℕ} {n : ℕ} (L : Answers (formatted (callFormat a time file)) leftOf (a, t) (a', t') n) where
+  left-by : {o : Out (List ℕ)} → callFormat a time file ≡ o → Answers (formatted o) leftOf (a, t) (a', t') n
+  left-by e = subst (λ (o : Out (List ℕ)). Answers (formatted o) leftOf (a, t) (a', t') n) e L
+
+  format-made : (b : List ℕ) → callFormat a time file ≡ done b → FormatDid a t time file a' t' n
+  format-made b e = let K = left-by e in record {
+    number = K .number ∙ sym (ap answer e);
+    says = inl (K .number);
+    made = λ _. (e ∙ ap done (λ i. sym (K .places) i .0), λ i. K .places i .1);
+    stays = λ z. absurd (z (K .number));
+  }
+
+  format-refused : callFormat a time file ≡ refused 1 → FormatDid a t time file a' t' n
+  format-refused e = let K = left-by e in record {
+    number = K .number ∙ sym (ap answer e);
+    says = inr (K .number);
+    made = λ z. absurd (omega (arith, z, K .number));
+    stays = λ _. (λ i. K .places i .0, λ i. K .places i .1);
+  }
+
+pub format-does : FormatDoes
+unfolding FormatDoes callFormat
+format-does κs a a' t t' file sec nsec n B M F L z =
+    let S = format-sized κs a a' t t' file sec nsec n L z in
     ⊎-elim
-    (λ l.
-    let g = format-goes (now a) (timeOf sec nsec) (now file) M (named-node (now file) (y .0) F) l in
-    let e : sized 4402 (now t) (sized 16 (now file) o) ≡ done (record { arena = g .0; table = emptyTable }) = is ∙ ap formatted (g .1) in
-    let K = subst (λ (o : Out After). Answers o leftOf (now a, now t) (now a', now t') 0) e L in
-    let p = fresh (now a) (timeOf sec nsec) (now file) B M (y .0) F (g .0) (g .1) in
-    let w : FreshImage (g .0) (tableBytes emptyTable) = record {
-      trusted = trusted-written (g .0) emptyTable p;
-      slashless = subst (λ (v : Table). Slashless (pair (g .0) v)) (sym (tableOf-tableBytes emptyTable (p .typed .fits))) (fresh-slashless (now a) (timeOf sec nsec) (now file) B M (y .0) F (g .0) (g .1));
-    } in
-    subst (λ (x : List ℕ × List ℕ). FreshImage (x .0) (x .1)) (sym (K .places)) w)
-    (λ l.
-    let e : o ≡ refused 1 = rw l in
-    let q : 0 ≡ 1 = L .number ∙ ap answer (is ∙ e) in
-    absurd (omega (arith, q)))
+    (λ l. let g = format-goes (now a) (timeOf sec nsec) (now file) M (named-node (now file) (S .0) F) l in format-made (timeOf sec nsec) (now file) (S .1) (g .0) (g .1))
+    (λ l. format-refused (timeOf sec nsec) (now file) (S .1) (rw l))
     (bool-cases (legal (now a)))
+
+pub format-fresh : FormatFresh
+unfolding FormatFresh FormatDoes Fresh FreshSlashless
+format-fresh κs a a' t t' file sec nsec B M F L =
+    let S = format-sized κs a a' t t' file sec nsec 0 L not-255 in
+    let g = format-does κs a a' t t' file sec nsec 0 B M F L not-255 .made refl in
+    let p = fresh (now a) (timeOf sec nsec) (now file) B M (S .0) F (now a') (g .0) in
+    let w : FreshImage (now a') (tableBytes emptyTable) = record {
+      trusted = trusted-written (now a') emptyTable p;
+      slashless = subst (λ (v : Table). Slashless (pair (now a') v)) (sym (tableOf-tableBytes emptyTable (p .typed .fits))) (fresh-slashless (now a) (timeOf sec nsec) (now file) B M (S .0) F (now a') (g .0));
+    } in
+    subst (FreshImage (now a')) (sym (g .1)) w
 
 pub check-says : CheckSays
 unfolding CheckSays verdictOf passOf
@@ -136,9 +167,10 @@ open-does κs a t t' n L x =
     let s = sized-said 4402 (now t) (callOpen (now a)) (λ e. x (L .number ∙ e)) in
     by (callOpen (now a)) (open-law (now a)) (subst (λ (o : Out Table). Answers o tableBytes (now t) (now t') n) (s .1) L)
   where
-    by : (o : Out Table) → Ok (λ u. u ≡ emptyTable) (λ k. k ≢ 0) o → Answers o tableBytes (now t) (now t') n → (n ≡ answer o) × (n ≡ 0 → now t' ≡ tableBytes emptyTable)
-    by (done u) (went e) K = (K .number, λ _. K .places ∙ ap tableBytes e)
-    by (refused m) (said r) K = (K .number, λ z. absurd (r (sym (K .number) ∙ z)))
+    by : (o : Out Table) → Ok (λ u. u ≡ emptyTable) (λ k. k ≢ 0) o → Answers o tableBytes (now t) (now t') n
+        → (n ≡ answer o) × (n ≡ 0 → now t' ≡ tableBytes emptyTable) × (n ≢ 0 → now t' ≡ now t)
+    by (done u) (went e) K = (K .number, λ _. K .places ∙ ap tableBytes e, λ z. absurd (z (K .number)))
+    by (refused m) (said r) K = (K .number, λ z. absurd (r (sym (K .number) ∙ z)), λ _. K .places)
 
 -- ---- the next call
 

@@ -68,7 +68,7 @@ module _ {s u : Image} (S : Same s u) where
   pub same-pair : pairOf u ≡ pairOf s
   same-pair = ap₂ (λ (a t : List ℕ). pair a (tableOf t)) (S .arena) (S .table)
 
-  same-trusted : Passes s → Passes u
+  pub same-trusted : Passes s → Passes u
   same-trusted y = subst (λ (x : List ℕ). Trusted x (u .table)) (sym (S .arena)) (subst (Trusted (s .arena)) (sym (S .table)) y)
 
 -- ---- one run

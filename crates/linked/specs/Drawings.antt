@@ -2,7 +2,7 @@
 -- and who reads, reads by `dz_read` or `dz_own_read`. A run that answers 255 was made with a slice of a wrong size, and made no call.
 use mathlib.Core.Path.{_≡_}
 use mathlib.Core.List.{List, [], _∷_}
-use mathlib.Core.Logic.{_≢_, _↔_}
+use mathlib.Core.Logic.{_≢_, _⊎_, _↔_}
 use Prim.Native.Nat.{ℕ, _+_}
 use lib.ListN.{length, take}
 use contract.Lifetimes.{Lfts}
@@ -28,6 +28,12 @@ pub record GaveBytes (bytes : List ℕ) (x y : Places) (k : ℕ) : Type 0 where
   pub output : y .output ≡ paste (x .output) 0 bytes
   pub count : y .words ≡ length bytes ∷ []
 
+-- two reads, of which the first was lent x, left y and returned k, and the second p, q and j, gave the same: both the same bytes; or both one reason, and then
+-- neither wrote anything
+pub data GaveSame (x y : Places) (k : ℕ) (p q : Places) (j : ℕ) : Type 0 where
+  both-gave : (bytes : List ℕ) → GaveBytes bytes x y k → GaveBytes bytes p q j → GaveSame x y k p q j
+  both-refused : k ≢ 0 → j ≡ k → y ≡ x → q ≡ p → GaveSame x y k p q j
+
 -- she saves: her handle h is on node n, whose file is f, and a write through h of those bytes to that place answers 0
 pub record SavesRun (R : Functions) (w : ℕ) (h : Handle) (n : ℕ) (f : List ℕ) (place : ℕ) (bytes : List ℕ) (s u : Image) : Type 0 where
   pub on : On (pairOf s .table) w h n f
@@ -43,6 +49,21 @@ module _ (R : Functions) (I : Image → Type 0) where
       → SavesRun R w h n f place bytes s u → Runs R u l v → Along (Elsewhere w h n) (pairOf u) l
       → Fits (read w h place (length bytes)) → R (read w h place (length bytes)) v x z y k → k ≢ 255 → GaveBytes bytes x y k
 
+  -- `both-saved`: she saves; then come any runs that leave what she saved; a colleague o saves through his handle g to another node; then come any runs
+  -- that leave both: she reads hers, and he reads his
+  unfoldable pub RunsBothSaved : Type 0
+  RunsBothSaved = (s u v i z a b : Image) (l t : List Call) (w o : ℕ) (h g : Handle) (n m : ℕ) (f e : List ℕ) (place at : ℕ) (hers his : List ℕ) (x y p q : Places) (k j : ℕ) → I s
+      → SavesRun R w h n f place hers s u → Runs R u l v → Along (Elsewhere w h n) (pairOf u) l
+      → m ≢ n → SavesRun R o g m e at his v i → Runs R i t z → Along (Elsewhere w h n) (pairOf i) t → Along (Elsewhere o g m) (pairOf i) t
+      → Fits (read w h place (length hers)) → R (read w h place (length hers)) z x a y k → k ≢ 255
+      → Fits (read o g at (length his)) → R (read o g at (length his)) z p b q j → j ≢ 255 → GaveBytes hers x y k × GaveBytes his p q j
+
+  -- `read-stays`: not only what she wrote: every read by h gives what it gave before such runs, or its reason
+  unfoldable pub RunsReadStays : Type 0
+  RunsReadStays = (s u v z : Image) (l : List Call) (w : ℕ) (h : Handle) (n : ℕ) (f : List ℕ) (at room : ℕ) (x y p q : Places) (k j : ℕ) → I s → On (pairOf s .table) w h n f
+      → Fits (read w h at room) → R (read w h at room) s x u y k → k ≢ 255 → Runs R u l v → Along (Elsewhere w h n) (pairOf u) l
+      → R (read w h at room) v p z q j → j ≢ 255 → GaveSame x y k p q j
+
   -- `rests-along`: a node that is no folder, open or not, keeps type, file name, size and every byte
   unfoldable pub RunsRest : Type 0
   RunsRest = (s v : Image) (l : List Call) (n : ℕ) → I s → Drawing n (pairOf s) → Runs R s l v → Along (LeavesBe n) (pairOf s) l → Rested n (pairOf s) (pairOf v)
@@ -52,6 +73,12 @@ module _ (R : Functions) (I : Image → Type 0) where
   RunsKept = (s u v z : Image) (l : List Call) (w o : ℕ) (h g : Handle) (n : ℕ) (f e : List ℕ) (place : ℕ) (bytes : List ℕ) (x y : Places) (k : ℕ) → I s
       → SavesRun R w h n f place bytes s u → Runs R u l v → Along (LeavesBe n) (pairOf u) l → On (pairOf v .table) o g n e
       → Fits (read o g place (length bytes)) → R (read o g place (length bytes)) v x z y k → k ≢ 255 → GaveBytes bytes x y k
+
+  -- `read-rests`: not only what she wrote: any read through such a handle gives what it gave by h before those runs, or its reason
+  unfoldable pub RunsReadRests : Type 0
+  RunsReadRests = (s u v z : Image) (l : List Call) (w o : ℕ) (h g : Handle) (n : ℕ) (f e : List ℕ) (at room : ℕ) (x y p q : Places) (k j : ℕ) → I s → Drawing n (pairOf s)
+      → On (pairOf s .table) w h n f → Fits (read w h at room) → R (read w h at room) s x u y k → k ≢ 255 → Runs R u l v → Along (LeavesBe n) (pairOf u) l
+      → On (pairOf v .table) o g n e → Fits (read o g at room) → R (read o g at room) v p z q j → j ≢ 255 → GaveSame x y k p q j
 
   -- `names-stay`: a name stays in its folder, unless a call that takes it away is done
   unfoldable pub RunsNamesStay : Type 0
@@ -65,6 +92,12 @@ module _ (R : Functions) (I : Image → Type 0) where
       → SavesRun R w h n f place bytes s u → Named d name n (pairOf u) → Runs R u l v → Along (LeavesBoth d name n) (pairOf u) l → On (pairOf v .table) o g d e
       → Fits (find o g name) → R (find o g name) v p i q 0 → q .words ≡ handleWords got
       → Fits (read o got place (length bytes)) → R (read o got place (length bytes)) i x z y k → k ≢ 255 → GaveBytes bytes x y k
+
+  -- `finds-it`: and it is found: of who has a handle on the folder, a find of a name that stayed answers 0, or he has no place for a hold more (16)
+  unfoldable pub RunsFindsIt : Type 0
+  RunsFindsIt = (s v z : Image) (l : List Call) (o : ℕ) (g : Handle) (n d : ℕ) (e name : List ℕ) (x y : Places) (k : ℕ) → I s → Named d name n (pairOf s)
+      → Runs R s l v → Along (LeavesName d name) (pairOf s) l → On (pairOf v .table) o g d e
+      → Fits (find o g name) → R (find o g name) v x z y k → k ≢ 255 → (k ≡ 0) ⊎ (k ≡ tableFull)
 
   -- `laid-over`: what any read gives after a write that answers 0, where before it a read of all gave `old`
   unfoldable pub RunsLaidOver : Type 0
@@ -80,10 +113,14 @@ module _ (R : Functions) (I : Image → Type 0) where
 
   pub record Drawings : Type 0 where
     pub saved : RunsSaved
+    pub both-saved : RunsBothSaved
+    pub read-stays : RunsReadStays
     pub rest : RunsRest
     pub kept : RunsKept
+    pub read-rests : RunsReadRests
     pub names-stay : RunsNamesStay
     pub found : RunsFound
+    pub finds-it : RunsFindsIt
     pub laid-over : RunsLaidOver
     pub resized : RunsResized
 

@@ -2,4 +2,5 @@ pub mod Images
 pub mod Tested
 pub mod Owning
 pub mod Linked
+pub mod Symlinks
 pub mod Drawings

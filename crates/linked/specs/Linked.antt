@@ -8,7 +8,7 @@ use lib.Dec.{T}
 use lib.IntN.{ℤ}
 use contract.Lifetimes.{Lfts}
 use denote.Ref.{now}
-use Rattle.base.specs.Out.{answer, refused}
+use Rattle.base.specs.Out.{done, answer, refused}
 use Rattle.base.specs.Reasons.{badHandle, badName, tableFull}
 use Rattle.base.specs.declared.Found.the-variants.{At}
 use Rattle.le.specs.Le.{Bytes}
@@ -19,6 +19,7 @@ use Rattle.table.specs.declared.Handle.{Handle}
 use Rattle.table.specs.Table.{emptyTable, rowAt, liveRow, canHold}
 use Rattle.table_laws.specs.Rules.{Owner}
 use Rattle.table_bytes.specs.Layout.{tableOf, tableBytes}
+use Rattle.sefs.specs.Create.{callFormat}
 use Rattle.sefs.specs.Open.{callOpen, callFind}
 use Rattle.walk.specs.Walk.{fromRoot, goodText, partsOf}
 use Rattle.rules.specs.Tests.{checked}
@@ -194,10 +195,25 @@ Numbers = (c : Call) (s u : Image) (x y : Places) (n : ℕ) → Ran c s x u y n 
 unfoldable pub CheckSays : Type 0
 CheckSays = (κs : Lfts 3) (a t out out' : Slice) (n : ℕ) → dz-check.Learnt κs (a & t & out & tt) n (a & t & out' & tt) → n ≢ 255 → n ≡ checked (now a) (tableOf (now t))
 
--- open, which is no call of a sequence, answers as its definition, and leaves the bytes of the empty table where it answers 0
+-- open, which is no call of a sequence, answers as its definition, and leaves the bytes of the empty table where it answers 0, and where it does not
+-- those that were there
 unfoldable pub OpenDoes : Type 0
 OpenDoes = (κs : Lfts 2) (a t t' : Slice) (n : ℕ) → dz-open.Learnt κs (a & t & tt) n (a & t' & tt) → n ≢ 255
-    → (n ≡ answer (callOpen (now a))) × (n ≡ 0 → now t' ≡ tableBytes emptyTable)
+    → (n ≡ answer (callOpen (now a))) × (n ≡ 0 → now t' ≡ tableBytes emptyTable) × (n ≢ 0 → now t' ≡ now t)
+
+-- format, which is none either, on arena a and table t, with that time and file name, left a' and t' and returned n: it answers as its definition, 0 or 1;
+-- where it answers 0 the arena is the one that its definition gives, and the table's bytes are the empty table's; where it does not, both are as they were
+pub record FormatDid (a t : List ℕ) (time : Timespec) (file a' t' : List ℕ) (n : ℕ) : Type 0 where
+  pub number : n ≡ answer (callFormat a time file)
+  pub says : (n ≡ 0) ⊎ (n ≡ 1)
+  pub made : n ≡ 0 → (callFormat a time file ≡ done a') × (t' ≡ tableBytes emptyTable)
+  pub stays : n ≢ 0 → (a' ≡ a) × (t' ≡ t)
+
+-- so of whatever its contract allows, but for 255 (of the arguments, what their types give)
+unfoldable pub FormatDoes : Type 0
+FormatDoes = (κs : Lfts 3) (a a' t t' file : Slice) (sec nsec : ℤ) (n : ℕ) → Bytes (now a) → TimeFits (timeOf sec nsec) → Bytes (now file)
+    → dz-format.Learnt κs (a & t & sec & nsec & file & tt) n (a' & t' & sec & nsec & file & tt) → n ≢ 255
+    → FormatDid (now a) (now t) (timeOf sec nsec) (now file) (now a') (now t') n
 
 -- ---- how an owner begins, and goes on
 
