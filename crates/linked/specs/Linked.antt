@@ -137,15 +137,16 @@ module _ (R : Functions) (I : Image → Type 0) where
   RunsRefused = (c : Call) (s u : Image) (x y : Places) (n w : ℕ) (h : Handle) (i : ℕ) → I s → Fits c → R c s x u y n → n ≢ 255
       → liveRow (pairOf s .table) w h ≡ At i → Owner (asker c) → asker c ≢ w → Names h c → n ≡ badHandle
 
-  -- `full-means`, `root-full`, `full-by-own`: 16 says that the asker has no place left, and where he has none nothing is made; root says it exactly
-  -- there; and of two images with one arena, whose tables are the same for him, both say it or neither
+  -- `full-means`: 16 says that the asker has no place left, and where he has none nothing is made
   unfoldable pub RunsFull : Type 0
   RunsFull = (c : Call) (s u : Image) (x y : Places) (n : ℕ) → I s → Fits c → R c s x u y n → n ≢ 255
       → (n ≡ tableFull → canHold (pairOf s .table) (asker c) ≡ false) × (Makes c → canHold (pairOf s .table) (asker c) ≡ false → pairOf u ≡ pairOf s)
 
+  -- `root-full`: root says it exactly there
   unfoldable pub RunsRootFull : Type 0
   RunsRootFull = (s u : Image) (x y : Places) (n w : ℕ) → I s → Fits (root w) → R (root w) s x u y n → n ≢ 255 → Owner w → (n ≡ tableFull) ↔ (canHold (pairOf s .table) w ≡ false)
 
+  -- `full-by-own`: of two images with one arena, whose tables are the same for him, both say it or neither
   unfoldable pub RunsFullByOwn : Type 0
   RunsFullByOwn = (c : Call) (s u t v : Image) (x y z q : Places) (n m : ℕ) → I s → I t → Fits c → R c s x u y n → R c t z v q m → n ≢ 255 → m ≢ 255
       → t .arena ≡ s .arena → SameFor (asker c) (pairOf s .table) (pairOf t .table) → Arrives (s .arena) (pairOf t .table) c → n ≡ tableFull → m ≡ tableFull
