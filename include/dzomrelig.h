@@ -1,4 +1,4 @@
-/* Dzomrelig at the C edge: the twenty calls of documents 01 and 02, proved (crates/edge, crates/edge_contents), and those for owners (crates/owners, crates/owners_contents). Plain C11, usable from C++.
+/* Dzomrelig at the C edge: the twenty-one calls of documents 01 and 02, proved (crates/edge, crates/edge_contents), and those for owners (crates/owners, crates/owners_contents). Plain C11, usable from C++.
  *
  * How the calls take and give things:
  * - Arena, table, names and output are a pointer and a length. No pointer is null, and a slice that a call may change overlaps no other.
@@ -65,9 +65,9 @@ extern "C" {
 #define DZ_TOO_MANY_LINKS 15  /* a link count of 65,535 would rise */
 #define DZ_TABLE_FULL 16      /* 8 live holds of this owner, or no stamp is left */
 #define DZ_NO_DEVICE_SPACE 17 /* no free id, or no free block */
-#define DZ_WRONG_FS 18        /* no image of this file system */
+#define DZ_WRONG_FS 18        /* no image of this file system; in dz_inventory: the checker fails the stored image */
 #define DZ_STUCK 19           /* the Rust would fail an assertion here */
-#define DZ_OUT_FULL 20        /* a slot remains, and the output has no room for one; or a target does not fit the link buffer */
+#define DZ_OUT_FULL 20        /* a slot remains, and the output has no room for one; a target does not fit the link buffer, or the inventory the output */
 #define DZ_NOT_FILE 21        /* a folder, where contents are asked for */
 #define DZ_FILE_TOO_BIG 22    /* a write or resize would end past DZ_FILE_LONGEST */
 #define DZ_SYM_LOOP 23        /* a walk meets its ninth symlink */
@@ -126,7 +126,7 @@ typedef struct dz_counts_t {
 #define DZ_METADATA_WORDS 14
 #define DZ_COUNTS_WORDS 3
 #define DZ_NEXT_WORDS 1
-#define DZ_READ_WORDS 1
+#define DZ_LENGTH_WORDS 1
 
 static inline uint64_t *dz_handle_words(dz_handle_t *handle) { return (uint64_t *)(void *)handle; }
 static inline uint64_t *dz_metadata_words(dz_metadata_t *metadata) { return (uint64_t *)(void *)metadata; }
@@ -156,6 +156,14 @@ uint32_t dz_sync(uint8_t *arena, size_t arena_len, uint8_t *table, size_t table_
  * rule that fails, 1 to 8 (not a reason), or DZ_WRONG_SIZE. Changes: counts. */
 uint32_t dz_check(const uint8_t *arena, size_t arena_len, const uint8_t *table, size_t table_len,
                   uint64_t *counts, size_t words);
+
+/* The foundry's inventory: a line for each name, from root on in the order of the slots, a folder's contents right after its own line. A line is the
+ * node's number, its type and its links, each in decimal with a space behind it, the path with a slash before each name, and a newline. In paths the bytes
+ * 0 to 32, 127 and the backslash are a backslash and two lowercase hex digits; all others, a slash in an old name too, are as stored. *length, one
+ * word, is the text's; the output's bytes after it stay. The root has no line, so of a fresh image it is 0.
+ * No table goes in: what is listed is what is stored. A removed node that is still open, or a size that only the table has, is WrongFs: close and sync first.
+ * Changes: out, *length. Reasons: BadArena, Damaged, WrongFs (rules 3 to 8 fail with no node open), OutFull (the text does not fit). */
+uint32_t dz_inventory(const uint8_t *arena, size_t arena_len, uint8_t *out, size_t out_len, uint64_t *length, size_t words);
 
 /* ---- holds */
 

@@ -1,4 +1,4 @@
-// A font's image in a file: a folder with two glyphs, one drawn; listed and checked. glyphs IMAGE.
+// A font's image in a file: a folder with two glyphs, one drawn; listed, checked, and its inventory printed. glyphs IMAGE.
 #include <stdio.h>
 #include <stdlib.h>
 #include <string.h>
@@ -53,7 +53,7 @@ int main(int n, char **words)
     uint8_t bytes[64];
     uint64_t count = 0;
     must("write", dz_write(arena, sizeof arena, table, DZ_TABLE, ANNA, (uint32_t)a.hold, a.stamp, 0, (const uint8_t *)outline, strlen(outline)));
-    must("read", dz_read(arena, sizeof arena, table, DZ_TABLE, ANNA, (uint32_t)a.hold, a.stamp, 0, bytes, sizeof bytes, &count, DZ_READ_WORDS));
+    must("read", dz_read(arena, sizeof arena, table, DZ_TABLE, ANNA, (uint32_t)a.hold, a.stamp, 0, bytes, sizeof bytes, &count, DZ_LENGTH_WORDS));
     printf("A: %.*s\n", (int)count, (const char *)bytes);
     close_node(a);
 
@@ -78,6 +78,12 @@ int main(int n, char **words)
     uint32_t rule = dz_check(arena, sizeof arena, table, DZ_TABLE, dz_counts_words(&counts), DZ_COUNTS_WORDS);
     if (rule) return fprintf(stderr, "check: rule %u fails\n", (unsigned)rule), 1;
     printf("checked: %u nodes, %u blocks free\n", (unsigned)counts.nodes, (unsigned)counts.free);
+
+    // with no node open and nothing left to store: what the foundry gets beside the image
+    uint8_t text[256];
+    uint64_t length = 0;
+    must("inventory", dz_inventory(arena, sizeof arena, text, sizeof text, &length, DZ_LENGTH_WORDS));
+    printf("%.*s", (int)length, (const char *)text);
 
     FILE *file = n > 1 ? fopen(words[1], "wb") : NULL;
     if (!file || fwrite(arena, 1, sizeof arena, file) != sizeof arena || fclose(file)) return perror("glyphs IMAGE"), 1;

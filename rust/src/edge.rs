@@ -23,6 +23,7 @@ extern "C" {
     fn dz_open(a: *const u8, al: usize, t: *mut u8, tl: usize) -> u32;
     fn dz_sync(a: *mut u8, al: usize, t: *mut u8, tl: usize) -> u32;
     fn dz_check(a: *const u8, al: usize, t: *const u8, tl: usize, counts: *mut u64, words: usize) -> u32;
+    fn dz_inventory(a: *const u8, al: usize, out: *mut u8, ol: usize, length: *mut u64, words: usize) -> u32;
     fn dz_root(a: *const u8, al: usize, t: *mut u8, tl: usize, who: u8, handle: *mut u64, words: usize) -> u32;
     fn dz_find(a: *const u8, al: usize, t: *mut u8, tl: usize, who: u8, hold: u32, stamp: u64, name: *const u8, nl: usize, handle: *mut u64, words: usize) -> u32;
     fn dz_walk(a: *const u8, al: usize, t: *mut u8, tl: usize, who: u8, hold: u32, stamp: u64, path: *const u8, pl: usize, links: *mut u8, ll: usize,
@@ -187,6 +188,14 @@ impl Pair {
         let (a, t, mut w) = (&self.arena, &self.table, [0; 3]);
         let n = unsafe { dz_check(a.as_ptr(), a.len(), t.as_ptr(), t.len(), w.as_mut_ptr(), w.len()) };
         counted(n, w)
+    }
+
+    /// The length of the text; the table does not go in.
+    pub(crate) fn inventory(&self, out: &mut [u8]) -> Result<u64, Reason> {
+        let (a, mut w) = (&self.arena, [0; 1]);
+        let n = unsafe { dz_inventory(a.as_ptr(), a.len(), out.as_mut_ptr(), out.len(), w.as_mut_ptr(), w.len()) };
+        let [length] = w;
+        answer(n).map(|()| length)
     }
 
     /// Where the check passes, the calls for owners are made from now on.

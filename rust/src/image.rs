@@ -129,6 +129,62 @@ impl Image {
         self.pair.check()
     }
 
+    /// The foundry's inventory: a line for each name, in the order of the slots, a folder's contents right after its own line.
+    ///
+    /// A line has the node's number, its type and its links in decimal and the path from the root, split by single spaces and ended by a newline. In the
+    /// path a slash stands before each name, and the bytes 0 to 32, 127 and the backslash are a backslash and two lowercase hex digits; all others are as
+    /// they are stored. A node of several names has a line for each; the root has none, so a fresh image gives an empty text.
+    ///
+    /// A new name has no slash, but one from before may have one. It is not escaped, so two lines may read alike.
+    ///
+    /// What is listed is what is stored, whatever the table of open nodes says. Where a removed node is still open, or a size is not stored yet, the stored image
+    /// does not pass the checker, and the answer is `WrongFs`: [`close`](Editor::close) and [`sync`](Image::sync) first.
+    ///
+    /// The call is made with a buffer of an eighth of the image, which is mostly enough, and again with one twice as long while it is refused for its
+    /// length. Folders that lie deep, under long names, make a text of many times the image: [`inventory_into`](Image::inventory_into) takes the limit that it is given.
+    ///
+    /// Reasons: `BadArena`, `Damaged`, `WrongFs` (the checker fails the image with no node open).
+    ///
+    /// ```
+    /// use dzomrelig::{FileName, Image, NewKind, Owner, Time};
+    ///
+    /// # fn main() -> Result<(), dzomrelig::Reason> {
+    /// let now = Time::new(1_700_000_000, 0);
+    /// let mut image = Image::format(64, now, FileName([0; 16]))?;
+    /// assert_eq!(image.inventory()?, b"");
+    /// let mut anna = image.editor(Owner::One);
+    /// let root = anna.root()?;
+    /// let sans = anna.create(root, "sans", NewKind::Folder, 0o755, now, FileName([1; 16]))?;
+    /// let a = anna.create(sans, "A", NewKind::File, 0o644, now, FileName([2; 16]))?;
+    /// anna.link(root, "A bold", a)?;
+    /// assert_eq!(image.inventory()?, b"3 2 2 /sans\n4 1 2 /sans/A\n4 1 2 /A\\20bold\n");
+    /// # Ok(())
+    /// # }
+    /// ```
+    pub fn inventory(&self) -> Result<Vec<u8>, Reason> {
+        let mut text = vec![0; self.bytes().len() / 8];
+        loop {
+            match self.inventory_into(&mut text) {
+                Ok(length) => {
+                    text.truncate(length);
+                    return Ok(text);
+                }
+                // an image that comes as far as that has 8,192 bytes or more
+                Err(Reason::OutFull) => text = vec![0; text.len().saturating_mul(2)],
+                Err(reason) => return Err(reason),
+            }
+        }
+    }
+
+    /// Writes the [inventory](Image::inventory) at the output's start: how many bytes it has. The output's bytes after it stay, and a refusal keeps all.
+    ///
+    /// Reasons: `BadArena`, `Damaged`, `WrongFs` (the checker fails the image with no node open), `OutFull` (the text does not fit; one of the output's
+    /// own length does).
+    pub fn inventory_into(&self, out: &mut [u8]) -> Result<usize, Reason> {
+        // no longer than the output
+        self.pair.inventory(out).map(|length| length as usize)
+    }
+
     /// Asks the checker; where image and table pass, the calls from now on leave the test of the image out.
     pub fn trust(&mut self) -> Result<Counts, FailedRule> {
         self.pair.trust()

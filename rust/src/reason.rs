@@ -42,11 +42,11 @@ pub enum Reason {
     TableFull,
     /// 17: no free node number, or no free block.
     NoDeviceSpace,
-    /// 18: no image of this file system.
+    /// 18: no image of this file system; or, from [`Image::inventory`](crate::Image::inventory), the checker fails what is stored.
     WrongFs,
     /// 19: what is stored does not fit together, and the call can't go on.
     Stuck,
-    /// 20: a slot remains, and the output has no room for one; or a target does not fit the link buffer.
+    /// 20: a slot remains, and the output has no room for one; a target does not fit the link buffer, or an inventory the output.
     OutFull,
     /// 21: a folder, where contents are asked for.
     NotFile,
@@ -77,9 +77,9 @@ const REASONS: [(Reason, &str, &str); 23] = [
     (Reason::TooManyLinks, "TooManyLinks", "a link count of 65,535 would rise"),
     (Reason::TableFull, "TableFull", "8 handles of this owner are live, or no stamp is left"),
     (Reason::NoDeviceSpace, "NoDeviceSpace", "no free node number, or no free block"),
-    (Reason::WrongFs, "WrongFs", "no image of this file system"),
+    (Reason::WrongFs, "WrongFs", "no image of this file system; or an inventory is asked for, and the checker fails what is stored"),
     (Reason::Stuck, "Stuck", "what is stored does not fit together, and the call can't go on"),
-    (Reason::OutFull, "OutFull", "a slot remains, and the output has no room for one; or a target does not fit"),
+    (Reason::OutFull, "OutFull", "a slot remains, and the output has no room for one; or a target or an inventory does not fit"),
     (Reason::NotFile, "NotFile", "a folder, where contents are asked for"),
     (Reason::FileTooBig, "FileTooBig", "a write or resize would end past 4,294,967,295 bytes"),
     (Reason::SymLoop, "SymLoop", "a walk meets its ninth symlink"),

@@ -69,6 +69,7 @@ fn bad_arena() {
         all_no(&mut wrong, Reason::BadArena, root, b"a", 0);
         no(&mut wrong, Reason::BadArena, |i| i.reformat(TIME, ROOT_FILE));
         no(&mut wrong, Reason::BadArena, |i| i.reopen());
+        no(&mut wrong, Reason::BadArena, |i| i.inventory());
         assert_eq!(wrong.check(), Err(FailedRule::Arena));
         assert_eq!(Image::untrusted(vec![0; length]).unwrap_err(), Reason::BadArena);
         assert_eq!(Image::checked(vec![0; length]).unwrap_err(), Unfit::Refused(Reason::BadArena));
@@ -83,6 +84,7 @@ fn damaged() {
     let mut wrong = mine(Image::from_parts(bytes.clone(), *image.table()));
     all_no(&mut wrong, Reason::Damaged, root, b"a", 0);
     no(&mut wrong, Reason::Damaged, |i| i.reopen());
+    no(&mut wrong, Reason::Damaged, |i| i.inventory());
     assert_eq!(wrong.check(), Err(FailedRule::Arena));
     assert_eq!(Image::checked(bytes).unwrap_err(), Unfit::Refused(Reason::Damaged));
     wrong.reformat(TIME, ROOT_FILE).unwrap();
@@ -112,6 +114,8 @@ fn bad_table() {
         let mut wrong = mine(Image::from_parts(image.bytes(), table));
         all_no(&mut wrong, Reason::BadTable, root, b"a", 0);
         assert_eq!(wrong.check(), Err(FailedRule::Table));
+        // the inventory is of what is stored
+        assert_eq!(wrong.inventory(), Ok(vec![]));
         wrong.reopen().unwrap();
         assert!(wrong.check().is_ok());
     }
@@ -508,6 +512,7 @@ fn wrong_fs() {
         assert_eq!(Image::checked(bytes.clone()).unwrap_err(), Unfit::Refused(Reason::WrongFs));
         let mut image = mine(Image::from_parts(bytes, table));
         no(&mut image, Reason::WrongFs, |i| i.reopen());
+        no(&mut image, Reason::WrongFs, |i| i.inventory());
         assert_eq!(image.check(), Err(FailedRule::Superblock));
     }
 }
@@ -573,6 +578,7 @@ fn failed_rules() {
         create(&mut image, root, "a", NewKind::File).unwrap();
         let mut bytes = image.into_inner().into_bytes();
         wrong(&mut bytes);
+        assert_eq!(Image::untrusted(bytes.clone()).unwrap().inventory(), Err(Reason::WrongFs));
         assert_eq!(Image::checked(bytes).unwrap_err(), Unfit::Fails(rule));
     }
 }

@@ -3,6 +3,8 @@
 mod any_bytes;
 #[path = "calls.rs"]
 mod calls;
+#[path = "inventory.rs"]
+mod inventory;
 #[path = "reasons.rs"]
 mod reasons;
 #[path = "scripts.rs"]

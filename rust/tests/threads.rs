@@ -123,6 +123,7 @@ fn readers_side_by_side() {
                     assert_eq!(image.snapshot(root).unwrap().len(), 10);
                     assert_eq!(image.metadata(root).unwrap().size, 12);
                     assert_eq!(image.check().unwrap().nodes, 11);
+                    assert_eq!(image.inventory().unwrap().iter().filter(|&&b| b == b'\n').count(), 10);
                 }
             });
         }
@@ -145,6 +146,7 @@ fn small_stack() {
         image.sync().unwrap();
         image.close(b).unwrap();
         assert_eq!(image.check().unwrap().nodes, 3);
+        assert_eq!(image.inventory().unwrap(), b"3 2 2 /a\n4 1 1 /b\n");
         image.into_inner()
     };
     let made = thread::Builder::new().stack_size(128 * 1024).spawn(run).unwrap().join().unwrap();

@@ -1,6 +1,6 @@
 // A call script (docs/REPLAY.md) timed on the port, each call by itself: calls FILE ROUNDS [own]. Prints each kind of call with its number and the
-// nanoseconds of one, the least of so many rounds; then the check of the image that is left, and the soundness test alone. With `own` the calls for
-// owners are made; the chains are built after the format, and are not timed.
+// nanoseconds of one, the least of so many rounds; then the check and the inventory of the image that is left, and the soundness test alone. With `own`
+// the calls for owners are made; the chains are built after the format, and are not timed.
 // calls contents BLOCKS FILES ROUNDS: the same of reads and writes on an image of so many blocks and files, and of plain copies (plain.c).
 // calls deep DEPTH ROUNDS: a folder moved to the end of a way of so many folders, and back.
 #include <stdbool.h>
@@ -23,7 +23,7 @@ void plain_write(uint8_t *blocks, size_t place, in data, size_t len);
 // a kind is its command's byte less 16
 enum { ALL = 22 };
 static const char *const KINDS[ALL] = {"format", "open", "root", "find", "create", "link", 0, "move", "metadata", "set", "entry", "list", "sync", "close", "check", 0, "read", "write", "resize", "walk", "remove-file", "remove-folder"};
-static uint8_t arena[DZ_BLOCK * DZ_BLOCKS_MOST], table[DZ_TABLE], out[8192], *script, *at;
+static uint8_t arena[DZ_BLOCK * DZ_BLOCKS_MOST], table[DZ_TABLE], out[8192], text[1 << 20], *script, *at;
 static uint64_t words[DZ_METADATA_WORDS];
 static uint16_t chains[DZ_CHAINS];
 static size_t len;
@@ -92,7 +92,7 @@ static uint32_t call(int kind)
     case 11: words[0] = number(8), k = number(1), o = number(2); return CALL(list, who, hold, stamp, words, DZ_NEXT_WORDS, (uint8_t)k, out, o);
     case 12: return own ? dz_own_sync(ARENA, CHAINS, TABLE) : dz_sync(ARENA, TABLE);
     case 13: return CALL(close, who, hold, stamp);
-    case 16: k = number(8), o = number(2); return CALL(read, who, hold, stamp, k, out, o, words, DZ_READ_WORDS);
+    case 16: k = number(8), o = number(2); return CALL(read, who, hold, stamp, k, out, o, words, DZ_LENGTH_WORDS);
     case 17: k = number(8), o = number(2), new = bytes(o); return CALL(write, who, hold, stamp, k, new, o);
     case 18: k = number(8); return CALL(resize, who, hold, stamp, k);
     case 19: o = number(2); return CALL(walk, who, hold, stamp, name, l, out, o, words, DZ_HANDLE_WORDS);
@@ -155,7 +155,7 @@ static const char *const ACT_NAMES[ACTS] = {"read", "write", "new", "plain-read"
 static void act(int what, size_t size)
 {
     switch (what) {
-    case READ: must(dz_read(arena, len, table, DZ_TABLE, ME, hold, stamp, PLACE, copy, size, words, DZ_READ_WORDS)); break;
+    case READ: must(dz_read(arena, len, table, DZ_TABLE, ME, hold, stamp, PLACE, copy, size, words, DZ_LENGTH_WORDS)); break;
     case WRITE:
     case NEW: must(dz_write(arena, len, table, DZ_TABLE, ME, hold, stamp, PLACE, data, size)); break;
     case PLAIN_READ: plain_read(blocks, PLACE, copy, size); break;
@@ -275,19 +275,22 @@ int main(int n, char **args)
     own = n > 3;
     script = malloc(1 << 22);
     size_t size = fread(script, 1, 1 << 22, file);
-    double sound = 1e18, check = 1e18;
+    double sound = 1e18, check = 1e18, inventory = 1e18;
     for (int r = 0; r < atoi(args[2]); r++) {
         play(size, count);
         double from = now();
         if (!bench_sound(arena, len)) return 1;
         double then = now();
         if (dz_check(arena, len, table, DZ_TABLE, words, DZ_COUNTS_WORDS)) return 1;
+        double checked = now();
+        must(dz_inventory(arena, len, text, sizeof text, words, DZ_LENGTH_WORDS));
         double end = now();
         if (then - from < sound) sound = then - from;
-        if (end - then < check) check = end - then;
+        if (checked - then < check) check = checked - then;
+        if (end - checked < inventory) inventory = end - checked;
     }
     for (int k = 0; k < ALL; k++)
         if (count[k]) printf("%s %lu %.0f\n", KINDS[k], (unsigned long)count[k], best[k]);
-    printf("check 1 %.0f\nsound 1 %.0f\n", check, sound);
+    printf("check 1 %.0f\ninventory 1 %.0f\nsound 1 %.0f\n", check, inventory, sound);
     return 0;
 }

@@ -3,7 +3,7 @@
 
 An image of 16, 128, 1,024 and 4,096 blocks is filled with files, then every kind of call is made 20 times; no call is refused. Contents of 480,
 8,192 and 100,000 bytes are read, written over and written into an empty file, beside a plain copy through blocks (plain.c). Walks along a path 50
-deep and through 8 symlinks are timed on the port alone. Both sides are built
+deep and through 8 symlinks are timed on the port alone, and so are check and inventory of a full image. Both sides are built
 for release; the least of 5 rounds counts. Needs a C compiler (cc) and what tests/beside_rust needs.
 """
 import os
@@ -117,6 +117,22 @@ def full(blocks, files):
     return bytes(s.out)
 
 
+def late_folders(others, folders):
+    """An image whose root has so many names of one file and then so many empty folders: the inventory searches the root's slots after each of these."""
+    s = Script()
+    s.put(2, struct.pack("<I", 512 * 4096))
+    s.put(16, bytes(16), b"r" * 16)
+    s.put(18)
+    root = s.held(0)
+    file = s.create(root, b"0", 1, 1)
+    for i in range(1, others):
+        s.put(21, root, s.name(b"%d" % i), file)
+    s.close(file)
+    for i in range(folders):
+        s.close(s.create(root, b"d%d" % i, 2, 1))
+    return bytes(s.out)
+
+
 def build():
     os.makedirs(OUT, exist_ok=True)
     libraries = ("edge", "edge_contents", "owners", "owners_contents", "bench")
@@ -184,7 +200,13 @@ def main():
         data = walked(4096, depth, links, 20)
         print(f"    {depth} deep, {links} symlinks, 4,096 blocks: {port(data)['walk'] / 1000:.1f} and {port(data, 'own')['walk'] / 1000:.1f} µs")
     for blocks, files in ((128, 66), (4096, 2225)):
-        print(f"check of {blocks:,} blocks with {files:,} files: {port(full(blocks, files))['check'] / 1000:.0f} µs")
+        listed(f"{blocks:,} blocks with {files:,} files", port(full(blocks, files)))
+    listed("4,096 blocks with 577 empty folders after 3,430 other names", port(late_folders(3430, 577), "own"))
+
+
+def listed(what, ns):
+    check, inventory = ns["check"] / 1000, ns["inventory"] / 1000
+    print(f"{what}: check {check:.0f} µs, inventory {inventory:.0f} µs ({inventory / check:.2f})")
 
 
 if __name__ == "__main__":

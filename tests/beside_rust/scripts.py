@@ -97,6 +97,9 @@ class Builder:
     def check(self):
         self.call("check")
 
+    def inventory(self, room=8192):
+        self.call("inventory", room, words=f"output {room}")
+
     # bytes changed from outside, a block's check mended
 
     def table(self, data, words="table"):

@@ -19,6 +19,8 @@ SAMPLE = TOP / "tests" / "beside_rust" / "sample"
 COURSE = 2_897
 # The longest script that crates/replay takes.
 MOST = 262_144
+# The checker, and the inventory into no byte.
+ASKED = b"\x1e\x26" + bytes(2)
 
 
 def told(script):
@@ -33,8 +35,8 @@ def rules():
         data = image()
         if len(data) == len(fresh):
             pokes = (b"\3" + struct.pack("<IB", k, new) for k, (old, new) in enumerate(zip(fresh, data)) if old != new)
-            yield start + b"".join(pokes) + b"\x1e"
-    yield start + b"\4" + bytes(TABLE_BYTES) + b"\x1e"
+            yield start + b"".join(pokes) + ASKED
+    yield start + b"\4" + bytes(TABLE_BYTES) + ASKED
 
 
 def parts():

@@ -1,5 +1,5 @@
 """The last part of the gate's script (gate.py), in which every reason of document 01 and of document 02's orders so far is answered, contents are
-written, read and resized, folders are moved to other folders, stored sockets are used and paths are walked, and its lines.
+written, read and resized, folders are moved to other folders, stored sockets are used, paths are walked and inventories written, and its lines.
 
 Each step below says the reason that the documents give, or the bytes that a read finds; the lines, sums and all, are the independent
 model's (replay_model.py), and the port is not asked.
@@ -113,6 +113,18 @@ class Script(Builder):
         self.walk(h, path, room)
         assert self.line == f"walk no {reason} o {links_sum(targets)} {before}", (self.line, path)
 
+    def delivers(self, text, room=8192):
+        """The inventory is this text; the output after it stays."""
+        before = self.at.sums()
+        self.inventory(room)
+        output = sum_of(text.ljust(model.OUTPUT, bytes([238])))
+        assert self.line == f"inventory ok {len(text)} o {output} {before}", (self.line, self.at.inventory(model.OUTPUT))
+
+    def not_delivered(self, reason, room=8192):
+        """It is refused, and the output stays as it is."""
+        self.no(reason, ("inventory", room))
+        assert f" o {links_sum('')} " in self.line, self.line
+
     def lost(self, file):
         """The file gets another name."""
         k = self.at.files.place(1, file)
@@ -199,6 +211,7 @@ def bad_arena(b):
     for length in (0, 512 * 15, 512 * 16 + 1):
         b.arena(length)
         b.no(1, ("format", TIME, ROOT_FILE), ("open",), *takes_table(root))
+        b.not_delivered(1, 0)
         b.fails(1)
 
 
@@ -207,6 +220,7 @@ def damaged(b):
     b.raw(b"\3" + struct.pack("<IB", 512 * 15 + 100, 1), "poke")
     b.at.poke(512 * 15 + 100, 1)
     b.no(2, ("open",), *takes_table(root))
+    b.not_delivered(2, 0)
     b.fails(1)
     b.format()
     b.ok()
@@ -218,6 +232,7 @@ def bad_table(b):
     for bad in (table_bytes([], [], 0), table_bytes([root], [], 1), table_bytes([root], [(0, 1, 1), (0, 1, 1)], 2)):
         b.table(bad)
         b.no(3, *takes_table((0, 1)))
+        b.delivers(b"", 0)
         b.fails(2)
     b.open()
     b.ok()
@@ -400,6 +415,7 @@ def by_call(b):
         b.fresh()
         b.superblock(field, value)
         b.no(18, ("open",))
+        b.not_delivered(18, 0)
 
 
 def two_keys(b):
@@ -971,10 +987,96 @@ def rests(b, root):
     b.stops(19, root, "empty")
 
 
+def inventories(b):
+    """Order 10: a line for each name, of the stored image alone; 20 by one byte, and 18 for what is only in the table."""
+    root = b.fresh(96)
+    b.delivers(b"")
+    b.delivers(b"", 0)
+    text = drawings(b, root)
+    b.delivers(text)
+    b.delivers(text, len(text))
+    for room in (len(text) - 1, 1, 0):
+        b.not_delivered(20, room)
+    stored_only(b, text)
+    old_names(b, b.again())
+    long_paths(b)
+
+
+def drawings(b, root):
+    """Folders in folders, a node of three names, a symlink and bytes that are escaped; and the text, with each folder's contents right after its line."""
+    sans = b.ok(b.create(root, "sans", FOLDER))
+    b.close(b.ok(b.create(root, "read me")))
+    bold = b.ok(b.create(sans, "bold", FOLDER))
+    a = b.ok(b.create(bold, "A"))
+    b.close(b.ok(b.create(sans, "none", FOLDER)))
+    b.symlink(sans, "a", "bold/A")
+    for folder, name in ((sans, "A"), (root, "again")):
+        b.link(folder, name, a)
+        b.ok()
+    for name in (b"\x01\n\x1f ", b"!~\\\x7f\\5c", "Ж\u00ad\u0080".encode()):
+        b.close(b.ok(b.create(bold, name)))
+    for h in (sans, bold, a):
+        b.close(h)
+    return (b"3 2 4 /sans\n5 2 2 /sans/bold\n6 1 3 /sans/bold/A\n9 1 1 /sans/bold/\\01\\0a\\1f\\20\n10 1 1 /sans/bold/!~\\5c\\7f\\5c5c\n"
+            b"11 1 1 /sans/bold/" + "Ж\u00ad\u0080".encode() + b"\n7 2 2 /sans/none\n8 3 1 /sans/a\n6 1 3 /sans/A\n4 1 1 /read\\20me\n6 1 3 /again\n")
+
+
+def stored_only(b, text):
+    """A size that is not stored yet and a removed node that is open are the table's: 18 until sync and close. Modes and times aren't looked at."""
+    root = b.ok(b.root())
+    h = b.ok(b.find(root, "read me"))
+    b.call("set", h, 511, 1, 2, TIME, TIME, TIME)
+    b.delivers(text)
+    b.write(h, 0, b"hello")
+    b.not_delivered(18)
+    b.call("sync")
+    b.delivers(text)
+    b.remove_file(root, "read me")
+    b.ok()
+    b.not_delivered(18)
+    b.close(h)
+    # the last slot is in the place of the one that went
+    text = text.replace(b"4 1 1 /read\\20me\n", b"")
+    b.delivers(text)
+    sans = b.ok(b.find(root, "sans"))
+    none = b.ok(b.find(sans, "none"))
+    b.remove_folder(sans, "none")
+    b.ok()
+    b.not_delivered(18)
+    b.close(none)
+    b.ok()
+    b.inventory()
+    b.ok()
+
+
+def old_names(b, root):
+    """A stored slash is not escaped, so that two lines may have one path; a stored socket has a line as a file has."""
+    root = b.socket(root, "old")
+    b.change((1, ROOT_FILE), 264 * 3 + 4, b"sans/A\0", "set the name in slot 3 of the root to sans/A")
+    b.inventory()
+    b.ok()
+    text = b.at.inventory(model.OUTPUT)
+    assert text.count(b"6 1 3 /sans/A\n") == 2 and text.endswith(b"\n4 4 1 /old\n"), text
+
+
+def long_paths(b):
+    """A text that just fits the longest output, most of it paths of folders in folders; with a name more it is 20."""
+    at = root = b.fresh(32)
+    for k in range(4):
+        at = b.ok(b.create(at, bytes([k + 1]) * 255, FOLDER))
+    last = b.ok(b.create(root, bytes([5]) * 165 + b"a"))
+    text = b"".join(b"%d 2 %d %s\n" % (k + 3, 2 + (k < 3), b"".join(b"/" + b"\\%02x" % (n + 1) * 255 for n in range(k + 1))) for k in range(4))
+    b.delivers(text + b"7 1 1 /" + b"\\05" * 165 + b"a\n")
+    assert b.line.startswith("inventory ok 8192 "), b.line
+    b.link(root, "b", last)
+    b.ok()
+    b.not_delivered(20)
+
+
 def made():
     b = Script()
     for part in (bad_arena, damaged, bad_table, bad_owners, bad_handle, owners, bad_name, slashes, sockets, by_call, two_keys, dots, taken, links, table_full, last_stamp, no_space, stuck,
-                 contents, held_on, limits, device_full, torn, no_contents, carried, no_way_up, paths):
+                 contents, held_on, limits, device_full, torn, no_contents, carried, no_way_up, paths, inventories):
         part(b)
     b.fresh()
     b.check()

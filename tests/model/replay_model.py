@@ -1,5 +1,5 @@
 #!/usr/bin/env python3
-"""An independent model of document 01's calls and of document 02's orders up to 9, for tests: a call script in, the lines a right port
+"""An independent model of document 01's calls and of document 02's orders up to 10, for tests: a call script in, the lines a right port
 prints out.
 
 Written from the documents and the readings of them in docs/DECISIONS.md, on top of arena_model.py; it shares nothing with crates/. A call
@@ -861,11 +861,35 @@ class Checker:
             id = self.slots[id][1][0]
 
 
+# ---------------------------------------------------------------- the inventory: document 02's order 10
+
+def escaped(name):
+    return b"".join(b"\\%02x" % b if b < 33 or b in (92, 127) else bytes([b]) for b in name)
+
+
+def inventory_text(files):
+    """A line for each later slot of each folder from root on; 18 where the checker fails the arena with the empty table."""
+    seen = Checker(files, Table())
+    try:
+        seen.counts()
+    except Refused:
+        raise Refused(18)
+    # the slots that are still to be listed, the next one last, each with the path of its folder
+    due, text = [(b"", slot) for slot in reversed(seen.slots[2][2:])], []
+    while due:
+        above, (id, name, _) = due.pop()
+        path, rec = above + b"/" + escaped(name), seen.recs[id]
+        text.append(b"%d %d %d %s\n" % (id, rec.type, rec.links, path))
+        if rec.type == FOLDER:
+            due += ((path, slot) for slot in reversed(seen.slots[id][2:]))
+    return b"".join(text)
+
+
 # ---------------------------------------------------------------- scripts
 
 NAMES = ("format", "open", "root", "find", "create", "link", "move", "metadata", "set", "entry", "list", "sync", "close", "check",
-         "read", "write", "resize", "walk", "remove-file", "remove-folder")
-BYTES = dict(zip(NAMES, (*range(16, 22), *range(23, 31), *range(32, 38))))
+         "read", "write", "resize", "walk", "remove-file", "remove-folder", "inventory")
+BYTES = dict(zip(NAMES, (*range(16, 22), *range(23, 31), *range(32, 39))))
 NAMED = {byte: name for name, byte in BYTES.items()}
 DOES = {"root": do_root, "find": do_find, "create": do_create, "link": do_link, "move": do_move, "metadata": do_metadata, "set": do_set,
         "sync": do_sync, "close": do_close, "write": do_write, "resize": do_resize, "walk": do_walk, "remove-file": do_remove_file, "remove-folder": do_remove_folder}
@@ -873,7 +897,8 @@ OUTPUTS = {"entry": entry_slots, "list": list_slots, "read": read_bytes}
 # What follows a command's byte; p, the owner who asks, stands first where there is one, d says whether the dots are asked for, and l is a path.
 SHAPES = {"format": "tf", "open": "", "root": "p", "find": "phn", "create": "phn42tf", "link": "phnh", "move": "phnhn",
           "metadata": "ph", "set": "ph288ttt", "entry": "ph8o", "list": "ph8do", "sync": "", "close": "ph", "check": "",
-          "read": "ph8o", "write": "ph8w", "resize": "ph8", "walk": "phlo", "remove-file": "phn", "remove-folder": "phn"}
+          "read": "ph8o", "write": "ph8w", "resize": "ph8", "walk": "phlo", "remove-file": "phn", "remove-folder": "phn",
+          "inventory": "o"}
 
 
 class BadScript(Exception):
@@ -1004,6 +1029,10 @@ class Model:
         try:
             if name in ("format", "open"):
                 getattr(self, name)(*args)
+            elif name == "inventory":
+                middle = output_sum(b"")
+                text = self.inventory(*args)
+                values, middle = (len(text),), output_sum(text)
             elif name in OUTPUTS:
                 out, values, middle = self.output(name, args)
                 if isinstance(out, int):
@@ -1067,6 +1096,14 @@ class Model:
         need(magic == MAGIC and 1 <= groups <= 4, 18)
         step.fs()
         self.table = step.table
+
+    def inventory(self, room):
+        """The text; the table, whatever it is, is not looked at."""
+        need(legal(self.raw) if not self.files else True, 1)
+        need(self.is_sound(), 2)
+        text = inventory_text(self.files)
+        need(len(text) <= room, 20)
+        return text
 
 
 def lines(data, model=None):

@@ -4,11 +4,12 @@ use mathlib.Core.List.{List, _++_}
 use Prim.Native.Nat.{ℕ, _+_, _-_, _≤_}
 use native.Mathlib.Omega.{arith}
 use lib.ListN.{length, drop}
-use Rattle.base.specs.Out.{Out, done, bind, answer}
+use Rattle.base.specs.Out.{Out, done, refused, bind, answer}
 use Rattle.base.specs.Parts.{paste}
 use Rattle.base.proofs.Lists.{length-paste}
 use Rattle.base.proofs.Outs.{above-zero}
-use Rattle.calls.specs.Answers.{laid, Laid, lay, leave}
+use Rattle.calls.specs.declared.Taken.the-variants.{Refused}
+use Rattle.calls.specs.Answers.{takenOf, laid, Laid, lay, leave, Lays}
 use Rattle.calls.proofs.Asks.{Asks, asked-not, asked-done}
 
 -- what is at the output's start
@@ -24,6 +25,10 @@ laid-length h (leave l e p) = ap length p
 pub laid-out : {o : Out (List ℕ)} {out now : List ℕ} {n r : ℕ} → Laid o out now n r → now ≡ laid out o
 laid-out {out = out} (lay e l p) = p ∙ sym (ap (laid out) e)
 laid-out {out = out} (leave z e p) = p ∙ sym (ap (laid out) e)
+
+-- a refusal lays nothing
+pub lays-not : {o : Out (List ℕ)} {r : ℕ} (out now : List ℕ) → o ≡ refused r → now ≡ out → Lays takenOf o out now (Refused r)
+lays-not out now e q = (sym (ap takenOf e), q ∙ sym (ap (laid out) e))
 
 -- a question before it
 pub laid-stop : (q : Out Unit) (o : Out (List ℕ)) (out : List ℕ) (n r : ℕ) → r ≡ answer q → (r ≡ 0 → ⊥) → Laid (bind q (λ _. o)) out out n r

@@ -28,7 +28,7 @@ use Rattle.calls.specs.Answers.{takenOf, laid, Laid, lay, leave, Lays}
 use Rattle.calls.specs.declared.Taken.{Taken}
 use Rattle.calls.specs.declared.Taken.the-variants as takens
 use Rattle.calls.proofs.Asks.{asks-contents, asked-not, asked-done, call-stop, call-next}
-use Rattle.calls.proofs.Outputs.{paste-front, laid-out}
+use Rattle.calls.proofs.Outputs.{paste-front, laid-out, lays-not}
 use Rattle.calls_read.specs.Read.{readIn, takenAs}
 
 -- ---- the bytes of a file
@@ -86,15 +86,11 @@ laid-taken : {o : Out (List ℕ)} {out now : List ℕ} {n r : ℕ} → Laid o ou
 laid-taken (lay {l = l} e q p) = ap (λ (x : ℕ). takens.Bytes x) (sym q) ∙ sym (ap takenOf e)
 laid-taken {n = n} (leave {r = r} z e p) = sym (taken-as r n (λ q. omega arith)) ∙ sym (ap takenOf e)
 
--- a refusal
-pub lays-not : {o : Out (List ℕ)} {r : ℕ} (out : List ℕ) → o ≡ refused r → Lays takenOf o out out (takens.Refused r)
-lays-not out e = (sym (ap takenOf e), sym (ap (laid out) e))
-
 -- what is asked of the type, and then the bytes
 module _ (a : List ℕ) (w : DiskINode) (place room r : ℕ) (e : r ≡ answer (hasContents w)) where
   pub read-in-stop : (out : List ℕ) → (r ≡ 0 → ⊥) → Lays takenOf (readIn a w place room) out out (takens.Refused r)
   unfolding readIn
-  read-in-stop out z = lays-not {o = readIn a w place room} out (rw (asked-not (hasContents w) r e z))
+  read-in-stop out z = lays-not {o = readIn a w place room} out out (rw (asked-not (hasContents w) r e z)) refl
 
   pub read-in-next : (out now : List ℕ) {s : ℕ} (n : ℕ) → r ≡ 0 → n ≡ readCount (w .size) place room → Laid (readBytes a (nodeFile w) place n) out now n s
       → Lays takenOf (readIn a w place room) out now (takenAs s n)
@@ -109,7 +105,7 @@ module _ (a : List ℕ) (w : DiskINode) (place room r : ℕ) (e : r ≡ answer (
 module _ {P : Type 0} (a : List ℕ) (t : Table) (who : ℕ) (h : Handle) (k : admit a t ≡ done tt) (place room row r : ℕ) (g : Went (byHandle t who h) row P r) where
   pub read-refused : (out : List ℕ) → (r ≡ 0 → ⊥) → Lays takenOf (callRead a t who h place room) out out (takens.Refused r)
   unfolding callRead readIn
-  read-refused out z = lays-not out (call-stop a t who h k (λ i. readIn a (rowAt t i .rec) place room) row r g z)
+  read-refused out z = lays-not out out (call-stop a t who h k (λ i. readIn a (rowAt t i .rec) place room) row r g z) refl
 
   pub read-goes : (out now : List ℕ) (w : DiskINode) {s : Taken} → r ≡ 0 → w ≡ rowAt t row .rec → Lays takenOf (readIn a w place room) out now s → Lays takenOf (callRead a t who h place room) out now s
   unfolding callRead readIn
@@ -118,4 +114,4 @@ module _ {P : Type 0} (a : List ℕ) (t : Table) (who : ℕ) (h : Handle) (k : a
 -- arena or table are refused
 pub read-unadmitted : (a : List ℕ) (t : Table) (who : ℕ) (h : Handle) (place room : ℕ) {r : ℕ} (out : List ℕ) → admit a t ≡ refused r → Lays takenOf (callRead a t who h place room) out out (takens.Refused r)
 unfolding callRead
-read-unadmitted a t who h place room out e = lays-not {o = callRead a t who h place room} out (rw e)
+read-unadmitted a t who h place room out e = lays-not {o = callRead a t who h place room} out out (rw e) refl

@@ -13,16 +13,18 @@ ghost use Rattle.sefs.specs.Open.{callOpen, callRoot, callFind};
 ghost use Rattle.sefs.specs.Read.{callMetadata, callSet};
 ghost use Rattle.sefs.specs.Remove.{callRemove, callRemoveFile, callRemoveFolder};
 ghost use Rattle.walk.specs.Walk.{callWalk};
+ghost use Rattle.inventory.specs.Inventory.{callInventory};
 ghost use Rattle.calls_format.specs.Format.{formatted};
 ghost use Rattle.fsck.specs.Verdicts.{verdictOf};
 ghost use Rattle.edge_words.specs.Words.{handleOf, timeOf, metadataWords};
-ghost use Rattle.edge.specs.Edge.{sized, sizedWalk, newOf, Answers, leftOf, madeOf, heldOf, Walks, counted, countsOf};
+ghost use Rattle.edge.specs.Edge.{sized, sizedWalk, newOf, Answers, leftOf, madeOf, heldOf, Walks, readIn, counted, countsOf};
 use calls_close::close_on;
 use calls_create::New;
 use calls_create::create_on;
 use calls_find::find_on;
 use calls_find::root_on;
 use calls_format::format_on;
+use calls_inventory::inventory;
 use calls_link::link_on;
 use calls_metadata::metadata_on;
 use calls_metadata::set_on;
@@ -34,10 +36,12 @@ use calls_walk::walk_on;
 use edge_ends::ends::end_after;
 use edge_ends::ends::end_fresh;
 use edge_ends::ends::end_held;
+use edge_ends::ends::end_taken;
 use edge_ends::ends::end_told;
 use edge_words::COUNTS_WORDS;
 use edge_words::FILE_NAME;
 use edge_words::HANDLE_WORDS;
+use edge_words::LENGTH_WORDS;
 use edge_words::METADATA_WORDS;
 use edge_words::TABLE;
 use edge_words::WRONG_SIZE;
@@ -112,6 +116,18 @@ pub extern "C" fn dz_check(arena: &[u8], table: &[u8], out: &mut [u64]) -> u32
     begin(&mut mem, table);
     let v = check_on(arena, &mut mem);
     end_verdict(out, v)
+}
+
+// The text over the output's start, and the word is how many bytes it has. No table is given: what is open is not seen.
+#[no_mangle]
+pub extern "C" fn dz_inventory(arena: &[u8], out: &mut [u8], count: &mut [u64]) -> u32
+    ensures { λ r. ⌜ Answers (sized 1 (now (count .entry)) (callInventory (now (arena .entry)) (length (now (out .entry))))) (readIn (now (out .entry))) (now (out .entry), now (count .entry)) (now (out .exit), now (count .exit)) r ⌝ }
+{
+    if count.len() != LENGTH_WORDS {
+        return WRONG_SIZE;
+    }
+    let t = inventory(arena, out);
+    end_taken(count, t)
 }
 
 // ---- holds

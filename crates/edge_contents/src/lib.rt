@@ -15,8 +15,8 @@ use edge_ends::ends::end_after;
 use edge_ends::ends::end_listed;
 use edge_ends::ends::end_taken;
 use edge_ends::ends::number;
+use edge_words::LENGTH_WORDS;
 use edge_words::NEXT_WORDS;
-use edge_words::READ_WORDS;
 use edge_words::TABLE;
 use edge_words::WRONG_SIZE;
 use edge_words::args::handle;
@@ -44,7 +44,7 @@ pub extern "C" fn dz_read(
     if table.len() != TABLE {
         return WRONG_SIZE;
     }
-    if count.len() != READ_WORDS {
+    if count.len() != LENGTH_WORDS {
         return WRONG_SIZE;
     }
     let mut mem = [0u8; MEMORY];

@@ -17,6 +17,6 @@ pub const COUNTS_WORDS: usize = 3;
 
 pub const NEXT_WORDS: usize = 1;
 
-pub const READ_WORDS: usize = 1;
+pub const LENGTH_WORDS: usize = 1;
 
 pub const WRONG_SIZE: u32 = 255;

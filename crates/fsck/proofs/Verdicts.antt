@@ -1,15 +1,19 @@
 -- The verdict, rule by rule.
-use mathlib.Core.Path.{_≡_, refl}
+use mathlib.Core.Path.{_≡_, refl, _∙_}
 use mathlib.Core.Bool.{Bool, true, false}
 use mathlib.Core.List.{List, [], _∷_}
+use mathlib.Core.Logic.{_≢_, ⊎-elim}
 use Prim.Native.Nat.{ℕ, _≤_}
+use native.Mathlib.Omega.{arith}
 use lib.Dec.{eqb}
+use borrow.Author.Tests.{eq-eqb, ne-eqb}
 use Rattle.base.specs.Search.{pick}
 use Rattle.table.specs.declared.Table.{Table}
 use Rattle.table.specs.Formed.{wellFormed}
 use Rattle.arena.specs.Blocks.{blk, blocks, legal}
 use Rattle.arena.specs.Fields.{isFree}
 use Rattle.base.proofs.Counts.{countTo-le}
+use Rattle.base.proofs.Finds.{eq-cases}
 use Rattle.sound.specs.Sound.{sound}
 use Rattle.rules.specs.Tests.{test1, test2, test3, test4, test5, test6, test7, test8, checked}
 use Rattle.base.specs.Decides.{firstFail}
@@ -96,3 +100,18 @@ pass-is a m b n f o p q r = rw (p, q, o .super, r)
 pub free-most : (a : List ℕ) → freeCount a ≤ blocks a
 unfolding freeCount
 free-most a = countTo-le (λ k. isFree (blk a k)) (blocks a)
+
+-- ---- what a verdict says
+
+pub verdict-passes : (a : List ℕ) (t : Table) (x y z : ℕ) → verdictOf a t ≡ Pass x y z → checked a t ≡ 0
+unfolding verdictOf
+verdict-passes a t x y z v =
+    ⊎-elim (λ e. e) (λ d. absurd (let f : Fail (checked a t) ≡ Pass x y z = rw (ne-eqb (checked a t) 0 d) at v in let w : _≡_ {A = ℕ} 0 1 = cc in omega arith)) (eq-cases (checked a t) 0)
+
+pub verdict-fails : (a : List ℕ) (t : Table) (k : ℕ) → verdictOf a t ≡ Fail k → (k ≢ 0) × (checked a t ≡ k)
+unfolding verdictOf passOf
+verdict-fails a t k v =
+    ⊎-elim
+    (λ e. absurd (let f : passOf a ≡ Fail k = rw (eq-eqb (checked a t) 0 e) at v in let w : _≡_ {A = ℕ} 0 1 = cc in omega arith))
+    (λ d. let f : Fail (checked a t) ≡ Fail k = rw (ne-eqb (checked a t) 0 d) at v in let g : checked a t ≡ k = cc in (λ q. d (g ∙ q), g))
+    (eq-cases (checked a t) 0)

@@ -74,7 +74,8 @@ fn judge_files(arena: &[u8], first: &[u16], next: &[u16], mem: &[u8]) -> Verdict
     judge_links(arena, first, next, mem)
 }
 
-fn judge_meta(arena: &[u8], first: &[u16], next: &[u16], mem: &mut [u8]) -> Verdict
+// What follows the tests of arena and table, by the chains that they left: rules 3 to 8.
+pub fn check_led(arena: &[u8], first: &[u16], next: &[u16], mem: &mut [u8]) -> Verdict
     requires { ⌜ Led (now arena) (now first) (now next) ⌝ }
     requires { ⌜ length (now mem) ≡ memorySize ⌝ }
     ensures { λ r. ⌜ r ≡ metaVerdict (now (arena .entry)) (tableIn (now (mem .entry))) ⌝ }
@@ -100,7 +101,7 @@ fn check_in(arena: &[u8], chains: &mut [u16], mem: &mut [u8]) -> Verdict
         return Verdict::Fail(2);
     }
     let c = &chains[..];
-    judge_meta(arena, &c[..4096], &c[4096..], mem)
+    check_led(arena, &c[..4096], &c[4096..], mem)
 }
 
 // The call on the table in memory.

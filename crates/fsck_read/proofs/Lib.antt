@@ -1,3 +1,4 @@
 pub mod Nodes
 pub mod Loads
 pub mod Rows
+pub mod Names

@@ -1,4 +1,4 @@
-// What the checker reads first: superblock, maps and records (rules 3 and 4).
+// What the checker reads first: superblock, maps and records (rules 3 and 4); and a slot's name.
 ghost use mathlib.Core.Path.{_≡_};
 ghost use mathlib.Core.Bool.{true, _||_};
 ghost use mathlib.Core.List.{List};
@@ -6,7 +6,8 @@ ghost use Prim.Native.Nat.{ℕ, _*_, _<_, _≤_};
 ghost use lib.ListN.{length};
 ghost use Rattle.base.specs.Count.{bit, allTo};
 ghost use Rattle.base.specs.Decides.{same};
-ghost use Rattle.structs.specs.Layout.{recordOf, recordBytes};
+ghost use Rattle.structs.specs.Layout.{recordOf, recordBytes, entryOf};
+ghost use Rattle.utf8.specs.Names.{nameOf};
 ghost use Rattle.table.specs.Table.{rowAt};
 ghost use Rattle.sefs.specs.Meta.{metaFile};
 ghost use Rattle.mem.specs.Mem.{tableIn, memorySize};
@@ -34,6 +35,7 @@ use structs::disk_inode_at;
 use structs::put_super_block;
 use structs::super_block_at;
 use utf8::equal;
+use utf8::first_zero;
 
 fn read_meta(arena: &[u8], first: &[u16], next: &[u16], pos: usize, out: &mut [u8])
     requires { ⌜ Led (now arena) (now first) (now next) ⌝ }
@@ -251,7 +253,8 @@ pub fn rule4(arena: &[u8], first: &[u16], next: &[u16], mem: &[u8]) -> bool
 
 // ---- records
 
-fn stored_rec(arena: &[u8], first: &[u16], next: &[u16], id: usize) -> DiskINode
+// As it is stored, whatever is open.
+pub fn stored_rec(arena: &[u8], first: &[u16], next: &[u16], id: usize) -> DiskINode
     requires { ⌜ Led (now arena) (now first) (now next) ⌝ }
     requires { ⌜ id < 4096 ⌝ }
     ensures { λ r. ⌜ r ≡ recordOf (storedBytes (now (arena .entry)) id) ⌝ }
@@ -283,4 +286,15 @@ pub fn is_open(mem: &[u8], id: usize) -> bool
         Found::At(_) => true,
         Found::Nothing => false,
     }
+}
+
+// ---- slots
+
+// The name in a slot's bytes: those before its zero.
+pub fn name_of(slot: &[u8]) -> &[u8]
+    requires { ⌜ length (now slot) ≡ 264 ⌝ }
+    ensures { λ r. ⌜ now r ≡ nameOf (entryOf (now (slot .entry)) .name) ⌝ }
+{
+    let n = 4 + first_zero(&slot[4..260]);
+    &slot[4..n]
 }

@@ -14,30 +14,18 @@ use Rattle.base.specs.Decides.{same}
 use Rattle.base.specs.Parts.{part}
 use Rattle.base.specs.Search.{lowest}
 use Rattle.base.proofs.Bools.{bool-cases}
-use Rattle.base.proofs.Lists.{length-part}
-use Rattle.base.proofs.Parts.{part-part}
 use Rattle.base.proofs.Sames.{same-false}
 use Rattle.base.proofs.Searches.{lowest-none, lowest-at-most}
 use Rattle.structs.specs.Layout.{entryOf}
 use Rattle.structs.specs.declared.DiskINode.{DiskINode}
 use Rattle.structs.specs.declared.DiskEntry.{DiskEntry}
-use Rattle.utf8.specs.Names.{zeroAt, nameOf}
-use Rattle.utf8.proofs.Names.{zeroAt-le}
+use Rattle.utf8.specs.Names.{nameOf}
 use Rattle.sefs.specs.Nodes.{nodeFile}
 use Rattle.rules.specs.Image.{run, slotIn, laterSlot}
 use Rattle.fsck_slots.specs.Hash.{hashTo, hashName, Hashed}
 use Rattle.fsck_slots.specs.Slots.{bears}
 
 -- ---- a slot's name
-
--- a name ends within its 256 bytes
-pub zero-most : (l : List ℕ) (z : ℕ) → length l ≡ 264 → z ≡ zeroAt (part l 4 260) → z ≤ 256
-zero-most l z size e = omega (arith, zeroAt-le (part l 4 260), length-part l 4 260 (omega arith) (omega arith))
-
-pub name-is : (l : List ℕ) (z : ℕ) → length l ≡ 264 → z ≡ zeroAt (part l 4 260) → part l 4 (4 + z) ≡ nameOf (entryOf l .name)
-unfolding entryOf
-name-is l z size e =
-    sym (part-part l 4 260 0 z (omega (arith, zero-most l z size e))) ∙ ap (λ (x : ℕ). take x (part l 4 260)) (let n : z - 0 ≡ zeroAt (part l 4 260) = omega arith in n)
 
 pub slot-is : (a : List ℕ) (r : DiskINode) (k : ℕ) (l : List ℕ) → l ≡ run a (nodeFile r) (264 * k) 264 → entryOf l ≡ slotIn a r k
 unfolding slotIn

@@ -22,24 +22,16 @@ use chains::length_of;
 use chains::slots::read_slot;
 use fsck_read::ids;
 use fsck_read::is_node;
+use fsck_read::name_of;
 use fsck_read::rec_of;
 use le::u32_at;
 use structs::DiskINode;
 use utf8::StoredName;
 use utf8::equal;
-use utf8::first_zero;
 use utf8::is_dot;
 use utf8::is_dots;
 use utf8::is_special;
 use utf8::stored_name;
-
-fn name_of(slot: &[u8]) -> &[u8]
-    requires { ⌜ length (now slot) ≡ 264 ⌝ }
-    ensures { λ r. ⌜ now r ≡ nameOf (entryOf (now (slot .entry)) .name) ⌝ }
-{
-    let n = 4 + first_zero(&slot[4..260]);
-    &slot[4..n]
-}
 
 // Slot 0 is `.` with the folder's own id.
 fn dot_ok(slot: &[u8], id: usize) -> bool

@@ -91,7 +91,7 @@ module _ (n : ℕ) (time : Timespec) (name b : List ℕ) (fine : legal b ≡ tru
   unfolding rowOf
   no-row = sym (search-none (isRow t 2) 34 (λ j l. ap (λ (k : ℕ). eqb k 2) (free j l)))
 
-  rec-is : recOf b t 2 ≡ r
+  pub rec-is : recOf b t 2 ≡ rootRecord time name
   unfolding recOf storedBytes
   rec-is = ap (recBy b t 2) no-row ∙ ap recordOf (M .stored) ∙ recordOf-recordBytes r root-fits
 

@@ -149,6 +149,7 @@ ran-did (tested.resizes _ _ _ t _ _ _ _ _ _ L) = left-did L (fixed 4402 (now t) 
 ran-did (tested.syncs _ _ _ t _ _ L) = left-did L (fixed 4402 (now t) same) refl refl
 ran-did (tested.closes _ _ _ t _ _ _ _ _ L) = left-did L (fixed 4402 (now t) same) refl refl
 ran-did (tested.checks _ _ t out _ _ L) = check-did L (fixed 4402 (now t) (fixed 3 (now out) same))
+ran-did (tested.inventories _ a _ _ count _ _ {t = t} L) = answers-did (λ x. (now a, t, places (x .1) (x .0) [])) L (fixed 1 (now count) same) refl refl (λ _. looked refl still)
 
 pub does-calls : Does
 unfolding Does

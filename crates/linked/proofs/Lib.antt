@@ -6,3 +6,4 @@ pub mod Linked
 pub mod Symlinks
 pub mod Starts
 pub mod Drawings
+pub mod Inventory

@@ -10,7 +10,7 @@ use Rattle.table.specs.declared.Table.{Table}
 use Rattle.table_bytes.specs.Layout.{tableOf, tableBytes}
 use Rattle.table_bytes.proofs.Layouts.{length-fits, tableOf-tableBytes}
 use Rattle.sequences.specs.Pairs.{Pair, pair, Passed}
-use Rattle.sequences.specs.Calls.{Call, root, find, walk, create, link, removeFile, removeFolder, move, metadata, setMetadata, getEntry, listing, read, write, resize, sync, close, check, Fits, does, reasonOf, next}
+use Rattle.sequences.specs.Calls.{Call, root, find, walk, create, link, removeFile, removeFolder, move, metadata, setMetadata, getEntry, listing, read, write, resize, sync, close, check, inventory, Fits, does, reasonOf, next}
 use Rattle.sequences.specs.Reasons.{reasonsOf, has}
 use Rattle.sequences.specs.Promises.{Along, Keeps}
 use Rattle.sequences.specs.Promises as along
@@ -41,6 +41,7 @@ not-in (resize w h n) = (λ z. z, λ z. z)
 not-in sync = (λ z. z, λ z. z)
 not-in (close w h) = (λ z. z, λ z. z)
 not-in check = (λ z. z, λ z. z)
+not-in (inventory room) = (λ z. z, λ z. z)
 
 pub zero-done : (c : Call) (p : Pair) → 0 ≡ reasonOf c p → does c p ≡ done (next c p)
 zero-done c p = by (does c p) (says-does c p)

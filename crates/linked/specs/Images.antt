@@ -14,12 +14,13 @@ use Rattle.sefs.specs.Create.{callCreate}
 use Rattle.sefs.specs.Read.{callMetadata, callEntry, callListing}
 use Rattle.sefs.specs.Contents.{callRead}
 use Rattle.walk.specs.Walk.{callWalk}
+use Rattle.inventory.specs.Inventory.{callInventory}
 use Rattle.fsck.specs.Verdicts.{verdictOf}
 use Rattle.edge_words.specs.Words.{handleWords, metadataWords}
 use Rattle.edge.specs.Edge.{lent, counted}
 use Rattle.owners_kept.specs.Owned.{Chained}
 use Rattle.sequences.specs.Pairs.{Pair, pair, Passed}
-use Rattle.sequences.specs.Calls.{Call, root, find, walk, create, link, removeFile, removeFolder, move, metadata, setMetadata, getEntry, listing, read, write, resize, sync, close, check, does}
+use Rattle.sequences.specs.Calls.{Call, root, find, walk, create, link, removeFile, removeFolder, move, metadata, setMetadata, getEntry, listing, read, write, resize, sync, close, check, inventory, does}
 
 -- a slice as a contract sees it; `now` is what it holds
 abbrev pub Slice : Type 0
@@ -104,6 +105,7 @@ handed (resize w h n) p x = x
 handed sync p x = x
 handed (close w h) p x = x
 handed check p x = lent (withWords x) x (counted (verdictOf (p .arena) (p .table)))
+handed (inventory room) p x = lent (λ l. places (length l ∷ []) (paste (x .output) 0 l) (x .links)) x (callInventory (p .arena) room)
 
 -- ---- the call c was made on s, with x lent for its results, and left u and y; n is its reason, 0 where it was done. On any bytes
 

@@ -4,3 +4,4 @@ pub mod Owning
 pub mod Linked
 pub mod Symlinks
 pub mod Drawings
+pub mod Inventory

@@ -30,7 +30,8 @@ use Rattle.edge_contents.proofs.dz_resize.Reads as dz-resize
 use Rattle.edge.proofs.dz_sync.Reads as dz-sync
 use Rattle.edge.proofs.dz_close.Reads as dz-close
 use Rattle.edge.proofs.dz_check.Reads as dz-check
-use Rattle.sequences.specs.Calls.{Call, root, find, walk, create, link, removeFile, removeFolder, move, metadata, setMetadata, getEntry, listing, read, write, resize, sync, close, check}
+use Rattle.edge.proofs.dz_inventory.Reads as dz-inventory
+use Rattle.sequences.specs.Calls.{Call, root, find, walk, create, link, removeFile, removeFolder, move, metadata, setMetadata, getEntry, listing, read, write, resize, sync, close, check, inventory}
 use Rattle.linked.specs.Images.{_&_, Slice, Image, image, Places, places, inWords, nowhere, reasonIn}
 
 -- a primed slice is the slice at exit; k are the chains, that the function is not lent
@@ -89,3 +90,7 @@ pub data Ran : Call → Image → Places → Image → Places → ℕ → Type 0
   checks : (κs : Lfts 3) (a t out out' : Slice) (n : ℕ) {k : List ℕ}
       → dz-check.Learnt κs (a & t & out & tt) n (a & t & out' & tt)
       → Ran check (image (now a) k (now t)) (inWords (now out)) (image (now a) k (now t)) (inWords (now out')) (reasonIn n)
+  -- which is not lent the table
+  inventories : (κs : Lfts 3) (a out out' count count' : Slice) (n : ℕ) {k t : List ℕ}
+      → dz-inventory.Learnt κs (a & out & count & tt) n (a & out' & count' & tt)
+      → Ran (inventory (length (now out))) (image (now a) k t) (places (now count) (now out) []) (image (now a) k t) (places (now count') (now out') []) n

@@ -20,8 +20,8 @@ use calls_write::write_row;
 use edge_ends::ends::end_after;
 use edge_ends::ends::end_listed;
 use edge_ends::ends::end_taken;
+use edge_words::LENGTH_WORDS;
 use edge_words::NEXT_WORDS;
-use edge_words::READ_WORDS;
 use edge_words::WRONG_SIZE;
 use edge_words::args::handle;
 use mem::MEMORY;
@@ -48,7 +48,7 @@ pub extern "C" fn dz_own_read(
     requires { ⌜ Owned (now arena) (now chains) (now table) ⌝ }
     ensures { λ r. ⌜ Answers (sized 1 (now (count .entry)) (callRead (now (arena .entry)) (tableOf (now (table .entry))) owner (handleOf hold stamp) place (length (now (out .entry))))) (readIn (now (out .entry))) (now (out .entry), now (count .entry)) (now (out .exit), now (count .exit)) r ⌝ }
 {
-    if count.len() != READ_WORDS {
+    if count.len() != LENGTH_WORDS {
         return WRONG_SIZE;
     }
     let mut mem = [0u8; MEMORY];

@@ -20,6 +20,7 @@ use Rattle.sefs.specs.Read.{callMetadata, callSet, callEntry, callListing}
 use Rattle.sefs.specs.Contents.{callRead, callWrite, callResize}
 use Rattle.sefs.specs.Close.{callSync, callClose}
 use Rattle.walk.specs.Walk.{callWalk}
+use Rattle.inventory.specs.Inventory.{callInventory}
 use Rattle.le.specs.Le.{Bytes}
 use Rattle.structs.specs.Fits.{TimeFits}
 use Rattle.calls.specs.Answers.{answerOf, answerNumber, gotNumber, toldOf, toldNumber, listedOf, listedNumber, takenOf, takenNumber, Lays, Replies}
@@ -35,7 +36,7 @@ use Rattle.calls_create.specs.Held.{ReturnedHeld}
 use Rattle.calls_format.specs.Format.{formatted}
 use Rattle.calls_find.specs.Finds.{Gives}
 use Rattle.sequences.specs.Pairs.{Pair, pair, Passed}
-use Rattle.sequences.specs.Calls.{Call, root, find, walk, create, link, removeFile, removeFolder, move, metadata, setMetadata, getEntry, listing, read, write, resize, sync, close, Fits, AskerFits, HandleFits, NewFits, SetFits, does, reasonOf, next}
+use Rattle.sequences.specs.Calls.{Call, root, find, walk, create, link, removeFile, removeFolder, move, metadata, setMetadata, getEntry, listing, read, write, resize, sync, close, inventory, Fits, AskerFits, HandleFits, NewFits, SetFits, does, reasonOf, next}
 use Rattle.sequences.specs.Promises.{Keeps, Well, Fresh}
 use Rattle.sequences.proofs.Sequences.{keeps}
 use Rattle.sequences.proofs.Fresh.{fresh}
@@ -223,6 +224,12 @@ module _ (p : Pair) (y : Passed p) where
   pub sync-keeps : (b : List ℕ) (r : answered.Reply) → Returned (p .table) (callSync (p .arena) (p .table)) (p .arena) b r → Stays b (r .table) (answerNumber (r .answer))
   unfolding does
   sync-keeps = by-return sync p (callSync (p .arena) (p .table)) (held sync tt) refl
+
+  pub inventory-keeps : (out now : List ℕ) → length out < 2 ^ 64 → (r : Taken) → Lays takenOf (callInventory (p .arena) (length out)) out now r → Stays (p .arena) (p .table) (takenNumber r)
+  unfolding does
+  inventory-keeps out now R r e =
+      subst (Stays (p .arena) (p .table)) (sym (ap takenNumber (e .0) ∙ taken-number (callInventory (p .arena) (length out))))
+      (by-none (inventory (length out)) p (callInventory (p .arena) (length out)) (held (inventory (length out)) R) refl)
 
 unfoldable pub isDone : Answer → Bool
 isDone answers.Done = true

@@ -165,3 +165,13 @@ pub fn check(arena: &[u8], mem: &mut [u8], answer: &mut [u8]) -> u8
         Verdict::Fail(rule) => rule,
     }
 }
+
+// ---- inventory
+
+pub fn inventory(command: &[u8], arena: &[u8], answer: &mut [u8]) -> u8
+    requires { ⌜ (length (now command) ≡ 8218) × (length (now answer) ≡ 8320) ⌝ }
+{
+    let n = length_at(command, 1, 8192);
+    let t = calls_inventory::inventory(arena, &mut answer[0..n]);
+    say_taken(answer, t)
+}

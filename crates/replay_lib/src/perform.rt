@@ -7,6 +7,7 @@ use mem::MEMORY;
 use replay_calls::change;
 use replay_calls::make;
 use replay_calls::reads::check;
+use replay_calls::reads::inventory;
 use replay_calls::reads::look;
 use replay_calls::reads::reach;
 use script::COMMAND;
@@ -30,6 +31,7 @@ fn do_call(command: &[u8], arena: &mut [u8], mem: &mut [u8], answer: &mut [u8]) 
         18 | 19 | 35 => reach(command, &arena[..], mem, answer),
         24 | 26 | 27 | 32 => look(command, &arena[..], &mem[..], answer),
         30 => check(&arena[..], mem, answer),
+        38 => inventory(command, &arena[..], answer),
         _ => change(command, arena, mem),
     }
 }

@@ -114,6 +114,7 @@ pub fn size_of(rest: &[u8], limit: usize) -> usize
         27 => with_output(rest, 23),
         33 => named(rest, 22, 8192, 0),
         35 => path_output(rest),
+        38 => with_output(rest, 1),
         c => whole(rest, fixed(c)),
     }
 }

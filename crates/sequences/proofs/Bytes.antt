@@ -40,6 +40,7 @@ use Rattle.sefs.specs.Folders.{entry}
 use Rattle.sefs.specs.Ask.{start}
 use Rattle.sefs.specs.Create.{Given, createSteps}
 use Rattle.sefs.specs.Read.{callMetadata, callEntry, callListing}
+use Rattle.inventory.specs.Inventory.{callInventory}
 use Rattle.sefs.specs.Contents.{callRead}
 use Rattle.rules.specs.Image.{isNode, storedBytes, recBy, recOf}
 use Rattle.rules.specs.Rules.{Allowed}
@@ -56,7 +57,7 @@ use Rattle.image.proofs.Appends.{file-apart}
 use Rattle.image.proofs.Allocs.{taken-new}
 use Rattle.image.proofs.Makes.{Makes, new-node-law}
 use Rattle.sequences.specs.Pairs.{Pair, Passed}
-use Rattle.sequences.specs.Calls.{Call, root, find, walk, create, link, removeFile, removeFolder, move, metadata, setMetadata, getEntry, listing, read, write, resize, sync, close, check, NewFits, Fits, does, next}
+use Rattle.sequences.specs.Calls.{Call, root, find, walk, create, link, removeFile, removeFolder, move, metadata, setMetadata, getEntry, listing, read, write, resize, sync, close, check, inventory, NewFits, Fits, does, next}
 use Rattle.sequences.specs.Promises.{Through, writes, resizes}
 use Rattle.sequences.proofs.Passing.{allowed, spelled-any}
 use Rattle.sequences.proofs.Tables.{FillsFolders, Turns, keeps-create, keeps-root, keeps-find, keeps-walk, keeps-set, keeps-link, keeps-remove, keeps-write, keeps-resize, keeps-sync, keeps-close}
@@ -358,6 +359,7 @@ module _ (p : Pair) (y : Passed p) where
     leaves (close w g) x z =
         ok-bind (keeps-close I (intact-bears f) a t w g (λ i l. (intact-start f .0, nodes-rows a t (closeHold t (g .hold) .table) (close-rows t (g .hold)) nodes-start))) λ x l. went l
     leaves check x z = went (intact-start f)
+    leaves (inventory room) x z = ok-bind (any (callInventory a room)) λ x _. went (intact-start f)
 
     -- afterwards
     pub left : (c : Call) → Fits c → (Through n (p .table) c → ⊥) → Intact p (recOf (p .arena) (p .table) n .file) (next c p .arena) (next c p .table)

@@ -298,6 +298,11 @@ impl Replay {
                 let answer = self.by(who).remove_folder(h, name);
                 self.line("remove-folder", done(answer));
             }
+            38 => {
+                let (room, mut out) = (s.room()?, [238; OUT]);
+                let answer = said(self.image.inventory_into(&mut out[..room]), |n| n.to_string());
+                self.line("inventory", format!("{answer} o {}", sum(&out)));
+            }
             _ => return Err(BadScript),
         }
         Ok(())

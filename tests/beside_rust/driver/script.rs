@@ -43,15 +43,17 @@ pub enum Call {
     Walk(Handle, Vec<u8>, u16),
     RemoveFile(Handle, Vec<u8>),
     RemoveFolder(Handle, Vec<u8>),
+    /// Length of the output.
+    Inventory(u16),
 }
 
-pub const KINDS: usize = 20;
+pub const KINDS: usize = 21;
 #[rustfmt::skip]
 pub const NAMES: [&str; KINDS] =
     ["format", "open", "root", "find", "create", "link", "move", "metadata", "set", "entry", "list", "sync", "close", "check",
-     "read", "write", "resize", "walk", "remove-file", "remove-folder"];
+     "read", "write", "resize", "walk", "remove-file", "remove-folder", "inventory"];
 /// The commands' bytes: from 32 on those that document 02 adds; 22 was unlink.
-const BYTES: [u8; KINDS] = [16, 17, 18, 19, 20, 21, 23, 24, 25, 26, 27, 28, 29, 30, 32, 33, 34, 35, 36, 37];
+const BYTES: [u8; KINDS] = [16, 17, 18, 19, 20, 21, 23, 24, 25, 26, 27, 28, 29, 30, 32, 33, 34, 35, 36, 37, 38];
 
 impl Call {
     /// Its place among the names.
@@ -77,12 +79,13 @@ impl Call {
             Call::Walk(..) => 17,
             Call::RemoveFile(..) => 18,
             Call::RemoveFolder(..) => 19,
+            Call::Inventory(_) => 20,
         }
     }
 
     /// Whether it says who asks.
     pub fn asks(&self) -> bool {
-        !matches!(self, Call::Format(..) | Call::Open | Call::Sync | Call::Check)
+        !matches!(self, Call::Format(..) | Call::Open | Call::Sync | Call::Check | Call::Inventory(_))
     }
 
     fn byte(&self) -> u8 {
@@ -196,6 +199,7 @@ impl Call {
                 put_name(out, path);
                 out.extend(room.to_le_bytes());
             }
+            Call::Inventory(room) => out.extend(room.to_le_bytes()),
             Call::Open | Call::Root | Call::Sync | Call::Check => (),
         }
     }
@@ -272,7 +276,7 @@ impl Script<'_> {
             2 => Command::Zeros(self.arena_length()?),
             3 => Command::Poke(self.u32()? as usize, self.bytes(1)?[0]),
             4 => Command::Table(self.bytes(TABLE)?.to_vec()),
-            16 | 17 | 28 | 30 => Command::Call(0, self.call(byte)?),
+            16 | 17 | 28 | 30 | 38 => Command::Call(0, self.call(byte)?),
             _ => Command::Call(self.bytes(1)?[0], self.call(byte)?),
         })
     }
@@ -299,6 +303,7 @@ impl Script<'_> {
             35 => Call::Walk(self.handle()?, self.data()?, self.room()?),
             36 => Call::RemoveFile(self.handle()?, self.name()?),
             37 => Call::RemoveFolder(self.handle()?, self.name()?),
+            38 => Call::Inventory(self.room()?),
             _ => return None,
         })
     }

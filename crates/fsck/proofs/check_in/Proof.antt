@@ -44,22 +44,22 @@ returns-2 c =
     let s = r .before .before .before .before .before in
     sym (verdict-table (s .args .arena .now) (tableIn (s .args .mem .now)) (s .pre .0 .0) (sym (r .sound-in .ensures .0) ∙ not-false _ (e1 .if1 .left)) (sym (c .before .well-formed .ensures) ∙ not-true _ (c .if2 .taken)))
 
-slice-aggregate-judge-meta : tie.Need-slice-aggregate-judge-meta
-slice-aggregate-judge-meta c =
+slice-aggregate-check-led : tie.Need-slice-aggregate-check-led
+slice-aggregate-check-led c =
     let r = c .before .before .before .before .before .before .before .before in
     sym (length-firsts (r .sound-in .last .1 .0) (r .sound-in .kept .1 .0 ∙ r .before .before .before .before .before .pre .0 .1 .0))
 
-sub-judge-meta : tie.Need-sub-judge-meta
-sub-judge-meta c = search needs
+sub-check-led : tie.Need-sub-check-led
+sub-check-led c = search needs
 
-part-judge-meta-start : tie.Need-part-judge-meta-start
-part-judge-meta-start c = search needs
+part-check-led-start : tie.Need-part-check-led-start
+part-check-led-start c = search needs
 
-part-judge-meta-end : tie.Need-part-judge-meta-end
-part-judge-meta-end c = search needs
+part-check-led-end : tie.Need-part-check-led-end
+part-check-led-end c = search needs
 
-judge-meta-requires : tie.Need-judge-meta-requires
-judge-meta-requires c κs =
+check-led-requires : tie.Need-check-led-requires
+check-led-requires c κs =
     let e1 = c .before .before .before .before .before .before .before in
     let r = e1 .before .before .before in
     let s = r .before .before .before .before .before in
@@ -90,7 +90,7 @@ returns-3 c =
     let e1 = e2 .before .before .before in
     let r = e1 .before .before .before in
     let s = r .before .before .before .before .before in
-    c .before .before .judge-meta .ensures ∙ sym (verdict-on (s .args .arena .now) (tableIn (s .args .mem .now)) (s .pre .0 .0) (sym (r .sound-in .ensures .0) ∙ not-false _ (e1 .if1 .left)) (sym (e2 .before .well-formed .ensures) ∙ not-false _ (e2 .if2 .left)))
+    c .before .before .check-led .ensures ∙ sym (verdict-on (s .args .arena .now) (tableIn (s .args .mem .now)) (s .pre .0 .0) (sym (r .sound-in .ensures .0) ∙ not-false _ (e1 .if1 .left)) (sym (e2 .before .well-formed .ensures) ∙ not-false _ (e2 .if2 .left)))
 
 pub check-in-spec : {M : Type 1} → statement M
 check-in-spec =
@@ -103,11 +103,11 @@ check-in-spec =
     same-length-2
     same-length-3
     returns-2
-    slice-aggregate-judge-meta
-    sub-judge-meta
-    part-judge-meta-start
-    part-judge-meta-end
-    judge-meta-requires
+    slice-aggregate-check-led
+    sub-check-led
+    part-check-led-start
+    part-check-led-end
+    check-led-requires
     same-length-4
     same-length-5
     returns-3)

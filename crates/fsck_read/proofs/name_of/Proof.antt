@@ -1,9 +1,9 @@
--- `fsck_slots::name_of`: a name ends within its 256 bytes.
+-- `fsck_read::name_of`: a name ends within its 256 bytes.
 use native.Mathlib.Omega.{arith}
-use Rattle.fsck_slots.proofs.Names.{zero-most, name-is}
+use Rattle.fsck_read.proofs.Names.{zero-most, name-is}
 use borrow.Author.Needs.{needs}
-use Rattle.fsck_slots.proofs.name_of.Statement.{statement}
-use Rattle.fsck_slots.proofs.name_of.Tie as tie
+use Rattle.fsck_read.proofs.name_of.Statement.{statement}
+use Rattle.fsck_read.proofs.name_of.Tie as tie
 
 sub-first-zero : tie.Need-sub-first-zero
 sub-first-zero c = search needs

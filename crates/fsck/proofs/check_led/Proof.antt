@@ -1,4 +1,4 @@
--- `fsck::judge_meta`: rules 3 and 4, then the rest; rule 3 leaves superblock and maps in memory, and the table as it was.
+-- `fsck::check_led`: rules 3 and 4, then the rest; rule 3 leaves superblock and maps in memory, and the table as it was.
 use mathlib.Core.Path.{sym, _∙_, ap}
 use borrow.Author.Tests.{not-true, not-false}
 use Rattle.table.specs.declared.Table.{Table}
@@ -7,8 +7,8 @@ use Rattle.rules.specs.Tests.{test4}
 use Rattle.fsck.specs.Verdicts.{filesVerdict}
 use Rattle.fsck.proofs.Verdicts.{meta-three, meta-four, meta-on}
 use borrow.Author.Needs.{needs}
-use Rattle.fsck.proofs.judge_meta.Statement.{statement}
-use Rattle.fsck.proofs.judge_meta.Tie as tie
+use Rattle.fsck.proofs.check_led.Statement.{statement}
+use Rattle.fsck.proofs.check_led.Tie as tie
 
 rule3-requires : tie.Need-rule3-requires
 rule3-requires c κs = search needs
@@ -42,8 +42,8 @@ returns-3 : tie.Need-returns-3
 returns-3 c =
     c .judge-files .ensures ∙ ap (λ (u : Table). filesVerdict (c .before .before .before .before .before .before .before .before .before .before .before .before .before .before .args .arena .now) u) ((c .before .before .before .before .before .before .before .before .rule3 .ensures .1 (not-false _ (c .before .before .before .before .before .if1 .left))) .1) ∙ sym (meta-on (c .before .before .before .before .before .before .before .before .before .before .before .before .before .before .args .arena .now) (tableIn (c .before .before .before .before .before .before .before .before .before .before .before .before .before .before .args .mem .now)) (sym (c .before .before .before .before .before .before .before .before .rule3 .ensures .0) ∙ not-false _ (c .before .before .before .before .before .if1 .left)) (ap (λ (u : Table). test4 (c .before .before .before .before .before .before .before .before .before .before .before .before .before .before .args .arena .now) u) (sym ((c .before .before .before .before .before .before .before .before .rule3 .ensures .1 (not-false _ (c .before .before .before .before .before .if1 .left))) .1)) ∙ sym (c .before .before .before .rule4 .ensures) ∙ not-false _ (c .before .before .if2 .left)))
 
-pub judge-meta-spec : {M : Type 1} → statement M
-judge-meta-spec =
+pub check-led-spec : {M : Type 1} → statement M
+check-led-spec =
     tie.close
     (tie.spec
     rule3-requires

@@ -1,0 +1,16 @@
+pub mod Numbers
+pub mod Escapes
+pub mod Calls
+pub mod Levels
+pub mod Orders
+pub mod Once
+pub mod Due
+pub mod Delivers
+pub mod Readings
+pub mod Prints
+pub mod Counts
+pub mod Fresh
+pub mod Paths
+pub mod Lists
+pub mod Steps
+pub mod Example
