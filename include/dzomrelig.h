@@ -1,4 +1,4 @@
-/* Dzomrelig at the C edge: the twenty-one calls of documents 01 and 02, proved (crates/edge, crates/edge_contents), and those for owners (crates/owners, crates/owners_contents). Plain C11, usable from C++.
+/* Dzomrelig at the C edge: the twenty-two calls of documents 01 and 02, proved (crates/edge, crates/edge_contents), and those for owners (crates/owners, crates/owners_contents). Plain C11, usable from C++.
  *
  * How the calls take and give things:
  * - Arena, table, names and output are a pointer and a length. No pointer is null, and a slice that a call may change overlaps no other.
@@ -65,12 +65,13 @@ extern "C" {
 #define DZ_TOO_MANY_LINKS 15  /* a link count of 65,535 would rise */
 #define DZ_TABLE_FULL 16      /* 8 live holds of this owner, or no stamp is left */
 #define DZ_NO_DEVICE_SPACE 17 /* no free id, or no free block */
-#define DZ_WRONG_FS 18        /* no image of this file system; in dz_inventory: the checker fails the stored image */
+#define DZ_WRONG_FS 18        /* no image of this file system; in dz_inventory: the checker fails the stored image; in dz_mend: it can't be mended */
 #define DZ_STUCK 19           /* the Rust would fail an assertion here */
 #define DZ_OUT_FULL 20        /* a slot remains, and the output has no room for one; a target does not fit the link buffer, or the inventory the output */
 #define DZ_NOT_FILE 21        /* a folder, where contents are asked for */
 #define DZ_FILE_TOO_BIG 22    /* a write or resize would end past DZ_FILE_LONGEST */
 #define DZ_SYM_LOOP 23        /* a walk meets its ninth symlink */
+#define DZ_IN_USE 24          /* to mend, no hold may be live */
 #define DZ_WRONG_SIZE 255     /* a slice of a fixed size has another */
 
 static inline const char *dz_reason_name(uint32_t reason)
@@ -100,6 +101,7 @@ static inline const char *dz_reason_name(uint32_t reason)
     case DZ_NOT_FILE: return "NotFile";
     case DZ_FILE_TOO_BIG: return "FileTooBig";
     case DZ_SYM_LOOP: return "SymLoop";
+    case DZ_IN_USE: return "InUse";
     case DZ_WRONG_SIZE: return "WrongSize";
     default: return "unknown";
     }
@@ -164,6 +166,15 @@ uint32_t dz_check(const uint8_t *arena, size_t arena_len, const uint8_t *table, 
  * No table goes in: what is listed is what is stored. A removed node that is still open, or a size that only the table has, is WrongFs: close and sync first.
  * Changes: out, *length. Reasons: BadArena, Damaged, WrongFs (rules 3 to 8 fail with no node open), OutFull (the text does not fit). */
 uint32_t dz_inventory(const uint8_t *arena, size_t arena_len, uint8_t *out, size_t out_len, uint64_t *length, size_t words);
+
+/* The mender, for what a host that went down has left: holds are gone, and with them what stood in the table alone. Call it with a table that has no hold, as dz_open
+ * leaves it. Each node but root that no name leads to goes, with its file; link counts are set from the names, and the sizes of what is no folder from
+ * the files. Afterwards the checker passes, every name leads to the node that it led to, no other byte of a file has changed, and a second time
+ * changes nothing. Modes, owners and times that were not stored are lost. An arena that passes with no node open is left as it is. The table stays.
+ * WrongFs: rules 3 to 5, or rule 6 but for sizes, fail with no node open; or a folder's place: no name leads to root, whose `..` is root; to each
+ * other folder one, its `..` is the folder of that name, and that way leads up to root; or none, and it is empty.
+ * Changes: arena. Reasons: BadArena, Damaged, BadTable, InUse, WrongFs, NoDeviceSpace (only where an image from elsewhere lacks a block for a record). */
+uint32_t dz_mend(uint8_t *arena, size_t arena_len, const uint8_t *table, size_t table_len);
 
 /* ---- holds */
 
@@ -280,10 +291,11 @@ uint32_t dz_list(const uint8_t *arena, size_t arena_len, const uint8_t *table, s
  * calls keep. dz_own_chains fills them first.
  *
  * What the owner of an image promises, at each of these calls:
- * - Nobody else writes arena, chains and table: since the check passed (dz_check gave 0), or since dz_format was done, only calls of this section did.
- * - No dz_format and no dz_open came in between. (After dz_open, dz_check and dz_own_chains make one again; after a dz_format that is done
- *   dz_own_chains alone does.)
- * Who keeps that may always make the next call (theorems FormatFresh, CheckTrusts, ChainsOwn and OwnKeeps, crates/linked). A call whose promise
+ * - Nobody else writes arena, chains and table: since the check passed (dz_check gave 0), or since dz_format or dz_mend was done, only calls of this
+ *   section did.
+ * - No dz_format, dz_open and dz_mend came in between. (After dz_open, dz_check and dz_own_chains make one again; after a dz_format or dz_mend that is
+ *   done dz_own_chains alone does.)
+ * Who keeps that may always make the next call (theorems FormatFresh, CheckTrusts, MendTrusts, ChainsOwn and OwnKeeps, crates/linked). A call whose promise
  * is broken may do anything: use the calls above for an arena from elsewhere. The chains are no result: a call that is refused may make them anew. */
 
 #define DZ_CHAINS 8192

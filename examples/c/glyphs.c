@@ -1,4 +1,4 @@
-// A font's image in a file: a folder with two glyphs, one drawn; listed, checked, and its inventory printed. glyphs IMAGE.
+// A font's image in a file: a folder with two glyphs, one drawn; listed, checked, its inventory printed, and mended after a host went down. glyphs IMAGE.
 #include <stdio.h>
 #include <stdlib.h>
 #include <string.h>
@@ -84,6 +84,18 @@ int main(int n, char **words)
     uint64_t length = 0;
     must("inventory", dz_inventory(arena, sizeof arena, text, sizeof text, &length, DZ_LENGTH_WORDS));
     printf("%.*s", (int)length, (const char *)text);
+
+    // a host goes down while a glyph is open that was removed. The next one has the arena alone: it opens and mends it
+    must("root", dz_root(arena, sizeof arena, table, DZ_TABLE, ANNA, dz_handle_words(&root), DZ_HANDLE_WORDS));
+    create(root, "draft", DZ_FILE);
+    must("remove", dz_remove_file(arena, sizeof arena, table, DZ_TABLE, ANNA, (uint32_t)root.hold, root.stamp, (const uint8_t *)"draft", 5));
+    printf("with open handles: %s\n", dz_reason_name(dz_mend(arena, sizeof arena, table, DZ_TABLE)));
+    must("open", dz_open(arena, sizeof arena, table, DZ_TABLE));
+    printf("after it: rule %u fails\n", (unsigned)dz_check(arena, sizeof arena, table, DZ_TABLE, dz_counts_words(&counts), DZ_COUNTS_WORDS));
+    must("mend", dz_mend(arena, sizeof arena, table, DZ_TABLE));
+    rule = dz_check(arena, sizeof arena, table, DZ_TABLE, dz_counts_words(&counts), DZ_COUNTS_WORDS);
+    if (rule) return fprintf(stderr, "check: rule %u fails\n", (unsigned)rule), 1;
+    printf("mended: %u nodes, %u blocks free\n", (unsigned)counts.nodes, (unsigned)counts.free);
 
     FILE *file = n > 1 ? fopen(words[1], "wb") : NULL;
     if (!file || fwrite(arena, 1, sizeof arena, file) != sizeof arena || fclose(file)) return perror("glyphs IMAGE"), 1;

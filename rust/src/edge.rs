@@ -7,9 +7,9 @@
 //! Every call that takes or makes a handle says who asks, by a number that the call itself judges.
 //!
 //! The calls for owners of an image (`dz_own_`) leave the tests of arena and table out, and ask for more: that both would pass them, and that the chains are the
-//! arena's (`Owned` of crates/owners_kept). A pair has chains where that is so, and only then are these calls made. It gets them where a format or a check
-//! of it gave 0, and then the making of the chains (theorems `FormatFresh`, `CheckTrusts` and `ChainsOwn`, crate `linked`). Each of these calls leaves a
-//! pair that passes again, and chains that are right (`OwnKeeps`, crate `linked`). Open, which is none of them, takes the chains away.
+//! arena's (`Owned` of crates/owners_kept). A pair has chains where that is so, and only then are these calls made. It gets them where a format, a check or a
+//! mending of it gave 0, and then the making of the chains (theorems `FormatFresh`, `CheckTrusts`, `MendTrusts` and `ChainsOwn`, crate `linked`). Each of these
+//! calls leaves a pair that passes again, and chains that are right (`OwnKeeps`, crate `linked`). Open, which is none of them, takes the chains away.
 #![allow(unsafe_code)]
 use alloc::boxed::Box;
 use alloc::vec::Vec;
@@ -24,6 +24,7 @@ extern "C" {
     fn dz_sync(a: *mut u8, al: usize, t: *mut u8, tl: usize) -> u32;
     fn dz_check(a: *const u8, al: usize, t: *const u8, tl: usize, counts: *mut u64, words: usize) -> u32;
     fn dz_inventory(a: *const u8, al: usize, out: *mut u8, ol: usize, length: *mut u64, words: usize) -> u32;
+    fn dz_mend(a: *mut u8, al: usize, t: *const u8, tl: usize) -> u32;
     fn dz_root(a: *const u8, al: usize, t: *mut u8, tl: usize, who: u8, handle: *mut u64, words: usize) -> u32;
     fn dz_find(a: *const u8, al: usize, t: *mut u8, tl: usize, who: u8, hold: u32, stamp: u64, name: *const u8, nl: usize, handle: *mut u64, words: usize) -> u32;
     fn dz_walk(a: *const u8, al: usize, t: *mut u8, tl: usize, who: u8, hold: u32, stamp: u64, path: *const u8, pl: usize, links: *mut u8, ll: usize,
@@ -196,6 +197,13 @@ impl Pair {
         let n = unsafe { dz_inventory(a.as_ptr(), a.len(), out.as_mut_ptr(), out.len(), w.as_mut_ptr(), w.len()) };
         let [length] = w;
         answer(n).map(|()| length)
+    }
+
+    /// Where it is done the pair passes, and the calls for owners are made from now on. A refusal changes nothing, so chains that are there stay right.
+    pub(crate) fn mend(&mut self) -> Result<(), Reason> {
+        let (a, t) = (&mut self.arena, &self.table);
+        let n = unsafe { dz_mend(a.as_mut_ptr(), a.len(), t.as_ptr(), t.len()) };
+        answer(n).map(|()| self.own())
     }
 
     /// Where the check passes, the calls for owners are made from now on.

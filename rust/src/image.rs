@@ -16,8 +16,8 @@ use crate::{Counts, Editor, FailedRule, FileName, Owner, Reason, Time, Unfit, BL
 ///
 /// # Tested once, or in each call
 ///
-/// An image that was just [formatted](Image::format) passes the checker, and so does one that was [checked](Image::checked). Only the calls here write it,
-/// and these leave an image that passes again: that is proved (`FormatFresh`, `CheckTrusts` and `OwnKeeps`, crate `linked`). So its calls leave the test of the whole image out,
+/// An image that was just [formatted](Image::format) passes the checker, and so does one that was [checked](Image::checked) or [mended](Image::mend). Only the calls here write it,
+/// and these leave an image that passes again: that is proved (`FormatFresh`, `CheckTrusts`, `MendTrusts` and `OwnKeeps`, crate `linked`). So its calls leave the test of the whole image out,
 /// which is nearly all of their time, and give none of the reasons that it could find ([`is_trusted`](Image::is_trusted)). With any other image each call
 /// makes that test first. An image that is [reopened](Image::reopen) becomes such a one; [`trust`](Image::trust) asks the checker again.
 ///
@@ -62,6 +62,44 @@ impl Image {
         Ok(image)
     }
 
+    /// Opens an image from its bytes, and [mends](Image::mend) what a host that went down has left. No handle is live.
+    ///
+    /// An image that the checker passes is opened as it is: of that the mender changes no byte. What is mended is in memory: keep its
+    /// [`bytes`](Image::bytes). Where it is refused the bytes are gone: lend a slice to keep them.
+    ///
+    /// Reasons: as [`untrusted`](Image::untrusted); then as [`mend`](Image::mend), but for `InUse`.
+    ///
+    /// ```
+    /// use dzomrelig::{FileName, Image, NewKind, Owner, Time};
+    ///
+    /// # fn main() -> Result<(), dzomrelig::Reason> {
+    /// let now = Time::new(1_700_000_000, 0);
+    /// let mut image = Image::format(64, now, FileName([0; 16]))?;
+    /// let mut anna = image.editor(Owner::One);
+    /// let root = anna.root()?;
+    /// let a = anna.create(root, "A", NewKind::File, 0o644, now, FileName([1; 16]))?;
+    /// anna.write_at(a, 0, "M0 0 L5 9 L9 0")?;
+    /// let b = anna.create(root, "B", NewKind::File, 0o644, now, FileName([2; 16]))?;
+    /// anna.remove_file(root, "B")?; // it is still open
+    ///
+    /// // here the host goes down: nothing was closed or synced
+    /// let bytes = image.into_bytes();
+    /// assert!(Image::checked(&*bytes).is_err());
+    /// let mut image = Image::recovered(bytes)?;
+    /// assert_eq!(image.inventory()?, b"3 1 1 /A\n");
+    /// let mut anna = image.editor(Owner::One);
+    /// let root = anna.root()?;
+    /// let a = anna.find(root, "A")?;
+    /// assert_eq!(anna.read_to_vec(a)?, b"M0 0 L5 9 L9 0");
+    /// # Ok(())
+    /// # }
+    /// ```
+    pub fn recovered(bytes: impl Into<Vec<u8>>) -> Result<Image, Reason> {
+        let mut image = Image::untrusted(bytes)?;
+        image.mend()?;
+        Ok(image)
+    }
+
     /// Opens an image from its bytes, whatever the checker says of it. No handle is live.
     ///
     /// The calls are safe on every image: where what is stored does not fit together, they say [`Reason::Stuck`]. Where it is refused the bytes are
@@ -92,7 +130,8 @@ impl Image {
 
     /// The image's bytes; its handles are gone. As with [`bytes`](Image::bytes), [`sync`](Image::sync) first.
     ///
-    /// A node that was removed and is still open stays used in the bytes, and the checker's rule 7 fails there: [`close`](Editor::close) it first.
+    /// A node that was removed and is still open stays used in the bytes, and the checker's rule 7 fails there: [`close`](Editor::close) it first, or have it
+    /// [mended](Image::recovered) later.
     pub fn into_bytes(self) -> Vec<u8> {
         let (arena, _) = self.pair.into_parts();
         arena
@@ -110,7 +149,8 @@ impl Image {
         self.pair.format(time, file)
     }
 
-    /// Opens the image again, as a host does that went down: every handle is gone, and what stood in the table only is lost.
+    /// Opens the image again, as a host does that went down: every handle is gone, and what stood in the table only is lost. [`mend`](Image::mend) then
+    /// makes an image of it that passes.
     ///
     /// Reasons: `BadArena`, `Damaged`, `WrongFs`; `Stuck`.
     pub fn reopen(&mut self) -> Result<(), Reason> {
@@ -183,6 +223,21 @@ impl Image {
     pub fn inventory_into(&self, out: &mut [u8]) -> Result<usize, Reason> {
         // no longer than the output
         self.pair.inventory(out).map(|length| length as usize)
+    }
+
+    /// Mends what a host that went down has left, where no handle is live. Then the checker passes, and the calls from now on leave the test of the image out.
+    ///
+    /// A node that no name leads to goes, with its file: it was removed while it was open. Link counts are set from the names, and the sizes of all but folders
+    /// from the files. Every name leads to the node that it led to, and no byte of its file has changed; modes, owners and times that were not stored are lost. A second time nothing
+    /// changes, nor does anything the first time where the image passes with no node open.
+    ///
+    /// After calls on an image that was formatted by this library it is always done, wherever between two of them the host went down.
+    ///
+    /// Reasons: `InUse` (a handle is live, whoever's), `WrongFs` (more is wrong than a host leaves: rules 3 to 5, or 6 but for sizes, fail with no node open; a
+    /// name leads to the root, or two to one folder; a folder's `..` is not the folder that names it, or does not lead up to the root; or no name leads to a folder that is not empty),
+    /// `NoDeviceSpace` (an image from elsewhere lacks a block for a record, and none is free).
+    pub fn mend(&mut self) -> Result<(), Reason> {
+        self.pair.mend()
     }
 
     /// Asks the checker; where image and table pass, the calls from now on leave the test of the image out.

@@ -4,7 +4,7 @@ use core::fmt;
 
 /// Why a call was refused. A call that is refused has changed nothing, but for the link buffer of [`Editor::walk`](crate::Editor::walk).
 ///
-/// Where more than one reason holds, each call says in which order it gives them. The number, 1 to 23, is the same at every edge of the library.
+/// Where more than one reason holds, each call says in which order it gives them. The number, 1 to 24, is the same at every edge of the library.
 #[derive(Clone, Copy, PartialEq, Eq, Hash, Debug)]
 #[non_exhaustive]
 pub enum Reason {
@@ -42,7 +42,8 @@ pub enum Reason {
     TableFull,
     /// 17: no free node number, or no free block.
     NoDeviceSpace,
-    /// 18: no image of this file system; or, from [`Image::inventory`](crate::Image::inventory), the checker fails what is stored.
+    /// 18: no image of this file system; or, from [`Image::inventory`](crate::Image::inventory), the checker fails what is stored, and from
+    /// [`Image::mend`](crate::Image::mend), it can't be mended.
     WrongFs,
     /// 19: what is stored does not fit together, and the call can't go on.
     Stuck,
@@ -54,18 +55,24 @@ pub enum Reason {
     FileTooBig,
     /// 23: a walk meets its ninth symlink.
     SymLoop,
+    /// 24: a handle is live, whoever's, where none may be to mend.
+    InUse,
     /// A number that no call gives.
     Unknown(u32),
 }
 
 /// The reasons in the order of their numbers, with name and meaning.
-const REASONS: [(Reason, &str, &str); 23] = [
+const REASONS: [(Reason, &str, &str); 24] = [
     (Reason::BadArena, "BadArena", "the image's length is not 16 to 4,096 whole blocks"),
     (Reason::Damaged, "Damaged", "the image is not sound"),
     (Reason::BadTable, "BadTable", "the table of open nodes is not well formed"),
     (Reason::BadHandle, "BadHandle", "not a live hold with that stamp, or another owner's"),
     (Reason::BadName, "BadName", "a name has a zero byte inside, is not UTF-8, or is new and has a slash; or a path has an empty part"),
-    (Reason::InvalidParam, "InvalidParam", "an owner that is not 1 to 4, a new node that is no file, folder or symlink, or a folder into itself or below"),
+    (
+        Reason::InvalidParam,
+        "InvalidParam",
+        "an owner that is not 1 to 4, a new node that is no file, folder or symlink, or a folder into itself or below",
+    ),
     (Reason::NotDir, "NotDir", "not a folder"),
     (Reason::DirRemoved, "DirRemoved", "the folder has no links left"),
     (Reason::IsDir, "IsDir", "a folder, where none may be"),
@@ -77,12 +84,13 @@ const REASONS: [(Reason, &str, &str); 23] = [
     (Reason::TooManyLinks, "TooManyLinks", "a link count of 65,535 would rise"),
     (Reason::TableFull, "TableFull", "8 handles of this owner are live, or no stamp is left"),
     (Reason::NoDeviceSpace, "NoDeviceSpace", "no free node number, or no free block"),
-    (Reason::WrongFs, "WrongFs", "no image of this file system; or an inventory is asked for, and the checker fails what is stored"),
+    (Reason::WrongFs, "WrongFs", "no image of this file system; or what is stored fails the checker, for an inventory, or can't be mended"),
     (Reason::Stuck, "Stuck", "what is stored does not fit together, and the call can't go on"),
     (Reason::OutFull, "OutFull", "a slot remains, and the output has no room for one; or a target or an inventory does not fit"),
     (Reason::NotFile, "NotFile", "a folder, where contents are asked for"),
     (Reason::FileTooBig, "FileTooBig", "a write or resize would end past 4,294,967,295 bytes"),
     (Reason::SymLoop, "SymLoop", "a walk meets its ninth symlink"),
+    (Reason::InUse, "InUse", "a handle is live, and to mend none may be"),
 ];
 
 impl Reason {
@@ -91,7 +99,7 @@ impl Reason {
         REASONS.iter().map(|&(reason, ..)| reason)
     }
 
-    /// The reason's number: 1 to 23, or the number that no call gives.
+    /// The reason's number: 1 to 24, or the number that no call gives.
     pub fn number(self) -> u32 {
         match self {
             Reason::Unknown(number) => number,

@@ -83,7 +83,7 @@ fn as_rust(parameter: &str) -> &'static str {
 #[test]
 fn functions() {
     let declared: Vec<_> = HEADER.lines().filter_map(|l| l.strip_prefix("uint32_t dz_")).map(|l| l.split('(').next().unwrap()).collect();
-    assert_eq!(declared.len(), 21 + 18);
+    assert_eq!(declared.len(), 22 + 18);
     for name in declared {
         let theirs: Vec<_> = parameters(HEADER, &format!("\nuint32_t dz_{name}(")).into_iter().map(as_rust).collect();
         let ours: Vec<_> = parameters(EDGE, &format!("fn dz_{name}(")).into_iter().map(|p| p.split_once(": ").unwrap().1).collect();

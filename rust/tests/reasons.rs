@@ -11,9 +11,10 @@ use dzomrelig::{
 type Call = fn(&mut Mine, Handle, &[u8]) -> Option<Reason>;
 
 /// The calls that take a table: those with no handle, those with one (of any node, with contents, of a folder), and those with a name beside it.
-const CALLS: [Call; 21] = [
+const CALLS: [Call; 22] = [
     |i, _, _| i.root().err(),
     |i, _, _| i.sync().err(),
+    |i, _, _| i.mend().err(),
     |i, h, _| i.metadata(h).err(),
     |i, h, _| i.set_metadata(h, &Attributes::default()).err(),
     |i, h, _| i.close(h).err(),
@@ -34,10 +35,10 @@ const CALLS: [Call; 21] = [
     |i, h, name| i.rename(h, name, h, "b").err(),
     |i, h, name| i.rename(h, "b", h, name).err(),
 ];
-const HANDLES: usize = 2;
-const CONTENTS: usize = 5;
-const FOLDERS: usize = 9;
-const NAMES: usize = 13;
+const HANDLES: usize = 3;
+const CONTENTS: usize = 6;
+const FOLDERS: usize = 10;
+const NAMES: usize = 14;
 
 /// Where the table has its holds: row, stamp, owner.
 const HOLD: usize = 34 * 117;
@@ -72,6 +73,7 @@ fn bad_arena() {
         no(&mut wrong, Reason::BadArena, |i| i.inventory());
         assert_eq!(wrong.check(), Err(FailedRule::Arena));
         assert_eq!(Image::untrusted(vec![0; length]).unwrap_err(), Reason::BadArena);
+        assert_eq!(Image::recovered(vec![0; length]).unwrap_err(), Reason::BadArena);
         assert_eq!(Image::checked(vec![0; length]).unwrap_err(), Unfit::Refused(Reason::BadArena));
     }
 }
@@ -86,6 +88,7 @@ fn damaged() {
     no(&mut wrong, Reason::Damaged, |i| i.reopen());
     no(&mut wrong, Reason::Damaged, |i| i.inventory());
     assert_eq!(wrong.check(), Err(FailedRule::Arena));
+    assert_eq!(Image::recovered(&*bytes).unwrap_err(), Reason::Damaged);
     assert_eq!(Image::checked(bytes).unwrap_err(), Unfit::Refused(Reason::Damaged));
     wrong.reformat(TIME, ROOT_FILE).unwrap();
     assert!(wrong.check().is_ok());
@@ -609,6 +612,7 @@ fn numbers_names_and_texts() {
         "NotFile",
         "FileTooBig",
         "SymLoop",
+        "InUse",
     ];
     assert_eq!(Reason::all().map(Reason::name).collect::<Vec<_>>(), names);
     for (number, reason) in (1..).zip(Reason::all()) {
@@ -616,7 +620,7 @@ fn numbers_names_and_texts() {
         assert!(reason.to_string().starts_with(&format!("{} ({number}): ", reason.name())));
         assert_eq!(format!("{reason:?}"), reason.name());
     }
-    for number in [0, 24, 255, u32::MAX] {
+    for number in [0, 25, 255, u32::MAX] {
         assert_eq!(Reason::try_from(number), Err(NoReason(number)));
     }
     let unknown = Reason::Unknown(255);
@@ -624,7 +628,7 @@ fn numbers_names_and_texts() {
         (unknown.number(), unknown.name(), unknown.to_string().as_str()),
         (255, "Unknown", "Unknown (255): a number that no call gives")
     );
-    assert_eq!(NoReason(24).to_string(), "24 is no reason's number");
+    assert_eq!(NoReason(25).to_string(), "25 is no reason's number");
     let errors: [Box<dyn std::error::Error>; 4] = [
         Box::new(Reason::NotDir),
         Box::new(FailedRule::Links),

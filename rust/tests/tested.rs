@@ -5,6 +5,8 @@ mod any_bytes;
 mod calls;
 #[path = "inventory.rs"]
 mod inventory;
+#[path = "mend.rs"]
+mod mend;
 #[path = "reasons.rs"]
 mod reasons;
 #[path = "scripts.rs"]

@@ -147,6 +147,8 @@ fn small_stack() {
         image.close(b).unwrap();
         assert_eq!(image.check().unwrap().nodes, 3);
         assert_eq!(image.inventory().unwrap(), b"3 2 2 /a\n4 1 1 /b\n");
+        image.reopen().unwrap();
+        image.mend().unwrap();
         image.into_inner()
     };
     let made = thread::Builder::new().stack_size(128 * 1024).spawn(run).unwrap().join().unwrap();

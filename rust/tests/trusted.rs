@@ -34,6 +34,31 @@ fn reopened_and_reformatted() {
     assert!(image.is_trusted());
 }
 
+/// What is mended is tested once; a refusal leaves it as it was, of either kind.
+#[test]
+fn mended() {
+    let (mut image, root) = fresh(16);
+    assert_eq!(image.mend(), Err(Reason::InUse));
+    assert!(image.is_trusted());
+    let a = create(&mut image, root, "a", NewKind::File).unwrap();
+    image.remove_file(root, "a").unwrap();
+    image.write_at(a, 0, "outline").unwrap();
+    image.reopen().unwrap();
+    assert!(!image.is_trusted() && image.check().is_err());
+    let held = image.root().unwrap();
+    assert_eq!(image.mend(), Err(Reason::InUse));
+    assert!(!image.is_trusted());
+    image.close(held).unwrap();
+    image.mend().unwrap();
+    assert!(image.is_trusted() && image.check().is_ok());
+    // the chains are those of the mended image
+    let root = image.root().unwrap();
+    let made = create(&mut image, root, "b", NewKind::File).unwrap();
+    image.write_at(made, 1_000, "outline").unwrap();
+    assert_eq!(image.read_to_vec(made).unwrap().len(), 1_007);
+    assert!(Image::recovered(image.bytes()).unwrap().is_trusted());
+}
+
 #[test]
 fn a_refused_open_or_format_changes_nothing() {
     let mut wrong = Image::from_parts([0; 100], [0; dzomrelig::TABLE]);

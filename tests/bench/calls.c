@@ -3,6 +3,7 @@
 // the calls for owners are made; the chains are built after the format, and are not timed.
 // calls contents BLOCKS FILES ROUNDS: the same of reads and writes on an image of so many blocks and files, and of plain copies (plain.c).
 // calls deep DEPTH ROUNDS: a folder moved to the end of a way of so many folders, and back.
+// calls mend BLOCKS FILES ROUNDS: the check of an image of so many blocks and files, and the mender on what hosts leave of it.
 #include <stdbool.h>
 #include <stdint.h>
 #include <stdio.h>
@@ -19,6 +20,7 @@ bool bench_sound(in arena, size_t len);
 // plain.c
 void plain_read(in blocks, size_t place, uint8_t *out, size_t len);
 void plain_write(uint8_t *blocks, size_t place, in data, size_t len);
+void plain_seal(uint8_t *block);
 
 // a kind is its command's byte less 16
 enum { ALL = 22 };
@@ -176,19 +178,30 @@ static double acted(int what, size_t size)
     return spent / TIMES;
 }
 
+static const char *glyph(int i)
+{
+    static char name[32];
+    snprintf(name, sizeof name, "glyph%d", i);
+    return name;
+}
+
+// an image of so many closed files; the root is open
+static void filled(size_t n, int files)
+{
+    len = DZ_BLOCK * n;
+    must(dz_format(ARENA, TABLE, 0, 0, (in)"file of the root", DZ_FILE_NAME));
+    must(dz_root(ARENA, TABLE, ME, words, DZ_HANDLE_WORDS));
+    for (int i = 0; i < files; i++) {
+        create(glyph(i));
+        must(dz_close(ARENA, TABLE, ME, hold, stamp));
+    }
+}
+
 static void contents(size_t n, int files, int rounds)
 {
     static const size_t sizes[3] = {480, 8192, LONGEST};
-    char name[32];
-    len = DZ_BLOCK * n;
     for (size_t i = 0; i < LONGEST; i++) data[i] = (uint8_t)(i * 7 + 1);
-    must(dz_format(arena, len, table, DZ_TABLE, 0, 0, data, DZ_FILE_NAME));
-    must(dz_root(arena, len, table, DZ_TABLE, ME, words, DZ_HANDLE_WORDS));
-    for (int i = 0; i < files; i++) {
-        snprintf(name, sizeof name, "glyph%d", i);
-        create(name);
-        must(dz_close(arena, len, table, DZ_TABLE, ME, hold, stamp));
-    }
+    filled(n, files);
     create("outline");
     for (int what = 0; what < ACTS; what++)
         for (int s = 0; s < 3; s++) {
@@ -259,8 +272,98 @@ static void deep(int depth, int rounds)
     }
 }
 
+// ---- the mender, and what hosts leave
+
+// four editors have eight handles each, on the root and on glyphs of other lengths than stored; these are removed
+static void death(void)
+{
+    for (uint8_t who = 1, i = 0; who <= DZ_OWNERS; who++) {
+        must(dz_root(ARENA, TABLE, who, words, DZ_HANDLE_WORDS));
+        uint32_t root = (uint32_t)words[0];
+        uint64_t root_stamp = words[1];
+        for (int k = 1; k < DZ_OWN_HOLDS; k++, i++) {
+            in name = (in)glyph(i);
+            size_t l = strlen(glyph(i));
+            must(dz_find(ARENA, TABLE, who, root, root_stamp, name, l, words, DZ_HANDLE_WORDS));
+            must(dz_resize(ARENA, TABLE, who, (uint32_t)words[0], words[1], 1000));
+            must(dz_remove_file(ARENA, TABLE, who, root, root_stamp, name, l));
+        }
+    }
+}
+
+static bool is_of(in b, int tag, in file) { return b[0] == tag && b[1] == (file ? 1 : 0) && (!file || !memcmp(b + 4, file, DZ_FILE_NAME)); }
+
+static uint32_t numbered(in b) { return b[20] | (uint32_t)b[21] << 8 | (uint32_t)b[22] << 16 | (uint32_t)b[23] << 24; }
+
+// bytes of the metadata file that stand in one block
+static void put_meta(size_t place, in bytes, size_t n)
+{
+    for (uint8_t *b = arena; b < arena + len; b += DZ_BLOCK)
+        if (is_of(b, 2, 0) && numbered(b) == place / 480) plain_write(b, place % 480, bytes, n);
+}
+
+// each file is one byte longer by its record than it is
+static void sizes(int files)
+{
+    for (int id = 3; id < 3 + files; id++) put_meta(128 * (size_t)(id + (id > 1024) + (id > 2047) + (id > 3070)), (in)"\1", 1);
+}
+
+// the root has no name any more: its file ends behind slot 1
+static void lost(void)
+{
+    in file = (in)"file of the root";
+    for (uint8_t *b = arena; b < arena + len; b += DZ_BLOCK)
+        if (is_of(b, 1, file))
+            memcpy(b + 20, "\20\2\0", 4), plain_seal(b);
+        else if (is_of(b, 2, file) && numbered(b) > 1)
+            memset(b, 0, DZ_BLOCK);
+        else if (is_of(b, 2, file) && numbered(b) == 1)
+            memset(b + 24 + 48, 0, 480 - 48), plain_seal(b);
+    put_meta(128 * 2 + 16, (in)"\2\0\0", 4);
+}
+
+static void mend(size_t n, int files, int rounds)
+{
+    static const char *const NAMES[] = {"idle", "death", "sizes", "lost"};
+    static uint8_t image[sizeof arena], left[sizeof arena];
+    filled(n, files);
+    must(dz_open(ARENA, TABLE));
+    memcpy(image, arena, len);
+    double check = 1e18;
+    for (int r = 0; r < rounds; r++) {
+        double from = now();
+        must(dz_check(ARENA, TABLE, words, DZ_COUNTS_WORDS));
+        double spent = now() - from;
+        if (spent < check) check = spent;
+    }
+    printf("check 1 %.0f\n", check);
+    for (int what = 0; what < 4; what++) {
+        double least = 1e18;
+        memcpy(arena, image, len);
+        if (what == 1) death();
+        if (what == 2) sizes(files);
+        if (what == 3) lost();
+        must(dz_open(ARENA, TABLE));
+        memcpy(left, arena, len);
+        if (!what != !dz_check(ARENA, TABLE, words, DZ_COUNTS_WORDS)) fprintf(stderr, "calls: no host leaves that\n"), exit(1);
+        for (int r = 0; r < rounds; r++) {
+            memcpy(arena, left, len);
+            double from = now();
+            must(dz_mend(ARENA, TABLE));
+            double spent = now() - from;
+            if (spent < least) least = spent;
+            if (dz_check(ARENA, TABLE, words, DZ_COUNTS_WORDS)) fprintf(stderr, "calls: not mended\n"), exit(1);
+        }
+        printf("%s 1 %.0f\n", NAMES[what], least);
+    }
+}
+
 int main(int n, char **args)
 {
+    if (n == 5 && !strcmp(args[1], "mend")) {
+        mend((size_t)atoi(args[2]), atoi(args[3]), atoi(args[4]));
+        return 0;
+    }
     if (n == 4 && !strcmp(args[1], "deep")) {
         deep(atoi(args[2]), atoi(args[3]));
         return 0;

@@ -3,8 +3,8 @@
 
 An image of 16, 128, 1,024 and 4,096 blocks is filled with files, then every kind of call is made 20 times; no call is refused. Contents of 480,
 8,192 and 100,000 bytes are read, written over and written into an empty file, beside a plain copy through blocks (plain.c). Walks along a path 50
-deep and through 8 symlinks are timed on the port alone, and so are check and inventory of a full image. Both sides are built
-for release; the least of 5 rounds counts. Needs a C compiler (cc) and what tests/beside_rust needs.
+deep and through 8 symlinks are timed on the port alone, and so are check and inventory of a full image, and the mender on what hosts leave of it. Both sides
+are built for release; the least of 5 rounds counts. Needs a C compiler (cc) and what tests/beside_rust needs.
 """
 import os
 import struct
@@ -202,6 +202,10 @@ def main():
     for blocks, files in ((128, 66), (4096, 2225)):
         listed(f"{blocks:,} blocks with {files:,} files", port(full(blocks, files)))
     listed("4,096 blocks with 577 empty folders after 3,430 other names", port(late_folders(3430, 577), "own"))
+    left = times(subprocess.run([host, "mend", "4096", "2225", ROUNDS], check=True, capture_output=True, text=True).stdout)
+    print(f"the mender, 4,096 blocks with 2,225 files: check {left['check'] / 1000:.0f} µs")
+    for kind, words in (("idle", "nothing to mend"), ("death", "28 held nodes removed, their sizes not stored"), ("sizes", "every size wrong"), ("lost", "no name left")):
+        print(f"    {words}: {left[kind] / 1000:.0f} µs ({left[kind] / left['check']:.2f})")
 
 
 def listed(what, ns):

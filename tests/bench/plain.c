@@ -28,14 +28,19 @@ void plain_read(const uint8_t *blocks, size_t place, uint8_t *out, size_t len)
     }
 }
 
+void plain_seal(uint8_t *b)
+{
+    uint32_t s = check(b);
+    for (int i = 0; i < 4; i++) b[508 + i] = (uint8_t)(s >> (8 * i));
+}
+
 void plain_write(uint8_t *blocks, size_t place, const uint8_t *data, size_t len)
 {
     for (size_t done = 0; done < len;) {
         size_t at = (place + done) % PAYLOAD, n = PAYLOAD - at < len - done ? PAYLOAD - at : len - done;
         uint8_t *b = blocks + (place + done) / PAYLOAD * BLOCK;
         memcpy(b + 24 + at, data + done, n);
-        uint32_t s = check(b);
-        for (int i = 0; i < 4; i++) b[508 + i] = (uint8_t)(s >> (8 * i));
+        plain_seal(b);
         done += n;
     }
 }

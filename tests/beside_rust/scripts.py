@@ -100,6 +100,9 @@ class Builder:
     def inventory(self, room=8192):
         self.call("inventory", room, words=f"output {room}")
 
+    def mend(self):
+        self.call("mend")
+
     # bytes changed from outside, a block's check mended
 
     def table(self, data, words="table"):

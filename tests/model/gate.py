@@ -10,7 +10,7 @@ import sys
 
 import images
 import refusals
-from replay_model import BLOCK, TABLE_BYTES, lines
+from replay_model import BLOCK, lines
 
 TOP = pathlib.Path(__file__).resolve().parent.parent.parent
 GATE = TOP / "crates" / "replay"
@@ -19,8 +19,8 @@ SAMPLE = TOP / "tests" / "beside_rust" / "sample"
 COURSE = 2_897
 # The longest script that crates/replay takes.
 MOST = 262_144
-# The checker, and the inventory into no byte.
-ASKED = b"\x1e\x26" + bytes(2)
+# The checker, the inventory into no byte, the mender and the checker again.
+ASKED = b"\x1e\x26" + bytes(2) + b"\x27\x1e"
 
 
 def told(script):
@@ -28,7 +28,7 @@ def told(script):
 
 
 def rules():
-    """Images of 16 blocks that break one rule each, by pokes from a fresh one; and a table that breaks rule 2."""
+    """Images of 16 blocks that break one rule each, by pokes from a fresh one."""
     start = b"\2" + struct.pack("<I", 16 * BLOCK) + b"\x10" + bytes(16) + images.ROOT[1]
     fresh = images.fresh().arena_bytes()
     for _, image, _ in images.RUNS:
@@ -36,7 +36,6 @@ def rules():
         if len(data) == len(fresh):
             pokes = (b"\3" + struct.pack("<IB", k, new) for k, (old, new) in enumerate(zip(fresh, data)) if old != new)
             yield start + b"".join(pokes) + ASKED
-    yield start + b"\4" + bytes(TABLE_BYTES) + ASKED
 
 
 def parts():

@@ -1,5 +1,6 @@
 """The last part of the gate's script (gate.py), in which every reason of document 01 and of document 02's orders so far is answered, contents are
-written, read and resized, folders are moved to other folders, stored sockets are used, paths are walked and inventories written, and its lines.
+written, read and resized, folders are moved to other folders, stored sockets are used, paths are walked, inventories written and what a host left behind
+is mended, and its lines.
 
 Each step below says the reason that the documents give, or the bytes that a read finds; the lines, sums and all, are the independent
 model's (replay_model.py), and the port is not asked.
@@ -9,7 +10,7 @@ import struct
 import sys
 
 sys.path.insert(0, str(pathlib.Path(__file__).resolve().parent.parent / "beside_rust"))
-from arena_model import LIMIT, sealed, sum_of
+from arena_model import LIMIT, made as block, sealed, sum_of
 from scripts import FILE, FOLDER, META, SOCKET, SYMLINK, TIME, Builder, model, table_bytes
 
 ROOT_FILE = bytes([200] * 16)
@@ -89,6 +90,7 @@ class Script(Builder):
 
     def dots(self, id, field, value):
         """Slot 1 of this node's file gets another value, from outside."""
+        self.at.is_sound()
         place = {"id": 0, "type": 260}[field]
         file = model.Record.read(self.at.files.read(META, 128 * id, model.RECORD)).file
         self.change((1, file), 264 + place, value.to_bytes(4, "little"), f"set the {field} in slot 1 of node {id} to {value}")
@@ -124,6 +126,37 @@ class Script(Builder):
         """It is refused, and the output stays as it is."""
         self.no(reason, ("inventory", room))
         assert f" o {links_sum('')} " in self.line, self.line
+
+    def idle(self):
+        """The mender is done, and changes nothing."""
+        before = self.at.sums()
+        self.mend()
+        assert self.line == f"mend ok {before}", self.line
+
+    def mends(self):
+        """The mender is done with some change, and leaves the table; then the pair passes, and there is nothing left to mend."""
+        arena, table = self.at.sums().split(" t ")
+        self.mend()
+        self.ok()
+        assert self.line.endswith(f" t {table}") and arena not in self.line, self.line
+        self.check()
+        self.ok()
+        self.idle()
+
+    def died(self):
+        """The host goes down and comes up again: no hold is live, and the table has nothing of what was only there."""
+        self.open()
+        self.ok()
+
+    def spoilt(self, damage, rule):
+        """What is changed from outside can't be mended, by that rule; it is put back after it."""
+        before = list(self.at.files.blocks)
+        damage()
+        self.fails(rule)
+        self.no(18, ("mend",))
+        for k, (old, new) in enumerate(zip(list(self.at.files.blocks), before)):
+            self.poke_block(k, old, new)
+        self.at.is_sound()
 
     def lost(self, file):
         """The file gets another name."""
@@ -182,7 +215,7 @@ def removals(h, name):
 def changes(h, name=b"a"):
     """Every call that takes a table and may change the arena."""
     return (create(h, name), ("link", h, name, h), *removals(h, name), ("move", h, name, h, b"b"), ("sync",), ("close", h),
-            ("write", h, 0, b"a"), ("resize", h, 1))
+            ("write", h, 0, b"a"), ("resize", h, 1), ("mend",))
 
 
 def takes_contents(h, at=0, data=b""):
@@ -245,7 +278,7 @@ def bad_owners(b):
     nine = [(0, 1 + k, 1) for k in range(9)]
     for bad in ([(0, 1, 0)], [(0, 1, 9)], [(0, 1, 1), (0, 0, 1)], nine):
         b.table(table_bytes([root], bad, 99))
-        b.no(3, ("root",), ("metadata", (0, 1)), ("sync",), ("list", (0, 1), 0, 0, 264))
+        b.no(3, ("root",), ("metadata", (0, 1)), ("sync",), ("mend",), ("list", (0, 1), 0, 0, 264))
         b.who = 5
         b.no(3, ("root",), ("close", (0, 1)))
         b.who = 1
@@ -264,14 +297,14 @@ def bad_handle(b):
     closed = b.ok(b.create(root, "a"))
     b.close(closed)
     for h in (closed, NOBODY, (0, 2), (0, 0), (32, 1)):
-        b.no(4, *(call for call in takes_table(h) if call[0] not in ("root", "sync")))
+        b.no(4, *(call for call in asks(h) if call[0] != "root"))
     b.no(4, ("link", root, b"b", closed), ("move", root, b"a", closed, b"b"))
     b.no(4, *takes_name(closed, b"\0"))
 
 
 def asks(h):
     """Every call that says who asks."""
-    return tuple(call for call in takes_table(h) if call[0] != "sync")
+    return tuple(call for call in takes_table(h) if call[0] not in ("sync", "mend"))
 
 
 def owners(b):
@@ -1073,10 +1106,224 @@ def long_paths(b):
     b.not_delivered(20)
 
 
+def menders(b):
+    """Order 11: what a host that went down has left is mended, where no hold is live."""
+    b.fresh()
+    b.no(24, ("mend",))
+    b.died()
+    b.idle()
+    after_death(b, family(b))
+    in_use(b)
+    wrong_records(b)
+    unmended(b)
+    no_name(b)
+    second_block(b)
+    second_group(b)
+
+
+def family(b):
+    """The folders d (3) with e (4) and a file of two names (5), and n (7), empty; a symlink (6) in the root. The handles by name."""
+    made = {"root": b.fresh(48)}
+    for folder, name, kind in (("root", "d", FOLDER), ("d", "e", FOLDER), ("d", "f", FILE), ("root", "s", SYMLINK), ("root", "n", FOLDER)):
+        made[name] = b.ok(b.create(made[folder], name, kind))
+    b.link(made["root"], "g", made["f"])
+    b.ok()
+    return made
+
+
+# its inventory
+FAMILY = b"3 2 3 /d\n4 2 2 /d/e\n5 1 2 /d/f\n6 3 1 /s\n7 2 2 /n\n5 1 2 /g\n"
+
+
+def after_death(b, made):
+    """Sizes that were not stored: no name and no byte is lost. Nodes that were removed while they were held: they are gone, with the blocks of their files."""
+    b.write(made["f"], 470, b"across two blocks")
+    b.write(made["s"], 0, b"d/f")
+    b.died()
+    b.fails(6)
+    b.not_delivered(18, 0)
+    b.mends()
+    b.delivers(FAMILY)
+    root = b.ok(b.root())
+    b.walks(root, "s", 5, "d/f")
+    f = b.ok(b.find(root, "g"))
+    b.reads(f, 468, 100, b"\0\0across two blocks")
+    for name, kind in (("a", FILE), ("b", SYMLINK), ("c", FOLDER)):
+        b.ok(b.create(root, name, kind))
+        b.call("remove-folder" if kind == FOLDER else "remove-file", root, name.encode())
+        b.ok()
+    b.stores("resize", f, 480)
+    b.died()
+    b.fails(6)
+    # a node that goes may have any count, and `..` of a folder that goes may lead anywhere
+    b.record(8, "links", 7)
+    b.dots(10, "id", 99)
+    b.mends()
+    b.delivers(FAMILY)
+
+
+def in_use(b):
+    """24 for any hold, whoever's; where the last one is closed there is nothing to mend."""
+    mine = b.ok(b.root())
+    b.who = 4
+    other = b.ok(b.find(b.ok(b.root()), "d"))
+    b.close((1, 2))
+    b.who = 1
+    b.close(mine)
+    b.no(24, ("mend",))
+    b.record(3, "links", 9)
+    b.no(24, ("mend",))
+    b.record(3, "links", 3)
+    b.who = 4
+    b.close(other)
+    b.who = 1
+    b.idle()
+
+
+def wrong_records(b):
+    """Links come from the slots and sizes from the files, one wrong or all of them; a folder's size is not looked at."""
+    right = b.at.sums()
+    wrong = (2, "links", 0), (2, "links", 65535), (3, "links", 2), (5, "links", 0), (6, "links", 2), (5, "size", 0), (5, "size", 2 ** 64 - 1), (6, "size", 4)
+    for damage in wrong:
+        b.record(*damage)
+        b.mends()
+    for damage in wrong:
+        b.record(*damage)
+    b.mends()
+    assert b.at.sums() == right, (b.at.sums(), right)
+    b.record(7, "size", 99)
+    b.idle()
+
+
+class Family:
+    """Damages of the family's image, none of them done yet."""
+
+    def __init__(self, b):
+        self.b, self.d, self.e, self.root = b, *((1, b.at.files.read(META, 128 * id + 80, 16)) for id in (3, 4, 2))
+
+    def slot(self, file, k, place, data):
+        return lambda: self.b.change(file, 264 * k + place, data, f"change slot {k}")
+
+    def names(self, file, k, id, kind=FOLDER):
+        """Slot k of that folder names another node."""
+        return lambda: [self.slot(file, k, place, n.to_bytes(4, "little"))() for place, n in ((0, id), (260, kind))]
+
+    def record(self, *damage):
+        return lambda: self.b.record(*damage)
+
+    def superblock(self, *damage):
+        return lambda: self.b.superblock(*damage)
+
+    def length(self, file, length):
+        return lambda: self.b.length(file, length, f"make a file {length} bytes long")
+
+    def bits(self, first, second, unused):
+        """The map's first two bytes, and the unused ids by them."""
+        return lambda: (self.b.map(0, bytes([first, second]), "change the map"), self.b.superblock("unused", unused))
+
+    def stray(self):
+        """A file that is no node's."""
+        k, file = self.b.at.files.free()[0], (1, b"x" * 16)
+        self.b.poke_block(k, bytes(512), block(1, file, 0))
+
+    def own_child(self):
+        """d names itself, and so does its `..`; e is the root's."""
+        for file, k, id in ((self.d, 2, 3), (self.d, 1, 3), (self.root, 2, 4), (self.e, 1, 2)):
+            self.names(file, k, id)()
+
+    def by_rule(self):
+        """What the mender asks for, by the rule that fails."""
+        yield 3, (self.superblock("magic", 1), self.superblock("groups", 5), self.superblock("blocks", 2048), self.superblock("unused", 1017),
+                  self.superblock("unused", 1015), self.length(META, 131073))
+        yield 4, (self.bits(1, 255, 1017), self.bits(2, 255, 1017), self.bits(4, 255, 1017))
+        yield 5, (self.record(5, "type", 0), self.record(5, "type", 5), self.record(2, "type", FILE), self.record(6, "file", ROOT_FILE),
+                  self.record(6, "file", b"m" * 16), self.bits(0, 254, 1015), self.bits(64, 255, 1017), self.stray)
+        yield 6, (self.record(3, "blocks", 5), self.record(4, "blocks", 1), self.length(self.d, 264 * 4 + 1), self.names(self.d, 0, 2), self.slot(self.d, 0, 4, b","),
+                  self.slot(self.d, 1, 6, b","), self.names(self.d, 1, 2, FILE), self.names(self.d, 3, 5, SYMLINK), self.names(self.d, 3, 99, FILE), self.names(self.d, 3, 1),
+                  *(self.slot(self.d, 3, 4, name) for name in (b"e", b".", b"\xff", b"\0")))
+        # n is named by none then, which would do: it is empty. But root is named, e is named twice, or d, which is not empty, is named by none
+        yield 7, (self.names(self.root, 4, 2), self.names(self.root, 4, 4), self.names(self.root, 2, 5, FILE))
+        # `..` of the root, of e, of d leads elsewhere
+        yield 8, (self.names(self.root, 1, 3), self.names(self.e, 1, 2), self.names(self.e, 1, 99), self.names(self.d, 1, 3), self.names(self.d, 1, 4), self.own_child)
+
+
+def unmended(b):
+    """18 for each thing that the mender asks for, one at a time."""
+    for rule, damages in Family(b).by_rule():
+        for damage in damages:
+            b.spoilt(damage, rule)
+    b.idle()
+
+
+def no_name(b):
+    """An empty folder that no slot names goes, though nobody has removed it; a file has the names that it has."""
+    family = Family(b)
+    family.names(family.root, 4, 5, FILE)()
+    b.fails(7)
+    b.mends()
+    b.delivers(FAMILY.replace(b"5 1 2", b"5 1 3").replace(b"7 2 2 /n", b"5 1 3 /n"))
+
+
+def second_block(b):
+    """A record whose second block is absent, as no call leaves it: 17 where it has changed and no block is free, but a file that goes gives some back."""
+    root = b.fresh()
+    made = [b.ok(b.create(root, name)) for name in "abcd"]
+    b.call("create", root, b"e", FILE, 420, (0, 0), bytes(16))
+    # record 7 has its last time, its file's name and what follows in the metadata file's block 2: zeros
+    k = b.at.files.place(2, META, 2)
+    b.poke_block(k, b.at.files.blocks[k], bytes(512))
+    b.at.is_sound()
+    for n in range(len(b.at.files.free())):
+        b.write(made[1], 480 * n, b"x")
+        b.ok()
+    b.died()
+    b.mends()
+    last(b)
+    b.no(17, ("mend",), ("mend",))
+    b.fails(6)
+    last(b, "a")
+    b.mends()
+    assert b.at.files.place(2, META, 2) is not None
+
+
+def last(b, gone=None):
+    """A size of the last node, and a removal of another, are left behind by a host that goes down."""
+    root = b.again()
+    b.resize(b.ok(b.find(root, "e")), 5)
+    b.ok()
+    if gone:
+        b.ok(b.find(root, gone))
+        b.remove_file(root, gone)
+        b.ok()
+    b.died()
+
+
+def second_group(b):
+    """Nodes of the second group, from outside: one is named by a slot that named node 3, one by none. All maps are stored."""
+    root = b.fresh()
+    b.close(b.ok(b.create(root, "a")))
+    b.superblock("groups", 2)
+    b.superblock("blocks", 2048)
+    b.superblock("unused", 1020 + 1021)
+    b.length(META, 2 * 131072, "two groups")
+    first, second = (record(FILE, 0, 0, bytes([c]) * 16) for c in b"FS")
+    # from the map of the second group on: ids 1025, 1026 and 1028 are used
+    tail = (b"\xe9" + b"\xff" * 127 + first).ljust(480 - 160, b"\0")
+    blocks = block(2, META, 273, bytes(160) + tail), block(2, META, 274, bytes(64) + second + bytes(304)), block(1, (1, b"F" * 16), 9), block(1, (1, b"S" * 16), 0)
+    b.at.is_sound()
+    for k, new in zip(b.at.files.free(), blocks):
+        b.poke_block(k, bytes(512), new)
+    b.change((1, ROOT_FILE), 264 * 2, (1026).to_bytes(4, "little"), "slot 2 names 1026")
+    b.died()
+    b.fails(6)
+    b.mends()
+    b.delivers(b"1026 1 1 /a\n")
+
+
 def made():
     b = Script()
     for part in (bad_arena, damaged, bad_table, bad_owners, bad_handle, owners, bad_name, slashes, sockets, by_call, two_keys, dots, taken, links, table_full, last_stamp, no_space, stuck,
-                 contents, held_on, limits, device_full, torn, no_contents, carried, no_way_up, paths, inventories):
+                 contents, held_on, limits, device_full, torn, no_contents, carried, no_way_up, paths, inventories, menders):
         part(b)
     b.fresh()
     b.check()

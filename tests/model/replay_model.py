@@ -1,5 +1,5 @@
 #!/usr/bin/env python3
-"""An independent model of document 01's calls and of document 02's orders up to 10, for tests: a call script in, the lines a right port
+"""An independent model of document 01's calls and of document 02's orders up to 11, for tests: a call script in, the lines a right port
 prints out.
 
 Written from the documents and the readings of them in docs/DECISIONS.md, on top of arena_model.py; it shares nothing with crates/. A call
@@ -778,6 +778,7 @@ class Checker:
         self.records()
         self.slots = {id: self.folder(id) for id in self.folders()}
         self.sizes()
+        self.named = self.names()
         self.link_counts()
         for id in self.folders():
             if self.recs[id].links:
@@ -835,19 +836,28 @@ class Checker:
         for r in self.recs.values():
             need(r.type == FOLDER or self.files.length((1, r.file)) == r.size, 6)
 
-    def link_counts(self):
-        self.named = {id: [] for id in self.nodes}
+    def names(self):
+        """Of each node the folders in which later slots name it, once for each such slot."""
+        named = {id: [] for id in self.nodes}
         for folder, slots in self.slots.items():
             for node, _, _ in slots[2:]:
-                self.named[node].append(folder)
+                named[node].append(folder)
+        return named
+
+    def due(self, id):
+        """The links by rule 7: how often later slots name it; of a folder 2, and one for each folder in it."""
+        if self.recs[id].type != FOLDER:
+            return len(self.named[id])
+        return 2 + sum(kind == FOLDER for _, _, kind in self.slots[id][2:])
+
+    def link_counts(self):
         opened = {row.id for row in self.table.rows if row}
         for id in self.nodes:
             r, times = self.recs[id], len(self.named[id])
             if r.type != FOLDER:
-                need(r.links == times and (times or id in opened), 7)
+                need(r.links == self.due(id) and (times or id in opened), 7)
                 continue
-            below = sum(kind == FOLDER for _, _, kind in self.slots[id][2:])
-            linked = r.links == 2 + below and times == (id != 2)
+            linked = r.links == self.due(id) and times == (id != 2)
             removed = id != 2 and id in opened and r.links == 0 and times == 0 and r.blocks == 2
             need(linked or removed, 7)
 
@@ -885,20 +895,66 @@ def inventory_text(files):
     return b"".join(text)
 
 
+# ---------------------------------------------------------------- the mender: document 02's order 11
+
+class Mender(Checker):
+    """The checker's rules over what is stored, with no node open: those aside that the mender sets right."""
+
+    def judge(self):
+        """Rules 3 to 6 without the sizes; root is named by no later slot; another folder by one, and is under root, or by none, and is empty."""
+        self.superblock()
+        self.bits()
+        self.records()
+        self.slots = {id: self.folder(id) for id in self.folders()}
+        self.named = self.names()
+        for id in self.folders():
+            times = len(self.named[id])
+            need(times == 0 if id == 2 else times == 1 or times == 0 and self.recs[id].blocks == 2, 7)
+            if id == 2 or times:
+                self.climb(id)
+
+    def mended(self, id):
+        """The record with its links by the slots, and the size of what is no folder by its file."""
+        r = self.recs[id].copy()
+        r.links = self.due(id)
+        if r.type != FOLDER:
+            r.size = self.files.length((1, r.file))
+        return r
+
+
+def do_mend(s):
+    need(not any(s.table.holds), 24)
+    seen = Mender(s.start, Table())
+    try:
+        seen.judge()
+    except Refused:
+        raise Refused(18)
+    lost = [id for id in seen.nodes if id != 2 and not seen.named[id]]
+    for id in lost:
+        s.free_id(id)
+        s.files.drop((1, seen.recs[id].file))
+    for id in sorted(set(seen.nodes) - set(lost)):
+        record = seen.mended(id).bytes()
+        if record != seen.stored(id):
+            s.files.put(META, 128 * id, record)
+    s.store_fs()
+    return ()
+
+
 # ---------------------------------------------------------------- scripts
 
 NAMES = ("format", "open", "root", "find", "create", "link", "move", "metadata", "set", "entry", "list", "sync", "close", "check",
-         "read", "write", "resize", "walk", "remove-file", "remove-folder", "inventory")
-BYTES = dict(zip(NAMES, (*range(16, 22), *range(23, 31), *range(32, 39))))
+         "read", "write", "resize", "walk", "remove-file", "remove-folder", "inventory", "mend")
+BYTES = dict(zip(NAMES, (*range(16, 22), *range(23, 31), *range(32, 40))))
 NAMED = {byte: name for name, byte in BYTES.items()}
 DOES = {"root": do_root, "find": do_find, "create": do_create, "link": do_link, "move": do_move, "metadata": do_metadata, "set": do_set,
-        "sync": do_sync, "close": do_close, "write": do_write, "resize": do_resize, "walk": do_walk, "remove-file": do_remove_file, "remove-folder": do_remove_folder}
+        "sync": do_sync, "close": do_close, "write": do_write, "resize": do_resize, "walk": do_walk, "remove-file": do_remove_file, "remove-folder": do_remove_folder, "mend": do_mend}
 OUTPUTS = {"entry": entry_slots, "list": list_slots, "read": read_bytes}
 # What follows a command's byte; p, the owner who asks, stands first where there is one, d says whether the dots are asked for, and l is a path.
 SHAPES = {"format": "tf", "open": "", "root": "p", "find": "phn", "create": "phn42tf", "link": "phnh", "move": "phnhn",
           "metadata": "ph", "set": "ph288ttt", "entry": "ph8o", "list": "ph8do", "sync": "", "close": "ph", "check": "",
           "read": "ph8o", "write": "ph8w", "resize": "ph8", "walk": "phlo", "remove-file": "phn", "remove-folder": "phn",
-          "inventory": "o"}
+          "inventory": "o", "mend": ""}
 
 
 class BadScript(Exception):

@@ -71,3 +71,7 @@ fileTooBig = 22
 -- order 7
 abbrev pub symLoop : ℕ
 symLoop = 23
+
+-- order 11
+abbrev pub inUse : ℕ
+inUse = 24

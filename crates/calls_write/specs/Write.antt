@@ -1,26 +1,15 @@
 -- How a write is decided before any store: which blocks it touches, where they are, and whether the free ones are enough for those that
 -- are not there.
 use mathlib.Core.Path.{_≡_}
-use mathlib.Core.Bool.{not}
 use mathlib.Core.List.{List}
-use Prim.Native.Nat.{ℕ, _+_, _/_, _≤_, _<_}
-use lib.ListN.{length, getD}
-use Rattle.base.specs.Count.{countTo}
+use Prim.Native.Nat.{ℕ, _≤_, _<_}
+use lib.ListN.{length}
 use Rattle.base.specs.Out.{refused}
 use Rattle.arena.specs.Fields.{File}
 use Rattle.arena.specs.Places.{freeCount}
-use Rattle.files.specs.Read.{present}
 use Rattle.files.specs.Store.{touched, putFile}
 use Rattle.files_laws.specs.Laws.{lacking}
-use Rattle.chains.specs.Led.{blockAt}
-
--- how many of k blocks from the one at pos on are absent
-abbrev pub absentTo : List ℕ → File → ℕ → ℕ → ℕ
-absentTo a f pos k = countTo (λ i. not (present a f (pos / 480 + i))) k
-
--- of the first k of these blocks, the plan has where each is: one more than its number, or 0
-abbrev pub Places : List ℕ → File → ℕ → List ℕ → ℕ → Type 0
-Places a f pos plan k = (i : ℕ) → i < k → getD plan i 0 ≡ blockAt a f (pos / 480 + i)
+use Rattle.plans.specs.Plan.{Places}
 
 -- n bytes can be written from pos on
 pub record Planned (a : List ℕ) (f : File) (pos n : ℕ) (plan : List ℕ) : Type 0 where

@@ -4,31 +4,25 @@
 ghost use mathlib.Core.Path.{_≡_};
 ghost use mathlib.Core.Bool.{true};
 ghost use mathlib.Core.List.{List};
-ghost use Prim.Native.Nat.{ℕ, _+_, _*_, _-_, _/_, _<_, _≤_};
+ghost use Prim.Native.Nat.{ℕ, _+_, _≤_};
 ghost use lib.ListN.{length};
 ghost use Rattle.base.specs.Out.{done};
-ghost use Rattle.arena.specs.Blocks.{blocks};
 ghost use Rattle.arena.specs.Fields.{file};
-ghost use Rattle.arena.specs.Places.{freeOf, headOf};
+ghost use Rattle.arena.specs.Places.{headOf};
 ghost use Rattle.table.specs.Table.{rowAt};
 ghost use Rattle.files.specs.Read.{there};
-ghost use Rattle.files.specs.Store.{putBlock, putFile};
-ghost use Rattle.files.specs.Store.{touched as touchedBy};
+ghost use Rattle.files.specs.Store.{putFile};
 ghost use Rattle.sefs.specs.Nodes.{nodeFile};
 ghost use Rattle.sefs.specs.Ask.{start};
 ghost use Rattle.sefs.specs.Contents.{writeSteps, callWrite};
-ghost use Rattle.chains.specs.Led.{Led, blockAt};
+ghost use Rattle.chains.specs.Led.{Led};
 ghost use Rattle.mem.specs.Mem.{tableIn, Whole};
 ghost use Rattle.calls.specs.Asked.{Admitted};
 ghost use Rattle.steps.specs.Ends.{Rest, ending, Ended, Returned};
 ghost use Rattle.calls_resize.specs.Resize.{Reached};
-ghost use Rattle.calls_write.specs.Write.{absentTo, Places, Planned, Decided};
+ghost use Rattle.calls_write.specs.Write.{Planned, Decided};
 use arena::free_count;
-use base::byte;
 use base::index16;
-use base::least;
-use base::most;
-use base::one;
 use calls::Reply;
 use calls::led::admit;
 use calls::settle;
@@ -36,57 +30,18 @@ use calls_resize::Sizing;
 use calls_resize::not_sized;
 use calls_resize::reach_file;
 use calls_resize::set_size;
-use chains::block_at;
-use inplace::edit;
-use inplace::next_free;
 use inplace::raise;
-use inplace::write_new;
 use mem::MEMORY;
 use mem::put_table;
 use mem::rec_at;
+use plans::plan_blocks;
+use plans::put_block;
+use plans::touched;
 use structs::DiskINode;
 use table::Handle;
 use table::Table;
 
 // ---- before any store
-
-// How many blocks n bytes from pos on touch.
-fn touched(pos: usize, n: usize) -> usize
-    requires { ⌜ pos + n ≤ 4294967295 ⌝ }
-    ensures { λ r. ⌜ r ≡ touchedBy pos n ⌝ }
-{
-    if n == 0 {
-        return 0;
-    }
-    (pos + n - 1) / 480 + 1 - pos / 480
-}
-
-// The plan for k blocks from the one at pos on, and how many of them are absent.
-fn plan_blocks(
-    arena: &[u8],
-    first: &[u16],
-    next: &[u16],
-    name: &[u8; 16],
-    pos: usize,
-    k: usize,
-    plan: &mut [u16],
-) -> usize
-    requires { ⌜ Led (now arena) (now first) (now next) ⌝ }
-    requires { ⌜ (k ≤ length (now plan)) × (pos / 480 + k ≤ 4294967296) ⌝ }
-    ensures { λ r. ⌜ r ≡ absentTo (now (arena .entry)) (file 1 (now (name .entry))) pos k ⌝ }
-    ensures { λ _. ⌜ Places (now (arena .entry)) (file 1 (now (name .entry))) pos (now (plan .exit)) k ⌝ }
-{
-    let q = pos / 480;
-    let mut lacking: usize = 0;
-    let mut i: usize = 0;
-    while i < k {
-        let c = block_at(arena, first, next, 1, name, (q + i) as u32);
-        plan[i] = c as u16;
-        lacking = lacking + byte(one(c == 0));
-        i = i + 1;
-    }
-    lacking
-}
 
 // 17 where the absent blocks are more than the free ones. More blocks than there are need no search.
 fn decide(
@@ -107,7 +62,7 @@ fn decide(
         return 17;
     }
     let name = rec.file;
-    let lacking = plan_blocks(arena, first, next, &name, pos, k, plan);
+    let lacking = plan_blocks(arena, first, next, 1, &name, pos, k, plan);
     if lacking > free_count(arena) {
         return 17;
     }
@@ -144,34 +99,6 @@ pub fn write_led(
 
 // ---- the stores
 
-// The bytes of src that fall into block q of the file: `found` is one more than the number of that block, or 0, and then the lowest free
-// block becomes it. No block below the answer is free.
-fn put_block(
-    arena: &mut [u8],
-    name: &[u8; 16],
-    pos: usize,
-    src: &[u8],
-    q: usize,
-    found: usize,
-    from: usize,
-) -> usize
-    requires { ⌜ (pos + length (now src) ≤ 4294967295) × ((pos ≤ 480 * q + 480) × (480 * q ≤ pos + length (now src))) ⌝ }
-    requires { ⌜ (found ≡ blockAt (now arena) (file 1 (now name)) q) × ((from ≤ freeOf (now arena)) × (found ≡ 0 → freeOf (now arena) < blocks (now arena))) ⌝ }
-    ensures { λ r. ⌜ (putBlock (now (arena .entry)) (file 1 (now (name .entry))) pos (now (src .entry)) q ≡ done (now (arena .exit))) × (r ≤ freeOf (now (arena .entry))) ⌝ }
-{
-    let lo = most(pos, 480 * q);
-    let hi = least(pos + src.len(), 480 * q + 480);
-    let s = lo - pos;
-    let e = hi - pos;
-    if found > 0 {
-        edit(arena, found - 1, lo - 480 * q, &src[s..e]);
-        return from;
-    }
-    let k = next_free(&arena[..], from);
-    write_new(arena, k, 1, name, q as u32, lo - 480 * q, &src[s..e]);
-    k
-}
-
 // All of src, by the plan, into the file whose head is block k: the length first, then the blocks in rising order.
 fn put_blocks(arena: &mut [u8], k: usize, name: &[u8; 16], pos: usize, src: &[u8], plan: &[u16])
     requires { ⌜ (pos + length (now src) ≤ 4294967295) × ((there (now arena) (file 1 (now name)) ≡ true) × (k ≡ headOf (now arena) (file 1 (now name)))) ⌝ }
@@ -184,7 +111,7 @@ fn put_blocks(arena: &mut [u8], k: usize, name: &[u8; 16], pos: usize, src: &[u8
     let mut from: usize = 0;
     let mut i: usize = 0;
     while i < n {
-        from = put_block(arena, name, pos, src, q + i, index16(plan[i]), from);
+        from = put_block(arena, 1, name, pos, src, q + i, index16(plan[i]), from);
         i = i + 1;
     }
 }

@@ -33,9 +33,10 @@ use Rattle.tree.proofs.Trees.{up-first}
 use Rattle.image.specs.Midway.{treeOf}
 use Rattle.image.proofs.Images.{fair, root-node}
 use Rattle.sequences.specs.Pairs.{Pair, Passed}
-use Rattle.sequences.specs.Calls.{Call, root, find, walk, create, link, removeFile, removeFolder, move, metadata, setMetadata, getEntry, listing, read, write, resize, sync, close, check, inventory, Fits, does, next}
+use Rattle.sequences.specs.Calls.{Call, root, find, walk, create, link, removeFile, removeFolder, move, metadata, setMetadata, getEntry, listing, read, write, resize, sync, close, check, inventory, mend, Fits, does, next}
 use Rattle.sequences.specs.Promises.{Along, ends, goes, Keeps, Apart, Safe}
 use Rattle.sequences.proofs.Passing.{allowed}
+use Rattle.sequences.proofs.Looks.{mend-stays}
 use Rattle.sequences.proofs.Sequences.{keeps, apart}
 use Rattle.sequences.proofs.Tables.{keeps-root, keeps-find, keeps-walk, keeps-set, keeps-sync, keeps-close}
 use Rattle.sequences.proofs.Closes.{close-rows}
@@ -133,6 +134,7 @@ module _ (p : Pair) (y : Passed p) {d n : ℕ} {own : List ℕ} (N : Named d own
     each (close w g) F gone moved = ok-bind (keeps-close H K a t w g (λ i m. (nodes-rows p y a t (closeHold t (g .hold) .table) (close-rows t (g .hold)) (begin .0), begin .1))) λ x h. went (holds (x .arena) (x .table) h)
     each check F gone moved = went (holds a t begin)
     each (inventory room) F gone moved = ok-bind (any (callInventory a room)) λ x _. went (holds a t begin)
+    each mend F gone moved = ok-weaken (λ q e. subst (λ (q : Pair). R (q .arena) (q .table)) (sym e) (holds a t begin)) (λ m r. tt) (mend-stays p y)
 
   -- where it does not take the name
   untaken : (c : Call) → Fits c → (TakesName d own (p .table) c → ⊥) → Ok (λ (q : Pair). Remains p d (bytesOf p d (N .slot)) (q .arena) (q .table)) Any (does c p)

@@ -36,6 +36,8 @@ use Rattle.calls_move.specs.declared.Course.{Course}
 use Rattle.calls_move.specs.declared.Course.the-variants.{Made, Same}
 use Rattle.calls_move.specs.Courses.{EndedMove}
 use Rattle.calls_move.specs.Courses as course
+use Rattle.calls_mend.specs.Mends.{MendEnded}
+use Rattle.calls_mend.specs.Mends as mends
 use Rattle.walk.specs.Walk.{Walked, walked, mostLinks}
 use Rattle.calls_walk.proofs.Runs.{nothing-laid}
 use Rattle.fsck.specs.declared.Verdict.{Verdict}
@@ -43,7 +45,7 @@ use Rattle.fsck.specs.declared.Verdict.the-variants.{Pass}
 use Rattle.edge_words.specs.Words.{handleWords, metadataWords}
 use Rattle.edge_ends.specs.Ends.{toldWordsBy, listedWordsBy, takenWordsBy}
 use Rattle.edge_ends.proofs.Laws.{passed-over}
-use Rattle.edge.specs.Edge.{sized, sizedWalk, newOf, Answers, leftOf, madeOf, heldOf, Walks, listedIn, readIn, counted, countsOf, courseNumber, courseTableBy}
+use Rattle.edge.specs.Edge.{sized, sizedWalk, newOf, Answers, leftOf, madeOf, heldOf, Walks, listedIn, readIn, counted, countsOf, mendedOf, courseNumber, courseTableBy}
 
 -- ---- a slice of a fixed size
 
@@ -95,6 +97,11 @@ by-end {c = c} e (went f) E = rw (e, f) (record { number = E .0; places = λ i. 
 by-end {u = u} {t = t} e (stopped {r = r} l f k) E =
     let q = E .1 ∙ sym (passed-over (tableBytes u) t r (λ q. omega arith)) in
     rw (e, f) (record { number = E .0; places = λ i. (k i, q i) })
+
+-- mend: the table is not written
+pub by-mend : {o p : Out (List ℕ)} {a c : List ℕ} {r n : ℕ} → p ≡ o → MendEnded o a c r → n ≡ r → Answers p mendedOf a c n
+by-mend e (mends.went f) E = rw (e, f) (record { number = E; places = refl })
+by-mend e (mends.stopped l f k) E = rw (e, f) (record { number = E; places = k })
 
 -- move: x is the table that it was given
 pub by-move : {o p : Out After} {x u : Table} {a c t b : List ℕ} {n : ℕ} {k : Course} → p ≡ o → x ≡ tableOf t → EndedMove o x a c u k

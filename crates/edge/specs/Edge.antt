@@ -85,6 +85,10 @@ counted (Fail rule) = refused rule
 abbrev pub countsOf : List ℕ → List ℕ
 countsOf w = w
 
+-- mend: the arena
+abbrev pub mendedOf : List ℕ → List ℕ
+mendedOf a = a
+
 -- ---- move, by what deciding it came to: the number, and the table's bytes, which were l. u is the table that memory has
 
 abbrev pub courseNumber : Course → ℕ

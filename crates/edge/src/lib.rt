@@ -14,10 +14,11 @@ ghost use Rattle.sefs.specs.Read.{callMetadata, callSet};
 ghost use Rattle.sefs.specs.Remove.{callRemove, callRemoveFile, callRemoveFolder};
 ghost use Rattle.walk.specs.Walk.{callWalk};
 ghost use Rattle.inventory.specs.Inventory.{callInventory};
+ghost use Rattle.mending.specs.Mend.{callMend};
 ghost use Rattle.calls_format.specs.Format.{formatted};
 ghost use Rattle.fsck.specs.Verdicts.{verdictOf};
 ghost use Rattle.edge_words.specs.Words.{handleOf, timeOf, metadataWords};
-ghost use Rattle.edge.specs.Edge.{sized, sizedWalk, newOf, Answers, leftOf, madeOf, heldOf, Walks, readIn, counted, countsOf};
+ghost use Rattle.edge.specs.Edge.{sized, sizedWalk, newOf, Answers, leftOf, madeOf, heldOf, Walks, readIn, counted, countsOf, mendedOf};
 use calls_close::close_on;
 use calls_create::New;
 use calls_create::create_on;
@@ -26,6 +27,7 @@ use calls_find::root_on;
 use calls_format::format_on;
 use calls_inventory::inventory;
 use calls_link::link_on;
+use calls_mend::mend_on;
 use calls_metadata::metadata_on;
 use calls_metadata::set_on;
 use calls_move::move_on;
@@ -128,6 +130,20 @@ pub extern "C" fn dz_inventory(arena: &[u8], out: &mut [u8], count: &mut [u64]) 
     }
     let t = inventory(arena, out);
     end_taken(count, t)
+}
+
+// What a host that went down has left. The table is looked at, for no hold may be live, and stays.
+#[no_mangle]
+pub extern "C" fn dz_mend(arena: &mut [u8], table: &[u8]) -> u32
+    ensures { λ r. ⌜ Answers (sized 4402 (now (table .entry)) (callMend (now (arena .entry)) (tableOf (now (table .entry))))) mendedOf (now (arena .entry)) (now (arena .exit)) r ⌝ }
+{
+    if table.len() != TABLE {
+        return WRONG_SIZE;
+    }
+    let mut mem = [0u8; MEMORY];
+    begin(&mut mem, table);
+    let r = mend_on(arena, &mut mem);
+    r as u32
 }
 
 // ---- holds

@@ -33,7 +33,7 @@ use Rattle.files_laws.proofs.Lengths.{Lengthened, lengthened}
 use Rattle.files_laws.proofs.Cut.{past-data, past-number}
 
 -- a block stored as it is
-blk-own : (a : List ℕ) (k : ℕ) → k < blocks a → putBlk a k (blk a k) ≡ a
+pub blk-own : (a : List ℕ) (k : ℕ) → k < blocks a → putBlk a k (blk a k) ≡ a
 unfolding putBlk blk
 blk-own a k l =
     let n : length (part a (512 * k) (512 * k + 512)) ≡ 512 = length-part a (512 * k) (512 * k + 512) (omega arith) (omega arith) ∙ omega arith in

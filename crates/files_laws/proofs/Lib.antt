@@ -14,3 +14,4 @@ pub mod Reading
 pub mod Bounds
 pub mod Grown
 pub mod Many
+pub mod Same

@@ -12,10 +12,11 @@ use Rattle.table.specs.declared.Table.{Table}
 use Rattle.table.specs.Formed.{wellFormed}
 use Rattle.arena.specs.Blocks.{blk, blocks, legal}
 use Rattle.arena.specs.Fields.{isFree}
+use Rattle.base.proofs.Bools.{and-parts}
 use Rattle.base.proofs.Counts.{countTo-le}
 use Rattle.base.proofs.Finds.{eq-cases}
 use Rattle.sound.specs.Sound.{sound}
-use Rattle.rules.specs.Tests.{test1, test2, test3, test4, test5, test6, test7, test8, checked}
+use Rattle.rules.specs.Tests.{test1, test2, test3, test4, test5, foldersAllowed, sizesAllowed, test6, test7, test8, checked}
 use Rattle.base.specs.Decides.{firstFail}
 use Rattle.arena.specs.Places.{freeCount}
 use Rattle.structs.specs.declared.SuperBlock.{SuperBlock}
@@ -40,6 +41,18 @@ from-three p true true true true true false = refl
 from-three p true true true true true true = refl
 
 module _ (a : List ℕ) (t : Table) where
+  pub six-folders : foldersAllowed a t ≡ false → test6 a t ≡ false
+  unfolding test6
+  six-folders e = rw e
+
+  pub six-sizes : foldersAllowed a t ≡ true → test6 a t ≡ sizesAllowed a t
+  unfolding test6
+  six-sizes e = rw e
+
+  pub six-first : test6 a t ≡ true → foldersAllowed a t ≡ true
+  unfolding test6
+  six-first e = and-parts (foldersAllowed a t) (sizesAllowed a t) e .0
+
   pub links-seven : test7 a t ≡ false → linksVerdict a t ≡ Fail 7
   unfolding linksVerdict
   links-seven e = rw e

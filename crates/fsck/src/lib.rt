@@ -10,13 +10,15 @@ ghost use Rattle.rules.specs.Tests.{test3, test4, test5, test6};
 ghost use Rattle.chains.specs.Led.{Led};
 ghost use Rattle.fsck_read.specs.Loaded.{Loaded, Of};
 ghost use Rattle.fsck.specs.Verdicts.{passOf, verdictOf, linksVerdict, filesVerdict, metaVerdict};
-use fsck_climb::rule8;
+use fsck_climb::tree_ok;
+use fsck_links::count_names;
 use fsck_links::rule7;
 use fsck_names::rule5;
 use fsck_read::count_nodes;
 use fsck_read::rule3;
 use fsck_read::rule4;
-use fsck_slots::rule6;
+use fsck_slots::folders_ok;
+use fsck_slots::sizes_ok;
 use holds::well_formed;
 use mem::MEMORY;
 use mem::put_table;
@@ -43,20 +45,46 @@ fn pass(arena: &[u8], mem: &[u8]) -> Verdict
     }
 }
 
-fn judge_links(arena: &[u8], first: &[u16], next: &[u16], mem: &[u8]) -> Verdict
+// Rule 6, with the hashes that it needs of a folder's names.
+fn rule6(arena: &[u8], first: &[u16], next: &[u16], mem: &[u8]) -> bool
+    requires { ⌜ Led (now arena) (now first) (now next) ⌝ }
+    requires { ⌜ Loaded (now mem) × Of (now arena) (now mem) ⌝ }
+    ensures { λ r. ⌜ r ≡ test6 (now (arena .entry)) (tableIn (now (mem .entry))) ⌝ }
+{
+    let mut hashes = [0u16; 7680];
+    if !folders_ok(arena, first, next, mem, &mut hashes) {
+        return false;
+    }
+    sizes_ok(arena, first, next, mem)
+}
+
+fn judge_links(arena: &[u8], first: &[u16], next: &[u16], mem: &[u8], work: &mut [u16]) -> Verdict
+    requires { ⌜ Led (now arena) (now first) (now next) ⌝ }
+    requires { ⌜ (Loaded (now mem) × Of (now arena) (now mem)) × (length (now work) ≡ 8192) ⌝ }
+    requires { ⌜ (test3 (now arena) ≡ true) × (test4 (now arena) (tableIn (now mem)) ≡ true) ⌝ }
+    requires { ⌜ (test5 (now arena) (tableIn (now mem)) ≡ true) × (test6 (now arena) (tableIn (now mem)) ≡ true) ⌝ }
+    ensures { λ r. ⌜ r ≡ linksVerdict (now (arena .entry)) (tableIn (now (mem .entry))) ⌝ }
+{
+    count_names(arena, first, next, mem, &mut work[..4096]);
+    if !rule7(arena, first, next, mem, &work[..4096]) {
+        return Verdict::Fail(7);
+    }
+    if !tree_ok(arena, first, next, mem, work) {
+        return Verdict::Fail(8);
+    }
+    pass(arena, mem)
+}
+
+// The counts and what slot 1 names have their own frame.
+fn judge_tree(arena: &[u8], first: &[u16], next: &[u16], mem: &[u8]) -> Verdict
     requires { ⌜ Led (now arena) (now first) (now next) ⌝ }
     requires { ⌜ Loaded (now mem) × Of (now arena) (now mem) ⌝ }
     requires { ⌜ (test3 (now arena) ≡ true) × (test4 (now arena) (tableIn (now mem)) ≡ true) ⌝ }
     requires { ⌜ (test5 (now arena) (tableIn (now mem)) ≡ true) × (test6 (now arena) (tableIn (now mem)) ≡ true) ⌝ }
     ensures { λ r. ⌜ r ≡ linksVerdict (now (arena .entry)) (tableIn (now (mem .entry))) ⌝ }
 {
-    if !rule7(arena, first, next, mem) {
-        return Verdict::Fail(7);
-    }
-    if !rule8(arena, first, next, mem) {
-        return Verdict::Fail(8);
-    }
-    pass(arena, mem)
+    let mut work = [0u16; 8192];
+    judge_links(arena, first, next, mem, &mut work)
 }
 
 fn judge_files(arena: &[u8], first: &[u16], next: &[u16], mem: &[u8]) -> Verdict
@@ -71,7 +99,7 @@ fn judge_files(arena: &[u8], first: &[u16], next: &[u16], mem: &[u8]) -> Verdict
     if !rule6(arena, first, next, mem) {
         return Verdict::Fail(6);
     }
-    judge_links(arena, first, next, mem)
+    judge_tree(arena, first, next, mem)
 }
 
 // What follows the tests of arena and table, by the chains that they left: rules 3 to 8.

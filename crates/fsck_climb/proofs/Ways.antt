@@ -1,6 +1,6 @@
 -- The tests of a slot, a folder and an id, by each way out of the function that makes them.
 use mathlib.Core.Path.{_≡_, refl, sym, ap, _∙_}
-use mathlib.Core.Bool.{Bool, true, false}
+use mathlib.Core.Bool.{Bool, true, false, not, _&&_, _||_}
 use mathlib.Core.List.{List}
 use mathlib.Core.Logic.{_≢_, ⊎-elim}
 use Prim.Native.Nat.{ℕ, suc, _+_, _*_, _%_, _≤_, _<_}
@@ -12,7 +12,7 @@ use lib.ListN.{getD}
 use borrow.Author.Tests.{eq-eqb, ne-eqb, lt-ltb, le-ltb}
 use Rattle.base.specs.Count.{allTo}
 use Rattle.base.proofs.Bools.{and-false}
-use Rattle.base.proofs.Counts.{allTo-false, allTo-all}
+use Rattle.base.proofs.Counts.{allTo-false}
 use Rattle.base.proofs.Finds.{search-yes, search-no}
 use Rattle.base.proofs.Lists.{Stored, stored-all}
 use Rattle.le.specs.Le.{leAt}
@@ -20,20 +20,8 @@ use Rattle.structs.specs.Layout.{entryOf}
 use Rattle.structs.specs.declared.DiskINode.{DiskINode}
 use Rattle.table.specs.declared.Table.{Table}
 use Rattle.sefs.specs.Nodes.{nodeFile}
-use Rattle.rules.specs.Image.{run, isNode, recOf, isFolderAt, slotIn, laterSlots}
-use Rattle.fsck_climb.specs.Way.{upBy, up, ups, childFine, childrenFine, climbBy, reachesIn, folderFine, treeFine}
-
--- ---- a test of all numbers below n
-
-module _ (f : ℕ → Bool) where
-  pub all-none : allTo f 0 ≡ true
-  all-none = allTo-all f 0 (λ j l. absurd (omega arith))
-
-  pub all-not : (n m i : ℕ) → n ≡ m → i < n → f i ≡ false → false ≡ allTo f m
-  all-not n m i e l q = sym (allTo-false f m i (omega arith) q)
-
-  pub all-done : (n m i : ℕ) → n ≡ m → i ≤ n → n ≤ i → allTo f i ≡ true → true ≡ allTo f m
-  all-done n m i e l g q = sym q ∙ ap (allTo f) (let z : i ≡ m = omega arith in z)
+use Rattle.rules.specs.Image.{run, isNode, recOf, isFolderAt, slotIn, laterSlots, named}
+use Rattle.fsck_climb.specs.Way.{upBy, up, ups, hasPlace, childFine, childrenFine, climbBy, reachesIn, treeFine}
 
 -- ---- a slot that was read
 
@@ -78,13 +66,30 @@ module _ (a : List ℕ) (t : Table) (id : ℕ) where
   unfolding up
   up-some r v e f q = q ∙ ap (upBy a) e ∙ sym (rw f refl)
 
-  pub tree-none : (p : List ℕ) → isFolderAt a t id ≡ false → true ≡ treeFine a t p id
-  unfolding treeFine
-  tree-none p n = sym (rw n refl)
+  -- a folder that no slot names has no place, but for the root
+  module _ (n : ℕ) (n-is : n ≡ named a t id) (b : Bool) (b-is : (not (eqb id 2) && eqb n 0) ≡ b) where
+    place-not : hasPlace a t id ≡ not b
+    unfolding hasPlace
+    place-not = ap (λ (x : ℕ). eqb id 2 || not (eqb x 0)) (sym n-is) ∙ go (eqb id 2) (eqb n 0) ∙ ap not b-is
+      where
+        go : (x y : Bool) → (x || not y) ≡ not (not x && y)
+        go true y = refl
+        go false y = refl
 
-  pub tree-some : (p : List ℕ) (r : DiskINode) (b : Bool) → r ≡ recOf a t id → isFolderAt a t id ≡ true → b ≡ folderFine a p r id → b ≡ treeFine a t p id
-  unfolding treeFine
-  tree-some p r b e f q = q ∙ ap (λ (x : DiskINode). folderFine a p x id) e ∙ sym (rw f refl)
+  module _ (p : List ℕ) where
+    pub tree-none : isFolderAt a t id ≡ false → true ≡ treeFine a t p id
+    unfolding treeFine
+    tree-none n = sym (rw n refl)
+
+    pub tree-out : (n : ℕ) → n ≡ named a t id → (not (eqb id 2) && eqb n 0) ≡ true → true ≡ treeFine a t p id
+    unfolding treeFine
+    tree-out n n-is e = sym (rw (place-not n n-is true e, and-false (isFolderAt a t id)) refl)
+
+    pub tree-some : (n : ℕ) → n ≡ named a t id → (not (eqb id 2) && eqb n 0) ≡ false → isFolderAt a t id ≡ true → (r : DiskINode) (b : Bool) → r ≡ recOf a t id
+        → b ≡ (childrenFine a p r id && reachesIn p id 4097) → b ≡ treeFine a t p id
+    unfolding treeFine
+    tree-some n n-is e f r b r-is q =
+        q ∙ ap (λ (x : DiskINode). childrenFine a p x id && reachesIn p id 4097) r-is ∙ sym (rw (f, place-not n n-is false e) refl)
 
 -- the ids that are stored are all
 pub ups-all : (a : List ℕ) (t : Table) (d : List ℕ) (i : ℕ) → 4096 ≤ i → Stored 4096 (up a t) d i → d ≡ ups a t
@@ -113,17 +118,11 @@ module _ (a p : List ℕ) (r : DiskINode) (id : ℕ) where
 
   -- ---- a folder
 
-  pub folder-none : r .nlinks ≡ 0 → true ≡ folderFine a p r id
-  unfolding folderFine
-  folder-none e = sym (rw (eq-eqb (r .nlinks) 0 e) refl)
+  pub folder-bad : childrenFine a p r id ≡ false → false ≡ (childrenFine a p r id && reachesIn p id 4097)
+  folder-bad f = sym (rw f refl)
 
-  pub folder-bad : r .nlinks ≢ 0 → childrenFine a p r id ≡ false → false ≡ folderFine a p r id
-  unfolding folderFine
-  folder-bad n f = sym (rw (ne-eqb (r .nlinks) 0 n, f) refl)
-
-  pub folder-rest : (b : Bool) → r .nlinks ≢ 0 → childrenFine a p r id ≡ true → b ≡ reachesIn p id 4097 → b ≡ folderFine a p r id
-  unfolding folderFine
-  folder-rest b n f e = e ∙ sym (rw (ne-eqb (r .nlinks) 0 n, f) refl)
+  pub folder-rest : (b : Bool) → childrenFine a p r id ≡ true → b ≡ reachesIn p id 4097 → b ≡ (childrenFine a p r id && reachesIn p id 4097)
+  folder-rest b f e = e ∙ sym (rw f refl)
 
 -- ---- climbing
 

@@ -11,21 +11,30 @@ use Rattle.base.specs.Search.{pick, lowest}
 use Rattle.structs.specs.Types.{isFolder}
 use Rattle.structs.specs.declared.DiskINode.{DiskINode}
 use Rattle.table.specs.declared.Table.{Table}
-use Rattle.rules.specs.Image.{recOf, isFolderAt, slotIn, laterSlots}
-use Rattle.rules.specs.Tests.{test3, test4, test5, test6, test7}
+use Rattle.rules.specs.Image.{idsIn, recOf, isFolderAt, slotIn, laterSlots, named}
+use Rattle.rules.specs.Tests.{test3, test4, test5, foldersAllowed, rooted}
+use Rattle.fsck_links.specs.Counts.{foldersNamed}
 
 -- ids of the maps, for each id of the maps
 pub record Ids (parents : List ℕ) : Type 0 where
   pub size : length parents ≡ 4096
   pub each : (i : ℕ) → i < 4096 → getD parents i 0 < 4096
 
--- the rules that come before
-pub record Passed (a : List ℕ) (t : Table) : Type 0 where
+-- what comes before: rules 3 to 5, a folder's part of rule 6, and how often folders are named
+pub record Named (a : List ℕ) (t : Table) : Type 0 where
   pub rule3 : test3 a ≡ true
   pub rule4 : test4 a t ≡ true
   pub rule5 : test5 a t ≡ true
-  pub rule6 : test6 a t ≡ true
-  pub rule7 : test7 a t ≡ true
+  pub folders : foldersAllowed a t ≡ true
+  pub names : foldersNamed a t ≡ true
+
+-- a folder has a place in the tree: it is the root, or is named
+unfoldable pub hasPlace : List ℕ → Table → ℕ → Bool
+hasPlace a t id = eqb id 2 || not (eqb (named a t id) 0)
+
+-- rule 8 of each folder that has a place
+unfoldable pub allRooted : List ℕ → Table → Bool
+allRooted a t = allTo (λ id. not (isFolderAt a t id && hasPlace a t id) || rooted a t id) (idsIn a)
 
 -- the id in slot 1, or 0 where it is none of the maps'
 unfoldable pub upBy : List ℕ → DiskINode → ℕ
@@ -54,9 +63,6 @@ climbBy parents id (suc n) = getD parents (climbBy parents id n) 0
 unfoldable pub reachesIn : List ℕ → ℕ → ℕ → Bool
 reachesIn parents id n = ltb (lowest (λ i. eqb (climbBy parents id i) 2) n) n
 
--- a folder with no links, or one that is allowed
-unfoldable pub folderFine : List ℕ → List ℕ → DiskINode → ℕ → Bool
-folderFine a parents r id = eqb (r .nlinks) 0 || (childrenFine a parents r id && reachesIn parents id 4097)
-
 unfoldable pub treeFine : List ℕ → Table → List ℕ → ℕ → Bool
-treeFine a t parents id = not (isFolderAt a t id) || folderFine a parents (recOf a t id) id
+treeFine a t parents id =
+    not (isFolderAt a t id && hasPlace a t id) || (childrenFine a parents (recOf a t id) id && reachesIn parents id 4097)

@@ -1,15 +1,18 @@
-// Rule 8: each folder with links is named by the folder that its slot 1 names, and climbing by slot 1 reaches node 2. By rule 7 each but
-// the root is named once, so the slots are gone through where they name a folder.
+// Rule 8: each folder that has a place in the tree is named by the folder that its slot 1 names, and climbing by slot 1 reaches node 2. Each
+// but the root is named once, so the slots are gone through where they name a folder.
 ghost use mathlib.Core.Path.{_≡_};
+ghost use mathlib.Core.Bool.{_&&_};
 ghost use Prim.Native.Nat.{_<_};
 ghost use lib.ListN.{length};
 ghost use Rattle.base.specs.Count.{allTo};
+ghost use Rattle.base.specs.Parts.{part};
 ghost use Rattle.mem.specs.Mem.{tableIn};
 ghost use Rattle.rules.specs.Image.{idsIn};
-ghost use Rattle.rules.specs.Tests.{test8};
+ghost use Rattle.rules.specs.Image as image;
 ghost use Rattle.chains.specs.Led.{Led};
 ghost use Rattle.fsck_read.specs.Loaded.{Loaded, Of};
-ghost use Rattle.fsck_climb.specs.Way.{Ids, Passed, upBy, up, ups, childFine, childrenFine, reachesIn, folderFine, treeFine};
+ghost use Rattle.fsck_links.specs.Counts.{Counted};
+ghost use Rattle.fsck_climb.specs.Way.{Ids, Named, upBy, up, ups, childFine, childrenFine, reachesIn, treeFine, allRooted};
 use base::index;
 use base::index16;
 use chains::slots::read_slot;
@@ -134,30 +137,33 @@ fn folder_ok(
 ) -> bool
     requires { ⌜ Led (now arena) (now first) (now next) ⌝ }
     requires { ⌜ Ids (now parents) × (id < 4096) ⌝ }
-    ensures { λ r. ⌜ r ≡ folderFine (now (arena .entry)) (now (parents .entry)) rec id ⌝ }
+    ensures { λ r. ⌜ r ≡ (childrenFine (now (arena .entry)) (now (parents .entry)) rec id && reachesIn (now (parents .entry)) id 4097) ⌝ }
 {
-    if rec.nlinks == 0 {
-        return true;
-    }
     if !children_ok(arena, first, next, rec, id, parents) {
         return false;
     }
     reaches_root(parents, id)
 }
 
+// A folder that no slot names has no place, but for the root.
 fn node_ok(
     arena: &[u8],
     first: &[u16],
     next: &[u16],
     mem: &[u8],
     id: usize,
+    named: u16,
     parents: &[u16],
 ) -> bool
     requires { ⌜ Led (now arena) (now first) (now next) ⌝ }
     requires { ⌜ (Loaded (now mem) × Of (now arena) (now mem)) × (Ids (now parents) × (id < 4096)) ⌝ }
+    requires { ⌜ named ≡ image.named (now arena) (tableIn (now mem)) id ⌝ }
     ensures { λ r. ⌜ r ≡ treeFine (now (arena .entry)) (tableIn (now (mem .entry))) (now (parents .entry)) id ⌝ }
 {
     if !is_node(mem, id) {
+        return true;
+    }
+    if (id != 2) & (named == 0) {
         return true;
     }
     let rec = rec_of(arena, first, next, mem, id);
@@ -167,15 +173,23 @@ fn node_ok(
     true
 }
 
-fn nodes_ok(arena: &[u8], first: &[u16], next: &[u16], mem: &[u8], parents: &[u16]) -> bool
+fn nodes_ok(
+    arena: &[u8],
+    first: &[u16],
+    next: &[u16],
+    mem: &[u8],
+    counts: &[u16],
+    parents: &[u16],
+) -> bool
     requires { ⌜ Led (now arena) (now first) (now next) ⌝ }
     requires { ⌜ (Loaded (now mem) × Of (now arena) (now mem)) × Ids (now parents) ⌝ }
+    requires { ⌜ Counted (now arena) (tableIn (now mem)) (now counts) ⌝ }
     ensures { λ r. ⌜ r ≡ allTo (treeFine (now (arena .entry)) (tableIn (now (mem .entry))) (now (parents .entry))) (idsIn (now (arena .entry))) ⌝ }
 {
     let n = ids(mem);
     let mut id: usize = 0;
     while id < n {
-        if !node_ok(arena, first, next, mem, id, parents) {
+        if !node_ok(arena, first, next, mem, id, counts[id], parents) {
             return false;
         }
         id = id + 1;
@@ -183,16 +197,35 @@ fn nodes_ok(arena: &[u8], first: &[u16], next: &[u16], mem: &[u8], parents: &[u1
     true
 }
 
-pub fn rule8(arena: &[u8], first: &[u16], next: &[u16], mem: &[u8]) -> bool
+fn tree_by(
+    arena: &[u8],
+    first: &[u16],
+    next: &[u16],
+    mem: &[u8],
+    counts: &[u16],
+    parents: &[u16],
+) -> bool
     requires { ⌜ Led (now arena) (now first) (now next) ⌝ }
     requires { ⌜ Loaded (now mem) × Of (now arena) (now mem) ⌝ }
-    requires { ⌜ Passed (now arena) (tableIn (now mem)) ⌝ }
-    ensures { λ r. ⌜ r ≡ test8 (now (arena .entry)) (tableIn (now (mem .entry))) ⌝ }
+    requires { ⌜ Named (now arena) (tableIn (now mem)) × Counted (now arena) (tableIn (now mem)) (now counts) ⌝ }
+    requires { ⌜ now parents ≡ ups (now arena) (tableIn (now mem)) ⌝ }
+    ensures { λ r. ⌜ r ≡ allRooted (now (arena .entry)) (tableIn (now (mem .entry))) ⌝ }
 {
-    let mut parents = [0u16; 4096];
-    find_parents(arena, first, next, mem, &mut parents);
     if parents[2] != 2 {
         return false;
     }
-    nodes_ok(arena, first, next, mem, &parents)
+    nodes_ok(arena, first, next, mem, counts, parents)
+}
+
+// `work` has the counts in its first half; what slot 1 of each folder names goes to the second.
+pub fn tree_ok(arena: &[u8], first: &[u16], next: &[u16], mem: &[u8], work: &mut [u16]) -> bool
+    requires { ⌜ Led (now arena) (now first) (now next) ⌝ }
+    requires { ⌜ Loaded (now mem) × Of (now arena) (now mem) ⌝ }
+    requires { ⌜ (length (now work) ≡ 8192) × (Named (now arena) (tableIn (now mem)) × Counted (now arena) (tableIn (now mem)) (part (now work) 0 4096)) ⌝ }
+    ensures { λ r. ⌜ r ≡ allRooted (now (arena .entry)) (tableIn (now (mem .entry))) ⌝ }
+    ensures { λ _. ⌜ part (now (work .exit)) 0 4096 ≡ part (now (work .entry)) 0 4096 ⌝ }
+{
+    find_parents(arena, first, next, mem, &mut work[4096..8192]);
+    let w = &work[..];
+    tree_by(arena, first, next, mem, &w[..4096], &w[4096..8192])
 }

@@ -6,14 +6,13 @@ use Prim.Native.Nat.{ℕ, _+_, _*_, _-_, _%_, _≤_, _<_}
 use native.Mathlib.Omega.{arith}
 use native.Mathlib.Decide.{ℕ-discrete}
 use lib.Dec.{eqb}
-use lib.ListN.{length, getD, set, replicate, length-set, length-replicate}
+use lib.ListN.{length, getD, set, length-set}
 use lib.Seq.{getD-set-same, getD-set-other}
 use borrow.Author.Tests.{eq-eqb, ne-eqb}
 use Rattle.base.specs.Count.{bit, sumTo, countTo}
 use Rattle.base.proofs.Bools.{and-both, true-T}
 use Rattle.base.proofs.Counts.{sumTo-more, countTo-more, countTo-none}
-use Rattle.base.proofs.Lists.{length-tab}
-use Rattle.base.proofs.Parts.{getD-zero-list}
+use Rattle.base.proofs.Lists.{length-tab, Stored}
 use Rattle.le.specs.Le.{leAt}
 use Rattle.structs.specs.Layout.{entryOf}
 use Rattle.structs.specs.Types.{isFolder}
@@ -22,20 +21,22 @@ use Rattle.table.specs.declared.Table.{Table}
 use Rattle.files.specs.Read.{byteAt}
 use Rattle.sefs.specs.Nodes.{nodeFile}
 use Rattle.rules.specs.Image.{run, idsIn, isNode, recOf, isFolderAt, slotIn, laterSlot, namesIn, named, subfolders}
-use Rattle.rules.specs.Tests.{test6}
-use Rattle.rules.proofs.Files.{node-below}
-use Rattle.rules.proofs.Folders.{decides-6}
+use Rattle.rules.specs.Rules.{Rule1}
+use Rattle.rules.specs.Tests.{test5, foldersAllowed}
+use Rattle.rules.proofs.Files.{node-below, decides-5}
+use Rattle.rules.proofs.Folders.{decides-folders}
+use Rattle.rules.proofs.Few.{names-few}
 use Rattle.fsck_read.specs.Loaded.{Loaded, Of}
 use Rattle.fsck_read.proofs.Nodes.{groups-some, ids-is}
-use Rattle.fsck_links.specs.Counts.{upTo, Holds, Below, namesTo, namesAt, namedTo}
+use Rattle.fsck_links.specs.Counts.{upTo, Holds, Counted, Below, namesTo, namesAt, namedTo}
 
 -- ---- counts
 
 pub holds-same : (c : List ℕ) (f g : ℕ → ℕ) → Holds c f → ((i : ℕ) → f i ≡ g i) → Holds c g
 holds-same c f g H e = record { size = H .size; each = λ i l. H .each i l ∙ ap (λ (x : ℕ). upTo x) (e i) }
 
-pub holds-none : Holds (replicate 4096 0) (λ i. 0)
-holds-none = record { size = length-replicate {A = ℕ} 4096 0; each = λ i l. getD-zero-list 4096 i }
+pub holds-none : (c : List ℕ) (i : ℕ) → 4096 ≤ i → Stored 4096 (λ j. 0) c i → Holds c (λ j. 0)
+holds-none c i l S = record { size = S .size; each = λ j b. S .have j (omega arith) }
 
 -- one more at id
 holds-one : (c : List ℕ) (f g : ℕ → ℕ) (id v : ℕ) → Holds c f → id < 4096 → v ≡ upTo (f id + 1) → ((i : ℕ) → g i ≡ f i + bit (eqb id i)) → Holds (set c id v) g
@@ -91,9 +92,9 @@ pub ids-most : (a m : List ℕ) → Loaded m → Of a m → idsIn a ≤ 4096
 ids-most a m L O = omega (arith, ids-is a m O, groups-some m L .1)
 
 -- by rule 6 each later slot of a folder names a node
-pub below-is : (a : List ℕ) (t : Table) (id : ℕ) (r : DiskINode) → idsIn a ≤ 4096 → test6 a t ≡ true → r ≡ recOf a t id → isFolderAt a t id ≡ true → Below a r
+pub below-is : (a : List ℕ) (t : Table) (id : ℕ) (r : DiskINode) → idsIn a ≤ 4096 → foldersAllowed a t ≡ true → r ≡ recOf a t id → isFolderAt a t id ≡ true → Below a r
 below-is a t id r most e q f =
-    let F = decides-6 a t .right (true-T (test6 a t) e) .folder id f in
+    let F = decides-folders a t .right (true-T (foldersAllowed a t) e) id f in
     let B : Below a (recOf a t id) = record { later = λ j l. let b = node-below a _ (F .later (2 + j) (omega arith) (omega arith) .node) in omega arith } in
     subst (λ (x : DiskINode). Below a x) (sym q) B
 
@@ -135,6 +136,15 @@ module _ (a : List ℕ) (t : Table) (c : List ℕ) where
   all-done id n e l g H =
       holds-same c (namedTo a t id) (named a t) H
       (λ i. ap (sumTo (λ f. namesAt a t f i)) (let z : id ≡ n = omega arith in z ∙ e))
+
+-- no arena has as many slots as a count goes
+pub counted-is : (a : List ℕ) (t : Table) (c : List ℕ) → Rule1 a → test5 a t ≡ true → foldersAllowed a t ≡ true → Holds c (named a t) → Counted a t c
+counted-is a t c whole five six H = record {
+  size = H .size;
+  each = λ id l.
+      let few = names-few a t whole (decides-5 a t .right (true-T (test5 a t) five)) (decides-folders a t .right (true-T (foldersAllowed a t) six)) id in
+      H .each id l ∙ (omega (arith, few));
+}
 
 -- ---- subfolders
 

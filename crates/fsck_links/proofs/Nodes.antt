@@ -1,103 +1,90 @@
--- Rule 7's tests of one node, from the count of its names.
+-- Rule 7's tests of one node, and the test of a folder's names, from the count of its names.
 use mathlib.Core.Path.{_≡_, refl, sym, ap, _∙_}
 use mathlib.Core.Bool.{Bool, true, false, not, _&&_, _||_}
 use mathlib.Core.List.{List}
-use Prim.Native.Nat.{ℕ, _+_, _-_, _≤_, _<_}
+use Prim.Native.Nat.{ℕ, _+_, _≤_, _<_}
 use native.Mathlib.Omega.{arith}
-use native.Mathlib.Decide.{ℕ-discrete}
 use lib.Dec.{eqb}
-use borrow.Author.Tests.{eq-eqb, ne-eqb, not-true, not-false}
+use borrow.Author.Tests.{eq-eqb, ne-eqb}
 use Rattle.base.specs.Count.{allTo}
-use Rattle.base.specs.Search.{pick}
-use Rattle.base.proofs.Counts.{allTo-more, allTo-false, allTo-all}
+use Rattle.base.proofs.Bools.{and-assoc}
+use Rattle.base.proofs.Counts.{allTo-false, allTo-all}
 use Rattle.structs.specs.declared.DiskINode.{DiskINode}
 use Rattle.table.specs.declared.Table.{Table}
-use Rattle.rules.specs.Image.{idsIn, isNode, recOf, isOpen, named, subfolders}
-use Rattle.rules.specs.Tests.{test7, linked, removed, linksAllowed}
-use Rattle.fsck_links.specs.Counts.{upTo, linksAt}
+use Rattle.rules.specs.Image.{idsIn, isNode, recOf, isOpen, isFolderAt, named, subfolders}
+use Rattle.rules.specs.Tests.{test7, namedDue, loose, linked, removed, linksAllowed}
+use Rattle.fsck_links.specs.Counts.{linksAt, namesFine, foldersNamed}
 
--- ---- a count tells of each number below 65536 whether it is the exact one
+-- ---- a test of all numbers below n
 
-count-is : (n x d : ℕ) → n ≡ upTo x → d < 65536 → eqb n d ≡ eqb x d
-count-is n x d e l = elim (ℕ-discrete x d) [
-  | yes s ↦ eq-eqb n d (omega arith) ∙ sym (eq-eqb x d s)
-  | no f ↦ ne-eqb n d (λ s. f (omega arith)) ∙ sym (ne-eqb x d f)
-]
+module _ (f : ℕ → Bool) where
+  pub all-none : allTo f 0 ≡ true
+  all-none = allTo-all f 0 (λ j l. absurd (omega arith))
 
-is-count : (n x d : ℕ) → n ≡ upTo x → d < 65536 → eqb d n ≡ eqb d x
-is-count n x d e l = elim (ℕ-discrete d x) [
-  | yes s ↦ eq-eqb d n (omega arith) ∙ sym (eq-eqb d x s)
-  | no f ↦ ne-eqb d n (λ s. f (omega arith)) ∙ sym (ne-eqb d x f)
-]
+  pub all-not : (n m i : ℕ) → n ≡ m → i < n → f i ≡ false → false ≡ allTo f m
+  all-not n m i e l q = sym (allTo-false f m i (omega arith) q)
 
--- ---- removed folders, and how often a folder is named
+  pub all-done : (n m i : ℕ) → n ≡ m → i ≤ n → n ≤ i → allTo f i ≡ true → true ≡ allTo f m
+  all-done n m i e l g q = sym q ∙ ap (allTo f) (let z : i ≡ m = omega arith in z)
 
-module _ (id : ℕ) where
-  pub due-root : id ≡ 2 → _≡_ {A = ℕ} 0 (pick (eqb id 2) 0 1)
-  due-root e = sym (rw (eq-eqb id 2 e) refl)
+-- ---- how often a folder is named
 
-  pub due-other : (id ≡ 2 → ⊥) → _≡_ {A = ℕ} 1 (pick (eqb id 2) 0 1)
-  due-other n = sym (rw (ne-eqb id 2 n) refl)
+module _ (a : List ℕ) (t : Table) (id n : ℕ) (n-is : n ≡ named a t id) where
+  pub due-root : id ≡ 2 → eqb n 0 ≡ namedDue a t id
+  unfolding namedDue
+  due-root e = ap (λ (x : ℕ). eqb x 0) n-is ∙ sym (rw (eq-eqb id 2 e) refl)
 
-  pub removed-root : (x : Bool) → id ≡ 2 → false ≡ (not (eqb id 2) && x)
-  removed-root x e = sym (rw (eq-eqb id 2 e) refl)
+  pub due-other : (id ≡ 2 → ⊥) → eqb n 1 ≡ namedDue a t id
+  unfolding namedDue
+  due-other d = ap (λ (x : ℕ). eqb x 1) n-is ∙ sym (rw (ne-eqb id 2 d) refl)
 
-  pub removed-other : (x y : Bool) → (id ≡ 2 → ⊥) → y ≡ x → y ≡ (not (eqb id 2) && x)
-  removed-other x y n e = e ∙ sym (rw (ne-eqb id 2 n) refl)
+  pub loose-is : (r : DiskINode) → ((not (eqb id 2) && eqb n 0) && eqb (r .blocks) 2) ≡ loose a t id r
+  unfolding loose
+  loose-is r =
+      and-assoc (not (eqb id 2)) (eqb n 0) (eqb (r .blocks) 2)
+      ∙ ap (λ (x : ℕ). not (eqb id 2) && (eqb x 0 && eqb (r .blocks) 2)) n-is
 
 -- ---- files
 
-module _ (l n x : ℕ) (o : Bool) (low : l < 65536) (n-is : n ≡ upTo x) where
-  pub other-not : (l ≡ n → ⊥) → false ≡ (eqb l x && (not (eqb l 0) || o))
-  other-not f = sym (rw (sym (is-count n x l n-is low) ∙ ne-eqb l n f) refl)
+module _ (l n : ℕ) (o : Bool) where
+  pub other-not : (l ≡ n → ⊥) → false ≡ (eqb l n && (not (eqb l 0) || o))
+  other-not f = sym (rw (ne-eqb l n f) refl)
 
-  pub other-none : (r : Bool) → l ≡ n → n ≡ 0 → r ≡ o → r ≡ (eqb l x && (not (eqb l 0) || o))
-  other-none r e z q = q ∙ sym (rw (sym (is-count n x l n-is low) ∙ eq-eqb l n e, eq-eqb l 0 (e ∙ z)) refl)
+  pub other-none : (r : Bool) → l ≡ n → n ≡ 0 → r ≡ o → r ≡ (eqb l n && (not (eqb l 0) || o))
+  other-none r e z q = q ∙ sym (rw (eq-eqb l n e, eq-eqb l 0 (e ∙ z)) refl)
 
-  pub other-some : l ≡ n → (n ≡ 0 → ⊥) → true ≡ (eqb l x && (not (eqb l 0) || o))
-  other-some e z = sym (rw (sym (is-count n x l n-is low) ∙ eq-eqb l n e, ne-eqb l 0 (λ q. z (sym e ∙ q))) refl)
+  pub other-some : l ≡ n → (n ≡ 0 → ⊥) → true ≡ (eqb l n && (not (eqb l 0) || o))
+  other-some e z = sym (rw (eq-eqb l n e, ne-eqb l 0 (λ q. z (sym e ∙ q))) refl)
 
 -- ---- folders
 
-due-low : (b : Bool) (d : ℕ) → d ≡ pick b 0 1 → d < 65536
-due-low true d e = omega arith
-due-low false d e = omega arith
+or-none : (a b : Bool) → ((a && false) || (b && false)) ≡ false
+or-none true true = refl
+or-none true false = refl
+or-none false true = refl
+or-none false false = refl
 
-or-none : (a b c d : Bool) → ((a && false) || (b && (c && (false && d)))) ≡ false
-or-none true true true d = refl
-or-none true true false d = refl
-or-none true false c d = refl
-or-none false true true d = refl
-or-none false true false d = refl
-or-none false false c d = refl
+or-first : (a b : Bool) → ((a && true) || (b && false)) ≡ a
+or-first true b = refl
+or-first false true = refl
+or-first false false = refl
 
-or-first : (a b c d : Bool) → ((a && true) || (b && (c && (false && d)))) ≡ a
-or-first true b c d = refl
-or-first false true true d = refl
-or-first false true false d = refl
-or-first false false c d = refl
-
-module _ (a : List ℕ) (t : Table) (id : ℕ) (r : DiskINode) (n : ℕ) (n-is : n ≡ upTo (named a t id)) where
-  pub folder-removed : (x : Bool) → r .nlinks ≡ 0 → x ≡ (not (eqb id 2) && (isOpen t id && (eqb n 0 && eqb (r .blocks) 2))) → x ≡ (linked a t id r || removed a t id r)
+module _ (a : List ℕ) (t : Table) (id : ℕ) (r : DiskINode) where
+  pub folder-removed : (x y : Bool) → r .nlinks ≡ 0 → x ≡ isOpen t id → y ≡ loose a t id r → (x && y) ≡ (linked a t id r || removed a t id r)
   unfolding linked removed
-  folder-removed x z e =
-      e
-      ∙ ap (λ (y : Bool). not (eqb id 2) && (isOpen t id && (y && eqb (r .blocks) 2))) (count-is n (named a t id) 0 n-is (omega arith))
-      ∙ sym (rw (ne-eqb (r .nlinks) (2 + subfolders a r) (λ q. omega (arith, z, q)), eq-eqb (r .nlinks) 0 z) refl)
+  folder-removed x y z e f =
+      (λ i. e i && f i) ∙ sym (rw (ne-eqb (r .nlinks) (2 + subfolders a r) (λ q. omega (arith, z, q)), eq-eqb (r .nlinks) 0 z) refl)
 
-  module _ (some : r .nlinks ≡ 0 → ⊥) (d : ℕ) (d-is : d ≡ pick (eqb id 2) 0 1) where
-    pub folder-due : (n ≡ d → ⊥) → false ≡ (linked a t id r || removed a t id r)
+  module _ (some : r .nlinks ≡ 0 → ⊥) (d : Bool) (d-is : d ≡ namedDue a t id) where
+    pub folder-due : d ≡ false → false ≡ (linked a t id r || removed a t id r)
     unfolding linked removed
-    folder-due f =
-        let z : eqb (named a t id) (pick (eqb id 2) 0 1) ≡ false = ap (eqb (named a t id)) (sym d-is) ∙ sym (count-is n (named a t id) d n-is (due-low (eqb id 2) d d-is)) ∙ ne-eqb n d f in
-        sym (rw (z, ne-eqb (r .nlinks) 0 some) (or-none (eqb (r .nlinks) (2 + subfolders a r)) (not (eqb id 2)) (isOpen t id) (eqb (named a t id) 0 && eqb (r .blocks) 2)))
+    folder-due f = sym (rw (sym d-is ∙ f, ne-eqb (r .nlinks) 0 some) (or-none (eqb (r .nlinks) (2 + subfolders a r)) (isOpen t id)))
 
-    pub folder-linked : (l s : ℕ) → n ≡ d → l ≡ r .nlinks → s ≡ subfolders a r → eqb l (2 + s) ≡ (linked a t id r || removed a t id r)
+    pub folder-linked : (l s : ℕ) → d ≡ true → l ≡ r .nlinks → s ≡ subfolders a r → eqb l (2 + s) ≡ (linked a t id r || removed a t id r)
     unfolding linked removed
-    folder-linked l s e l-is s-is =
-        let z : eqb (named a t id) (pick (eqb id 2) 0 1) ≡ true = ap (eqb (named a t id)) (sym d-is) ∙ sym (count-is n (named a t id) d n-is (due-low (eqb id 2) d d-is)) ∙ eq-eqb n d e in
+    folder-linked l s f l-is s-is =
         (λ i. eqb (l-is i) (2 + s-is i))
-        ∙ sym (rw (z, ne-eqb (r .nlinks) 0 some) (or-first (eqb (r .nlinks) (2 + subfolders a r)) (not (eqb id 2)) (isOpen t id) (eqb (named a t id) 0 && eqb (r .blocks) 2)))
+        ∙ sym (rw (sym d-is ∙ f, ne-eqb (r .nlinks) 0 some) (or-first (eqb (r .nlinks) (2 + subfolders a r)) (isOpen t id)))
 
 -- ---- nodes
 
@@ -112,22 +99,33 @@ module _ (a : List ℕ) (t : Table) (id : ℕ) where
         let z : b ≡ linksAllowed a t id r = e ∙ sym (rw (eq-eqb (r .kind) 2 k) refl) in
         z ∙ ap (linksAllowed a t id) r-is ∙ sym (rw node refl)
 
-    pub node-other : (r .kind ≡ 2 → ⊥) → b ≡ (eqb (r .nlinks) (named a t id) && (not (eqb (r .nlinks) 0) || isOpen t id)) → b ≡ linksAt a t id
+    pub node-other : (n : ℕ) → n ≡ named a t id → (r .kind ≡ 2 → ⊥) → b ≡ (eqb (r .nlinks) n && (not (eqb (r .nlinks) 0) || isOpen t id)) → b ≡ linksAt a t id
     unfolding linksAllowed
-    node-other k e =
-        let z : b ≡ linksAllowed a t id r = e ∙ sym (rw (ne-eqb (r .kind) 2 k) refl) in
+    node-other n n-is k e =
+        let y : b ≡ (eqb (r .nlinks) (named a t id) && (not (eqb (r .nlinks) 0) || isOpen t id)) =
+        e ∙ ap (λ (x : ℕ). eqb (r .nlinks) x && (not (eqb (r .nlinks) 0) || isOpen t id)) n-is
+        in
+        let z : b ≡ linksAllowed a t id r = y ∙ sym (rw (ne-eqb (r .kind) 2 k) refl) in
         z ∙ ap (linksAllowed a t id) r-is ∙ sym (rw node refl)
 
-  pub links-not : (n : ℕ) (b : Bool) → n ≡ idsIn a → id < n → b ≡ linksAt a t id → not b ≡ true → false ≡ test7 a t
+  -- ---- the names of folders
+
+  pub names-none : isFolderAt a t id ≡ false → true ≡ namesFine a t id
+  unfolding namesFine
+  names-none e = sym (rw e refl)
+
+  pub names-some : (r : DiskINode) (x y : Bool) → isFolderAt a t id ≡ true → r ≡ recOf a t id → x ≡ namedDue a t id → y ≡ loose a t id r → (x || y) ≡ namesFine a t id
+  unfolding namesFine
+  names-some r x y f r-is x-is y-is =
+      (λ i. x-is i || (y-is ∙ ap (loose a t id) r-is) i) ∙ sym (rw f refl)
+
+-- ---- all ids
+
+module _ (a : List ℕ) (t : Table) where
+  pub seven-is : allTo (linksAt a t) (idsIn a) ≡ test7 a t
   unfolding test7
-  links-not n b e l q f = sym (allTo-false (linksAt a t) (idsIn a) id (omega arith) (sym q ∙ not-true b f))
+  seven-is = refl
 
-  pub links-more : (b : Bool) → allTo (linksAt a t) id ≡ true → b ≡ linksAt a t id → not b ≡ false → allTo (linksAt a t) (id + 1) ≡ true
-  links-more b h q f = allTo-more (linksAt a t) id h (sym q ∙ not-false b f)
-
-  pub links-all : (n : ℕ) → n ≡ idsIn a → id ≤ n → n ≤ id → allTo (linksAt a t) id ≡ true → true ≡ test7 a t
-  unfolding test7
-  links-all n e l g q = sym q ∙ ap (allTo (linksAt a t)) (let z : id ≡ n = omega arith in z ∙ e)
-
-pub links-none : (a : List ℕ) (t : Table) → allTo (linksAt a t) 0 ≡ true
-links-none a t = allTo-all (linksAt a t) 0 (λ j l. absurd (omega arith))
+  pub folders-named : allTo (namesFine a t) (idsIn a) ≡ foldersNamed a t
+  unfolding foldersNamed
+  folders-named = refl

@@ -16,6 +16,7 @@ use Rattle.base.proofs.Counts.{allTo-all}
 use Rattle.base.proofs.Searches.{lowest-le}
 use Rattle.le.specs.Le.{leAt}
 use Rattle.structs.specs.Layout.{entryOf}
+use Rattle.structs.specs.Types.{isFolder}
 use Rattle.structs.specs.declared.DiskINode.{DiskINode}
 use Rattle.structs.specs.declared.DiskEntry.{DiskEntry}
 use Rattle.utf8.specs.Names.{nameOf, isDot, isDots, isSpecial, storedName}
@@ -26,9 +27,9 @@ use Rattle.files.specs.Read.{there, lengthOf}
 use Rattle.files_laws.proofs.Views.{length-none}
 use Rattle.sefs.specs.Nodes.{nodeFile}
 use Rattle.sefs.specs.Slots.{isEnded}
-use Rattle.rules.specs.Image.{run, idsIn, isNode, recOf, slotIn, laterSlot, laterSlots}
-use Rattle.rules.specs.Tests.{dotAllowed, dotsAllowed, laterAllowed, sameName, isFirst, folderAllowed, sizeAllowed, contentsAllowed, test6}
-use Rattle.fsck_slots.specs.Slots.{plainName, namesNode, bears, slotAllowed, startAllowed, idAllowed}
+use Rattle.rules.specs.Image.{run, idsIn, isNode, recOf, isFolderAt, slotIn, laterSlot, laterSlots}
+use Rattle.rules.specs.Tests.{dotAllowed, dotsAllowed, laterAllowed, sameName, isFirst, folderAllowed, sizeAllowed, foldersAllowed, sizesAllowed}
+use Rattle.fsck_slots.specs.Slots.{plainName, namesNode, bears, slotAllowed, startAllowed, folderFine, sizeFine}
 use Rattle.fsck_slots.proofs.Names.{slot-is, slot-later}
 
 -- ---- one slot by itself
@@ -204,20 +205,45 @@ size-is a r n m v n-is m-is v-is = v-is ∙ ap (λ (k : ℕ). eqb k (r .size)) (
 -- ---- an id, and all of them
 
 module _ (a : List ℕ) (t : Table) (id : ℕ) where
-  pub id-not : false ≡ isNode a id → true ≡ idAllowed a t id
-  unfolding idAllowed
-  id-not n = sym (rw (sym n))
+  module _ (none : false ≡ isNode a id) where
+    pub folder-none : true ≡ folderFine a t id
+    unfolding folderFine isFolderAt
+    folder-none = sym (rw (sym none))
 
-  pub id-other : (r : DiskINode) (v : Bool) → true ≡ isNode a id → r ≡ recOf a t id → (r .kind ≡ 2 → ⊥) → v ≡ sizeAllowed a r → v ≡ idAllowed a t id
-  unfolding idAllowed contentsAllowed
-  id-other r v n e k q =
-      q ∙ ap (sizeAllowed a) e ∙ sym (rw (sym n, ne-eqb (recOf a t id .kind) 2 (λ z. k (ap (λ (x : DiskINode). x .kind) e ∙ z))))
+    pub size-none : true ≡ sizeFine a t id
+    unfolding sizeFine
+    size-none = sym (rw (sym none))
 
-  pub id-folder : (r : DiskINode) (v : Bool) → true ≡ isNode a id → r ≡ recOf a t id → r .kind ≡ 2 → v ≡ folderAllowed a t id r → v ≡ idAllowed a t id
-  unfolding idAllowed contentsAllowed
-  id-folder r v n e k q =
-      q ∙ ap (folderAllowed a t id) e ∙ sym (rw (sym n, eq-eqb (recOf a t id .kind) 2 (sym (ap (λ (x : DiskINode). x .kind) e) ∙ k)))
+  module _ (node : true ≡ isNode a id) (r : DiskINode) (r-is : r ≡ recOf a t id) where
+    module _ (k : r .kind ≡ 2) where
+      kind-yes : isFolder (recOf a t id .kind) ≡ true
+      kind-yes = eq-eqb (recOf a t id .kind) 2 (sym (ap (λ (x : DiskINode). x .kind) r-is) ∙ k)
 
-pub six-is : (a : List ℕ) (t : Table) (n : ℕ) → n ≡ idsIn a → allTo (idAllowed a t) n ≡ test6 a t
-unfolding test6 idAllowed
-six-is a t n e = ap (allTo (λ id. not (isNode a id) || contentsAllowed a t id (recOf a t id))) e
+      pub folder-own : (v : Bool) → v ≡ folderAllowed a t id r → v ≡ folderFine a t id
+      unfolding folderFine isFolderAt
+      folder-own v q = q ∙ ap (folderAllowed a t id) r-is ∙ sym (rw (sym node, kind-yes))
+
+      pub size-folder : true ≡ sizeFine a t id
+      unfolding sizeFine
+      size-folder = sym (rw (sym node, kind-yes))
+
+    module _ (k : r .kind ≡ 2 → ⊥) where
+      kind-no : isFolder (recOf a t id .kind) ≡ false
+      kind-no = ne-eqb (recOf a t id .kind) 2 (λ z. k (ap (λ (x : DiskINode). x .kind) r-is ∙ z))
+
+      pub folder-other : true ≡ folderFine a t id
+      unfolding folderFine isFolderAt
+      folder-other = sym (rw (sym node, kind-no))
+
+      pub size-own : (v : Bool) → v ≡ sizeAllowed a r → v ≡ sizeFine a t id
+      unfolding sizeFine
+      size-own v q = q ∙ ap (sizeAllowed a) r-is ∙ sym (rw (sym node, kind-no))
+
+module _ (a : List ℕ) (t : Table) (n : ℕ) (n-is : n ≡ idsIn a) where
+  pub folders-is : allTo (folderFine a t) n ≡ foldersAllowed a t
+  unfolding foldersAllowed folderFine
+  folders-is = ap (allTo (λ id. not (isFolderAt a t id) || folderAllowed a t id (recOf a t id))) n-is
+
+  pub sizes-is : allTo (sizeFine a t) n ≡ sizesAllowed a t
+  unfolding sizesAllowed sizeFine
+  sizes-is = ap (allTo (λ id. not (isNode a id) || (isFolder (recOf a t id .kind) || sizeAllowed a (recOf a t id)))) n-is

@@ -4,13 +4,14 @@ use mathlib.Core.List.{List}
 use Prim.Native.Nat.{ℕ}
 use lib.Dec.{eqb}
 use Rattle.base.specs.Decides.{same}
+use Rattle.structs.specs.Types.{isFolder}
 use Rattle.structs.specs.declared.DiskINode.{DiskINode}
 use Rattle.structs.specs.declared.DiskEntry.{DiskEntry}
 use Rattle.utf8.specs.Names.{nameOf, isSpecial, storedName}
 use Rattle.table.specs.declared.Table.{Table}
 use Rattle.sefs.specs.Slots.{isEnded}
-use Rattle.rules.specs.Image.{isNode, recOf, slotIn, laterSlot}
-use Rattle.rules.specs.Tests.{dotAllowed, dotsAllowed, laterAllowed, isFirst, contentsAllowed}
+use Rattle.rules.specs.Image.{isNode, recOf, isFolderAt, slotIn, laterSlot}
+use Rattle.rules.specs.Tests.{dotAllowed, dotsAllowed, laterAllowed, isFirst, folderAllowed, sizeAllowed}
 
 -- a later slot's name by itself
 unfoldable pub plainName : DiskEntry → Bool
@@ -32,6 +33,9 @@ slotAllowed a t r j = laterAllowed a t (laterSlot a r j) && isFirst a r j
 unfoldable pub startAllowed : List ℕ → DiskINode → ℕ → Bool
 startAllowed a r id = dotAllowed id (slotIn a r 0) && dotsAllowed (slotIn a r 1)
 
--- id, if it is a node's
-unfoldable pub idAllowed : List ℕ → Table → ℕ → Bool
-idAllowed a t id = not (isNode a id) || contentsAllowed a t id (recOf a t id)
+-- what rule 6 asks of id where it is a folder, and where it is another node
+unfoldable pub folderFine : List ℕ → Table → ℕ → Bool
+folderFine a t id = not (isFolderAt a t id) || folderAllowed a t id (recOf a t id)
+
+unfoldable pub sizeFine : List ℕ → Table → ℕ → Bool
+sizeFine a t id = not (isNode a id) || (isFolder (recOf a t id .kind) || sizeAllowed a (recOf a t id))

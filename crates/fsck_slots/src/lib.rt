@@ -11,11 +11,11 @@ ghost use Rattle.structs.specs.Layout.{entryOf};
 ghost use Rattle.utf8.specs.Names.{nameOf};
 ghost use Rattle.mem.specs.Mem.{tableIn};
 ghost use Rattle.rules.specs.Image.{slotIn};
-ghost use Rattle.rules.specs.Tests.{dotAllowed, dotsAllowed, folderAllowed, sizeAllowed, test6};
+ghost use Rattle.rules.specs.Tests.{dotAllowed, dotsAllowed, folderAllowed, sizeAllowed, foldersAllowed, sizesAllowed};
 ghost use Rattle.chains.specs.Led.{Led};
 ghost use Rattle.fsck_read.specs.Loaded.{Loaded, Of};
 ghost use Rattle.fsck_slots.specs.Hash.{hashName, Hashed};
-ghost use Rattle.fsck_slots.specs.Slots.{plainName, namesNode, bears, slotAllowed, startAllowed, idAllowed};
+ghost use Rattle.fsck_slots.specs.Slots.{plainName, namesNode, bears, slotAllowed, startAllowed, folderFine, sizeFine};
 use base::index;
 use base::wide;
 use chains::length_of;
@@ -238,22 +238,6 @@ fn all_later(
     true
 }
 
-fn later_slots(
-    arena: &[u8],
-    first: &[u16],
-    next: &[u16],
-    mem: &[u8],
-    rec: DiskINode,
-    n: usize,
-) -> bool
-    requires { ⌜ Led (now arena) (now first) (now next) ⌝ }
-    requires { ⌜ (Loaded (now mem) × Of (now arena) (now mem)) × (n < 4294967294) ⌝ }
-    ensures { λ r. ⌜ r ≡ allTo (slotAllowed (now (arena .entry)) (tableIn (now (mem .entry))) rec) n ⌝ }
-{
-    let mut hashes = [0u16; 7680];
-    all_later(arena, first, next, mem, rec, n, &mut hashes)
-}
-
 // ---- a folder
 
 fn first_slots(arena: &[u8], first: &[u16], next: &[u16], rec: DiskINode, id: usize) -> bool
@@ -276,9 +260,10 @@ fn folder_ok(
     mem: &[u8],
     rec: DiskINode,
     id: usize,
+    hashes: &mut [u16],
 ) -> bool
     requires { ⌜ Led (now arena) (now first) (now next) ⌝ }
-    requires { ⌜ Loaded (now mem) × Of (now arena) (now mem) ⌝ }
+    requires { ⌜ (Loaded (now mem) × Of (now arena) (now mem)) × (length (now hashes) ≡ 7680) ⌝ }
     ensures { λ r. ⌜ r ≡ folderAllowed (now (arena .entry)) (tableIn (now (mem .entry))) id rec ⌝ }
 {
     if rec.blocks < 2 {
@@ -291,7 +276,46 @@ fn folder_ok(
     if !first_slots(arena, first, next, rec, id) {
         return false;
     }
-    later_slots(arena, first, next, mem, rec, index(rec.blocks) - 2)
+    all_later(arena, first, next, mem, rec, index(rec.blocks) - 2, hashes)
+}
+
+fn folder_at(
+    arena: &[u8],
+    first: &[u16],
+    next: &[u16],
+    mem: &[u8],
+    id: usize,
+    hashes: &mut [u16],
+) -> bool
+    requires { ⌜ Led (now arena) (now first) (now next) ⌝ }
+    requires { ⌜ (Loaded (now mem) × Of (now arena) (now mem)) × ((id < 4096) × (length (now hashes) ≡ 7680)) ⌝ }
+    ensures { λ r. ⌜ r ≡ folderFine (now (arena .entry)) (tableIn (now (mem .entry))) id ⌝ }
+{
+    if !is_node(mem, id) {
+        return true;
+    }
+    let rec = rec_of(arena, first, next, mem, id);
+    if rec.kind != 2 {
+        return true;
+    }
+    folder_ok(arena, first, next, mem, rec, id, hashes)
+}
+
+// Each folder. The hashes are lent, whatever they are: no name is compared by the hash of another folder's slot.
+pub fn folders_ok(arena: &[u8], first: &[u16], next: &[u16], mem: &[u8], hashes: &mut [u16]) -> bool
+    requires { ⌜ Led (now arena) (now first) (now next) ⌝ }
+    requires { ⌜ (Loaded (now mem) × Of (now arena) (now mem)) × (length (now hashes) ≡ 7680) ⌝ }
+    ensures { λ r. ⌜ r ≡ foldersAllowed (now (arena .entry)) (tableIn (now (mem .entry))) ⌝ }
+{
+    let n = ids(mem);
+    let mut id: usize = 0;
+    while id < n {
+        if !folder_at(arena, first, next, mem, id, hashes) {
+            return false;
+        }
+        id = id + 1;
+    }
+    true
 }
 
 // ---- another node
@@ -314,30 +338,31 @@ fn size_ok(arena: &[u8], first: &[u16], next: &[u16], rec: DiskINode) -> bool
     length_by(length_of(arena, first, next, 1, &file)) == rec.size
 }
 
-fn node_ok(arena: &[u8], first: &[u16], next: &[u16], mem: &[u8], id: usize) -> bool
+fn size_at(arena: &[u8], first: &[u16], next: &[u16], mem: &[u8], id: usize) -> bool
     requires { ⌜ Led (now arena) (now first) (now next) ⌝ }
     requires { ⌜ (Loaded (now mem) × Of (now arena) (now mem)) × (id < 4096) ⌝ }
-    ensures { λ r. ⌜ r ≡ idAllowed (now (arena .entry)) (tableIn (now (mem .entry))) id ⌝ }
+    ensures { λ r. ⌜ r ≡ sizeFine (now (arena .entry)) (tableIn (now (mem .entry))) id ⌝ }
 {
     if !is_node(mem, id) {
         return true;
     }
     let rec = rec_of(arena, first, next, mem, id);
-    if rec.kind != 2 {
-        return size_ok(arena, first, next, rec);
+    if rec.kind == 2 {
+        return true;
     }
-    folder_ok(arena, first, next, mem, rec, id)
+    size_ok(arena, first, next, rec)
 }
 
-pub fn rule6(arena: &[u8], first: &[u16], next: &[u16], mem: &[u8]) -> bool
+// The size of each node that is no folder.
+pub fn sizes_ok(arena: &[u8], first: &[u16], next: &[u16], mem: &[u8]) -> bool
     requires { ⌜ Led (now arena) (now first) (now next) ⌝ }
     requires { ⌜ Loaded (now mem) × Of (now arena) (now mem) ⌝ }
-    ensures { λ r. ⌜ r ≡ test6 (now (arena .entry)) (tableIn (now (mem .entry))) ⌝ }
+    ensures { λ r. ⌜ r ≡ sizesAllowed (now (arena .entry)) (tableIn (now (mem .entry))) ⌝ }
 {
     let n = ids(mem);
     let mut id: usize = 0;
     while id < n {
-        if !node_ok(arena, first, next, mem, id) {
+        if !size_at(arena, first, next, mem, id) {
             return false;
         }
         id = id + 1;

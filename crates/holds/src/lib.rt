@@ -3,7 +3,7 @@
 ghost use mathlib.Core.Path.{_≡_};
 ghost use Prim.Native.Nat.{_<_};
 ghost use Rattle.base.specs.declared.Found.the-variants.{At};
-ghost use Rattle.table.specs.Table.{holdAt, withHold, holdOf, liveRow, isOwner, ownHolds, canHold, addAt, addHold, closeHold};
+ghost use Rattle.table.specs.Table.{holdAt, withHold, holdOf, liveRow, isOwner, ownHolds, noHolds, canHold, addAt, addHold, closeHold};
 ghost use Rattle.table.specs.Formed.{isAt, holdOk, rowOk, holdsOk, rowsOk, ownersOk, wellFormed};
 ghost use Rattle.mem.specs.Mem.{tableIn, Whole, Tabled};
 ghost use Rattle.holds.specs.Holds.{withNext, liveOk};
@@ -59,6 +59,21 @@ fn find_hold(mem: &[u8], stamp: u64) -> Found
         n = n + 1;
     }
     Found::Nothing
+}
+
+// No hold is live, whoever's: reason 24 is where this is false.
+pub fn no_holds(mem: &[u8]) -> bool
+    requires { ⌜ Whole (now mem) ⌝ }
+    ensures { λ r. ⌜ r ≡ noHolds (tableIn (now (mem .entry))) ⌝ }
+{
+    let mut n: usize = 0;
+    while n < 32 {
+        if hold_at(mem, n).stamp != 0 {
+            return false;
+        }
+        n = n + 1;
+    }
+    true
 }
 
 // ---- handles

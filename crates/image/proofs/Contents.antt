@@ -85,7 +85,7 @@ record Sized (own : ℕ → Type 0) (a : List ℕ) (t : Table) (i n : ℕ) (u : 
   here : recOf a u (rowAt t i .id) .size ≡ n
   else : (x : ℕ) → x ≢ rowAt t i .id → recOf a u x .size ≡ recOf a t x .size
 
-size-fits : (r : DiskINode) (n : ℕ) → RecordFits r → n < 2 ^ 64 → RecordFits (withSize r n)
+pub size-fits : (r : DiskINode) (n : ℕ) → RecordFits r → n < 2 ^ 64 → RecordFits (withSize r n)
 size-fits r n R l = record {
   size = l;
   kind = R .kind;

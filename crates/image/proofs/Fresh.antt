@@ -32,7 +32,7 @@ use Rattle.files_laws.specs.Laws.{Named}
 use Rattle.files_laws.proofs.Bounds.{named-meta}
 use Rattle.files_laws.proofs.Parts.{file-cases}
 use Rattle.sefs.specs.Nodes.{nodeFile}
-use Rattle.rules.specs.Image.{storedSuper, mapsTo, storedMaps, idsIn, isNode, storedBytes, recBy, recOf, isFolderAt, slotIn, namesIn, named, subfolders, parentOf, climb}
+use Rattle.rules.specs.Image.{storedSuper, mapsTo, storedMaps, idsIn, isNode, storedBytes, recBy, recOf, isFolderAt, slotIn, namesIn, named, subfolders, parentOf}
 use Rattle.rules.specs.Rules.{Rule3, Rule4, Rule5, Folder, Linked, Removed, Rule7, Rule8}
 use Rattle.rules.proofs.Files.{node-below}
 use Rattle.rules.proofs.Folders.{folder-node}
@@ -208,13 +208,7 @@ module _ (n : ℕ) (time : Timespec) (name b : List ℕ) (fine : legal b ≡ tru
   up-root = ap (λ (x : DiskINode). slotIn b x 1 .id) rec-is ∙ ap (λ (e : DiskEntry). e .id) (M .dots)
 
   eight : Rule8 b t
-  unfolding climb
-  eight = record {
-    root = λ d. up-root;
-    parent = λ id f l d. absurd (d (only-root id (folder-node b t id f)));
-    names = λ id f l d. absurd (d (only-root id (folder-node b t id f)));
-    climbs = λ id f l. (0, only-root id (folder-node b t id f));
-  }
+  eight = record { root = λ d. up-root; folder = λ id f l d. absurd (d (only-root id (folder-node b t id f))) }
 
   pub made-fair : {style : Spelling} → Fair style b t
   made-fair = record {

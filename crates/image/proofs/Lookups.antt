@@ -97,7 +97,7 @@ module _ (a : List ℕ) (t : Table) (A : Allowed a t) (id : ℕ) (f : isFolderAt
       ⊎-elim
       (λ (e : id ≡ 2).
       subst (λ (k : ℕ). isNode a k ≡ true) (sym (ap (parentOf a t) e ∙ A .rule8 .root (subst (λ (k : ℕ). recOf a t k .nlinks ≢ 0) e n))) (root-node a t (fair a t A)))
-      (λ d. folder-node a t (parentOf a t id) (A .rule8 .parent id f n d))
+      (λ d. folder-node a t (parentOf a t id) (A .rule8 .folder id f n d .parent))
       (eq-cases id 2)
 
   pub slot-node : (isDots name ≡ true → recOf a t id .nlinks ≢ 0) → (k : ℕ) → k < recOf a t id .blocks → isNamed (slotIn a (recOf a t id) k .name) name ≡ true → isNode a (slotIn a (recOf a t id) k .id) ≡ true

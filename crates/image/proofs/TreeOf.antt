@@ -5,6 +5,7 @@ use mathlib.Core.List.{List}
 use mathlib.Core.Logic.{inl, inr, ⊎-elim}
 use Prim.Native.Nat.{ℕ, zero, suc, _+_, _<_}
 use native.Mathlib.Omega.{arith}
+use Rattle.base.proofs.Finds.{eq-cases}
 use Rattle.structs.specs.Types.{isFolder}
 use Rattle.table.specs.declared.Table.{Table}
 use Rattle.rules.specs.Image.{idsIn, isNode, recOf, isFolderAt, namesIn, named, subfolders, parentOf, climb}
@@ -28,7 +29,7 @@ module _ (a : List ℕ) (t : Table) where
 
   -- from the rules
   pub tidy-of : {style : Spelling} → ((i : ℕ) → isNode a i ≡ true → i < idsIn a) → isNode a 2 ≡ true → isFolder (recOf a t 2 .kind) ≡ true → Rule6 a t → Rule7 a t → Rule8 a t → Spells style a t → Tidy style (treeOf a t)
-  unfolding isFolderAt parentOf
+  unfolding isFolderAt parentOf up
   tidy-of below two dir S L E N = record {
     below = below;
     two = root-lives;
@@ -48,12 +49,15 @@ module _ (a : List ℕ) (t : Table) where
     unnamed = L .unnamed;
     either = λ i f. ⊎-elim
         (λ (h : Linked a t i). inl (record { links = h .links ∙ ap (λ (n : ℕ). 2 + n) (subs-tree i); root = λ e. sym (named-tree i) ∙ h .root e; once = λ e. sym (named-tree i) ∙ h .once e }))
-        (λ (h : Removed a t i). inr (record { apart = h .apart; opened = h .opened; links = h .links; unnamed = sym (named-tree i) ∙ h .unnamed; slots = h .slots }))
+        (λ (h : Removed a t i). inr (record { apart = h .apart; opened = h .opened; links = h .links; unnamed = sym (named-tree i) ∙ h .loose .unnamed; slots = h .loose .slots }))
         (L .folder i f);
     root = E .root (root-lives .links);
-    parents = λ i l n. E .parent i (l .folder) (l .links) n;
-    names = λ i l n. let k = E .names i (l .folder) (l .links) n in record { at = k .0; later = k .1; inside = k .2; is = k .3 };
-    climbs = λ i l. let c = E .climbs i (l .folder) (l .links) in (c .0, sym (climb-tree i (c .0)) ∙ c .1);
+    parents = λ i l n. E .folder i (l .folder) (l .links) n .parent;
+    names = λ i l n. let k = E .folder i (l .folder) (l .links) n .names in record { at = k .0; later = k .1; inside = k .2; is = k .3 };
+    climbs = λ i l. ⊎-elim
+        (λ (e : i ≡ 2). (0, e))
+        (λ n. let c = E .folder i (l .folder) (l .links) n .climbs in (c .0, sym (climb-tree i (c .0)) ∙ c .1))
+        (eq-cases i 2);
   }
     where
       folder-two : isFolderAt a t 2 ≡ true
@@ -95,7 +99,7 @@ module _ (a : List ℕ) (t : Table) where
       unnamed = I .unnamed;
       folder = λ i f. ⊎-elim
           (λ (h : LinkedIn (treeOf a t) i). inl (record { links = h .links ∙ ap (λ (n : ℕ). 2 + n) (sym (subs-tree i)); root = λ e. named-tree i ∙ h .root e; once = λ e. named-tree i ∙ h .once e }))
-          (λ (h : RemovedIn (treeOf a t) i). inr (record { apart = h .apart; opened = h .opened; links = h .links; unnamed = named-tree i ∙ h .unnamed; slots = h .slots }))
+          (λ (h : RemovedIn (treeOf a t) i). inr (record { apart = h .apart; opened = h .opened; links = h .links; loose = record { unnamed = named-tree i ∙ h .unnamed; slots = h .slots } }))
           (I .either i f);
     }
 
@@ -103,7 +107,9 @@ module _ (a : List ℕ) (t : Table) where
     unfolding isFolderAt parentOf
     tidy-eight = record {
       root = λ n. I .root;
-      parent = λ i f n d. I .parents i (record { folder = f; links = n }) d;
-      names = λ i f n d. let k = I .names i (record { folder = f; links = n }) d in (k .at, k .later, k .inside, k .is);
-      climbs = λ i f n. let c = I .climbs i (record { folder = f; links = n }) in (c .0, climb-tree i (c .0) ∙ c .1);
+      folder = λ i f n d.
+          let l : Lives (treeOf a t) i = record { folder = f; links = n } in
+          let k = I .names i l d in
+          let c = I .climbs i l in
+          record { parent = I .parents i l d; names = (k .at, k .later, k .inside, k .is); climbs = (c .0, climb-tree i (c .0) ∙ c .1) };
     }

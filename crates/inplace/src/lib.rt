@@ -10,9 +10,10 @@ ghost use Rattle.le.specs.Le.{lePut};
 ghost use Rattle.arena.specs.Blocks.{blk, putBlk, blocks};
 ghost use Rattle.arena.specs.Fields.{file, numberOf, seal, fresh, zeros};
 ghost use Rattle.arena.specs.Places.{freeOf, dataOf};
-ghost use Rattle.files.specs.Store.{clearAll, isPast, zeroTail};
+ghost use Rattle.files.specs.Store.{clearAll, isPast, isOf, zeroTail};
 use arena::is_data;
 use arena::is_free;
+use arena::is_head;
 use arena::make_block;
 use arena::put_check;
 use base::clear;
@@ -68,6 +69,17 @@ fn is_past(b: &[u8], which: u8, name: &[u8; 16], len: usize) -> bool
         return false;
     }
     len <= 480 * index(q)
+}
+
+// Whether it is a block of the file: its head, or one of its data blocks.
+pub fn is_of(b: &[u8], which: u8, name: &[u8; 16]) -> bool
+    requires { ⌜ length (now b) ≡ 512 ⌝ }
+    ensures { λ r. ⌜ r ≡ isOf (file which (now (name .entry))) (now (b .entry)) ⌝ }
+{
+    if is_head(b, which, name) {
+        return true;
+    }
+    is_data(b, which, name, u32_at(b, 20))
 }
 
 // ---- block k of the arena
@@ -149,6 +161,20 @@ pub fn free_past(arena: &mut [u8], which: u8, name: &[u8; 16], len: usize)
     while k < n {
         let o = 512 * k;
         let yes = is_past(&arena[o..o + 512], which, name, len);
+        free_at(arena, k, yes);
+        k = k + 1;
+    }
+}
+
+// All blocks of the file become free.
+pub fn drop_file(arena: &mut [u8], which: u8, name: &[u8; 16])
+    ensures { λ _. ⌜ now (arena .exit) ≡ clearAll (isOf (file which (now (name .entry)))) (now (arena .entry)) ⌝ }
+{
+    let n = arena.len() / 512;
+    let mut k: usize = 0;
+    while k < n {
+        let o = 512 * k;
+        let yes = is_of(&arena[o..o + 512], which, name);
         free_at(arena, k, yes);
         k = k + 1;
     }

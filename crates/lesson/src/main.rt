@@ -1,5 +1,6 @@
 // The lesson of the course: document 01's examples, run on the calls. Each scene is a function, and each line that it prints says what was
 // done and what came out.
+mod host;
 mod slots;
 mod support;
 
@@ -21,4 +22,5 @@ fn main() {
     paths::masters();
     slots::two_keys(&mut world);
     support::support_call(&mut world);
+    host::host_down(&mut world, &mut kept);
 }

@@ -1,6 +1,6 @@
 // The scenes in which names are linked, moved and removed.
 use base::copy;
-use lesson_lib::image::root_length;
+use lesson_lib::raw::root_length;
 use lesson_lib::say;
 use lesson_lib::say::part;
 use lesson_lib::say::text;

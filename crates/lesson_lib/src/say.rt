@@ -89,6 +89,7 @@ fn words(reason: u8) {
         4 => text(b" (bad handle)"),
         6 => text(b" (invalid parameter)"),
         7 => text(b" (not a folder)"),
+        24 => text(b" (in use)"),
         _ => name_words(reason),
     }
 }

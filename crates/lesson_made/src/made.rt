@@ -1,10 +1,10 @@
 // The scenes in which nodes are made and nothing else is asked.
 use base::copy;
-use lesson_lib::image::fill_group;
-use lesson_lib::image::same_image;
 use lesson_lib::lines::blocks_line;
 use lesson_lib::lines::numbers_line;
 use lesson_lib::lines::second_group_line;
+use lesson_lib::raw::fill_group;
+use lesson_lib::raw::same_image;
 use lesson_lib::say;
 use lesson_lib::say::part;
 use lesson_lib::say::text;

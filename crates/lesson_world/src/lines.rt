@@ -2,6 +2,7 @@
 ghost use Prim.Native.Nat.{_≤_};
 ghost use lib.ListN.{length};
 use crate::world::ANN;
+use crate::world::check;
 use crate::world::create;
 use crate::world::get_entry;
 use crate::world::handle;
@@ -12,6 +13,7 @@ use crate::world::write;
 use calls::Answer;
 use calls::Got;
 use calls::Told;
+use fsck::Verdict;
 use lesson_lib::say;
 use lesson_lib::say::part;
 use lesson_lib::say::stored;
@@ -71,6 +73,22 @@ pub fn slot(world: &[u8], root: Handle, i: u64, story: &[u8], k: u8)
     get_entry(world, ANN, root, i, &mut entry);
     part(story, k);
     stored(&entry[4..260]);
+}
+
+// What the check says of image and table.
+pub fn verdict(world: &[u8], story: &[u8], k: u8)
+    requires { ⌜ 4402 ≤ length (now world) ⌝ }
+{
+    part(story, k);
+    let v = check(world);
+    match v {
+        Verdict::Pass {
+            nodes: _,
+            unused: _,
+            free: _,
+        } => text(b"passes"),
+        Verdict::Fail(rule) => say::number(b"fails rule %", 0, rule as u64),
+    }
 }
 
 // A new node in a folder, and what its handle tells: a line of its own.

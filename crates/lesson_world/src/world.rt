@@ -8,6 +8,7 @@ use calls::HeldReply;
 use calls::Reply;
 use calls::Told;
 use calls_create::New;
+use fsck::Verdict;
 use structs::Timespec;
 use table::Handle;
 use table_bytes::put_empty;
@@ -170,6 +171,27 @@ pub fn get_entry(world: &[u8], who: u8, h: Handle, k: u64, out: &mut [u8])
     requires { ⌜ 4402 ≤ length (now world) ⌝ }
 {
     calls_entry::get_entry(&world[4402..], read_table(world), who, h, k, out);
+}
+
+pub fn check(world: &[u8]) -> Verdict
+    requires { ⌜ 4402 ≤ length (now world) ⌝ }
+{
+    fsck::check(&world[4402..], read_table(world))
+}
+
+pub fn mend(world: &mut [u8]) -> Answer
+    requires { ⌜ 4402 ≤ length (now world) ⌝ }
+{
+    let t = read_table(&world[..]);
+    calls_mend::mend(&mut world[4402..], t)
+}
+
+// ---- the host goes down, and the table with it
+
+pub fn go_down(world: &mut [u8])
+    requires { ⌜ 4402 ≤ length (now world) ⌝ }
+{
+    put_empty(world);
 }
 
 // ---- where a scene begins

@@ -17,6 +17,7 @@ use Rattle.table.specs.declared.Added.{Added}
 use Rattle.table_bytes.specs.Layout.{tableOf, tableBytes}
 use Rattle.sefs.specs.Create.{After}
 use Rattle.walk.specs.Walk.{Walked, walked, mostLinks}
+use Rattle.mending.specs.Mend.{callMend}
 use Rattle.calls_walk.proofs.Runs.{nothing-laid}
 use Rattle.fsck.specs.Verdicts.{verdictOf}
 use Rattle.edge_words.specs.Words.{handleWords}
@@ -25,7 +26,7 @@ use Rattle.owners_kept.specs.Owned.{Chained, Owned}
 use Rattle.rules.proofs.Check.{check-pass}
 use Rattle.sequences.specs.Pairs.{Pair, pair}
 use Rattle.sequences.specs.Calls.{Call, check, does}
-use Rattle.linked.specs.Images.{Image, image, pairOf, Same, Trusted, Ready, Places, places, inWords, nowhere, handed, Has, written, looked, Did, did, denied, uncalled, reasonIn}
+use Rattle.linked.specs.Images.{Image, image, pairOf, Same, Trusted, Ready, Places, places, inWords, nowhere, handed, Has, written, unwritten, Did, did, denied, uncalled, reasonIn}
 use Rattle.linked.specs.Tested.{Ran}
 use Rattle.linked.specs.Tested as tested
 use Rattle.linked.specs.Owning.{Owns}
@@ -124,7 +125,7 @@ module _ {s : Image} {w v : List ℕ} {n : ℕ} where
 
       by : (b : Bool) → eqb n 255 ≡ b → Did check s (inWords w) s (inWords v) (pick b 255 0)
       by true e = uncalled still (kept p L (eqb-true n 255 e)) refl
-      by false e = did refl (looked refl still) (counts L g (eqb-false n 255 e)) refl
+      by false e = did refl (unwritten refl refl refl) (counts L g (eqb-false n 255 e)) refl
 
 -- ---- tested
 
@@ -139,17 +140,18 @@ ran-did (tested.links _ _ _ t _ _ _ _ _ _ _ _ L) = left-did L (fixed 4402 (now t
 ran-did (tested.removes-file _ _ _ t _ _ _ _ _ _ L) = left-did L (fixed 4402 (now t) same) refl refl
 ran-did (tested.removes-folder _ _ _ t _ _ _ _ _ _ L) = left-did L (fixed 4402 (now t) same) refl refl
 ran-did (tested.moves _ _ _ t _ _ _ _ _ _ _ _ _ L) = left-did L (fixed 4402 (now t) same) refl refl
-ran-did (tested.tells _ a t out _ _ _ _ _ L) = answers-did (λ w. (now a, now t, inWords w)) L (fixed 4402 (now t) (fixed 14 (now out) same)) refl refl (λ _. looked refl still)
+ran-did (tested.tells _ a t out _ _ _ _ _ L) = answers-did (λ w. (now a, now t, inWords w)) L (fixed 4402 (now t) (fixed 14 (now out) same)) refl refl (λ _. unwritten refl refl refl)
 ran-did (tested.sets _ _ t _ _ _ _ _ _ _ _ _ _ _ _ _ _ L) = set-did L (fixed 4402 (now t) same) refl refl
-ran-did (tested.enters _ a t _ _ _ _ _ _ _ L) = answers-did (λ o. (now a, now t, places [] o [])) L (fixed 4402 (now t) same) refl refl (λ _. looked refl still)
-ran-did (tested.lists _ a t next _ _ _ _ _ _ _ _ L) = answers-did (λ x. (now a, now t, places (x .0) (x .1) [])) L (fixed 4402 (now t) (fixed 1 (now next) same)) refl refl (λ _. looked refl still)
-ran-did (tested.reads _ a t _ _ count _ _ _ _ _ _ L) = answers-did (λ x. (now a, now t, places (x .1) (x .0) [])) L (fixed 4402 (now t) (fixed 1 (now count) same)) refl refl (λ _. looked refl still)
+ran-did (tested.enters _ a t _ _ _ _ _ _ _ L) = answers-did (λ o. (now a, now t, places [] o [])) L (fixed 4402 (now t) same) refl refl (λ _. unwritten refl refl refl)
+ran-did (tested.lists _ a t next _ _ _ _ _ _ _ _ L) = answers-did (λ x. (now a, now t, places (x .0) (x .1) [])) L (fixed 4402 (now t) (fixed 1 (now next) same)) refl refl (λ _. unwritten refl refl refl)
+ran-did (tested.reads _ a t _ _ count _ _ _ _ _ _ L) = answers-did (λ x. (now a, now t, places (x .1) (x .0) [])) L (fixed 4402 (now t) (fixed 1 (now count) same)) refl refl (λ _. unwritten refl refl refl)
 ran-did (tested.writes _ _ _ t _ _ _ _ _ _ _ L) = left-did L (fixed 4402 (now t) same) refl refl
 ran-did (tested.resizes _ _ _ t _ _ _ _ _ _ L) = left-did L (fixed 4402 (now t) same) refl refl
 ran-did (tested.syncs _ _ _ t _ _ L) = left-did L (fixed 4402 (now t) same) refl refl
 ran-did (tested.closes _ _ _ t _ _ _ _ _ L) = left-did L (fixed 4402 (now t) same) refl refl
 ran-did (tested.checks _ _ t out _ _ L) = check-did L (fixed 4402 (now t) (fixed 3 (now out) same))
-ran-did (tested.inventories _ a _ _ count _ _ {t = t} L) = answers-did (λ x. (now a, t, places (x .1) (x .0) [])) L (fixed 1 (now count) same) refl refl (λ _. looked refl still)
+ran-did (tested.inventories _ a _ _ count _ _ {t = t} L) = answers-did (λ x. (now a, t, places (x .1) (x .0) [])) L (fixed 1 (now count) same) refl refl (λ _. unwritten refl refl refl)
+ran-did (tested.mends _ a _ t _ L) = answers-did (λ x. (x, now t, nowhere)) L (fixed 4402 (now t) same) (lent-none (callMend (now a) (tableOf (now t)))) refl (λ _. unwritten refl refl refl)
 
 pub does-calls : Does
 unfolding Does
@@ -177,11 +179,11 @@ owns-did y (owning.links _ _ _ _ _ _ _ _ _ _ _ _ _ _ L) = (left-did (L (asked y)
 owns-did y (owning.removes-file _ _ _ _ _ _ _ _ _ _ _ _ L) = (left-did (L (asked y) .0) same refl refl, L (asked y) .1)
 owns-did y (owning.removes-folder _ _ _ _ _ _ _ _ _ _ _ _ L) = (left-did (L (asked y) .0) same refl refl, L (asked y) .1)
 owns-did y (owning.moves _ _ _ _ _ _ _ _ _ _ _ _ _ _ _ L) = (left-did (L (asked y) .0) same refl refl, L (asked y) .1)
-owns-did y (owning.tells _ a _ t out _ _ _ _ _ L) = (answers-did (λ w. (now a, now t, inWords w)) (L (asked y)) (fixed 14 (now out) same) refl refl (λ _. looked refl still), y .chained)
+owns-did y (owning.tells _ a _ t out _ _ _ _ _ L) = (answers-did (λ w. (now a, now t, inWords w)) (L (asked y)) (fixed 14 (now out) same) refl refl (λ _. unwritten refl refl refl), y .chained)
 owns-did y (owning.sets _ _ _ _ _ _ _ _ _ _ _ _ _ _ _ _ _ _ L) = (set-did (L (asked y)) same refl refl, y .chained)
-owns-did y (owning.enters _ a _ t _ _ _ _ _ _ _ L) = (answers-did (λ o. (now a, now t, places [] o [])) (L (asked y)) same refl refl (λ _. looked refl still), y .chained)
-owns-did y (owning.lists _ a _ t next _ _ _ _ _ _ _ _ L) = (answers-did (λ x. (now a, now t, places (x .0) (x .1) [])) (L (asked y)) (fixed 1 (now next) same) refl refl (λ _. looked refl still), y .chained)
-owns-did y (owning.reads _ a _ t _ _ count _ _ _ _ _ _ L) = (answers-did (λ x. (now a, now t, places (x .1) (x .0) [])) (L (asked y)) (fixed 1 (now count) same) refl refl (λ _. looked refl still), y .chained)
+owns-did y (owning.enters _ a _ t _ _ _ _ _ _ _ L) = (answers-did (λ o. (now a, now t, places [] o [])) (L (asked y)) same refl refl (λ _. unwritten refl refl refl), y .chained)
+owns-did y (owning.lists _ a _ t next _ _ _ _ _ _ _ _ L) = (answers-did (λ x. (now a, now t, places (x .0) (x .1) [])) (L (asked y)) (fixed 1 (now next) same) refl refl (λ _. unwritten refl refl refl), y .chained)
+owns-did y (owning.reads _ a _ t _ _ count _ _ _ _ _ _ L) = (answers-did (λ x. (now a, now t, places (x .1) (x .0) [])) (L (asked y)) (fixed 1 (now count) same) refl refl (λ _. unwritten refl refl refl), y .chained)
 owns-did y (owning.writes _ _ _ _ _ _ _ _ _ _ _ _ _ L) = (left-did (L (asked y) .0) same refl refl, L (asked y) .1)
 owns-did y (owning.resizes _ _ _ _ _ _ _ _ _ _ _ _ L) = (left-did (L (asked y) .0) same refl refl, L (asked y) .1)
 owns-did y (owning.syncs _ _ _ _ _ _ _ _ L) = (left-did (L (asked y) .0) same refl refl, L (asked y) .1)

@@ -7,3 +7,4 @@ pub mod Symlinks
 pub mod Starts
 pub mod Drawings
 pub mod Inventory
+pub mod Mends

@@ -47,7 +47,7 @@ module _ {R : Functions} where
   passing (wrong r m) A y = passing m (A .2) (same-trusted (A .0) y)
 
 module _ {R : Functions} {I : Image → Type 0} (T : Transports R I) where
-  along-free : {s v : Image} {l : List Call} → I s → (m : Runs R s l v) → AlongRuns Free m
+  pub along-free : {s v : Image} {l : List Call} → I s → (m : Runs R s l v) → AlongRuns Free m
   along-free {s = s} {v = v} {l = l} i m = T Free s v l m i (freely (pairOf s) l)
 
   -- after a list of runs: one run more

@@ -48,13 +48,13 @@ use Rattle.linked.proofs.Functions.{owned, asked, own-does-calls}
 use Rattle.linked.proofs.Transport.{trusted-written, not-255, after}
 
 -- where the number is not 255, no slice had a wrong size
-sized-said : {A : Type 0} (k : ℕ) (l : List ℕ) (o : Out A) → answer (sized k l o) ≢ 255 → (length l ≡ k) × (sized k l o ≡ o)
+pub sized-said : {A : Type 0} (k : ℕ) (l : List ℕ) (o : Out A) → answer (sized k l o) ≢ 255 → (length l ≡ k) × (sized k l o ≡ o)
 sized-said k l o x = ⊎-elim (λ e. (e, sized-is k l o e)) (λ z. absurd (x (ap answer (sized-not k l o z)))) (eq-cases (length l) k)
 
 -- ---- a format, a check, the chains
 
 -- where the number is not 255, what format has left is by its own outcome
-format-sized : (κs : Lfts 3) (a a' t t' file : Slice) (sec nsec : ℤ) (n : ℕ) → dz-format.Learnt κs (a & t & sec & nsec & file & tt) n (a' & t' & sec & nsec & file & tt) → n ≢ 255
+pub format-sized : (κs : Lfts 3) (a a' t t' file : Slice) (sec nsec : ℤ) (n : ℕ) → dz-format.Learnt κs (a & t & sec & nsec & file & tt) n (a' & t' & sec & nsec & file & tt) → n ≢ 255
     → (length (now file) ≡ 16) × Answers (formatted (callFormat (now a) (timeOf sec nsec) (now file))) leftOf (now a, now t) (now a', now t') n
 format-sized κs a a' t t' file sec nsec n L z =
     let o : Out After = formatted (callFormat (now a) (timeOf sec nsec) (now file)) in

@@ -5,19 +5,20 @@ use mathlib.Core.Logic.{_≢_}
 use Prim.Native.Nat.{ℕ}
 use native.Mathlib.Omega.{arith}
 use lib.Dec.{T}
+use lib.ListN.{length}
 use Rattle.base.specs.Out.{Out, done, refused, answer, kept, said}
 use Rattle.table.specs.declared.Table.{Table}
 use Rattle.table_bytes.specs.Layout.{tableOf, tableBytes}
 use Rattle.table_bytes.proofs.Layouts.{length-fits, tableOf-tableBytes}
 use Rattle.sequences.specs.Pairs.{Pair, pair, Passed}
-use Rattle.sequences.specs.Calls.{Call, root, find, walk, create, link, removeFile, removeFolder, move, metadata, setMetadata, getEntry, listing, read, write, resize, sync, close, check, inventory, Fits, does, reasonOf, next}
+use Rattle.sequences.specs.Calls.{Call, root, find, walk, create, link, removeFile, removeFolder, move, metadata, setMetadata, getEntry, listing, read, write, resize, sync, close, check, inventory, mend, Fits, does, reasonOf, next}
 use Rattle.sequences.specs.Reasons.{reasonsOf, has}
 use Rattle.sequences.specs.Promises.{Along, Keeps}
 use Rattle.sequences.specs.Promises as along
 use Rattle.sequences.proofs.Sequences.{keeps}
 use Rattle.sequences.proofs.Reasons.{says-does}
 use Rattle.sefs_laws.proofs.Says.{Says}
-use Rattle.linked.specs.Images.{Image, pairOf, Same, Trusted, Passes, Places, Has, written, looked, Did, did, denied, uncalled}
+use Rattle.linked.specs.Images.{Image, pairOf, Same, Trusted, Passes, Places, Has, written, unwritten, Did, did, denied, uncalled}
 use Rattle.linked.specs.Linked.{Functions, Runs, none, ran, wrong, Goes, AlongRuns}
 
 -- ---- neither 0 nor 255 is a reason: 0 says that the call was done, and 255 that none was made
@@ -42,6 +43,7 @@ not-in sync = (λ z. z, λ z. z)
 not-in (close w h) = (λ z. z, λ z. z)
 not-in check = (λ z. z, λ z. z)
 not-in (inventory room) = (λ z. z, λ z. z)
+not-in mend = (λ z. z, λ z. z)
 
 pub zero-done : (c : Call) (p : Pair) → 0 ≡ reasonOf c p → does c p ≡ done (next c p)
 zero-done c p = by (does c p) (says-does c p)
@@ -90,11 +92,11 @@ module _ (c : Call) (s u : Image) (T : Passes s) (F : Fits c) where
 
     has-pair : Has s u q → pairOf u ≡ q
     has-pair (written e f) = ap₂ pair e (ap tableOf f ∙ tableOf-tableBytes (q .table) (passed .typed .fits))
-    has-pair (looked e S) = same-pair S ∙ sym e
+    has-pair (unwritten e f g) = ap₂ pair e (ap tableOf g ∙ sym f)
 
     has-trusted : Has s u q → Passes u
     has-trusted (written e f) = subst (λ (b : List ℕ). Trusted b (u .table)) (sym e) (subst (Trusted (q .arena)) (sym f) (trusted-written (q .arena) (q .table) passed))
-    has-trusted (looked e S) = same-trusted S T
+    has-trusted (unwritten e f g) = record { size = ap length g ∙ T .size; passes = subst Passed (sym (has-pair (unwritten e f g))) passed }
 
   -- the bytes pass together again
   pub after : {x y : Places} {n : ℕ} → Did c s x u y n → Passes u

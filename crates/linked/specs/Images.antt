@@ -20,7 +20,7 @@ use Rattle.edge_words.specs.Words.{handleWords, metadataWords}
 use Rattle.edge.specs.Edge.{lent, counted}
 use Rattle.owners_kept.specs.Owned.{Chained}
 use Rattle.sequences.specs.Pairs.{Pair, pair, Passed}
-use Rattle.sequences.specs.Calls.{Call, root, find, walk, create, link, removeFile, removeFolder, move, metadata, setMetadata, getEntry, listing, read, write, resize, sync, close, check, inventory, does}
+use Rattle.sequences.specs.Calls.{Call, root, find, walk, create, link, removeFile, removeFolder, move, metadata, setMetadata, getEntry, listing, read, write, resize, sync, close, check, inventory, mend, does}
 
 -- a slice as a contract sees it; `now` is what it holds
 abbrev pub Slice : Type 0
@@ -106,13 +106,14 @@ handed sync p x = x
 handed (close w h) p x = x
 handed check p x = lent (withWords x) x (counted (verdictOf (p .arena) (p .table)))
 handed (inventory room) p x = lent (λ l. places (length l ∷ []) (paste (x .output) 0 l) (x .links)) x (callInventory (p .arena) room)
+handed mend p x = x
 
 -- ---- the call c was made on s, with x lent for its results, and left u and y; n is its reason, 0 where it was done. On any bytes
 
--- u has the pair q that a call on s is done with: written, the table as it is written; or the call only looks
+-- u has the pair q that a call on s is done with: the table is written, as it is written; or its bytes stay
 pub data Has (s u : Image) (q : Pair) : Type 0 where
   written : u .arena ≡ q .arena → u .table ≡ tableBytes (q .table) → Has s u q
-  looked : q ≡ pairOf s → Same s u → Has s u q
+  unwritten : u .arena ≡ q .arena → q .table ≡ tableOf (s .table) → u .table ≡ s .table → Has s u q
 
 pub data Did (c : Call) (s : Image) (x : Places) (u : Image) (y : Places) (n : ℕ) : Type 0 where
   did : {q : Pair} → does c (pairOf s) ≡ done q → Has s u q → y ≡ handed c (pairOf s) x → n ≡ 0 → Did c s x u y n

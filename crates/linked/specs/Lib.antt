@@ -5,3 +5,4 @@ pub mod Linked
 pub mod Symlinks
 pub mod Drawings
 pub mod Inventory
+pub mod Mends

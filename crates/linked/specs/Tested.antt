@@ -31,7 +31,8 @@ use Rattle.edge.proofs.dz_sync.Reads as dz-sync
 use Rattle.edge.proofs.dz_close.Reads as dz-close
 use Rattle.edge.proofs.dz_check.Reads as dz-check
 use Rattle.edge.proofs.dz_inventory.Reads as dz-inventory
-use Rattle.sequences.specs.Calls.{Call, root, find, walk, create, link, removeFile, removeFolder, move, metadata, setMetadata, getEntry, listing, read, write, resize, sync, close, check, inventory}
+use Rattle.edge.proofs.dz_mend.Reads as dz-mend
+use Rattle.sequences.specs.Calls.{Call, root, find, walk, create, link, removeFile, removeFolder, move, metadata, setMetadata, getEntry, listing, read, write, resize, sync, close, check, inventory, mend}
 use Rattle.linked.specs.Images.{_&_, Slice, Image, image, Places, places, inWords, nowhere, reasonIn}
 
 -- a primed slice is the slice at exit; k are the chains, that the function is not lent
@@ -94,3 +95,6 @@ pub data Ran : Call → Image → Places → Image → Places → ℕ → Type 0
   inventories : (κs : Lfts 3) (a out out' count count' : Slice) (n : ℕ) {k t : List ℕ}
       → dz-inventory.Learnt κs (a & out & count & tt) n (a & out' & count' & tt)
       → Ran (inventory (length (now out))) (image (now a) k t) (places (now count) (now out) []) (image (now a) k t) (places (now count') (now out') []) n
+  mends : (κs : Lfts 2) (a a' t : Slice) (n : ℕ) {k : List ℕ}
+      → dz-mend.Learnt κs (a & t & tt) n (a' & t & tt)
+      → Ran mend (image (now a) k (now t)) nowhere (image (now a') k (now t)) nowhere n

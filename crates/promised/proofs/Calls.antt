@@ -21,6 +21,7 @@ use Rattle.sefs.specs.Contents.{callRead, callWrite, callResize}
 use Rattle.sefs.specs.Close.{callSync, callClose}
 use Rattle.walk.specs.Walk.{callWalk}
 use Rattle.inventory.specs.Inventory.{callInventory}
+use Rattle.mending.specs.Mend.{callMend}
 use Rattle.le.specs.Le.{Bytes}
 use Rattle.structs.specs.Fits.{TimeFits}
 use Rattle.calls.specs.Answers.{answerOf, answerNumber, gotNumber, toldOf, toldNumber, listedOf, listedNumber, takenOf, takenNumber, Lays, Replies}
@@ -35,8 +36,9 @@ use Rattle.steps.specs.Ends.{Returned}
 use Rattle.calls_create.specs.Held.{ReturnedHeld}
 use Rattle.calls_format.specs.Format.{formatted}
 use Rattle.calls_find.specs.Finds.{Gives}
+use Rattle.calls_mend.specs.Mends.{Mends}
 use Rattle.sequences.specs.Pairs.{Pair, pair, Passed}
-use Rattle.sequences.specs.Calls.{Call, root, find, walk, create, link, removeFile, removeFolder, move, metadata, setMetadata, getEntry, listing, read, write, resize, sync, close, inventory, Fits, AskerFits, HandleFits, NewFits, SetFits, does, reasonOf, next}
+use Rattle.sequences.specs.Calls.{Call, root, find, walk, create, link, removeFile, removeFolder, move, metadata, setMetadata, getEntry, listing, read, write, resize, sync, close, inventory, mend, Fits, AskerFits, HandleFits, NewFits, SetFits, does, reasonOf, next}
 use Rattle.sequences.specs.Promises.{Keeps, Well, Fresh}
 use Rattle.sequences.proofs.Sequences.{keeps}
 use Rattle.sequences.proofs.Fresh.{fresh}
@@ -103,6 +105,16 @@ by-reply c p (done t) w e r R =
 by-reply c p (refused n) w e r R =
     subst (λ (u : Table). Stays (p .arena) u (answerNumber (r .answer))) (sym (R .1))
     (subst (λ (g : Answer). Stays (p .arena) (p .table) (answerNumber g)) (sym (R .0)) (stays-refused c p (λ (t : Table). pair (p .arena) t) w n e))
+
+-- the mender, which changes the arena alone
+by-mend : (c : Call) (p : Pair) (o : Out (List ℕ)) → Well c p → does c p ≡ bind o (λ a. done (pair a (p .table)))
+    → (b : List ℕ) (r : Answer) → Mends o (p .arena) b r → Stays b (p .table) (answerNumber r)
+by-mend c p (done a) w e b r R =
+    subst (λ (b : List ℕ). Stays b (p .table) (answerNumber r)) (sym (R .arena))
+    (subst (λ (g : Answer). Stays a (p .table) (answerNumber g)) (sym (R .answer)) (stays-done c p (λ (a : List ℕ). pair a (p .table)) w a e))
+by-mend c p (refused n) w e b r R =
+    subst (λ (b : List ℕ). Stays b (p .table) (answerNumber r)) (sym (R .arena))
+    (subst (λ (g : Answer). Stays (p .arena) (p .table) (answerNumber g)) (sym (R .answer)) (stays-refused c p (λ (a : List ℕ). pair a (p .table)) w n e))
 
 -- calls that change nothing
 by-none : {A : Type 0} (c : Call) (p : Pair) (o : Out A) → Well c p → does c p ≡ bind o (λ _. done p) → Stays (p .arena) (p .table) (answer o)
@@ -230,6 +242,10 @@ module _ (p : Pair) (y : Passed p) where
   inventory-keeps out now R r e =
       subst (Stays (p .arena) (p .table)) (sym (ap takenNumber (e .0) ∙ taken-number (callInventory (p .arena) (length out))))
       (by-none (inventory (length out)) p (callInventory (p .arena) (length out)) (held (inventory (length out)) R) refl)
+
+  pub mend-keeps : (b : List ℕ) (r : Answer) → Mends (callMend (p .arena) (p .table)) (p .arena) b r → Stays b (p .table) (answerNumber r)
+  unfolding does
+  mend-keeps = by-mend mend p (callMend (p .arena) (p .table)) (held mend tt) refl
 
 unfoldable pub isDone : Answer → Bool
 isDone answers.Done = true

@@ -176,3 +176,15 @@ pub fn change(command: &[u8], arena: &mut [u8], mem: &mut [u8]) -> u8
         _ => rename(command, arena, mem),
     }
 }
+
+// ---- mend: the table stays
+
+pub fn mend(arena: &mut [u8], mem: &mut [u8]) -> u8
+    requires { ⌜ Whole (now mem) ⌝ }
+{
+    let r = calls_mend::mend_on(arena, mem);
+    if r != 0 {
+        return r;
+    }
+    KEPT
+}

@@ -6,6 +6,7 @@ ghost use Rattle.mem.specs.Mem.{Whole};
 use mem::MEMORY;
 use replay_calls::change;
 use replay_calls::make;
+use replay_calls::mend;
 use replay_calls::reads::check;
 use replay_calls::reads::inventory;
 use replay_calls::reads::look;
@@ -32,6 +33,7 @@ fn do_call(command: &[u8], arena: &mut [u8], mem: &mut [u8], answer: &mut [u8]) 
         24 | 26 | 27 | 32 => look(command, &arena[..], &mem[..], answer),
         30 => check(&arena[..], mem, answer),
         38 => inventory(command, &arena[..], answer),
+        39 => mend(arena, mem),
         _ => change(command, arena, mem),
     }
 }

@@ -10,7 +10,7 @@ use lib.ListN.{length}
 use Rattle.base.specs.Decides.{Decides}
 use Rattle.base.specs.Search.{pick}
 use Rattle.base.proofs.Bools.{and-both, and-parts, true-false}
-use Rattle.base.proofs.Sames.{test-fails}
+use Rattle.base.proofs.Sames.{test-fails, decides-unless}
 use Rattle.base.proofs.Tests.{decides-true, decides-iff, decides-eqb, decides-leb, decides-and, decides-not, decides-if, decides-all, decides-same}
 use Rattle.structs.specs.Constants.{typeDir}
 use Rattle.structs.specs.Types.{isFolder}
@@ -27,8 +27,8 @@ use Rattle.sefs.specs.Nodes.{nodeFile}
 use Rattle.sefs.specs.Slots.{isEnded}
 use Rattle.rules.specs.Image.{idsIn, isNode, recOf, isFolderAt, slotIn, laterSlot, laterSlots}
 use Rattle.rules.specs.Rules.{Later, Folder, Rule6}
-use Rattle.rules.specs.Tests.{test6, dotAllowed, dotsAllowed, laterAllowed, sameName, isFirst, folderAllowed, sizeAllowed, contentsAllowed}
-use Rattle.rules.proofs.General.{decides-or, decides-pick, decides-none}
+use Rattle.rules.specs.Tests.{test6, dotAllowed, dotsAllowed, laterAllowed, sameName, isFirst, folderAllowed, sizeAllowed, foldersAllowed, sizesAllowed}
+use Rattle.rules.proofs.General.{decides-or, decides-none}
 use Rattle.rules.proofs.Files.{node-below}
 
 -- a folder is a node, of type 2
@@ -113,7 +113,7 @@ module _ (a : List ℕ) (t : Table) (r : DiskINode) (later : (j : ℕ) → j < l
       (subst (λ (i : ℕ). nameOf (slotIn a r (2 + (j - 2)) .name) ≢ nameOf (slotIn a r i .name)) (let e : 2 + (k - 2) ≡ k = omega arith in e)
       (later (k - 2) (omega arith) .1 (j - 2) (omega arith)))
 
-decides-folder : (a : List ℕ) (t : Table) (id : ℕ) → Decides (folderAllowed a t id (recOf a t id)) (Folder a t id)
+pub decides-folder : (a : List ℕ) (t : Table) (id : ℕ) → Decides (folderAllowed a t id (recOf a t id)) (Folder a t id)
 unfolding folderAllowed LaterAt
 decides-folder a t id =
     let r : DiskINode = recOf a t id in
@@ -149,38 +149,33 @@ decides-folder a t id =
     (decides-all (laterSlots r) (λ j. laterAllowed a t (laterSlot a r j) && isFirst a r j) (LaterAt a t r)
     (λ j l. decides-and (decides-later a t (laterSlot a r j)) (decides-first a r j)))))))
 
--- ---- any node
+-- ---- all of them
 
 decides-size : (a : List ℕ) (r : DiskINode) → Decides (sizeAllowed a r) (lengthOf a (nodeFile r) ≡ r .size)
 unfolding sizeAllowed
 decides-size a r = decides-eqb (lengthOf a (nodeFile r)) (r .size)
 
 module _ (a : List ℕ) (t : Table) where
-  -- what the test asks of a node
-  Asked : ℕ → Type 0
-  Asked id =
-      isNode a id ≡ true
-      → (isFolder (recOf a t id .kind) ≡ true → Folder a t id)
-      × ((isFolder (recOf a t id .kind) ≡ true → ⊥) → lengthOf a (nodeFile (recOf a t id)) ≡ recOf a t id .size)
+  pub decides-folders : Decides (foldersAllowed a t) ((id : ℕ) → isFolderAt a t id ≡ true → Folder a t id)
+  unfolding foldersAllowed
+  decides-folders =
+      decides-iff (λ p id f. p id (folder-below a t id f) f) (λ h id l. h id)
+      (decides-all (idsIn a) (λ id. not (isFolderAt a t id) || folderAllowed a t id (recOf a t id)) (λ id. isFolderAt a t id ≡ true → Folder a t id)
+      (λ id l. decides-if (decides-true (isFolderAt a t id)) (decides-folder a t id)))
 
-  decides-contents : (id : ℕ) → Decides (not (isNode a id) || contentsAllowed a t id (recOf a t id)) (Asked id)
-  unfolding contentsAllowed Asked
-  decides-contents id =
-      decides-if (decides-true (isNode a id))
-      (decides-pick (decides-true (isFolder (recOf a t id .kind))) (decides-folder a t id) (decides-size a (recOf a t id)))
+  -- what the test asks of a node's size
+  Sized : ℕ → Type 0
+  Sized id = isNode a id ≡ true → (isFolder (recOf a t id .kind) ≡ true → ⊥) → lengthOf a (nodeFile (recOf a t id)) ≡ recOf a t id .size
+
+  decides-sizes : Decides (sizesAllowed a t) ((id : ℕ) → isNode a id ≡ true → isFolderAt a t id ≡ false → lengthOf a (nodeFile (recOf a t id)) ≡ recOf a t id .size)
+  unfolding sizesAllowed Sized isFolderAt
+  decides-sizes =
+      decides-iff
+      (λ p id e n. p id (node-below a id e) e (λ f. true-false (and-both e f) n))
+      (λ h id l e n. h id e (test-fails _ (λ x. n (and-parts (isNode a id) _ x .1))))
+      (decides-all (idsIn a) (λ id. not (isNode a id) || (isFolder (recOf a t id .kind) || sizeAllowed a (recOf a t id))) Sized
+      (λ id l. decides-if (decides-true (isNode a id)) (decides-unless (decides-true (isFolder (recOf a t id .kind))) (decides-size a (recOf a t id)))))
 
   pub decides-6 : Decides (test6 a t) (Rule6 a t)
-  unfolding test6 Asked isFolderAt
-  decides-6 =
-      decides-iff
-      (λ p.
-      let node : (id : ℕ) → Asked id = λ id e. p id (node-below a id e) e in
-      record {
-        folder = λ id e. node id (folder-node a t id e) .0 (and-parts (isNode a id) _ e .1);
-        size = λ id e n. node id e .1 (λ f. true-false (and-both e f) n);
-      })
-      (λ r id l e. (
-        λ f. r .folder id (and-both e f),
-        λ n. r .size id e (test-fails _ (λ x. n (and-parts (isNode a id) _ x .1))),
-      ))
-      (decides-all (idsIn a) (λ id. not (isNode a id) || contentsAllowed a t id (recOf a t id)) Asked (λ id l. decides-contents id))
+  unfolding test6
+  decides-6 = decides-iff (λ p. record { folder = p .0; size = p .1 }) (λ r. (r .folder, r .size)) (decides-and decides-folders decides-sizes)

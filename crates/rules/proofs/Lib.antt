@@ -4,4 +4,5 @@ pub mod Files
 pub mod Folders
 pub mod Links
 pub mod Climbs
+pub mod Few
 pub mod Check

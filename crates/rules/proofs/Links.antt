@@ -13,8 +13,8 @@ use Rattle.base.proofs.Tests.{decides-true, decides-iff, decides-eqb, decides-a
 use Rattle.structs.specs.Types.{isFolder}
 use Rattle.table.specs.declared.Table.{Table}
 use Rattle.rules.specs.Image.{idsIn, isNode, recOf, isOpen, isFolderAt, named, subfolders}
-use Rattle.rules.specs.Rules.{Linked, Removed, Rule7}
-use Rattle.rules.specs.Tests.{test7, removed, linked, linksAllowed}
+use Rattle.rules.specs.Rules.{Linked, Loose, Removed, Rule7}
+use Rattle.rules.specs.Tests.{test7, namedDue, loose, removed, linked, linksAllowed}
 use Rattle.rules.proofs.General.{decides-ne, decides-or, decides-pick}
 use Rattle.rules.proofs.Files.{node-below}
 use Rattle.rules.proofs.Folders.{folder-node}
@@ -23,26 +23,34 @@ pick-equal : (b : Bool) (n x y : ℕ) → eqb n (pick b x y) ≡ pick b (eqb n x
 pick-equal true n x y = refl
 pick-equal false n x y = refl
 
--- "named once (root never)"
 decides-times : (id n : ℕ) → Decides (eqb n (pick (eqb id 2) 0 1)) ((id ≡ 2 → n ≡ 0) × (id ≢ 2 → n ≡ 1))
 decides-times id n = rw (pick-equal (eqb id 2) n 0 1) (decides-pick (decides-eqb id 2) (decides-eqb n 0) (decides-eqb n 1))
 
 module _ (a : List ℕ) (t : Table) where
+  pub decides-due : (id : ℕ) → Decides (namedDue a t id) ((id ≡ 2 → named a t id ≡ 0) × (id ≢ 2 → named a t id ≡ 1))
+  unfolding namedDue
+  decides-due id = decides-times id (named a t id)
+
+  pub decides-loose : (id : ℕ) → Decides (loose a t id (recOf a t id)) ((id ≢ 2) × Loose a t id)
+  unfolding loose
+  decides-loose id =
+      decides-and (decides-ne id 2)
+      (decides-iff (λ p. record { unnamed = p .0; slots = p .1 }) (λ r. (r .unnamed, r .slots))
+      (decides-and (decides-eqb (named a t id) 0) (decides-eqb (recOf a t id .blocks) 2)))
+
   decides-linked : (id : ℕ) → Decides (linked a t id (recOf a t id)) (Linked a t id)
   unfolding linked
   decides-linked id =
       decides-iff (λ p. record { links = p .0; root = p .1 .0; once = p .1 .1 }) (λ r. (r .links, (r .root, r .once)))
-      (decides-and (decides-eqb (recOf a t id .nlinks) (2 + subfolders a (recOf a t id))) (decides-times id (named a t id)))
+      (decides-and (decides-eqb (recOf a t id .nlinks) (2 + subfolders a (recOf a t id))) (decides-due id))
 
   decides-removed : (id : ℕ) → Decides (removed a t id (recOf a t id)) (Removed a t id)
   unfolding removed
   decides-removed id =
       decides-iff
-      (λ p. record { apart = p .0; opened = p .1 .0; links = p .1 .1 .0; unnamed = p .1 .1 .1 .0; slots = p .1 .1 .1 .1 })
-      (λ r. (r .apart, (r .opened, (r .links, (r .unnamed, r .slots)))))
-      (decides-and (decides-ne id 2)
-      (decides-and (decides-true (isOpen t id))
-      (decides-and (decides-eqb (recOf a t id .nlinks) 0) (decides-and (decides-eqb (named a t id) 0) (decides-eqb (recOf a t id .blocks) 2)))))
+      (λ p. record { apart = p .1 .1 .0; opened = p .0; links = p .1 .0; loose = p .1 .1 .1 })
+      (λ r. (r .opened, (r .links, (r .apart, r .loose))))
+      (decides-and (decides-true (isOpen t id)) (decides-and (decides-eqb (recOf a t id .nlinks) 0) (decides-loose id)))
 
   -- what the test asks of a node
   Asked : ℕ → Type 0

@@ -91,13 +91,17 @@ pub record Linked (a : List ℕ) (t : Table) (id : ℕ) : Type 0 where
   pub root : id ≡ 2 → named a t id ≡ 0
   pub once : id ≢ 2 → named a t id ≡ 1
 
+-- ".. unnamed, 2 slots"
+pub record Loose (a : List ℕ) (t : Table) (id : ℕ) : Type 0 where
+  pub unnamed : named a t id ≡ 0
+  pub slots : recOf a t id .blocks ≡ 2
+
 -- "or, root apart, it is open, links 0, unnamed, 2 slots"
 pub record Removed (a : List ℕ) (t : Table) (id : ℕ) : Type 0 where
   pub apart : id ≢ 2
   pub opened : isOpen t id ≡ true
   pub links : recOf a t id .nlinks ≡ 0
-  pub unnamed : named a t id ≡ 0
-  pub slots : recOf a t id .blocks ≡ 2
+  pub loose : Loose a t id
 
 -- "a non-folder has as many as later slots name it; zero only if open"
 pub record Rule7 (a : List ℕ) (t : Table) : Type 0 where
@@ -105,13 +109,17 @@ pub record Rule7 (a : List ℕ) (t : Table) : Type 0 where
   pub unnamed : (id : ℕ) → isNode a id ≡ true → isFolderAt a t id ≡ false → recOf a t id .nlinks ≡ 0 → isOpen t id ≡ true
   pub folder : (id : ℕ) → isFolderAt a t id ≡ true → Linked a t id ⊎ Removed a t id
 
--- 8. "For each folder with links, slot 1 names the folder that names it (root itself), and climbing by slot 1 reaches node 2."
+-- ".. slot 1 names the folder that names it .., and climbing by slot 1 reaches node 2": of one folder but the root
+pub record Rooted (a : List ℕ) (t : Table) (id : ℕ) : Type 0 where
+  pub parent : isFolderAt a t (parentOf a t id) ≡ true
+  pub names : (k : ℕ) × (2 ≤ k) × (k < recOf a t (parentOf a t id) .blocks) × (slotIn a (recOf a t (parentOf a t id)) k .id ≡ id)
+  pub climbs : (n : ℕ) × (climb a t id n ≡ 2)
+
+-- 8. "For each folder with links, slot 1 names the folder that names it (root itself), and climbing by slot 1 reaches node 2." (From the root no
+-- step is to be climbed.)
 pub record Rule8 (a : List ℕ) (t : Table) : Type 0 where
   pub root : recOf a t 2 .nlinks ≢ 0 → parentOf a t 2 ≡ 2
-  pub parent : (id : ℕ) → isFolderAt a t id ≡ true → recOf a t id .nlinks ≢ 0 → id ≢ 2 → isFolderAt a t (parentOf a t id) ≡ true
-  pub names : (id : ℕ) → isFolderAt a t id ≡ true → recOf a t id .nlinks ≢ 0 → id ≢ 2
-      → (k : ℕ) × (2 ≤ k) × (k < recOf a t (parentOf a t id) .blocks) × (slotIn a (recOf a t (parentOf a t id)) k .id ≡ id)
-  pub climbs : (id : ℕ) → isFolderAt a t id ≡ true → recOf a t id .nlinks ≢ 0 → (n : ℕ) × (climb a t id n ≡ 2)
+  pub folder : (id : ℕ) → isFolderAt a t id ≡ true → recOf a t id .nlinks ≢ 0 → id ≢ 2 → Rooted a t id
 
 -- all eight
 pub record Allowed (a : List ℕ) (t : Table) : Type 0 where

@@ -109,19 +109,31 @@ folderAllowed a t id r =
 unfoldable pub sizeAllowed : List ℕ → DiskINode → Bool
 sizeAllowed a r = eqb (lengthOf a (nodeFile r)) (r .size)
 
-unfoldable pub contentsAllowed : List ℕ → Table → ℕ → DiskINode → Bool
-contentsAllowed a t id r = pick (isFolder (r .kind)) (folderAllowed a t id r) (sizeAllowed a r)
+-- each folder, and the size of each other node
+unfoldable pub foldersAllowed : List ℕ → Table → Bool
+foldersAllowed a t = allTo (λ id. not (isFolderAt a t id) || folderAllowed a t id (recOf a t id)) (idsIn a)
+
+unfoldable pub sizesAllowed : List ℕ → Table → Bool
+sizesAllowed a t = allTo (λ id. not (isNode a id) || (isFolder (recOf a t id .kind) || sizeAllowed a (recOf a t id))) (idsIn a)
 
 unfoldable pub test6 : List ℕ → Table → Bool
-test6 a t = allTo (λ id. not (isNode a id) || contentsAllowed a t id (recOf a t id)) (idsIn a)
+test6 a t = foldersAllowed a t && sizesAllowed a t
 
 -- ---- 7
 
+-- "named once (root never)"
+unfoldable pub namedDue : List ℕ → Table → ℕ → Bool
+namedDue a t id = eqb (named a t id) (pick (eqb id 2) 0 1)
+
+-- root apart, ".. unnamed, 2 slots"
+unfoldable pub loose : List ℕ → Table → ℕ → DiskINode → Bool
+loose a t id r = not (eqb id 2) && (eqb (named a t id) 0 && eqb (r .blocks) 2)
+
 unfoldable pub removed : List ℕ → Table → ℕ → DiskINode → Bool
-removed a t id r = not (eqb id 2) && (isOpen t id && (eqb (r .nlinks) 0 && (eqb (named a t id) 0 && eqb (r .blocks) 2)))
+removed a t id r = isOpen t id && (eqb (r .nlinks) 0 && loose a t id r)
 
 unfoldable pub linked : List ℕ → Table → ℕ → DiskINode → Bool
-linked a t id r = eqb (r .nlinks) (2 + subfolders a r) && eqb (named a t id) (pick (eqb id 2) 0 1)
+linked a t id r = eqb (r .nlinks) (2 + subfolders a r) && namedDue a t id
 
 unfoldable pub linksAllowed : List ℕ → Table → ℕ → DiskINode → Bool
 linksAllowed a t id r =
@@ -143,9 +155,11 @@ parentAllowed a t id =
 unfoldable pub reachesRoot : List ℕ → Table → ℕ → Bool
 reachesRoot a t id = leb (lowest (λ n. eqb (climb a t id n) 2) (suc (idsIn a))) (idsIn a)
 
+unfoldable pub rooted : List ℕ → Table → ℕ → Bool
+rooted a t id = parentAllowed a t id && reachesRoot a t id
+
 unfoldable pub treeAllowed : List ℕ → Table → ℕ → Bool
-treeAllowed a t id =
-    not (isFolderAt a t id && not (eqb (recOf a t id .nlinks) 0)) || (parentAllowed a t id && reachesRoot a t id)
+treeAllowed a t id = not (isFolderAt a t id && not (eqb (recOf a t id .nlinks) 0)) || rooted a t id
 
 unfoldable pub test8 : List ℕ → Table → Bool
 test8 a t = allTo (treeAllowed a t) (idsIn a)

@@ -57,7 +57,7 @@ fn put_known(text: &mut [u8], w: usize, k: usize) -> usize
         text,
         w,
         b"read.........write........resize.......walk.........\
-          remove-file..remove-folderinventory.................\
+          remove-file..remove-folderinventory....mend.........\
           ....................................................\
           ....................................................\
           format.......open.........root.........find.........\

@@ -57,9 +57,10 @@ use Rattle.image.proofs.Appends.{file-apart}
 use Rattle.image.proofs.Allocs.{taken-new}
 use Rattle.image.proofs.Makes.{Makes, new-node-law}
 use Rattle.sequences.specs.Pairs.{Pair, Passed}
-use Rattle.sequences.specs.Calls.{Call, root, find, walk, create, link, removeFile, removeFolder, move, metadata, setMetadata, getEntry, listing, read, write, resize, sync, close, check, inventory, NewFits, Fits, does, next}
+use Rattle.sequences.specs.Calls.{Call, root, find, walk, create, link, removeFile, removeFolder, move, metadata, setMetadata, getEntry, listing, read, write, resize, sync, close, check, inventory, mend, NewFits, Fits, does, next}
 use Rattle.sequences.specs.Promises.{Through, writes, resizes}
 use Rattle.sequences.proofs.Passing.{allowed, spelled-any}
+use Rattle.sequences.proofs.Looks.{mend-stays}
 use Rattle.sequences.proofs.Tables.{FillsFolders, Turns, keeps-create, keeps-root, keeps-find, keeps-walk, keeps-set, keeps-link, keeps-remove, keeps-write, keeps-resize, keeps-sync, keeps-close}
 use Rattle.sequences.proofs.Closes.{close-rows}
 use Rattle.sequences.proofs.Creates.{fair-sane}
@@ -360,6 +361,7 @@ module _ (p : Pair) (y : Passed p) where
         ok-bind (keeps-close I (intact-bears f) a t w g (λ i l. (intact-start f .0, nodes-rows a t (closeHold t (g .hold) .table) (close-rows t (g .hold)) nodes-start))) λ x l. went l
     leaves check x z = went (intact-start f)
     leaves (inventory room) x z = ok-bind (any (callInventory a room)) λ x _. went (intact-start f)
+    leaves mend x z = ok-weaken (λ q e. subst (λ (q : Pair). I (q .arena) (q .table)) (sym e) (intact-start f)) (λ m r. tt) (mend-stays p y)
 
     -- afterwards
     pub left : (c : Call) → Fits c → (Through n (p .table) c → ⊥) → Intact p (recOf (p .arena) (p .table) n .file) (next c p .arena) (next c p .table)

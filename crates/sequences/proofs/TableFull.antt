@@ -29,7 +29,7 @@ use Rattle.sefs_laws.proofs.Says.{Says, says-then, says-ensure, says-done, says
 use Rattle.sefs_laws.proofs.Handles.{says-handle}
 use Rattle.image.proofs.Handles.{formed}
 use Rattle.sequences.specs.Pairs.{Pair, pair}
-use Rattle.sequences.specs.Calls.{Call, root, find, walk, create, link, removeFile, removeFolder, move, metadata, setMetadata, getEntry, listing, read, write, resize, sync, close, check, inventory, asker, does, reasonOf, next}
+use Rattle.sequences.specs.Calls.{Call, root, find, walk, create, link, removeFile, removeFolder, move, metadata, setMetadata, getEntry, listing, read, write, resize, sync, close, check, inventory, mend, asker, does, reasonOf, next}
 use Rattle.sequences.specs.Reasons.{reasonsOf, has, Reasons}
 use Rattle.sequences.specs.Places.{Makes, by-root, by-find, by-walk, by-create}
 use Rattle.sequences.specs.TableFull.{rootTo, findTo, walkTo, createTo, AreUpToCheck, ReachesCheck, root-to, find-to, walk-to, create-to, mostHolds, lastStamp, NoPlace, FullExactly, NoPlaceIs}
@@ -242,6 +242,7 @@ module _ (p : Pair) where
   full-says (close w h) e = absurd (never (close w h) refl e)
   full-says check e = absurd (never check refl e)
   full-says (inventory room) e = absurd (never (inventory room) refl e)
+  full-says mend e = absurd (never mend refl e)
 
   full-is : {c : Call} → ReachesCheck p c → canHold (p .table) (asker c) ≡ false → reasonOf c p ≡ 16
   full-is (root-to {w = w} {id = id} q) n = meets-root w .full id q n

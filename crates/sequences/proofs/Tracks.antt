@@ -63,11 +63,12 @@ file-back : (r : DiskINode) → length (r .file) ≡ 16 → recordOf (recordByte
 unfolding recordOf recordBytes recordFields leBytes timeBytes timeFields join
 file-back r l = ap (λ (n : ℕ). part (recordBytes r) 80 (80 + n)) (sym l) ∙ field (recordFields r) 11
 
-stored-wide : (a : List ℕ) (id : ℕ) → (length (recordOf (storedBytes a id) .file) ≡ 16) × (length (recordOf (storedBytes a id) .mac) ≡ 16)
+-- a row as it is loaded
+pub stored-wide : (a : List ℕ) (id : ℕ) → Wide (record { id = id; dirty = false; rec = recordOf (storedBytes a id) })
 unfolding recordOf storedBytes
 stored-wide a id =
     let e = length-tab (byteAt a metaFile) (128 * id) 112 in
-    (length-part (storedBytes a id) 80 96 (omega arith) (omega (arith, e)), length-part (storedBytes a id) 96 112 (omega arith) (omega (arith, e)))
+    record { file = length-part (storedBytes a id) 80 96 (omega arith) (omega (arith, e)); mac = length-part (storedBytes a id) 96 112 (omega arith) (omega (arith, e)) }
 
 -- ---- the steps
 
@@ -128,7 +129,7 @@ module _ (n k : ℕ) (f : List ℕ) (some : n ≢ 0) (off : n % 1024 ≢ 1) (sma
   tracks-loads a t i id free new T =
       put a a t i _ T
       (λ (z : id ≡ n). ⊎-elim (λ s. subst (λ (j : ℕ). As k f (recordOf (storedBytes a j))) (sym z) s) (λ (D : Dirty n t). absurd (row-missing t id new (D .at) (D .below) (D .id ∙ sym z))) (T .stored))
-      (λ l. let w = stored-wide a id in record { file = w .0; mac = w .1 })
+      (λ l. stored-wide a id)
       (⊎-elim (λ s. inl s) (λ (D : Dirty n t). inr (dirty-put t i _ D (λ z. absurd (some (sym (D .id) ∙ ap (λ (j : ℕ). rowAt t j .id) z ∙ free))))) (T .stored))
 
   tracks-frees : Frees (Tracks n k f)

@@ -132,6 +132,10 @@ ownAt t w i = not (eqb (holdAt t i .stamp) 0) && eqb (holdAt t i .owner) w
 unfoldable pub ownHolds : Table → ℕ → ℕ
 ownHolds t w = countTo (ownAt t w) 32
 
+-- "if any hold is live" (order 11): none is, whoever's
+unfoldable pub noHolds : Table → Bool
+noHolds t = allTo (λ i. eqb (holdAt t i .stamp) 0) 32
+
 -- w can be given a hold: "each owner may have 8". Reason 16 otherwise: "16 at 8 own holds", "or next stamp 2^64-1". (2^64-2 is still given out.)
 unfoldable pub canHold : Table → ℕ → Bool
 canHold t w = ltb (ownHolds t w) 8 && ltb (t .next) 18446744073709551615

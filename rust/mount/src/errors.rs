@@ -13,7 +13,7 @@ type Make = fn() -> FsError;
 ///
 /// Where SEFS answers an error for the same thing it is that one. For the others it is the nearest that there is: what SEFS leaves to its device, or would
 /// have broken off at, is an error of the device.
-pub const ERRORS: [(Reason, Make); 23] = [
+pub const ERRORS: [(Reason, Make); 24] = [
     (Reason::BadArena, || FsError::WrongFs),
     (Reason::Damaged, || FsError::WrongFs),
     (Reason::BadTable, || FsError::DeviceError(EIO)),
@@ -37,6 +37,7 @@ pub const ERRORS: [(Reason, Make); 23] = [
     (Reason::NotFile, || FsError::NotFile),
     (Reason::FileTooBig, || FsError::FileTooBig),
     (Reason::SymLoop, || FsError::SymLoop),
+    (Reason::InUse, || FsError::Busy),
 ];
 
 /// The error of a reason; a number that no call gives is an error of the device.

@@ -42,6 +42,17 @@ impl Mount {
         Ok(Mount::on(image, device, clock, names))
     }
 
+    /// Mounts the device's image for owner 1, after the enclave went down: what it left is mended first ([`Image::recovered`]), and kept.
+    ///
+    /// Where the last [`sync`](FileSystem::sync) was with a removed node out, [`open`](Mount::open) gives an image that the checker fails, and the node's number and
+    /// room stay taken; this gives them back. An image that the checker passes is mounted as it is. One that can't be mended is not mounted: `WrongFs`.
+    pub fn recover(device: Box<dyn Device>, clock: &'static dyn TimeProvider, names: &'static dyn FileNames) -> vfs::Result<Arc<Mount>> {
+        let image = Image::recovered(device.load()?).map_err(fs_error)?;
+        let mount = Mount::on(image, device, clock, names);
+        mount.sync()?;
+        Ok(mount)
+    }
+
     fn on(image: Image, device: Box<dyn Device>, clock: &'static dyn TimeProvider, names: &'static dyn FileNames) -> Arc<Mount> {
         let disk = Disk { image: RwLock::new(image), device, clock, names };
         Share::new(Arc::new(disk), Owner::One).mount()

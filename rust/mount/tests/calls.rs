@@ -350,8 +350,40 @@ fn what_is_no_image() {
     assert_eq!(opened(vec![0; 8192]), FsError::DeviceError(EIO));
     let no_device = Mount::open(Box::new(Nothing), &common::Clock, &common::file_name).map(|_| ()).unwrap_err();
     assert_eq!(no_device, FsError::DeviceError(2));
+    let recovered = |device: Box<dyn Device>| Mount::recover(device, &common::Clock, &common::file_name).map(|_| ()).unwrap_err();
+    assert_eq!(recovered(Box::new(Nothing)), FsError::DeviceError(2));
+    assert_eq!(recovered(Box::new(common::Memory::of(vec![1; 8192]))), FsError::WrongFs);
     let too_small = Mount::create(Box::new(Nothing), 15, &common::Clock, &common::file_name).map(|_| ()).unwrap_err();
     assert_eq!(too_small, FsError::WrongFs);
+}
+
+/// A node was out, and removed, when the image was kept last: recovered, its number and its room are free again, and all else is there.
+#[test]
+fn after_the_enclave_went_down() {
+    let (memory, mount) = fresh(64);
+    let root = root(&mount);
+    file(&root, "a").write_at(0, b"outline").unwrap();
+    mount.sync().unwrap();
+    let free = free(&mount);
+    let out = file(&root, "b");
+    out.write_at(0, &[1; 2000]).unwrap();
+    root.unlink("b").unwrap();
+    mount.sync().unwrap();
+    let bytes = memory.see(|kept| kept.bytes.clone());
+
+    let (_, opened) = open(bytes.clone()).unwrap();
+    assert_eq!(opened.check(), Err(FailedRule::Links));
+    let memory = common::Memory::of(bytes);
+    let recovered = Mount::recover(Box::new(memory.clone()), &common::Clock, &common::file_name).unwrap();
+    assert!(recovered.image(|image| image.is_trusted()));
+    assert_eq!(recovered.check().map(|counts| (counts.nodes, counts.free)), Ok((2, free)));
+    assert_eq!(recovered.root_inode().find("a").unwrap().read_as_vec().unwrap(), b"outline");
+    assert_eq!(no(recovered.root_inode().find("b")), FsError::EntryNotFound);
+    // it was kept, and there is nothing left to mend
+    let kept = memory.see(|kept| kept.bytes.clone());
+    assert!(open(kept.clone()).unwrap().1.check().is_ok());
+    drop(recovered);
+    assert_eq!(memory.see(|kept| kept.bytes.clone()), kept);
 }
 
 /// Changes some bytes of a block's payload, and its check with them.

@@ -35,6 +35,11 @@ pub fn write(image: &mut [u8], file: Option<FileName>, at: usize, data: &[u8]) {
     }
 }
 
+/// A block of a file becomes a free one.
+pub fn take_block(image: &mut [u8], file: Option<FileName>, number: usize) {
+    image.chunks_exact_mut(BLOCK).find(|b| is_of(b, 2, file, number)).unwrap().fill(0);
+}
+
 /// Sets a file's length.
 pub fn set_length(image: &mut [u8], file: Option<FileName>, length: u32) {
     let head = image.chunks_exact_mut(BLOCK).find(|b| is_of(b, 1, file, 0)).unwrap();

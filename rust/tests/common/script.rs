@@ -303,6 +303,11 @@ impl Replay {
                 let answer = said(self.image.inventory_into(&mut out[..room]), |n| n.to_string());
                 self.line("inventory", format!("{answer} o {}", sum(&out)));
             }
+            39 => {
+                let answer = self.image.mend();
+                self.image = way(&self.image);
+                self.line("mend", done(answer));
+            }
             _ => return Err(BadScript),
         }
         Ok(())

@@ -45,15 +45,16 @@ pub enum Call {
     RemoveFolder(Handle, Vec<u8>),
     /// Length of the output.
     Inventory(u16),
+    Mend,
 }
 
-pub const KINDS: usize = 21;
+pub const KINDS: usize = 22;
 #[rustfmt::skip]
 pub const NAMES: [&str; KINDS] =
     ["format", "open", "root", "find", "create", "link", "move", "metadata", "set", "entry", "list", "sync", "close", "check",
-     "read", "write", "resize", "walk", "remove-file", "remove-folder", "inventory"];
+     "read", "write", "resize", "walk", "remove-file", "remove-folder", "inventory", "mend"];
 /// The commands' bytes: from 32 on those that document 02 adds; 22 was unlink.
-const BYTES: [u8; KINDS] = [16, 17, 18, 19, 20, 21, 23, 24, 25, 26, 27, 28, 29, 30, 32, 33, 34, 35, 36, 37, 38];
+const BYTES: [u8; KINDS] = [16, 17, 18, 19, 20, 21, 23, 24, 25, 26, 27, 28, 29, 30, 32, 33, 34, 35, 36, 37, 38, 39];
 
 impl Call {
     /// Its place among the names.
@@ -80,12 +81,13 @@ impl Call {
             Call::RemoveFile(..) => 18,
             Call::RemoveFolder(..) => 19,
             Call::Inventory(_) => 20,
+            Call::Mend => 21,
         }
     }
 
     /// Whether it says who asks.
     pub fn asks(&self) -> bool {
-        !matches!(self, Call::Format(..) | Call::Open | Call::Sync | Call::Check | Call::Inventory(_))
+        !matches!(self, Call::Format(..) | Call::Open | Call::Sync | Call::Check | Call::Inventory(_) | Call::Mend)
     }
 
     fn byte(&self) -> u8 {
@@ -200,7 +202,7 @@ impl Call {
                 out.extend(room.to_le_bytes());
             }
             Call::Inventory(room) => out.extend(room.to_le_bytes()),
-            Call::Open | Call::Root | Call::Sync | Call::Check => (),
+            Call::Open | Call::Root | Call::Sync | Call::Check | Call::Mend => (),
         }
     }
 }
@@ -276,7 +278,7 @@ impl Script<'_> {
             2 => Command::Zeros(self.arena_length()?),
             3 => Command::Poke(self.u32()? as usize, self.bytes(1)?[0]),
             4 => Command::Table(self.bytes(TABLE)?.to_vec()),
-            16 | 17 | 28 | 30 | 38 => Command::Call(0, self.call(byte)?),
+            16 | 17 | 28 | 30 | 38 | 39 => Command::Call(0, self.call(byte)?),
             _ => Command::Call(self.bytes(1)?[0], self.call(byte)?),
         })
     }
@@ -304,6 +306,7 @@ impl Script<'_> {
             36 => Call::RemoveFile(self.handle()?, self.name()?),
             37 => Call::RemoveFolder(self.handle()?, self.name()?),
             38 => Call::Inventory(self.room()?),
+            39 => Call::Mend,
             _ => return None,
         })
     }

@@ -129,7 +129,7 @@ impl Image {
             Call::Write(h, at, data) => self.node(h).write_at(*at as usize, data).map(|_| ()),
             Call::Resize(h, length) => self.node(h).resize(*length as usize),
             Call::Walk(h, path, _) => self.node(h).lookup_follow(text(path), MOST_LINKS).map(|node| self.hold(node)),
-            Call::Check | Call::Inventory(_) => panic!("the Rust has no such call"),
+            Call::Check | Call::Inventory(_) | Call::Mend => panic!("the Rust has no such call"),
         }
     }
 }

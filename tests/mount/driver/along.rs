@@ -148,7 +148,7 @@ impl<'a> Along<'a> {
                 Ok(Got::Done)
             }
             Call::Resize(h, length) => self.node(*h).resize(*length as usize).map(|_| Got::Done),
-            Call::Format(..) | Call::Open | Call::Check | Call::Walk(..) | Call::Inventory(_) => panic!("not a call of the traits"),
+            Call::Format(..) | Call::Open | Call::Check | Call::Walk(..) | Call::Inventory(_) | Call::Mend => panic!("not a call of the traits"),
         }
     }
 

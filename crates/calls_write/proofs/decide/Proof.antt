@@ -35,7 +35,7 @@ returns-3 : tie.Need-returns-3
 returns-3 c =
     let s = c .before .before .before .before .before .before .before .before .before .before .before .before .before .before in
     let p = c .before .before .before .before .plan-blocks in
-    enough (s .args .arena .now) (nodeFile (s .args .rec)) (s .args .pos) (s .args .n) (s .pre .1 .1 .1) _ _ _ _ (c .before .before .before .before .before .before .before .before .before .touched .ensures) (p .ensures .0) (c .before .free-count .ensures) (c .if2 .left) (omega (arith, p .kept .1 .1 .1 .1 .1 .1 .0, s .pre .1 .0, s .pre .0 .most, c .before .before .before .before .before .before .before .before .if1 .left)) (p .ensures .1)
+    enough (s .args .arena .now) (nodeFile (s .args .rec)) (s .args .pos) (s .args .n) (s .pre .1 .1 .1) _ _ _ _ (c .before .before .before .before .before .before .before .before .before .touched .ensures) (p .ensures .0) (c .before .free-count .ensures) (c .if2 .left) (omega (arith, p .kept .1 .1 .1 .1 .1 .1 .1 .0, s .pre .1 .0, s .pre .0 .most, c .before .before .before .before .before .before .before .before .if1 .left)) (p .ensures .1)
 
 pub decide-spec : {M : Type 1} → statement M
 decide-spec =

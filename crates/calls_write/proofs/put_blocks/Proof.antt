@@ -11,8 +11,10 @@ use Rattle.arena.specs.Places.{freeOf}
 use Rattle.files.specs.Read.{there}
 use Rattle.files.specs.Store.{longest, putTo}
 use Rattle.files_laws.proofs.Views.{there-at}
+use Rattle.plans.proofs.Plans.{touched-lies}
+use Rattle.plans.proofs.Puts.{put-turn, put-whole}
 use Rattle.calls_write.specs.Write.{Planned}
-use Rattle.calls_write.proofs.Puts.{touched-lies, plan-holds, plan-room, put-turn, put-whole, put-first}
+use Rattle.calls_write.proofs.Puts.{plan-holds, plan-room, put-first}
 use Rattle.calls_write.proofs.put_blocks.Statement.{statement}
 use Rattle.calls_write.proofs.put_blocks.Tie as tie
 
@@ -76,7 +78,7 @@ loop-again c =
     let f = file 1 (s .args .name .now) in (
       omega arith,
       c .before .before .put-block .kept .0 ∙ l .loop .inv .1,
-      λ a w r P e. put-turn a f (s .args .pos) (s .args .src .now) w r (s .args .plan .now) P (l .loop .i) (l .loop .arena) (omega (arith, l .before .before .before .before .before .touched .ensures)) (l .loop .inv .2 a w r P e .0) _ _ (c .before .before .put-block .ensures .0) (c .before .before .put-block .ensures .1),
+      λ a w r P e. put-turn a f (s .args .pos) (s .args .src .now) w r (l .loop .i) (l .loop .arena) (omega (arith, l .before .before .before .before .before .touched .ensures)) (l .loop .inv .2 a w r P e .0) _ _ (c .before .before .put-block .ensures .0) (c .before .before .put-block .ensures .1 .0),
     )
 
 same-length : tie.Need-same-length Inv-loop μ-loop
@@ -88,7 +90,7 @@ returns c =
     let s = l .before .before .before .before .before .before .before .before .before in
     let f = file 1 (s .args .name .now) in
     let so = l .loop .inv .2 (s .args .arena .now) (s .pre .0 .1 .0) (s .pre .0 .0) (s .pre .1) (put-first (s .args .arena .now) f (s .args .pos) (s .args .src .now) (s .args .k) _ (s .pre .0 .1 .0) (s .pre .0 .1 .1) (l .before .before .before .raise .ensures)) in
-    put-whole (s .args .arena .now) f (s .args .pos) (s .args .src .now) (s .pre .0 .1 .0) (s .pre .0 .0) (s .args .plan .now) (s .pre .1) (l .loop .i) (l .loop .arena) (omega (arith, l .before .before .before .before .before .touched .ensures)) (so .0)
+    put-whole (s .args .arena .now) f (s .args .pos) (s .args .src .now) (s .pre .0 .1 .0) (s .pre .0 .0) (l .loop .i) (l .loop .arena) (omega (arith, l .before .before .before .before .before .touched .ensures)) (so .0)
 
 pub put-blocks-spec : {M : Type 1} → statement M
 put-blocks-spec =

@@ -22,13 +22,13 @@ returns-2 : tie.Need-returns-2
 returns-2 c =
     sym (files-six (c .before .before .before .before .before .before .before .before .args .arena .now) (tableIn (c .before .before .before .before .before .before .before .before .args .mem .now)) (sym (c .before .before .before .rule5 .ensures) ∙ not-false _ (c .before .before .if1 .left)) (sym (c .before .rule6 .ensures) ∙ not-true _ (c .if2 .taken)))
 
-judge-links-requires : tie.Need-judge-links-requires
-judge-links-requires c κs =
+judge-tree-requires : tie.Need-judge-tree-requires
+judge-tree-requires c κs =
     (c .before .before .before .before .before .before .before .before .pre .0, (c .before .before .before .before .before .before .before .before .pre .1 .0, (c .before .before .before .before .before .before .before .before .pre .1 .1, (sym (c .before .before .before .rule5 .ensures) ∙ not-false _ (c .before .before .if1 .left), sym (c .before .rule6 .ensures) ∙ not-false _ (c .if2 .left)))))
 
 returns-3 : tie.Need-returns-3
 returns-3 c =
-    c .judge-links .ensures ∙ sym (files-on (c .before .before .before .before .before .before .before .before .before .args .arena .now) (tableIn (c .before .before .before .before .before .before .before .before .before .args .mem .now)) (sym (c .before .before .before .before .rule5 .ensures) ∙ not-false _ (c .before .before .before .if1 .left)) (sym (c .before .before .rule6 .ensures) ∙ not-false _ (c .before .if2 .left)))
+    c .judge-tree .ensures ∙ sym (files-on (c .before .before .before .before .before .before .before .before .before .args .arena .now) (tableIn (c .before .before .before .before .before .before .before .before .before .args .mem .now)) (sym (c .before .before .before .before .rule5 .ensures) ∙ not-false _ (c .before .before .before .if1 .left)) (sym (c .before .before .rule6 .ensures) ∙ not-false _ (c .before .if2 .left)))
 
 pub judge-files-spec : {M : Type 1} → statement M
 judge-files-spec =
@@ -38,5 +38,5 @@ judge-files-spec =
     returns
     rule6-requires
     returns-2
-    judge-links-requires
+    judge-tree-requires
     returns-3)

@@ -6,8 +6,9 @@ use native.Mathlib.Omega.{arith}
 use borrow.Author.Tests.{not-true, not-false}
 use Rattle.base.specs.Count.{allTo}
 use Rattle.base.proofs.Counts.{allTo-more}
+use Rattle.fsck_links.proofs.Nodes.{all-none}
 use Rattle.fsck_climb.specs.Way.{childFine}
-use Rattle.fsck_climb.proofs.Ways.{all-none, children-not, children-all}
+use Rattle.fsck_climb.proofs.Ways.{children-not, children-all}
 use borrow.Author.Needs.{needs}
 use Rattle.fsck_climb.proofs.children_ok.Statement.{statement}
 use Rattle.fsck_climb.proofs.children_ok.Tie as tie

@@ -2,7 +2,6 @@
 use mathlib.Core.Path.{sym, _∙_}
 use borrow.Author.Tests.{not-true, not-false}
 use Rattle.mem.specs.Mem.{tableIn}
-use Rattle.rules.specs.Image.{named}
 use Rattle.fsck_links.proofs.Nodes.{node-none, node-folder, node-other}
 use borrow.Author.Needs.{needs}
 use Rattle.fsck_links.proofs.node_ok.Statement.{statement}
@@ -42,7 +41,7 @@ returns-3 c =
     let t = tableIn (s .args .mem .now) in
     let r = c .before .before .before in
     let node = sym (c .before .before .before .before .before .is-node .ensures .1 a (s .pre .1 .0 .0 .1)) ∙ not-false _ (c .before .before .before .before .if1 .left) in
-    node-other a t (s .args .id) node (r .rec-of .result) (r .rec-of .ensures) (c .other-ok .result) (c .before .if2 .left) (c .other-ok .ensures (named a t (s .args .id)) (s .pre .1 .1))
+    node-other a t (s .args .id) node (r .rec-of .result) (r .rec-of .ensures) (c .other-ok .result) (s .args .named) (s .pre .1 .1) (c .before .if2 .left) (c .other-ok .ensures)
 
 pub node-ok-spec : {M : Type 1} → statement M
 node-ok-spec =

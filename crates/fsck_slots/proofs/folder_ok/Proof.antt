@@ -11,7 +11,7 @@ use Rattle.fsck_slots.proofs.folder_ok.Tie as tie
 
 returns : tie.Need-returns
 returns c =
-    let s = c .before .before .before .before .before .before in
+    let s = c .before .before .before .before .before .before .before in
     folder-few (s .args .arena .now) (tableIn (s .args .mem .now)) (s .args .id) (s .args .rec) (c .if1 .taken)
 
 length-of-requires : tie.Need-length-of-requires
@@ -28,36 +28,46 @@ add-if2 c = search needs
 
 returns-2 : tie.Need-returns-2
 returns-2 c =
-    let s = c .before .before .before .before .before .before .before .before .before .before .before in
-    folder-length (s .args .arena .now) (tableIn (s .args .mem .now)) (s .args .id) (s .args .rec) (omega (arith, c .before .before .before .before .before .if1 .left)) (c .before .index .result) (c .before .index .ensures) (c .before .before .length-of .result) (c .before .before .length-of .ensures .0) (c .if2 .taken)
+    let s = c .before .before .before .before .before .before .before .before .before .before .before .before in
+    let i = c .before .index in
+    let n = c .before .before .length-of in
+    folder-length (s .args .arena .now) (tableIn (s .args .mem .now)) (s .args .id) (s .args .rec) (omega (arith, c .before .before .before .before .before .if1 .left)) (i .result) (i .ensures) (n .result) (n .ensures .0) (c .if2 .taken)
 
 first-slots-requires : tie.Need-first-slots-requires
 first-slots-requires c κs = search needs
 
 returns-3 : tie.Need-returns-3
 returns-3 c =
-    let s = c .before .before .before .before .before .before .before .before .before .before .before .before .before in
-    folder-start (s .args .arena .now) (tableIn (s .args .mem .now)) (s .args .id) (s .args .rec) (omega (arith, c .before .before .before .before .before .before .before .if1 .left)) (c .before .before .before .index .result) (c .before .before .before .index .ensures) (c .before .before .before .before .length-of .result) (c .before .before .before .before .length-of .ensures .0) (c .before .before .if2 .left)
+    let s = c .before .before .before .before .before .before .before .before .before .before .before .before .before .before in
+    let i = c .before .before .before .index in
+    let n = c .before .before .before .before .length-of in
+    folder-start (s .args .arena .now) (tableIn (s .args .mem .now)) (s .args .id) (s .args .rec) (omega (arith, c .before .before .before .before .before .before .before .if1 .left)) (i .result) (i .ensures) (n .result) (n .ensures .0) (c .before .before .if2 .left)
     (c .before .first-slots .result) (c .before .first-slots .ensures) (not-true _ (c .if3 .taken))
 
 index-requires-2 : tie.Need-index-requires-2
 index-requires-2 c κs = search needs
 
-sub-later-slots : tie.Need-sub-later-slots
-sub-later-slots c = search needs
+sub-all-later : tie.Need-sub-all-later
+sub-all-later c = search needs
 
-later-slots-requires : tie.Need-later-slots-requires
-later-slots-requires c κs =
-    let s = c .before .before .before .before .before .before .before .before .before .before .before .before .before .before in
+all-later-requires : tie.Need-all-later-requires
+all-later-requires c κs =
+    let s = c .before .before .before .before .before .before .before .before .before .before .before .before .before .before .before .before in
     let b : Fits w32 (s .args .rec .blocks) = search needs in
-    (s .pre .0, (s .pre .1, omega (arith, b, c .index2 .ensures)))
+    (s .pre .0, (s .pre .1 .0, (omega (arith, b, c .before .index2 .ensures), s .pre .1 .1)))
+
+same-length : tie.Need-same-length
+same-length c = search needs
 
 returns-4 : tie.Need-returns-4
 returns-4 c =
-    let s = c .before .before .before .before .before .before .before .before .before .before .before .before .before .before .before in
-    folder-rest (s .args .arena .now) (tableIn (s .args .mem .now)) (s .args .id) (s .args .rec) (omega (arith, c .before .before .before .before .before .before .before .before .before .if1 .left)) (c .before .index2 .result) (c .before .index2 .ensures) (c .before .before .before .before .before .before .length-of .result) (c .before .before .before .before .before .before .length-of .ensures .0)
-    (omega (arith, c .before .before .before .before .if2 .left, c .before .before .before .before .before .index .ensures, c .before .index2 .ensures))
-    (c .before .before .before .first-slots .result) (c .before .before .before .first-slots .ensures) (c .later-slots .result) (not-false _ (c .before .before .if3 .left)) (c .later-slots .ensures)
+    let s = c .before .before .before .before .before .before .before .before .before .before .before .before .before .before .before .before .before .before .before in
+    let i = c .before .before .before .before .index2 in
+    let n = c .before .before .before .before .before .before .before .before .before .length-of in
+    let f = c .before .before .before .before .before .before .first-slots in
+    folder-rest (s .args .arena .now) (tableIn (s .args .mem .now)) (s .args .id) (s .args .rec) (omega (arith, c .before .before .before .before .before .before .before .before .before .before .before .before .if1 .left)) (i .result) (i .ensures) (n .result) (n .ensures .0)
+    (omega (arith, c .before .before .before .before .before .before .before .if2 .left, c .before .before .before .before .before .before .before .before .index .ensures, i .ensures))
+    (f .result) (f .ensures) (c .before .before .all-later .result) (not-false _ (c .before .before .before .before .before .if3 .left)) (c .before .before .all-later .ensures)
 
 pub folder-ok-spec : {M : Type 1} → statement M
 folder-ok-spec =
@@ -72,6 +82,7 @@ folder-ok-spec =
     first-slots-requires
     returns-3
     index-requires-2
-    sub-later-slots
-    later-slots-requires
+    sub-all-later
+    all-later-requires
+    same-length
     returns-4)

@@ -1,0 +1,13 @@
+pub mod Tables
+pub mod Fates
+pub mod Tests
+pub mod Backs
+pub mod Frees
+pub mod Stores
+pub mod Steps
+pub mod Lasts
+pub mod Idle
+pub mod Wished
+pub mod Mended
+pub mod Ways
+pub mod Theorems

@@ -1,0 +1,5 @@
+pub mod Mendable
+pub mod Mend
+pub mod Room
+pub mod Lasts
+pub mod Promises
