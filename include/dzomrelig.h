@@ -169,11 +169,11 @@ uint32_t dz_inventory(const uint8_t *arena, size_t arena_len, uint8_t *out, size
 
 /* The mender, for what a host that went down has left: holds are gone, and with them what stood in the table alone. Call it with a table that has no hold, as dz_open
  * leaves it. Each node but root that no name leads to goes, with its file; link counts are set from the names, and the sizes of what is no folder from
- * the files. Afterwards the checker passes, every name leads to the node that it led to, no other byte of a file has changed, and a second time
- * changes nothing. Modes, owners and times that were not stored are lost. An arena that passes with no node open is left as it is. The table stays.
+ * the files. Afterwards the checker passes, every name leads to the node that it led to, no byte of its file has changed, and a second time
+ * changes nothing (theorems RunMends and RunMendsAgain, crates/linked). Modes, owners and times that were not stored are lost. An arena that passes with no node open is left as it is. The table stays.
  * WrongFs: rules 3 to 5, or rule 6 but for sizes, fail with no node open; or a folder's place: no name leads to root, whose `..` is root; to each
  * other folder one, its `..` is the folder of that name, and that way leads up to root; or none, and it is empty.
- * Changes: arena. Reasons: BadArena, Damaged, BadTable, InUse, WrongFs, NoDeviceSpace (only where an image from elsewhere lacks a block for a record). */
+ * Changes: arena. Reasons: BadArena, Damaged, BadTable, InUse, WrongFs, NoDeviceSpace (an image from elsewhere lacks more blocks for its records than are free). */
 uint32_t dz_mend(uint8_t *arena, size_t arena_len, const uint8_t *table, size_t table_len);
 
 /* ---- holds */

@@ -231,11 +231,11 @@ impl Image {
     /// from the files. Every name leads to the node that it led to, and no byte of its file has changed; modes, owners and times that were not stored are lost. A second time nothing
     /// changes, nor does anything the first time where the image passes with no node open.
     ///
-    /// After calls on an image that was formatted by this library it is always done, wherever between two of them the host went down.
+    /// After calls on an image that was formatted by this library it is always done, wherever between two of them the host went down (`RunRecovers`, crate `linked`).
     ///
     /// Reasons: `InUse` (a handle is live, whoever's), `WrongFs` (more is wrong than a host leaves: rules 3 to 5, or 6 but for sizes, fail with no node open; a
     /// name leads to the root, or two to one folder; a folder's `..` is not the folder that names it, or does not lead up to the root; or no name leads to a folder that is not empty),
-    /// `NoDeviceSpace` (an image from elsewhere lacks a block for a record, and none is free).
+    /// `NoDeviceSpace` (an image from elsewhere lacks more blocks for its records than are free).
     pub fn mend(&mut self) -> Result<(), Reason> {
         self.pair.mend()
     }
