@@ -43,7 +43,7 @@ use Rattle.mending.proofs.Stores.{Stored, Short, src-long, changed-stays, store
 use Rattle.mend_plan.specs.Plan.{gone}
 use Rattle.mend_plan.proofs.Records.{can-mend}
 use Rattle.mend_plan.proofs.Fates.{changed-is, changed-fate}
-use Rattle.mend_stores.specs.Stores.{stateOf, Storable, Written, renewedBy, FreedTo, Begun, StoredTo}
+use Rattle.mend_stores.specs.Stores.{stateOf, Storable, PutInMeta, renewedBy, FreedTo, Begun, StoredTo}
 use Rattle.mend_stores.proofs.Places.{head-some, head-number, head-below}
 use Rattle.mend_stores.proofs.Frees.{freed-is}
 
@@ -165,7 +165,7 @@ module _ (a m c work : List ℕ) (n : ℕ) (first : List ℕ) (B : Begun a m c w
               (λ x. renewedBy (r x) (v x) (head-long x)) ∙ renewed-mended a id
 
           pub stored-more : (links : ℕ) → links ≡ getD work id 0 → (x after : List ℕ) (at : ℕ)
-              → Written d x after (128 * id) (recordBytes (renewedBy (recordOf (storedBytes d id)) links (numberOf (blk d (k - 1))))) at → StoredTo a x m after (id + 1) at
+              → PutInMeta d x after (128 * id) (recordBytes (renewedBy (recordOf (storedBytes d id)) links (numberOf (blk d (k - 1))))) at → StoredTo a x m after (id + 1) at
           unfolding storeOne
           stored-more links is-links x after at W =
               let p : putFile d metaFile (128 * id) (recordBytes (mended a id)) ≡ done x = ap (λ (r : DiskINode). putFile d metaFile (128 * id) (recordBytes r)) (sym (record-is links is-links)) ∙ W .put in

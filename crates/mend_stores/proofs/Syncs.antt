@@ -26,13 +26,13 @@ use Rattle.fsck_read.specs.Loaded.{Loaded}
 use Rattle.mending.specs.Mend.{freeTo, storeTo, mendSteps}
 use Rattle.mending.proofs.Backs.{map-here, super-here}
 use Rattle.mending.proofs.Stores.{lacking-none, put-here}
-use Rattle.mend_stores.specs.Stores.{stateOf, Storable, Written, Begun, StoredTo, Backed}
+use Rattle.mend_stores.specs.Stores.{stateOf, Storable, PutInMeta, Begun, StoredTo, MetaHasBlocks}
 use Rattle.mend_stores.proofs.Frees.{groups-same}
 use Rattle.mend_stores.proofs.Records.{begun-mendable, stored-is}
 
 -- ---- each of them can be stored
 
-module _ (d m places : List ℕ) (from : ℕ) (B : Backed d m places from) where
+module _ (d m places : List ℕ) (from : ℕ) (B : MetaHasBlocks d m places from) where
   some : 0 < superIn m .groups
   some = B .loaded .whole .some (B .loaded .read)
 
@@ -62,7 +62,7 @@ module _ (d m places : List ℕ) (from : ℕ) (B : Backed d m places from) where
   }
 
   -- and after one the next
-  pub backed-next : (x after : List ℕ) (pos : ℕ) (src : List ℕ) (at : ℕ) → pos + length src ≤ lengthOf d metaFile → Written d x after pos src at → Backed x m after at
+  pub backed-next : (x after : List ℕ) (pos : ℕ) (src : List ℕ) (at : ℕ) → pos + length src ≤ lengthOf d metaFile → PutInMeta d x after pos src at → MetaHasBlocks x m after at
   backed-next x after pos src at end W =
       let P : Put d metaFile pos src x = put-is d metaFile pos src x (W .put) in
       record {
@@ -105,7 +105,7 @@ sync-does a d e m src n L B is all p h t =
 -- ---- all of them: c is the arena once the files are gone, d once the records are stored
 
 module _ (a m c work : List ℕ) (n : ℕ) (first : List ℕ) (B : Begun a m c work first n) (d places : List ℕ) (from : ℕ) (S : StoredTo a d m places n from) where
-  pub backed-first : Backed d m places from
+  pub backed-first : MetaHasBlocks d m places from
   backed-first =
       let M = begun-mendable a m c work n first B in
       let R = stored-is a m c work n first B n d places from S (omega (arith, B .all)) in

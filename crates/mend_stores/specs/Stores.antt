@@ -46,7 +46,7 @@ pub record Storable (d places : List ℕ) (pos n from : ℕ) : Type 0 where
   pub used : from ≤ freeOf d
 
 -- src was stored: the arena was d, and is e. Every head is where it was
-pub record Written (d e places : List ℕ) (pos : ℕ) (src : List ℕ) (from : ℕ) : Type 0 where
+pub record PutInMeta (d e places : List ℕ) (pos : ℕ) (src : List ℕ) (from : ℕ) : Type 0 where
   pub put : putFile d metaFile pos src ≡ done e
   pub heads : (g : File) → headAt e g ≡ headAt d g
   pub placed : Placed e places
@@ -93,7 +93,7 @@ pub record StoredTo (a d m places : List ℕ) (n from : ℕ) : Type 0 where
 -- ---- then superblock and maps
 
 -- they can be stored: their blocks are there
-pub record Backed (d m places : List ℕ) (from : ℕ) : Type 0 where
+pub record MetaHasBlocks (d m places : List ℕ) (from : ℕ) : Type 0 where
   pub loaded : Loaded m
   pub most : blocks d ≤ 4096
   pub exists : there d metaFile ≡ true

@@ -23,7 +23,7 @@ ghost use Rattle.mending.specs.Mendable.{mendable};
 ghost use Rattle.mending.specs.Mend.{mendSteps};
 ghost use Rattle.mending.specs.Room.{wanted, givenBack};
 ghost use Rattle.mend_plan.specs.Plan.{Placed, Ready, Fated};
-ghost use Rattle.mend_stores.specs.Stores.{stateOf, Storable, Written, freedIn, renewedBy, FreedTo, Begun, StoredTo, Backed};
+ghost use Rattle.mend_stores.specs.Stores.{stateOf, Storable, PutInMeta, freedIn, renewedBy, FreedTo, Begun, StoredTo, MetaHasBlocks};
 use base::clear;
 use base::copy;
 use base::index;
@@ -104,7 +104,7 @@ fn put_place(
 // src goes into the file from pos on, below its length: block by block, in rising order.
 fn put_meta(arena: &mut [u8], places: &mut [u16], pos: usize, src: &[u8], from: usize) -> usize
     requires { ⌜ Storable (now arena) (now places) pos (length (now src)) from ⌝ }
-    ensures { λ r. ⌜ Written (now (arena .entry)) (now (arena .exit)) (now (places .exit)) pos (now (src .entry)) r ⌝ }
+    ensures { λ r. ⌜ PutInMeta (now (arena .entry)) (now (arena .exit)) (now (places .exit)) pos (now (src .entry)) r ⌝ }
 {
     let n = touched(pos, src.len());
     let q = pos / 480;
@@ -174,7 +174,7 @@ fn store_record(
     from: usize,
 ) -> usize
     requires { ⌜ Storable (now arena) (now places) (128 * id) 112 from × ((id < 4096) × (k < blocks (now arena))) ⌝ }
-    ensures { λ r. ⌜ Written (now (arena .entry)) (now (arena .exit)) (now (places .exit)) (128 * id) (recordBytes (renewedBy (recordOf (storedBytes (now (arena .entry)) id)) links (numberOf (blk (now (arena .entry)) k)))) r ⌝ }
+    ensures { λ r. ⌜ PutInMeta (now (arena .entry)) (now (arena .exit)) (now (places .exit)) (128 * id) (recordBytes (renewedBy (recordOf (storedBytes (now (arena .entry)) id)) links (numberOf (blk (now (arena .entry)) k)))) r ⌝ }
 {
     let mut bytes = [0u8; 112];
     read_record(&arena[..], &places[..], id, &mut bytes);
@@ -209,7 +209,7 @@ fn store_records(arena: &mut [u8], work: &[u16], places: &mut [u16], n: usize) -
 // ---- then superblock and maps
 
 fn store_maps(arena: &mut [u8], mem: &[u8], places: &mut [u16], groups: usize, from: usize)
-    requires { ⌜ Backed (now arena) (now mem) (now places) from × (groups ≡ superIn (now mem) .groups) ⌝ }
+    requires { ⌜ MetaHasBlocks (now arena) (now mem) (now places) from × (groups ≡ superIn (now mem) .groups) ⌝ }
     ensures { λ _. ⌜ storeMaps (now (arena .entry)) (mapsIn (now (mem .entry))) groups ≡ done (now (arena .exit)) ⌝ }
 {
     let mut at = from;
@@ -221,7 +221,7 @@ fn store_maps(arena: &mut [u8], mem: &[u8], places: &mut [u16], groups: usize, f
 }
 
 fn store_meta(arena: &mut [u8], mem: &[u8], places: &mut [u16], from: usize)
-    requires { ⌜ Backed (now arena) (now mem) (now places) from ⌝ }
+    requires { ⌜ MetaHasBlocks (now arena) (now mem) (now places) from ⌝ }
     ensures { λ _. ⌜ ((t : Table) → syncMeta (stateOf (now (arena .entry)) t (now (mem .entry))) ≡ done (stateOf (now (arena .exit)) t (now (mem .entry)))) ⌝ }
 {
     let at = put_meta(arena, places, 0, super_bytes(mem), from);

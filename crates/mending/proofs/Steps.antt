@@ -44,13 +44,13 @@ use Rattle.mending.proofs.Frees.{Freed, free-law}
 use Rattle.mending.proofs.Stores.{Stored, lacking-none, put-here, meta-there, store-law}
 
 -- what the metadata file keeps, through every store
-pub record Held (a x : List ℕ) : Type 0 where
+pub record BlocksStay (a x : List ℕ) : Type 0 where
   pub exists : there x metaFile ≡ true
   pub here : (q : ℕ) → present a metaFile q ≡ true → present x metaFile q ≡ true
 
 -- n bytes whose blocks are there are written
-pub put-goes : (a x : List ℕ) → Held a x → (pos n : ℕ) (src : List ℕ) → length src ≡ n → pos + n ≤ longest → ((q : ℕ) → touches pos n q ≡ true → present a metaFile q ≡ true)
-    → (y : List ℕ) × (putFile x metaFile pos src ≡ done y) × Held a y
+pub put-goes : (a x : List ℕ) → BlocksStay a x → (pos n : ℕ) (src : List ℕ) → length src ≡ n → pos + n ≤ longest → ((q : ℕ) → touches pos n q ≡ true → present a metaFile q ≡ true)
+    → (y : List ℕ) × (putFile x metaFile pos src ≡ done y) × BlocksStay a y
 put-goes a x H pos n src len end h =
     let none : lacking x metaFile pos (length src) ≡ 0 = ap (lacking x metaFile pos) len ∙ lacking-none x metaFile pos n (λ q e. H .here q (h q e)) in
     let r = put-done x metaFile pos src (H .exists) (omega (arith, len)) (omega (arith, none)) in
@@ -90,8 +90,8 @@ module _ (a : List ℕ) (M : Mendable a) where
 
   -- ---- and stored
 
-  maps-go : (maps : List ℕ) → length maps ≡ 128 * storedSuper a .groups → (x : List ℕ) → Held a x → (n : ℕ) → n ≤ storedSuper a .groups
-      → (y : List ℕ) × (storeMaps x maps n ≡ done y) × Held a y
+  maps-go : (maps : List ℕ) → length maps ≡ 128 * storedSuper a .groups → (x : List ℕ) → BlocksStay a x → (n : ℕ) → n ≤ storedSuper a .groups
+      → (y : List ℕ) × (storeMaps x maps n ≡ done y) × BlocksStay a y
   unfolding storeMaps
   maps-go maps long x H zero l = (x, refl, H)
   maps-go maps long x H (suc n) l =
@@ -100,7 +100,7 @@ module _ (a : List ℕ) (M : Mendable a) where
       let p = put-goes a (r .0) (r .2) (mapAt n) 128 (part maps (128 * n) (128 * n + 128)) len (omega (arith, M .rule3 .few)) (map-here a M n (omega arith)) in
       (p .0, ap (λ (o : Out (List ℕ)). bind o (λ d. putFile d metaFile (mapAt n) (part maps (128 * n) (128 * n + 128)))) (r .1) ∙ p .1, p .2)
 
-  pub sync-goes : (s : Fs) (m : Meta) → s .meta ≡ done m → m .super .groups ≡ storedSuper a .groups → length (m .maps) ≡ 128 * storedSuper a .groups → Held a (s .arena)
+  pub sync-goes : (s : Fs) (m : Meta) → s .meta ≡ done m → m .super .groups ≡ storedSuper a .groups → length (m .maps) ≡ 128 * storedSuper a .groups → BlocksStay a (s .arena)
       → (d : Fs) × (syncMeta s ≡ done d)
   unfolding syncMeta
   sync-goes s m f g long H =

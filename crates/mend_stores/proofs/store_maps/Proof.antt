@@ -7,14 +7,14 @@ use Rattle.base.specs.Out.{done}
 use Rattle.base.proofs.Lists.{length-part}
 use Rattle.sefs.specs.Meta.{storeMaps}
 use Rattle.mem.specs.Mem.{mapsIn}
-use Rattle.mend_stores.specs.Stores.{Storable, Backed}
+use Rattle.mend_stores.specs.Stores.{Storable, MetaHasBlocks}
 use Rattle.mend_stores.proofs.Syncs.{map-storable, backed-next, maps-none, maps-more}
 use Rattle.mend_stores.proofs.store_maps.Statement.{statement}
 use Rattle.mend_stores.proofs.store_maps.Tie as tie
 
 abbrev Inv-loop : tie.InvT-loop
 Inv-loop arena₀ mem places₀ groups from at₀ g₀ arena places at g =
-    (g ≤ groups) × (length arena ≡ length arena₀) × (storeMaps arena₀ (mapsIn mem) g ≡ done arena) × Backed arena mem places at
+    (g ≤ groups) × (length arena ≡ length arena₀) × (storeMaps arena₀ (mapsIn mem) g ≡ done arena) × MetaHasBlocks arena mem places at
 
 abbrev μ-loop : tie.MeasureT-loop
 μ-loop arena₀ mem places₀ groups from at₀ g₀ arena places at g = groups - g

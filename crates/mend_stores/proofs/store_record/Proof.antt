@@ -13,7 +13,7 @@ use Rattle.arena.specs.Fields.{numberOf}
 use Rattle.files.specs.Read.{byteAt}
 use Rattle.sefs.specs.Meta.{metaFile}
 use Rattle.rules.specs.Image.{storedBytes}
-use Rattle.mend_stores.specs.Stores.{Storable, Written, renewedBy}
+use Rattle.mend_stores.specs.Stores.{Storable, PutInMeta, renewedBy}
 use Rattle.mend_stores.proofs.Bytes.{record-new}
 use borrow.Author.Needs.{needs}
 use Rattle.mend_stores.proofs.store_record.Statement.{statement}
@@ -76,7 +76,7 @@ returns : tie.Need-returns
 returns c =
     let q = c .before .before .before .before in
     let s = q .before .before .before .before .before .before .before .before .before .before .before .before .before .before .before .before .before .before in
-    subst (λ (b : List ℕ). Written (s .args .arena .now) (q .put-meta .last .0) (q .put-meta .last .1 .0) (128 * s .args .id) b (q .put-meta .result)) (made (q .before .before .before .before .before)) (q .put-meta .ensures)
+    subst (λ (b : List ℕ). PutInMeta (s .args .arena .now) (q .put-meta .last .0) (q .put-meta .last .1 .0) (128 * s .args .id) b (q .put-meta .result)) (made (q .before .before .before .before .before)) (q .put-meta .ensures)
 
 pub store-record-spec : {M : Type 1} → statement M
 store-record-spec =
