@@ -16,7 +16,7 @@ sys.path.insert(0, str(TOP / "tests" / "beside_rust"))
 from scripts import SOCKET, followed, model, packed, takes_owner
 
 SHARED = TOP.parent / "shared"
-LEVEL = 11
+LEVEL = 12
 # A table's bytes without owners, and where its holds stand.
 OLD_TABLE, HOLDS = 4370, 117 * model.ROWS
 UNKNOWN = b"\5"

@@ -45,7 +45,8 @@ use Rattle.mending.specs.Promises.{way, Spared, Mended, IsMended, MendPasses, M
 use Rattle.mending.proofs.Tables.{empty-holds}
 use Rattle.mending.proofs.Fates.{lost-is, lost-says, stays-is, stays-node, not-lost, mended-folder, mended-other, mended-kind, mended-blocks, mended-file}
 use Rattle.mending.proofs.Lasts.{file-same, kind-folder, blocks-same, subs-same, named-same, lasts-mendable}
-use Rattle.mending.proofs.Ways.{find-same, way-same}
+use Rattle.mending.proofs.Lookups.{find-kept}
+use Rattle.mending.proofs.Ways.{way-same}
 use Rattle.mending.proofs.Stores.{want-nothing}
 use Rattle.mending.proofs.Steps.{mend-full}
 use Rattle.mending.proofs.Theorems.{is-mended, mend-bytes, mend-passes}
@@ -55,9 +56,9 @@ module _ (a : List ℕ) (t : Table) (A : Allowed a t) (B : Bytes a) (L : Lasting
   -- ---- where names lead, by the records in memory and by the stored ones
 
   -- a node that names can lead to: a folder has links
-  record Good (id : ℕ) : Type 0 where
-    node : isNode a id ≡ true
-    links : isFolderAt a t id ≡ true → recOf a t id .nlinks ≢ 0
+  pub record Good (id : ℕ) : Type 0 where
+    pub node : isNode a id ≡ true
+    pub links : isFolderAt a t id ≡ true → recOf a t id .nlinks ≢ 0
 
   -- a folder that a later slot names
   named-good : (id : ℕ) → isNode a id ≡ true → 1 ≤ named a t id → Good id
@@ -83,7 +84,7 @@ module _ (a : List ℕ) (t : Table) (A : Allowed a t) (B : Bytes a) (L : Lasting
   unfolding isFolderAt
   folder-of id n f = and-both n f
 
-  leads : (id : ℕ) → Good id → isFolder (recOf a t id .kind) ≡ true → (name : List ℕ) → Ok (λ (s : Slot). Good (s .entry .id)) Any (findSlot a (recOf a t id) name)
+  pub leads : (id : ℕ) → Good id → isFolder (recOf a t id .kind) ≡ true → (name : List ℕ) → Ok (λ (s : Slot). Good (s .entry .id)) Any (findSlot a (recOf a t id) name)
   leads id G f name =
       let g = folder-of id (G .node) f in
       ok-weaken
@@ -93,9 +94,9 @@ module _ (a : List ℕ) (t : Table) (A : Allowed a t) (B : Bytes a) (L : Lasting
 
   finds : (id : ℕ) → Good id → isFolder (recOf a t id .kind) ≡ true → (name : List ℕ) → findSlot a (recOf a emptyTable id) name ≡ findSlot a (recOf a t id) name
   finds id G f name =
-      find-same a a (recOf a t id) (recOf a emptyTable id) (file-same a t A L id (G .node)) (kept-refl a (nodeFile (recOf a t id))) (blocks-same a t A L id (folder-of id (G .node) f)) name
+      find-kept a a (recOf a emptyTable id) (recOf a t id) name (blocks-same a t A L id (folder-of id (G .node) f)) (file-same a t A L id (G .node)) (kept-refl a (nodeFile (recOf a t id)))
 
-  two-good : Good 2
+  pub two-good : Good 2
   two-good = record {
     node = root-node a t (fair a t A);
     links = λ f z. ⊎-elim (λ (K : Linked a t 2). omega (arith, z, K .links)) (λ (R : Removed a t 2). R .apart refl) (A .rule7 .folder 2 f);

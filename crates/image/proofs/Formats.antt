@@ -216,9 +216,9 @@ module _ (n : ℕ) (enough : 16 ≤ n / 512) (time : Timespec) (name : List ℕ)
       size = B .size;
       bytes = B .bytes;
       sound = B .sound;
-      super = put-before g metaFile 256 112 _ record-long h H 0 16 (omega arith) ∙ put-before f metaFile 128 128 rootMap length-rootMap g G 0 16 (omega arith) ∙ put-run e f 0 16 _ (length-superBytes rootSuper) F;
-      maps = put-before g metaFile 256 112 _ record-long h H 128 128 (omega arith) ∙ put-run f g 128 128 rootMap length-rootMap G;
-      stored = put-run g h 256 112 _ record-long H;
+      super = put-before g metaFile 256 112 _ record-long h H 0 16 (omega arith) ∙ put-before f metaFile 128 128 rootMap length-rootMap g G 0 16 (omega arith) ∙ put-run e f metaFile 0 16 _ (length-superBytes rootSuper) F;
+      maps = put-before g metaFile 256 112 _ record-long h H 128 128 (omega arith) ∙ put-run f g metaFile 128 128 rootMap length-rootMap G;
+      stored = put-run g h metaFile 256 112 _ record-long H;
       end = H .long ∙ omega (arith, G .long, F .long, meta-before .long, end, record-long, length-rootMap, length-superBytes rootSuper);
       own = B .node;
       long = node-kept .long ∙ put-long d name 1 dotsSlot (dots-fits 2 (omega arith)) (D .exists) e E (put-long c name 0 dotSlot (dot-fits 2 (omega arith)) (S .node) d D empty);

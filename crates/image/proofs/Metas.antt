@@ -83,9 +83,9 @@ module _ (a b : List ℕ) (W : Within a b) (pos : ℕ) (src : List ℕ) (B : Byt
   }
 
 -- what was put is there
-pub put-run : (a b : List ℕ) (pos n : ℕ) (src : List ℕ) → length src ≡ n → Put a metaFile pos src b → run b metaFile pos n ≡ src
-put-run a b pos n src long P =
-    tab-cong (byteAt b metaFile) (λ i. getD src i 0) pos 0 n
+pub put-run : (a b : List ℕ) (f : File) (pos n : ℕ) (src : List ℕ) → length src ≡ n → Put a f pos src b → run b f pos n ≡ src
+put-run a b f pos n src long P =
+    tab-cong (byteAt b f) (λ i. getD src i 0) pos 0 n
     (λ i l. P .inside (pos + i) (omega arith) (omega (arith, long)) ∙ ap (λ (j : ℕ). getD src j 0) (let e : pos + i - pos ≡ 0 + i = omega arith in e))
     ∙ ap (tab (λ i. getD src i 0) 0) (sym long) ∙ tab-getD src
 
@@ -126,7 +126,7 @@ maps-law a maps k W B long len (suc n) l =
           (λ (d : n ≤ g).
           let e : g ≡ n = omega arith in
           subst (λ (x : ℕ). run c metaFile (mapAt x) 128 ≡ part maps (128 * x) (128 * x + 128)) (sym e)
-          (put-run b c (mapAt n) 128 (part maps (128 * n) (128 * n + 128)) src-long P))
+          (put-run b c metaFile (mapAt n) 128 (part maps (128 * n) (128 * n + 128)) src-long P))
           (lt-or-le g n);
       outside = λ p h. P .outside p (λ z. omega (arith, src-long, h n z)) ∙ M .outside p h;
     }
@@ -166,7 +166,7 @@ module _ (a : List ℕ) (m : Meta) (W : Within a a) (F : MetaFits a m) where
     c-super =
         ap superOf
         (tab-cong (byteAt c metaFile) (byteAt b metaFile) 0 0 16 (λ i l. M .outside (0 + i) (λ g z. absurd (omega arith)))
-        ∙ put-run a b 0 16 src (length-superBytes (m .super)) P)
+        ∙ put-run a b metaFile 0 16 src (length-superBytes (m .super)) P)
         ∙ superOf-superBytes (m .super) (F .fits)
 
     c-mapsTo : (n : ℕ) → n ≤ k → mapsTo c n ≡ part (m .maps) 0 (0 + 128 * n)

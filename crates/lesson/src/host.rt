@@ -7,17 +7,16 @@ use lesson_lib::say::text;
 use lesson_world::lines::answer;
 use lesson_world::lines::create_line;
 use lesson_world::lines::got;
+use lesson_world::lines::judged;
 use lesson_world::lines::node;
 use lesson_world::lines::outline;
 use lesson_world::lines::save;
-use lesson_world::lines::verdict;
 use lesson_world::world::ANN;
 use lesson_world::world::begin;
 use lesson_world::world::find;
 use lesson_world::world::fresh;
 use lesson_world::world::go_down;
 use lesson_world::world::handle;
-use lesson_world::world::mend;
 use lesson_world::world::remove_file;
 use structs::FILE;
 use table::Handle;
@@ -34,14 +33,6 @@ fn at_work(world: &mut [u8; 12594], root: Handle) {
     answer(story, 1, r);
     node(world, ANN, a, story, 2);
     part(story, 3);
-}
-
-// What the check says, and then what the mender does.
-fn judged(world: &mut [u8; 12594], story: &[u8]) {
-    verdict(world, story, 0);
-    let a = mend(world);
-    answer(story, 1, a);
-    part(story, 2);
 }
 
 // The table is gone, and with it Ann's hold on a.

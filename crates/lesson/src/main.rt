@@ -6,6 +6,7 @@ mod support;
 
 use lesson_made::made;
 use lesson_made::paths;
+use lesson_made::stops;
 
 fn main() {
     let mut world = [0u8; 12594];
@@ -23,4 +24,5 @@ fn main() {
     slots::two_keys(&mut world);
     support::support_call(&mut world);
     host::host_down(&mut world, &mut kept);
+    stops::create_stops(&mut world, &mut kept);
 }

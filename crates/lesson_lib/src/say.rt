@@ -79,6 +79,7 @@ fn name_words(reason: u8) {
     match reason {
         9 => text(b" (is a folder)"),
         10 => text(b" (name too long)"),
+        11 => text(b" (entry not found)"),
         12 => text(b" (entry exists)"),
         _ => {}
     }
@@ -89,6 +90,7 @@ fn words(reason: u8) {
         4 => text(b" (bad handle)"),
         6 => text(b" (invalid parameter)"),
         7 => text(b" (not a folder)"),
+        18 => text(b" (wrong file system)"),
         24 => text(b" (in use)"),
         _ => name_words(reason),
     }

@@ -1,3 +1,5 @@
-// Scenes of the lesson: those in which nodes are made and nothing else is asked, and the one in which a glyph is opened by path.
+// Scenes of the lesson: those in which nodes are made and nothing else is asked, the one in which a glyph is opened by path, and the one in which
+// a create stops half way.
 pub mod made;
 pub mod paths;
+pub mod stops;

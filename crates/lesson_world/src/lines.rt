@@ -6,6 +6,7 @@ use crate::world::check;
 use crate::world::create;
 use crate::world::get_entry;
 use crate::world::handle;
+use crate::world::mend;
 use crate::world::metadata;
 use crate::world::read;
 use crate::world::walk;
@@ -89,6 +90,16 @@ pub fn verdict(world: &[u8], story: &[u8], k: u8)
         } => text(b"passes"),
         Verdict::Fail(rule) => say::number(b"fails rule %", 0, rule as u64),
     }
+}
+
+// The same, and then what the mender does: the story's first two blanks.
+pub fn judged(world: &mut [u8], story: &[u8])
+    requires { ⌜ 4402 ≤ length (now world) ⌝ }
+{
+    verdict(&world[..], story, 0);
+    let a = mend(world);
+    answer(story, 1, a);
+    part(story, 2);
 }
 
 // A new node in a folder, and what its handle tells: a line of its own.

@@ -8,3 +8,4 @@ pub mod Starts
 pub mod Drawings
 pub mod Inventory
 pub mod Mends
+pub mod Cuts

@@ -36,7 +36,7 @@ use Rattle.linked.proofs.Transport.{zero-done, same-pair, not-255}
 use Rattle.linked.proofs.Linked.{linked, own-linked, mixed-linked}
 
 -- what a run's contract says, where the table has its size
-mend-ran : {s u : Image} {x y : Places} {n : ℕ} → Ran mend s x u y n → length (s .table) ≡ 4402
+pub mend-ran : {s u : Image} {x y : Places} {n : ℕ} → Ran mend s x u y n → length (s .table) ≡ 4402
     → Answers (callMend (s .arena) (tableOf (s .table))) mendedOf (s .arena) (u .arena) n × (u .table ≡ s .table)
 mend-ran (tested.mends _ a a' t n L) e =
     (subst (λ (o : Out (List ℕ)). Answers o mendedOf (now a) (now a') n) (sized-is 4402 (now t) (callMend (now a) (tableOf (now t))) e) L, refl)
@@ -110,7 +110,7 @@ run-mend-refuses s u x y n r z k =
 
 -- ---- a host that dies
 
-empty-back : {t : List ℕ} → t ≡ tableBytes emptyTable → tableOf t ≡ emptyTable
+pub empty-back : {t : List ℕ} → t ≡ tableBytes emptyTable → tableOf t ≡ emptyTable
 empty-back e = ap tableOf e ∙ tableOf-tableBytes emptyTable empty-fits
 
 pub format-lives : FormatLives

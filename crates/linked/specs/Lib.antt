@@ -6,3 +6,4 @@ pub mod Symlinks
 pub mod Drawings
 pub mod Inventory
 pub mod Mends
+pub mod Cuts

@@ -9,5 +9,6 @@ pub mod Lasts
 pub mod Idle
 pub mod Wished
 pub mod Mended
+pub mod Lookups
 pub mod Ways
 pub mod Theorems

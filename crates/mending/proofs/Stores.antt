@@ -290,7 +290,7 @@ module _ (a : List ℕ) (M : Mendable a) where
 
         own : storedBytes d n ≡ recordBytes (mended a n)
         unfolding storedBytes
-        own = put-run (s .arena) d (128 * n) 112 src len P
+        own = put-run (s .arena) d metaFile (128 * n) 112 src len P
 
         stored : Stored a c o (suc n) (record { arena = d; table = s .table; meta = s .meta })
         stored = record {

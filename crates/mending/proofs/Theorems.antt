@@ -24,7 +24,8 @@ use Rattle.mending.specs.Promises.{way, Mended, IsMended, MendPasses, Me
 use Rattle.mending.proofs.Tables.{empty-holds, bare-allowed}
 use Rattle.mending.proofs.Steps.{Done, Worked, call-law}
 use Rattle.mending.proofs.Mended.{kind-left, blocks-left, file-left, super-left, bytes-left, no-more, is-spared, is-gone, left-allowed}
-use Rattle.mending.proofs.Ways.{find-same, way-same}
+use Rattle.mending.proofs.Lookups.{find-kept}
+use Rattle.mending.proofs.Ways.{way-same}
 use Rattle.mending.proofs.Idle.{folder-linked, idle}
 
 -- ---- "every name left leads to the same node as before"
@@ -37,7 +38,7 @@ module _ (a : List ℕ) (B : Bytes a) (M : Mendable a) (d : Fs) (D : Done a d) w
   E = left-allowed a B M d D
 
   finds : (id : ℕ) → stays a id ≡ true → (name : List ℕ) → findSlot (d .arena) (recIn (d .arena) id) name ≡ findSlot a (recIn a id) name
-  finds id e name = find-same a b (recIn a id) (recIn b id) (file-left a B M d D id e) (is-spared a B M d D id e .file) (blocks-left a B M d D id e) name
+  finds id e name = find-kept b a (recIn b id) (recIn a id) name (blocks-left a B M d D id e) (file-left a B M d D id e) (is-spared a B M d D id e .file)
 
   leads : (id : ℕ) → stays a id ≡ true → isFolder (recIn a id .kind) ≡ true → (name : List ℕ)
       → Ok (λ (s : Slot). stays a (s .entry .id) ≡ true) (λ n. Unit) (findSlot a (recIn a id) name)

@@ -82,7 +82,7 @@ fair-sane a t A b = record {
 }
 
 -- those that are sane can be stored
-sane-fits : (m : Meta) → Sane m → SuperFits (m .super)
+pub sane-fits : (m : Meta) → Sane m → SuperFits (m .super)
 sane-fits m S = record {
   magic = omega (arith, S .magic);
   blocks = omega (arith, S .blocks, S .few);
@@ -95,7 +95,7 @@ both : {A : Type 0} {P Q : A → Type 0} {R S : ℕ → Type 0} {o : Out A} → 
 both (went p) (went q) = went (p, q)
 both (said r) (said q) = said r
 
-new-fits : (kind mode : ℕ) (time : Timespec) (f : List ℕ) → NewFits kind mode time f → RecordFits (newRecord kind mode time f)
+pub new-fits : (kind mode : ℕ) (time : Timespec) (f : List ℕ) → NewFits kind mode time f → RecordFits (newRecord kind mode time f)
 new-fits kind mode time f F = record {
   size = omega arith;
   kind = F .kind;

@@ -145,7 +145,7 @@ module _ (n k : ℕ) (f : List ℕ) (some : n ≢ 0) (off : n % 1024 ≢ 1) (sma
       (⊎-elim
       (λ (e : rowAt t i .id ≡ n).
       let w = T .rows i e in
-      let q : storedBytes b n ≡ recordBytes (rowAt t i .rec) = ap (storedBytes b) (sym e) ∙ put-run a b (128 * rowAt t i .id) 112 (recordBytes (rowAt t i .rec)) long P in
+      let q : storedBytes b n ≡ recordBytes (rowAt t i .rec) = ap (storedBytes b) (sym e) ∙ put-run a b metaFile (128 * rowAt t i .id) 112 (recordBytes (rowAt t i .rec)) long P in
       inl (subst (λ (l : List ℕ). As k f (recordOf l)) (sym q) (record {
         kind = kind-back (rowAt t i .rec) (subst (λ (j : ℕ). j < 2 ^ 32) (sym (w .kind)) small) ∙ w .kind;
         file = file-back (rowAt t i .rec) (T .wide i l .file) ∙ w .file;

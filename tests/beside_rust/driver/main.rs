@@ -1,7 +1,7 @@
 //! The Rust beside the port: `driver run` reads a call script and prints for each call what the Rust says of it; `driver gen SEED CALLS
 //! FILE` writes a script of its own to the file and prints the same of it; `driver sample SEED BYTES FILE` keeps only calls that the
-//! Rust answered; `driver raw` prints what the Rust itself does, no rule asked; `driver timed ROUNDS` times the calls, and
-//! `driver contents FILES ROUNDS` reads and writes.
+//! Rust answered; `driver raw` prints what the Rust itself does, no rule asked; `driver cuts` stops the script's last call after each
+//! number of its stores; `driver timed ROUNDS` times the calls, and `driver contents FILES ROUNDS` reads and writes.
 //!
 //! A sum that is not known is a dash.
 //!
@@ -10,6 +10,7 @@
 //!     ~RULE LINE      left out by that rule; the documents' answer
 //!     ?RULE NAME SUMS left out by that rule; no answer is said, but a refusal keeps these sums
 //!     ! TEXT          the Rust broke off where no rule foresaw it; the run ends
+mod cuts;
 mod device;
 mod gen;
 mod script;
@@ -92,12 +93,17 @@ fn main() -> std::io::Result<()> {
             raw()?;
             std::process::exit(0)
         }
+        ["cuts"] => {
+            drop(out);
+            cuts::cuts(&input()?);
+            std::process::exit(0)
+        }
         ["timed", rounds] => timed::timed(&mut out, &input()?, number(rounds))?,
         ["contents", files, rounds] => timed::contents(&mut out, number(files), number(rounds))?,
         ["gen", seed, calls, file] => gen(&mut out, gen::sequence(number(seed), number(calls) as usize, None), file)?,
         ["sample", seed, bytes, file] => gen(&mut out, gen::sample(number(seed), number(bytes) as usize), file)?,
         _ => {
-            eprintln!("driver run < SCRIPT\ndriver raw < SCRIPT\ndriver timed ROUNDS < SCRIPT\ndriver contents FILES ROUNDS\ndriver gen SEED CALLS FILE\ndriver sample SEED BYTES FILE");
+            eprintln!("driver run < SCRIPT\ndriver raw < SCRIPT\ndriver cuts < SCRIPT\ndriver timed ROUNDS < SCRIPT\ndriver contents FILES ROUNDS\ndriver gen SEED CALLS FILE\ndriver sample SEED BYTES FILE");
             std::process::exit(2)
         }
     }
