@@ -1,4 +1,4 @@
-/* Dzomrelig at the C edge: the twenty-two calls of documents 01 and 02, proved (crates/edge, crates/edge_contents), and those for owners (crates/owners, crates/owners_contents). Plain C11, usable from C++.
+/* Dzomrelig at the C edge: the twenty-three calls of documents 01 and 02, proved (crates/edge, crates/edge_contents), and those for owners (crates/owners, crates/owners_contents). Plain C11, usable from C++.
  *
  * How the calls take and give things:
  * - Arena, table, names and output are a pointer and a length. No pointer is null, and a slice that a call may change overlaps no other.
@@ -45,6 +45,17 @@ extern "C" {
 #define DZ_SYMLINK 3
 #define DZ_SOCKET 4           /* stored ones are there and every call takes them; none is made any more */
 
+/* ---- modes of dz_fallocate, and the one flag */
+
+#define DZ_ALLOCATE 0
+#define DZ_PUNCH_HOLE 1       /* keeps the size */
+#define DZ_ZERO_RANGE 2
+#define DZ_ZERO_RANGE_KEEP_SIZE 3
+#define DZ_COLLAPSE_RANGE 4
+#define DZ_INSERT_RANGE 5
+#define DZ_KEEP_SIZE 1        /* of DZ_ALLOCATE: the size stays, so nothing is done */
+#define DZ_RANGE_UNIT 128     /* start and length of a range to collapse or insert are multiples of it */
+
 /* ---- reasons */
 
 #define DZ_DONE 0
@@ -53,7 +64,7 @@ extern "C" {
 #define DZ_BAD_TABLE 3        /* the table is not well formed */
 #define DZ_BAD_HANDLE 4       /* not a live hold with that stamp, or another owner's */
 #define DZ_BAD_NAME 5         /* a zero byte inside, or not UTF-8; in create, link and move's new name also a slash; a path or target: also an empty part */
-#define DZ_INVALID_PARAM 6    /* an owner that is not 1 to 4, a new node that is no file, folder or symlink, or a folder into itself or below */
+#define DZ_INVALID_PARAM 6    /* an owner that is not 1 to 4, a new node that is no file, folder or symlink, a folder into itself or below; dz_fallocate: no mode, or no range of it */
 #define DZ_NOT_DIR 7
 #define DZ_DIR_REMOVED 8      /* the folder has no links left */
 #define DZ_IS_DIR 9
@@ -68,8 +79,8 @@ extern "C" {
 #define DZ_WRONG_FS 18        /* no image of this file system; in dz_inventory: the checker fails the stored image; in dz_mend: it can't be mended */
 #define DZ_STUCK 19           /* the Rust would fail an assertion here */
 #define DZ_OUT_FULL 20        /* a slot remains, and the output has no room for one; a target does not fit the link buffer, or the inventory the output */
-#define DZ_NOT_FILE 21        /* a folder, where contents are asked for */
-#define DZ_FILE_TOO_BIG 22    /* a write or resize would end past DZ_FILE_LONGEST */
+#define DZ_NOT_FILE 21        /* a folder, where contents are asked for; in dz_fallocate: no file */
+#define DZ_FILE_TOO_BIG 22    /* a write, a resize or a range would end past DZ_FILE_LONGEST, or a file grow past it */
 #define DZ_SYM_LOOP 23        /* a walk meets its ninth symlink */
 #define DZ_IN_USE 24          /* to mend, no hold may be live */
 #define DZ_WRONG_SIZE 255     /* a slice of a fixed size has another */
@@ -269,6 +280,20 @@ uint32_t dz_write(uint8_t *arena, size_t arena_len, uint8_t *table, size_t table
 uint32_t dz_resize(uint8_t *arena, size_t arena_len, uint8_t *table, size_t table_len,
                    uint8_t owner, uint32_t hold, uint64_t stamp, uint64_t length);
 
+/* A range of a file, `length` bytes from `from` on. By `mode`:
+ * - DZ_INSERT_RANGE: the bytes from `from` on move up by `length`, and the range reads as zeros. The file grows by `length`.
+ * - DZ_COLLAPSE_RANGE: the range goes, and the bytes after it move down to `from`. The file shrinks by `length`.
+ * - DZ_ZERO_RANGE: zeros over the range; where it ends past the size the file grows to its end. DZ_PUNCH_HOLE and DZ_ZERO_RANGE_KEEP_SIZE: zeros over what of
+ *   it lies below the size, which stays. Zeros are written: they take blocks where there were none.
+ * - DZ_ALLOCATE: where the range ends past the size the file grows to its end; no block is taken. With DZ_KEEP_SIZE in `flags` nothing is done. Other bits, and
+ *   flags of other modes, do nothing.
+ * The size is stored as by dz_write. An empty range is allowed. A hold on a removed file works.
+ * Changes: arena, table. Reasons: BadArena, Damaged, BadTable, InvalidParam (owner), BadHandle, NotFile (symlinks and sockets, too), FileTooBig (the range's end),
+ * InvalidParam (`mode` is none of these; insert: `from` at or past the size; collapse: the range's end at or past the size; both: `from` or `length` no
+ * multiple of DZ_RANGE_UNIT), FileTooBig (insert: the grown size); NoDeviceSpace, Stuck. */
+uint32_t dz_fallocate(uint8_t *arena, size_t arena_len, uint8_t *table, size_t table_len,
+                      uint8_t owner, uint32_t hold, uint64_t stamp, uint8_t mode, uint8_t flags, uint64_t from, uint64_t length);
+
 /* ---- slots */
 
 /* One slot of a folder, as stored, at the output's start: DZ_SLOT bytes.
@@ -340,6 +365,8 @@ uint32_t dz_own_write(uint8_t *arena, size_t arena_len, uint16_t *chains, size_t
                       uint32_t hold, uint64_t stamp, uint64_t place, const uint8_t *data, size_t data_len);
 uint32_t dz_own_resize(uint8_t *arena, size_t arena_len, uint16_t *chains, size_t chains_len, uint8_t *table, size_t table_len, uint8_t owner,
                        uint32_t hold, uint64_t stamp, uint64_t length);
+uint32_t dz_own_fallocate(uint8_t *arena, size_t arena_len, uint16_t *chains, size_t chains_len, uint8_t *table, size_t table_len, uint8_t owner,
+                          uint32_t hold, uint64_t stamp, uint8_t mode, uint8_t flags, uint64_t from, uint64_t length);
 
 #ifdef __cplusplus
 }

@@ -1,4 +1,5 @@
-// A font's image in a file: a folder with two glyphs, one drawn; listed, checked, its inventory printed, and mended after a host went down. glyphs IMAGE.
+// A font's image in a file: a folder with two glyphs, one drawn and edited in the middle; listed, checked, its inventory printed, and mended after a host went
+// down. glyphs IMAGE.
 #include <stdio.h>
 #include <stdlib.h>
 #include <string.h>
@@ -55,6 +56,14 @@ int main(int n, char **words)
     must("write", dz_write(arena, sizeof arena, table, DZ_TABLE, ANNA, (uint32_t)a.hold, a.stamp, 0, (const uint8_t *)outline, strlen(outline)));
     must("read", dz_read(arena, sizeof arena, table, DZ_TABLE, ANNA, (uint32_t)a.hold, a.stamp, 0, bytes, sizeof bytes, &count, DZ_LENGTH_WORDS));
     printf("A: %.*s\n", (int)count, (const char *)bytes);
+
+    // room for another in front of it, 128 bytes, which read as zeros; then the first is all there is again
+    must("insert", dz_fallocate(arena, sizeof arena, table, DZ_TABLE, ANNA, (uint32_t)a.hold, a.stamp, DZ_INSERT_RANGE, 0, 0, DZ_RANGE_UNIT));
+    must("read", dz_read(arena, sizeof arena, table, DZ_TABLE, ANNA, (uint32_t)a.hold, a.stamp, DZ_RANGE_UNIT - 2, bytes, sizeof bytes, &count, DZ_LENGTH_WORDS));
+    printf("A, 128 bytes further on: %d %d %.*s\n", bytes[0], bytes[1], (int)count - 2, (const char *)bytes + 2);
+    must("collapse", dz_fallocate(arena, sizeof arena, table, DZ_TABLE, ANNA, (uint32_t)a.hold, a.stamp, DZ_COLLAPSE_RANGE, 0, 0, DZ_RANGE_UNIT));
+    must("read", dz_read(arena, sizeof arena, table, DZ_TABLE, ANNA, (uint32_t)a.hold, a.stamp, 0, bytes, sizeof bytes, &count, DZ_LENGTH_WORDS));
+    printf("A again: %.*s\n", (int)count, (const char *)bytes);
     close_node(a);
 
     uint8_t slots[8 * DZ_SLOT];

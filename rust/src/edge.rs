@@ -43,6 +43,7 @@ extern "C" {
     fn dz_read(a: *const u8, al: usize, t: *const u8, tl: usize, who: u8, hold: u32, stamp: u64, place: u64, out: *mut u8, ol: usize, count: *mut u64, words: usize) -> u32;
     fn dz_write(a: *mut u8, al: usize, t: *mut u8, tl: usize, who: u8, hold: u32, stamp: u64, place: u64, data: *const u8, dl: usize) -> u32;
     fn dz_resize(a: *mut u8, al: usize, t: *mut u8, tl: usize, who: u8, hold: u32, stamp: u64, length: u64) -> u32;
+    fn dz_fallocate(a: *mut u8, al: usize, t: *mut u8, tl: usize, who: u8, hold: u32, stamp: u64, mode: u8, flags: u8, from: u64, length: u64) -> u32;
     fn dz_get_entry(a: *const u8, al: usize, t: *const u8, tl: usize, who: u8, hold: u32, stamp: u64, slot: u64, out: *mut u8, ol: usize) -> u32;
     fn dz_list(a: *const u8, al: usize, t: *const u8, tl: usize, who: u8, hold: u32, stamp: u64, next: *mut u64, words: usize, dots: u8, out: *mut u8, ol: usize) -> u32;
 }
@@ -79,6 +80,8 @@ extern "C" {
     fn dz_own_write(a: *mut u8, al: usize, c: *mut u16, cl: usize, t: *mut u8, tl: usize, who: u8, hold: u32, stamp: u64, place: u64,
                     data: *const u8, dl: usize) -> u32;
     fn dz_own_resize(a: *mut u8, al: usize, c: *mut u16, cl: usize, t: *mut u8, tl: usize, who: u8, hold: u32, stamp: u64, length: u64) -> u32;
+    fn dz_own_fallocate(a: *mut u8, al: usize, c: *mut u16, cl: usize, t: *mut u8, tl: usize, who: u8, hold: u32, stamp: u64, mode: u8, flags: u8,
+                        from: u64, length: u64) -> u32;
 }
 
 /// The words of the chains.
@@ -372,6 +375,17 @@ impl Pair {
             match &mut self.chains {
                 Some(c) => dz_own_resize(a.as_mut_ptr(), a.len(), c.as_mut_ptr(), c.len(), t.as_mut_ptr(), t.len(), who, h.hold, h.stamp, length),
                 None => dz_resize(a.as_mut_ptr(), a.len(), t.as_mut_ptr(), t.len(), who, h.hold, h.stamp, length),
+            }
+        })
+    }
+
+    pub(crate) fn fallocate(&mut self, who: u8, h: Handle, mode: u8, flags: u8, from: u64, length: u64) -> Result<(), Reason> {
+        let (a, t) = (&mut self.arena, &mut self.table);
+        answer(unsafe {
+            match &mut self.chains {
+                Some(c) => dz_own_fallocate(a.as_mut_ptr(), a.len(), c.as_mut_ptr(), c.len(), t.as_mut_ptr(), t.len(), who, h.hold, h.stamp, mode, flags,
+                                            from, length),
+                None => dz_fallocate(a.as_mut_ptr(), a.len(), t.as_mut_ptr(), t.len(), who, h.hold, h.stamp, mode, flags, from, length),
             }
         })
     }

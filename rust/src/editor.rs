@@ -3,7 +3,10 @@ use alloc::vec::Vec;
 use core::fmt;
 use core::ops::{Deref, DerefMut};
 
-use crate::{Attributes, Entries, Entry, FileName, Handle, Image, Kind, Metadata, NewKind, Owner, Place, Reason, Time, FILE_LONGEST, SLOT};
+use crate::{
+    Attributes, Entries, Entry, FallocateMode, FileName, Handle, Image, Kind, Metadata, NewKind, Owner, Place, Reason, Time, FILE_LONGEST,
+    SLOT,
+};
 
 /// One of the four who share an image, at work on it: every call that takes or makes a handle says who asks.
 ///
@@ -247,6 +250,72 @@ impl<I: DerefMut<Target = Image>> Editor<I> {
     /// Reasons: `BadHandle`, `NotFile`, `FileTooBig` (past [`FILE_LONGEST`]); `Stuck`.
     pub fn resize(&mut self, handle: Handle, length: u64) -> Result<(), Reason> {
         self.image.pair.resize(self.who, handle, length)
+    }
+}
+
+// ---- ranges of a file
+
+impl<I: DerefMut<Target = Image>> Editor<I> {
+    /// Inserts, collapses, clears or allocates a range of a file: `length` bytes from `from` on. [`FallocateMode`] says what becomes of them.
+    ///
+    /// Zeros are written, and so are bytes that move: they take blocks where there were none. An empty range is allowed. The size stands in the table;
+    /// [`close`](Editor::close) and [`sync`](Image::sync) store it. No time changes.
+    ///
+    /// Reasons: `BadHandle`, `NotFile` (a symlink or socket, too), `FileTooBig` (the range ends past [`FILE_LONGEST`]), `InvalidParam` (insert: `from` is at
+    /// the size or past it; collapse: the range's end is; both: `from` or `length` is no multiple of [`RANGE_UNIT`](crate::RANGE_UNIT)), `FileTooBig` (insert:
+    /// the file would grow past [`FILE_LONGEST`]); `NoDeviceSpace`, `Stuck`.
+    ///
+    /// ```
+    /// use dzomrelig::{FallocateMode, FileName, Image, NewKind, Owner, Time};
+    /// # fn main() -> Result<(), dzomrelig::Reason> {
+    /// # let now = Time::new(1_700_000_000, 0);
+    /// # let mut image = Image::format(64, now, FileName([0; 16]))?;
+    /// # let mut anna = image.editor(Owner::One);
+    /// # let root = anna.root()?;
+    /// let log = anna.create(root, "log", NewKind::File, 0o644, now, FileName([1; 16]))?;
+    /// anna.write_at(log, 0, [b'a'; 128])?;
+    /// anna.write_at(log, 128, "the rest")?;
+    /// anna.insert_range(log, 128, 256)?; // room in the middle, for two outlines of 128 bytes
+    /// assert_eq!(anna.read_to_vec(log)?, [&[b'a'; 128][..], &[0; 256], b"the rest"].concat());
+    /// anna.fallocate(log, FallocateMode::CollapseRange, 0, 128)?; // the first is taken out
+    /// assert_eq!(anna.read_to_vec(log)?, [&[0; 256][..], b"the rest"].concat());
+    /// # Ok(())
+    /// # }
+    /// ```
+    pub fn fallocate(&mut self, handle: Handle, mode: FallocateMode, from: u64, length: u64) -> Result<(), Reason> {
+        self.fallocate_numbered(handle, mode.number(), mode.flags(), from, length)
+    }
+
+    /// [`fallocate`](Editor::fallocate) with the mode's number, as it comes from elsewhere. Of `flags` bit 0 alone is read, and with mode 0 alone.
+    ///
+    /// Reasons: as `fallocate`, and `InvalidParam` (a mode that is not 0 to 5) right after the first `FileTooBig`.
+    pub fn fallocate_numbered(&mut self, handle: Handle, mode: u8, flags: u8, from: u64, length: u64) -> Result<(), Reason> {
+        self.image.pair.fallocate(self.who, handle, mode, flags, from, length)
+    }
+
+    /// [`FallocateMode::InsertRange`]: what lies from `from` on moves up by `length`, and the range reads as zeros.
+    pub fn insert_range(&mut self, handle: Handle, from: u64, length: u64) -> Result<(), Reason> {
+        self.fallocate(handle, FallocateMode::InsertRange, from, length)
+    }
+
+    /// [`FallocateMode::CollapseRange`]: the range goes, and what lies after it moves down to `from`.
+    pub fn collapse_range(&mut self, handle: Handle, from: u64, length: u64) -> Result<(), Reason> {
+        self.fallocate(handle, FallocateMode::CollapseRange, from, length)
+    }
+
+    /// [`FallocateMode::PunchHoleKeepSize`]: zeros over the range, as far as the file goes.
+    pub fn punch_hole(&mut self, handle: Handle, from: u64, length: u64) -> Result<(), Reason> {
+        self.fallocate(handle, FallocateMode::PunchHoleKeepSize, from, length)
+    }
+
+    /// [`FallocateMode::ZeroRange`]: zeros over the range, and the file grows to its end.
+    pub fn zero_range(&mut self, handle: Handle, from: u64, length: u64) -> Result<(), Reason> {
+        self.fallocate(handle, FallocateMode::ZeroRange, from, length)
+    }
+
+    /// [`FallocateMode::Allocate`]: the file grows to the range's end.
+    pub fn allocate(&mut self, handle: Handle, from: u64, length: u64) -> Result<(), Reason> {
+        self.fallocate(handle, FallocateMode::Allocate { keep_size: false }, from, length)
     }
 }
 

@@ -18,7 +18,7 @@ pub use editor::Editor;
 pub use entries::{Entries, Entry, Place};
 pub use image::Image;
 pub use reason::{FailedRule, NoReason, Reason, Unfit};
-pub use types::{Attributes, Counts, FileName, Handle, Kind, Metadata, NewKind, Owner, Time};
+pub use types::{Attributes, Counts, FallocateMode, FileName, Handle, Kind, Metadata, NewKind, Owner, Time};
 
 /// The bytes of a block of the image.
 pub const BLOCK: usize = 512;
@@ -34,6 +34,8 @@ pub const SLOT: usize = 264;
 pub const NAME_LONGEST: usize = 255;
 /// The longest contents of a file, symlink or socket, in bytes.
 pub const FILE_LONGEST: u64 = 4_294_967_295;
+/// Start and length of a range that is inserted or collapsed are multiples of it.
+pub const RANGE_UNIT: u64 = 128;
 /// How many symlinks [`Editor::walk`] follows.
 pub const LINKS_MOST: usize = 8;
 /// How many handles of one owner can be live at once.

@@ -18,7 +18,8 @@ pub enum Reason {
     BadHandle,
     /// 5: a name has a zero byte inside, or is not UTF-8; or a new one, of a create, link or rename, has a slash; or a path or target has an empty part.
     BadName,
-    /// 6: an owner that is not 1 to 4, a new node that is no file, folder or symlink, or a folder that would go into itself or below.
+    /// 6: an owner that is not 1 to 4, a new node that is no file, folder or symlink, a folder that would go into itself or below, or a range that can't be
+    /// inserted or collapsed.
     InvalidParam,
     /// 7: not a folder.
     NotDir,
@@ -49,9 +50,9 @@ pub enum Reason {
     Stuck,
     /// 20: a slot remains, and the output has no room for one; a target does not fit the link buffer, or an inventory the output.
     OutFull,
-    /// 21: a folder, where contents are asked for.
+    /// 21: a folder, where contents are asked for; for a range, anything but a file.
     NotFile,
-    /// 22: a write or resize would end past 4,294,967,295 bytes.
+    /// 22: a write, a resize or a range would end past 4,294,967,295 bytes, or a file grow past them.
     FileTooBig,
     /// 23: a walk meets its ninth symlink.
     SymLoop,
@@ -71,7 +72,7 @@ const REASONS: [(Reason, &str, &str); 24] = [
     (
         Reason::InvalidParam,
         "InvalidParam",
-        "an owner that is not 1 to 4, a new node that is no file, folder or symlink, or a folder into itself or below",
+        "an owner that is not 1 to 4, a new node that is no file, folder or symlink, a folder into itself or below, or no range to insert or collapse",
     ),
     (Reason::NotDir, "NotDir", "not a folder"),
     (Reason::DirRemoved, "DirRemoved", "the folder has no links left"),
@@ -87,8 +88,8 @@ const REASONS: [(Reason, &str, &str); 24] = [
     (Reason::WrongFs, "WrongFs", "no image of this file system; or what is stored fails the checker, for an inventory, or can't be mended"),
     (Reason::Stuck, "Stuck", "what is stored does not fit together, and the call can't go on"),
     (Reason::OutFull, "OutFull", "a slot remains, and the output has no room for one; or a target or an inventory does not fit"),
-    (Reason::NotFile, "NotFile", "a folder, where contents are asked for"),
-    (Reason::FileTooBig, "FileTooBig", "a write or resize would end past 4,294,967,295 bytes"),
+    (Reason::NotFile, "NotFile", "a folder, where contents are asked for; or no file, where a range of one is"),
+    (Reason::FileTooBig, "FileTooBig", "a write, a resize or a range would end past 4,294,967,295 bytes, or a file grow past them"),
     (Reason::SymLoop, "SymLoop", "a walk meets its ninth symlink"),
     (Reason::InUse, "InUse", "a handle is live, and to mend none may be"),
 ];

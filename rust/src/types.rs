@@ -104,6 +104,48 @@ impl From<NewKind> for Kind {
     }
 }
 
+/// What [`Editor::fallocate`](crate::Editor::fallocate) does with a range of a file.
+#[derive(Clone, Copy, PartialEq, Eq, PartialOrd, Ord, Hash, Debug)]
+pub enum FallocateMode {
+    /// Where the range ends past the size, the file grows to its end. No block is taken.
+    Allocate {
+        /// The size stays, and nothing is done.
+        keep_size: bool,
+    },
+    /// Zeros over what of the range lies below the size, which stays.
+    PunchHoleKeepSize,
+    /// Zeros over the range; where it ends past the size, the file grows to its end.
+    ZeroRange,
+    /// As [`PunchHoleKeepSize`](FallocateMode::PunchHoleKeepSize).
+    ZeroRangeKeepSize,
+    /// The range goes, and what lies after it moves down to its start. The file shrinks.
+    CollapseRange,
+    /// What lies from the range's start on moves up behind it, and the range reads as zeros. The file grows.
+    InsertRange,
+}
+
+impl FallocateMode {
+    /// The mode's number, 0 to 5.
+    pub const fn number(self) -> u8 {
+        match self {
+            FallocateMode::Allocate { .. } => 0,
+            FallocateMode::PunchHoleKeepSize => 1,
+            FallocateMode::ZeroRange => 2,
+            FallocateMode::ZeroRangeKeepSize => 3,
+            FallocateMode::CollapseRange => 4,
+            FallocateMode::InsertRange => 5,
+        }
+    }
+
+    /// The flags beside it: 1 where an allocation keeps the size, else 0.
+    pub const fn flags(self) -> u8 {
+        match self {
+            FallocateMode::Allocate { keep_size } => keep_size as u8,
+            _ => 0,
+        }
+    }
+}
+
 /// A time. Both numbers are signed: a date before 1970 is negative. They are stored as they are given.
 #[derive(Clone, Copy, PartialEq, Eq, PartialOrd, Ord, Hash, Debug, Default)]
 pub struct Time {

@@ -1,7 +1,9 @@
 //! What the crate declares is what the header says: sizes, types, reasons, and every function's parameters.
 use std::collections::BTreeMap;
 
-use dzomrelig::{Kind, Reason, BLOCK, BLOCKS_LEAST, BLOCKS_MOST, FILE_LONGEST, LINKS_MOST, NAME_LONGEST, SLOT, TABLE};
+use dzomrelig::{
+    FallocateMode, Kind, Reason, BLOCK, BLOCKS_LEAST, BLOCKS_MOST, FILE_LONGEST, LINKS_MOST, NAME_LONGEST, RANGE_UNIT, SLOT, TABLE,
+};
 
 const HEADER: &str = include_str!("../../include/dzomrelig.h");
 const EDGE: &str = include_str!("../src/edge.rs");
@@ -29,6 +31,14 @@ fn sizes_and_types() {
         ("DZ_FOLDER", Kind::Folder.number() as usize),
         ("DZ_SYMLINK", Kind::Symlink.number() as usize),
         ("DZ_SOCKET", Kind::Socket.number() as usize),
+        ("DZ_ALLOCATE", FallocateMode::Allocate { keep_size: true }.number() as usize),
+        ("DZ_KEEP_SIZE", FallocateMode::Allocate { keep_size: true }.flags() as usize),
+        ("DZ_PUNCH_HOLE", FallocateMode::PunchHoleKeepSize.number() as usize),
+        ("DZ_ZERO_RANGE", FallocateMode::ZeroRange.number() as usize),
+        ("DZ_ZERO_RANGE_KEEP_SIZE", FallocateMode::ZeroRangeKeepSize.number() as usize),
+        ("DZ_COLLAPSE_RANGE", FallocateMode::CollapseRange.number() as usize),
+        ("DZ_INSERT_RANGE", FallocateMode::InsertRange.number() as usize),
+        ("DZ_RANGE_UNIT", RANGE_UNIT as usize),
         ("DZ_HANDLE_WORDS", 2),
         ("DZ_METADATA_WORDS", 14),
         ("DZ_COUNTS_WORDS", 3),
@@ -83,7 +93,7 @@ fn as_rust(parameter: &str) -> &'static str {
 #[test]
 fn functions() {
     let declared: Vec<_> = HEADER.lines().filter_map(|l| l.strip_prefix("uint32_t dz_")).map(|l| l.split('(').next().unwrap()).collect();
-    assert_eq!(declared.len(), 22 + 18);
+    assert_eq!(declared.len(), 23 + 19);
     for name in declared {
         let theirs: Vec<_> = parameters(HEADER, &format!("\nuint32_t dz_{name}(")).into_iter().map(as_rust).collect();
         let ours: Vec<_> = parameters(EDGE, &format!("fn dz_{name}(")).into_iter().map(|p| p.split_once(": ").unwrap().1).collect();

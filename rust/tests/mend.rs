@@ -164,10 +164,19 @@ impl World {
         let Some(at) = self.any(n, |open| !self.told.is_folder(open.id)) else { return Ok(()) };
         let bytes = &mut self.told.contents.get_mut(&at.id).unwrap().1;
         let (place, mut editor) = (n.below(1_500) as usize, self.image.editor(at.owner));
-        if n.below(4) == 0 {
-            editor.resize(at.handle, place as u64)?;
-            bytes.resize(place, 0);
-            return Ok(());
+        match n.below(6) {
+            0 => {
+                editor.resize(at.handle, place as u64)?;
+                bytes.resize(place, 0);
+                return Ok(());
+            }
+            1 => {
+                let (mode, from, length) = (common::mode_by_chance(n), place / 128 * 128, n.below(6) as usize * 128);
+                editor.fallocate(at.handle, mode, from as u64, length as u64)?;
+                common::ranged(bytes, mode, from, length);
+                return Ok(());
+            }
+            _ => {}
         }
         let data: Vec<_> = (0..n.below(600)).map(|k| (k + n.below(3)) as u8).collect();
         editor.write_at(at.handle, place as u64, &data)?;

@@ -11,7 +11,7 @@ use dzomrelig::{
 type Call = fn(&mut Mine, Handle, &[u8]) -> Option<Reason>;
 
 /// The calls that take a table: those with no handle, those with one (of any node, with contents, of a folder), and those with a name beside it.
-const CALLS: [Call; 22] = [
+const CALLS: [Call; 23] = [
     |i, _, _| i.root().err(),
     |i, _, _| i.sync().err(),
     |i, _, _| i.mend().err(),
@@ -22,6 +22,7 @@ const CALLS: [Call; 22] = [
     |i, h, _| i.read_to_vec(h).err(),
     |i, h, _| i.write_at(h, 0, "a").err(),
     |i, h, _| i.resize(h, 1).err(),
+    |i, h, _| i.zero_range(h, 0, 1).err(),
     |i, h, _| i.entry(h, 0).err(),
     |i, h, _| i.entry_into(h, 0, &mut [0; SLOT]).err(),
     |i, h, _| i.list(&mut Place::new(h), &mut [0; SLOT]).err(),
@@ -37,8 +38,8 @@ const CALLS: [Call; 22] = [
 ];
 const HANDLES: usize = 3;
 const CONTENTS: usize = 6;
-const FOLDERS: usize = 10;
-const NAMES: usize = 14;
+const FOLDERS: usize = 11;
+const NAMES: usize = 15;
 
 /// Where the table has its holds: row, stamp, owner.
 const HOLD: usize = 34 * 117;

@@ -7,6 +7,8 @@ mod calls;
 mod inventory;
 #[path = "mend.rs"]
 mod mend;
+#[path = "ranges.rs"]
+mod ranges;
 #[path = "reasons.rs"]
 mod reasons;
 #[path = "scripts.rs"]

@@ -142,6 +142,8 @@ fn small_stack() {
         image.remove_file(a, "d").unwrap();
         image.write_at(b, 470, "outline of a glyph").unwrap();
         image.resize(b, 481).unwrap();
+        image.insert_range(b, 128, 384).unwrap();
+        image.collapse_range(b, 0, 384).unwrap();
         assert_eq!(image.read_to_vec(b).unwrap().len(), 481);
         image.sync().unwrap();
         image.close(b).unwrap();

@@ -2,6 +2,7 @@
 // nanoseconds of one, the least of so many rounds; then the check and the inventory of the image that is left, and the soundness test alone. With `own`
 // the calls for owners are made; the chains are built after the format, and are not timed.
 // calls contents BLOCKS FILES ROUNDS: the same of reads and writes on an image of so many blocks and files, and of plain copies (plain.c).
+// calls ranges BLOCKS FILES ROUNDS: 128 bytes put in at the start of a file of 100,000 bytes, and taken out again, on such an image and by plain.c.
 // calls deep DEPTH ROUNDS: a folder moved to the end of a way of so many folders, and back.
 // calls mend BLOCKS FILES ROUNDS: the check of an image of so many blocks and files, and the mender on what hosts leave of it.
 #include <stdbool.h>
@@ -21,6 +22,7 @@ bool bench_sound(in arena, size_t len);
 void plain_read(in blocks, size_t place, uint8_t *out, size_t len);
 void plain_write(uint8_t *blocks, size_t place, in data, size_t len);
 void plain_seal(uint8_t *block);
+void plain_move(uint8_t *blocks, size_t from, size_t to, size_t len);
 
 // a kind is its command's byte less 16
 enum { ALL = 22 };
@@ -224,6 +226,57 @@ static void contents(size_t n, int files, int rounds)
     printf("sound 1 %.0f\n", sound);
 }
 
+// ---- ranges
+
+enum { LINE = 128 };
+
+static void put_in(void) { must(CALL(fallocate, ME, hold, stamp, DZ_INSERT_RANGE, 0, 0, LINE)); }
+
+static void take_out(void) { must(CALL(fallocate, ME, hold, stamp, DZ_COLLAPSE_RANGE, 0, 0, LINE)); }
+
+static void plain_in(void)
+{
+    static const uint8_t zeros[LINE];
+    plain_move(blocks, 0, LINE, LONGEST);
+    plain_write(blocks, 0, zeros, LINE);
+}
+
+static void plain_out(void) { plain_move(blocks, LINE, 0, LONGEST); }
+
+// one after the other, so that each has the file as the other leaves it
+static void both(const char *name, void (*in_)(void), void (*out_)(void), int rounds)
+{
+    double in_least = 1e18, out_least = 1e18;
+    for (int r = 0; r < rounds * TIMES; r++) {
+        double from = now();
+        in_();
+        double then = now();
+        out_();
+        double end = now();
+        if (then - from < in_least) in_least = then - from;
+        if (end - then < out_least) out_least = end - then;
+    }
+    printf("%s-insert 1 %.0f\n%s-collapse 1 %.0f\n", name, in_least, name, out_least);
+}
+
+static void ranges(size_t n, int files, int rounds)
+{
+    for (size_t i = 0; i < LONGEST; i++) data[i] = (uint8_t)(i * 7 + 1);
+    filled(n, files);
+    create("outline");
+    must(dz_write(ARENA, TABLE, ME, hold, stamp, 0, data, LONGEST));
+    both("tested", put_in, take_out, rounds);
+    must(dz_own_chains(ARENA, CHAINS));
+    own = true;
+    both("trusted", put_in, take_out, rounds);
+    must(dz_read(ARENA, TABLE, ME, hold, stamp, 0, copy, LONGEST, words, DZ_LENGTH_WORDS));
+    if (memcmp(copy, data, LONGEST)) fprintf(stderr, "calls: other bytes\n"), exit(1);
+    plain_write(blocks, 0, data, LONGEST);
+    both("plain", plain_in, plain_out, rounds);
+    plain_read(blocks, 0, copy, LONGEST);
+    if (memcmp(copy, data, LONGEST)) fprintf(stderr, "calls: other bytes in C\n"), exit(1);
+}
+
 // ---- a folder that goes to the end of a way of so many folders, and back to the root: the climb looks at each of them, or at none
 
 static void folder(const char *name, uint32_t in_hold, uint64_t in_stamp)
@@ -366,6 +419,10 @@ int main(int n, char **args)
     }
     if (n == 4 && !strcmp(args[1], "deep")) {
         deep(atoi(args[2]), atoi(args[3]));
+        return 0;
+    }
+    if (n == 5 && !strcmp(args[1], "ranges")) {
+        ranges((size_t)atoi(args[2]), atoi(args[3]), atoi(args[4]));
         return 0;
     }
     if (n == 5 && !strcmp(args[1], "contents")) {

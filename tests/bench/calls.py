@@ -2,7 +2,8 @@
 """calls.py: every kind of call timed on the Rust and on the port, tested and by an owner, by the same call scripts (docs/REPLAY.md) in one run.
 
 An image of 16, 128, 1,024 and 4,096 blocks is filled with files, then every kind of call is made 20 times; no call is refused. Contents of 480,
-8,192 and 100,000 bytes are read, written over and written into an empty file, beside a plain copy through blocks (plain.c). Walks along a path 50
+8,192 and 100,000 bytes are read, written over and written into an empty file, beside a plain copy through blocks (plain.c), and 128 bytes are put in at
+the start of a file of 100,000 and taken out again, beside a plain move. Walks along a path 50
 deep and through 8 symlinks are timed on the port alone, and so are check and inventory of a full image, and the mender on what hosts leave of it. Both sides
 are built for release; the least of 5 rounds counts. Needs a C compiler (cc) and what tests/beside_rust needs.
 """
@@ -170,6 +171,17 @@ def contents(host, rust):
         print(f"| {kind} | " + " | ".join(rows[kind]) + " |")
 
 
+def ranges(host, rust):
+    """A line put in at the start of a file of 100,000 bytes, and taken out again. The Rust has one of 100,096: at 100,000 it breaks off (DIFFERENCES)."""
+    theirs = times(subprocess.run([rust, "ranges", ROUNDS], check=True, capture_output=True, text=True).stdout)
+    print("\n| 128 bytes, 100,000 after them | tested | trusted | plain move | trusted / plain | Rust |\n|---|---|---|---|---|---|")
+    for blocks in (1024, 4096):
+        ours = times(subprocess.run([host, "ranges", str(blocks), str(blocks // 8), ROUNDS], check=True, capture_output=True, text=True).stdout)
+        for act in ("insert", "collapse"):
+            tested, trusted, plain = (ours[f"{way}-{act}"] / 1000 for way in ("tested", "trusted", "plain"))
+            print(f"| {act}, {blocks:,} blocks | {tested:.1f} | {trusted:.1f} | {plain:.1f} | {trusted / plain:.2f} | {theirs[act] / 1000:.1f} |")
+
+
 def main():
     host, rust = build()
     path = os.path.join(OUT, "calls.script")
@@ -191,6 +203,7 @@ def main():
     for kind in [k for k in rows if k != "sound alone"] + ["sound alone"]:
         print(f"| {kind} | " + " | ".join(rows[kind]) + " |")
     contents(host, rust)
+    ranges(host, rust)
     way = times(subprocess.run([host, "deep", "1000", ROUNDS], check=True, capture_output=True, text=True).stdout)
     print("a folder moved below 1,000 folders, and back to the root:")
     for who in ("tested", "owner"):

@@ -1,4 +1,4 @@
-// What one writes in C: the checks of all blocks, added; and bytes copied through the payloads of blocks in a row, each block written sealed.
+// What one writes in C: the checks of all blocks, added; and bytes copied or moved through the payloads of blocks in a row, each block written sealed.
 #include <stddef.h>
 #include <stdint.h>
 #include <string.h>
@@ -41,6 +41,25 @@ void plain_write(uint8_t *blocks, size_t place, const uint8_t *data, size_t len)
         uint8_t *b = blocks + (place + done) / PAYLOAD * BLOCK;
         memcpy(b + 24 + at, data + done, n);
         plain_seal(b);
+        done += n;
+    }
+}
+
+// bytes moved inside the file, block by block and each block sealed once: falling where they go up, rising where they go down
+void plain_move(uint8_t *blocks, size_t from, size_t to, size_t len)
+{
+    uint8_t room[PAYLOAD];
+    for (size_t done = 0; done < len;) {
+        size_t end = from < to ? to + len - done : to + done, b, at, n;
+        if (from < to) {
+            b = (end - 1) / PAYLOAD, at = b * PAYLOAD < to ? to : b * PAYLOAD, n = end - at;
+        } else {
+            b = end / PAYLOAD, at = end, n = (b + 1) * PAYLOAD - at;
+            if (n > len - done) n = len - done;
+        }
+        plain_read(blocks, at - to + from, room, n);
+        memcpy(blocks + b * BLOCK + 24 + at % PAYLOAD, room, n);
+        plain_seal(blocks + b * BLOCK);
         done += n;
     }
 }

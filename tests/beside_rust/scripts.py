@@ -14,6 +14,8 @@ TIME = (5, -6)
 FIELDS = {"size": (0, 8), "type": (8, 4), "mode": (12, 2), "links": (14, 2), "blocks": (16, 4), "file": (80, 16)}
 SUPERBLOCK = {"magic": 0, "blocks": 4, "unused": 8, "groups": 12}
 
+# fallocate's modes, by their numbers.
+MODES = ("allocate", "punch", "zero", "zero-keep", "collapse", "insert")
 
 # The calls that make a handle.
 MAKERS = ("root", "find", "create", "walk")
@@ -91,6 +93,9 @@ class Builder:
     def resize(self, h, size):
         self.call("resize", h, size, words=f"{shown(h)} to {size}")
 
+    def fallocate(self, h, mode, start, length, flags=0):
+        self.call("fallocate", h, mode, flags, start, length, words=f"{shown(h)} {MODES[mode]} flags {flags} from {start} length {length}")
+
     def close(self, h):
         self.call("close", h, words=shown(h))
 
@@ -161,9 +166,9 @@ def raw(name):
 
 
 def pack(shape, arg):
-    if shape in "248":
+    if shape in "1248":
         return arg.to_bytes(int(shape), "little")
-    if shape in "pd":
+    if shape in "pdm":
         return bytes([arg])
     if shape == "o":
         return arg.to_bytes(2, "little")
@@ -258,6 +263,8 @@ def told(name, args):
             words.append(f"for {arg}")
         elif shape == "d":
             words.append("with the dots" if arg else "without the dots")
+        elif shape == "m":
+            words.append(MODES[arg])
         elif shape in "nl":
             words.append(quoted(arg))
         elif shape == "t":

@@ -1,6 +1,6 @@
 """The last part of the gate's script (gate.py), in which every reason of document 01 and of document 02's orders so far is answered, contents are
-written, read and resized, folders are moved to other folders, stored sockets are used, paths are walked, inventories written and what a host left behind
-is mended, and its lines.
+written, read and resized, ranges of them put in, taken out and made zero, folders are moved to other folders, stored sockets are used, paths are walked,
+inventories written and what a host left behind is mended, and its lines.
 
 Each step below says the reason that the documents give, or the bytes that a read finds; the lines, sums and all, are the independent
 model's (replay_model.py), and the port is not asked.
@@ -11,10 +11,12 @@ import sys
 
 sys.path.insert(0, str(pathlib.Path(__file__).resolve().parent.parent / "beside_rust"))
 from arena_model import LIMIT, made as block, sealed, sum_of
-from scripts import FILE, FOLDER, META, SOCKET, SYMLINK, TIME, Builder, model, table_bytes
+from range_runs import text_after
+from scripts import FILE, FOLDER, META, MODES, SOCKET, SYMLINK, TIME, Builder, model, table_bytes
 
 ROOT_FILE = bytes([200] * 16)
 NOBODY = (7, 7)
+ALLOCATE, PUNCH, ZERO, ZERO_KEEP, COLLAPSE, INSERT = range(len(MODES))
 # Zero bytes, and what RFC 3629 does not allow: a tail alone, a lead alone, overlong, a surrogate, beyond U+10FFFF.
 BAD_NAMES = (b"\0", b"a\0b", b"\x80", b"a\xc3", b"\xc0\xaf", b"\xed\xa0\x80", b"\xf4\x90\x80\x80")
 
@@ -73,6 +75,22 @@ class Script(Builder):
     def sized(self, h, size):
         self.metadata(h)
         assert self.line.split(" ")[3] == str(size), (self.line, size)
+
+    def does(self, *calls):
+        """Each of these calls is done."""
+        for name, *args in calls:
+            self.call(name, *args)
+            self.ok()
+
+    def ranges(self, h, mode, start, length, text, flags=0):
+        """A fallocate is done, and makes of this text what the Linux page says: it is the answer."""
+        self.stores("fallocate", h, mode, flags, start, length)
+        text = text_after(text, mode, flags, start, length)
+        self.reads(h, 0, 8192, text)
+        return text
+
+    def dirty(self, h):
+        return self.at.table.rows[self.at.table.holds[h[0]][0]].dirty
 
     def moves(self, *args):
         """A move is done, and the pair passes after it."""
@@ -215,7 +233,15 @@ def removals(h, name):
 def changes(h, name=b"a"):
     """Every call that takes a table and may change the arena."""
     return (create(h, name), ("link", h, name, h), *removals(h, name), ("move", h, name, h, b"b"), ("sync",), ("close", h),
-            ("write", h, 0, b"a"), ("resize", h, 1), ("mend",))
+            ("write", h, 0, b"a"), ("resize", h, 1), fallocate(h, INSERT, 0, 128), ("mend",))
+
+
+def fallocate(h, mode, start, length, flags=0):
+    return "fallocate", h, mode, flags, start, length
+
+
+def every_mode(h, start, length, modes=range(6)):
+    return tuple(fallocate(h, mode, start, length) for mode in modes)
 
 
 def takes_contents(h, at=0, data=b""):
@@ -283,13 +309,8 @@ def bad_owners(b):
         b.no(3, ("root",), ("close", (0, 1)))
         b.who = 1
         b.fails(2)
-    b.table(table_bytes([root], nine[:8] + [(0, 9, 4)], 99))
-    b.check()
+    b.open()
     b.ok()
-    b.no(16, ("root",))
-    b.who = 4
-    b.ok(b.root())
-    b.who = 1
 
 
 def bad_handle(b):
@@ -349,7 +370,7 @@ def slashes(b):
     root = b.fresh(32)
     a = b.ok(b.create(root, "a"))
     b.no(4, create(NOBODY, b"/"), ("link", root, b"/", NOBODY), ("move", root, b"a", NOBODY, b"/"))
-    for name in (b"/", b"a/b", b"/" * 300, "é/".encode()):
+    for name in (b"/", b"a/b", b"/" * 256, "é/".encode()):
         b.no(5, create(root, name), create(root, name, 5), create(a, name), ("link", root, name, a), ("link", a, name, root),
              ("move", root, b"a", root, name), ("move", root, b"none", root, name), ("move", root, b"..", a, name))
     b.no(11, ("find", root, b"a/b"), *removals(root, b"a/b"), ("move", root, b"a/b", root, b"b"))
@@ -582,7 +603,7 @@ def last_stamp(b):
     b.close(root)
     rows = [(2 ** 25, 1, record(FOLDER, 2, 4, ROOT_FILE)), (4, 0, record(5, 1, 0, ROOT_FILE)), (5, 0, record(FOLDER, 2, 0, files[0])), (6, 0, record(FILE, 1, 0, files[1]))]
     b.table(table_bytes(rows, [(0, 1, 1), (1, 2, 1), (2, 3, 1), (3, 4, 1)], 2 ** 64 - 2))
-    b.no(19, *takes_contents((1, 2)), *takes_contents((1, 2), 2 ** 64 - 1, b"a"))
+    b.no(19, *takes_contents((1, 2)), *takes_contents((1, 2), 2 ** 64 - 1, b"a"), *every_mode((1, 2), 2 ** 64 - 1, 1))
     b.no(17, ("sync",), ("remove-file", (0, 1), b"a"), ("close", (0, 1)))
     for at in (479, 1439, 2399, 3360):
         b.write((3, 4), at, b"ab" if at < 3360 else b"a")
@@ -756,8 +777,8 @@ def device_full(b):
         b.ok(b.create(root, name))
     free = len(b.at.files.free())
     assert free == 2, free
-    b.no(17, ("write", a, 0, bytes([9]) * (480 * free + 1)), ("write", a, 479, bytes([9]) * (480 * free)))
-    b.stores("write", a, 480, bytes([9]) * (480 * free))
+    b.no(17, ("write", a, 0, bytes([9]) * (480 * free + 1)), ("write", a, 479, bytes([9]) * 482))
+    b.stores("write", a, 480, bytes([9]) * 481)
     b.no(17, ("write", a, 0, b"a"), ("write", a, 479, b"ab"), ("write", a, 480 * (free + 1), b"a"))
     b.stores("write", a, 480, b"bc")
     b.stores("write", a, 0, b"")
@@ -812,6 +833,144 @@ def no_contents(b):
     b.record(3, "type", 0)
     a = b.ok(b.find(root, "a"))
     b.no(21, *takes_contents(a), *takes_contents(a, 2 ** 64 - 1, b"a"))
+
+
+# ---- order 13
+
+def ranges(b):
+    """Each mode, inside a block and across blocks, at a file's end and behind it. Zeros make blocks, also a hole's; what is allocated has none."""
+    root = b.fresh(32)
+    a = b.ok(b.create(root, "a"))
+    text = bytes(380) + bytes(range(1, 221))
+    b.stores("write", a, 380, text[380:])
+    free = free_in(b.lines[-1])
+    for mode, start, length in ((INSERT, 384, 128), (INSERT, 0, 640), (COLLAPSE, 128, 640), (COLLAPSE, 384, 128), (INSERT, 512, 128), (COLLAPSE, 384, 256),
+                                (ZERO_KEEP, 390, 30), (PUNCH, 450, 2000), (ZERO, 440, 20), (ZERO, 470, 20), (ZERO, 600, 0), (ALLOCATE, 590, 60)):
+        text = b.ranges(a, mode, start, length, text)
+    b.sized(a, 650)
+    b.stores("resize", a, 480 * 4)
+    text = text.ljust(480 * 4, b"\0")
+    assert free_in(b.lines[-1]) == free, b.line
+    text = b.ranges(a, PUNCH, 480 * 2 - 1, 2, text)
+    assert free_in(b.lines[-2]) == free - 1, b.line
+    text = b.ranges(a, COLLAPSE, 256, 128, text)
+    assert free_in(b.lines[-2]) == free - 2, b.line
+    b.ranges(a, INSERT, 1024, 128, text)
+    marks(b, a)
+    others(b, root)
+
+
+def marks(b, a):
+    """What sets a length marks the row, an empty range too; what lies behind the size, or keeps it, changes nothing."""
+    b.call("sync")
+    before, size = b.at.sums(), 480 * 4
+    for mode, start, length, flags in ((ALLOCATE, 0, size, 0), (ALLOCATE, size, 9, 1), (ALLOCATE, LIMIT, 0, 255), (PUNCH, size, 128, 0), (ZERO_KEEP, LIMIT, 0, 1), (ZERO, size, 0, 0), (PUNCH, 0, 0, 0)):
+        b.does(fallocate(a, mode, start, length, flags))
+        assert b.at.sums() == before and not b.dirty(a), b.line
+    for mode, start, length, flags, marked in ((PUNCH, 0, 9, 1, 0), (ZERO, 0, size, 1, 0), (COLLAPSE, 128, 0, 1, 1), (INSERT, 128, 0, 1, 1), (ZERO, size + 1, 0, 1, 1), (ALLOCATE, 0, size + 2, 2, 1)):
+        b.stores("fallocate", a, mode, flags, start, length)
+        assert b.dirty(a) == marked, (b.line, mode, length)
+        b.call("sync")
+    b.sized(a, size + 2)
+
+
+def others(b, root):
+    """Another file stays, and a node without a name is taken as any other."""
+    a, c = b.ok(b.find(root, "a")), b.ok(b.create(root, "c"))
+    b.stores("write", c, 0, b"another")
+    b.remove_file(root, "a")
+    b.ok()
+    b.stores(*fallocate(a, INSERT, 0, 640))
+    b.stores(*fallocate(a, COLLAPSE, 128, 512))
+    b.reads(c, 0, 100, b"another")
+
+
+def bad_ranges(b):
+    """The order of the reasons: 4, 21, 22 for the end, 6 by start, end and alignment, 22 for what grows."""
+    root = b.fresh()
+    a, link = b.ok(b.create(root, "a")), b.ok(b.create(root, "l", SYMLINK))
+    b.stores("resize", a, 300)
+    b.no(4, *every_mode(NOBODY, 2 ** 64 - 1, 1))
+    b.no(21, *every_mode(root, 2 ** 64 - 1, 1), *every_mode(link, 1, LIMIT, (ZERO, INSERT)))
+    b.no(22, *every_mode(a, LIMIT, 1), *every_mode(a, 2 ** 64 - 1, 2 ** 64 - 1, (ALLOCATE, INSERT)), fallocate(a, ALLOCATE, LIMIT + 1, 0, 1))
+    for start, length in ((300, 128), (384, 128), (LIMIT, 0), (1, 128), (128, 1), (64, 64)):
+        b.no(6, fallocate(a, INSERT, start, length))
+    for start, length in ((128, 172), (0, 300), (256, 128), (LIMIT, 0), (1, 128), (128, 1), (64, 64)):
+        b.no(6, fallocate(a, COLLAPSE, start, length))
+    b.stores(*fallocate(a, ALLOCATE, 0, LIMIT - 128))
+    b.no(6, fallocate(a, INSERT, LIMIT - 127, 0), fallocate(a, INSERT, 1, 256))
+    b.no(22, fallocate(a, INSERT, 0, 256), fallocate(a, INSERT, 128, LIMIT - 255))
+    b.no(17, fallocate(a, INSERT, 0, 128), fallocate(a, COLLAPSE, 0, 128), fallocate(a, ZERO, 0, LIMIT), fallocate(a, PUNCH, 1, LIMIT - 1))
+    b.stores(*fallocate(a, COLLAPSE, LIMIT - LIMIT % 128 - 256, 0))
+
+
+def ranges_full(b):
+    """17 where zeros or a copy need a block more than there are, a collapse too: it makes blocks in holes before it gives any back."""
+    root = b.fresh(24)
+    a, rest = b.ok(b.create(root, "a")), b.ok(b.create(root, "b"))
+    b.stores("write", a, 479, b"ab")
+    b.stores("resize", a, 480 * 6)
+    free = free_in(b.line) - 2
+    b.stores(*fallocate(rest, ZERO, 0, 480 * free))
+    b.no(17, *every_mode(a, 480, 480 * 4, (PUNCH, ZERO, ZERO_KEEP)), fallocate(a, ZERO, 480 * 7 - 1, 960))
+    b.no(17, fallocate(a, COLLAPSE, 0, 128), fallocate(a, COLLAPSE, 640, 640), fallocate(a, INSERT, 1920, 128), fallocate(a, INSERT, 384, 1024))
+    b.stores(*fallocate(a, PUNCH, 480 * 4 - 100, 300))
+    assert free_in(b.line) == 0, b.line
+    b.no(17, fallocate(a, PUNCH, 479, 480 * 4), fallocate(a, INSERT, 128, 128), fallocate(a, COLLAPSE, 128, 128))
+    b.stores(*fallocate(a, ALLOCATE, 480 * 6, 480))
+    b.stores("resize", a, 960)
+    b.stores(*fallocate(rest, ZERO, 480 * free, 960))
+    for mode, start, length in ((COLLAPSE, 128, 256), (INSERT, 384, 256), (ZERO, 0, 960), (PUNCH, 900, 2000)):
+        b.stores(*fallocate(a, mode, start, length))
+    b.no(17, fallocate(a, INSERT, 0, 128))
+    b.stores("resize", rest, 480 * (free - 2))
+    b.stores("write", a, 100, b"moved by falling pieces")
+    b.stores(*fallocate(a, INSERT, 0, 640))
+    b.reads(a, 738, 27, b"\0\0moved by falling pieces\0\0")
+
+
+def ranges_torn(b):
+    """Damaged: 19 for a file that is shorter than its size, but 17 where a piece before finds no block; a longer one is cut. A size past the limit: 22, 19
+    or 17."""
+    root = b.fresh(20)
+    b.stores("write", b.ok(b.create(root, "a")), 900, b"abc")
+    rest = b.ok(b.create(root, "b"))
+    b.close((1, 2))
+    b.record(3, "size", 1300)
+    a = b.ok(b.find(root, "a"))
+    b.no(19, fallocate(a, COLLAPSE, 0, 128), fallocate(a, COLLAPSE, 0, 1152), fallocate(a, COLLAPSE, 0, 1280), fallocate(a, INSERT, 0, 128), fallocate(a, INSERT, 1280, 128))
+    b.does(fallocate(rest, ZERO, 0, 480 * len(b.at.files.free())))
+    b.no(17, fallocate(a, COLLAPSE, 0, 128))
+    b.no(19, fallocate(a, COLLAPSE, 896, 128), fallocate(a, INSERT, 0, 128))
+    b.does(fallocate(a, PUNCH, 490, 400))
+    b.close(a)
+    b.record(3, "size", 490)
+    a = b.ok(b.find(root, "a"))
+    b.fails(6)
+    b.stores(*fallocate(a, INSERT, 384, 0))
+    b.sized(a, 490)
+    for size in (LIMIT + 1, 2 ** 64 - 1):
+        b.close(a)
+        b.record(3, "size", size)
+        a = b.ok(b.find(root, "a"))
+        b.no(22, fallocate(a, INSERT, 0, 0), fallocate(a, INSERT, 128, 128))
+        b.no(19, fallocate(a, COLLAPSE, 512, 128))
+        b.no(17, fallocate(a, COLLAPSE, 128, 0), fallocate(a, PUNCH, 0, LIMIT))
+
+
+def no_ranges(b):
+    """Damaged: 19 for a file that is not there, unless nothing looks for it; 21 for type 0. (A type above 4: last_stamp.)"""
+    root = b.fresh()
+    b.close(b.ok(b.create(root, "a")))
+    b.record(3, "size", 1000)
+    a = b.ok(b.find(root, "a"))
+    b.lost((1, b.at.table.row_of(3).rec.file))
+    b.no(19, *every_mode(a, 128, 0, (COLLAPSE, INSERT)), *every_mode(a, 0, 128, range(1, 6)), fallocate(a, ALLOCATE, 0, 1001), fallocate(a, ZERO, 1001, 0))
+    b.does(*every_mode(a, 1000, 0, range(4)), *every_mode(a, 128, 0, range(4)), fallocate(a, ALLOCATE, 0, 1001, 1), fallocate(a, PUNCH, 1000, 128))
+    root = b.fresh()
+    b.close(b.ok(b.create(root, "a")))
+    b.record(3, "type", 0)
+    b.no(21, *every_mode(b.ok(b.find(root, "a")), 2 ** 64 - 1, 1, (ALLOCATE, INSERT)))
 
 
 def carried(b):
@@ -1323,7 +1482,7 @@ def second_group(b):
 def made():
     b = Script()
     for part in (bad_arena, damaged, bad_table, bad_owners, bad_handle, owners, bad_name, slashes, sockets, by_call, two_keys, dots, taken, links, table_full, last_stamp, no_space, stuck,
-                 contents, held_on, limits, device_full, torn, no_contents, carried, no_way_up, paths, inventories, menders):
+                 contents, held_on, limits, device_full, torn, no_contents, ranges, bad_ranges, ranges_full, ranges_torn, no_ranges, carried, no_way_up, paths, inventories, menders):
         part(b)
     b.fresh()
     b.check()

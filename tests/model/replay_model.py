@@ -1,5 +1,5 @@
 #!/usr/bin/env python3
-"""An independent model of document 01's calls and of document 02's orders up to 11, for tests: a call script in, the lines a right port
+"""An independent model of document 01's calls and of document 02's orders up to 13, for tests: a call script in, the lines a right port
 prints out.
 
 Written from the documents and the readings of them in docs/DECISIONS.md, on top of arena_model.py; it shares nothing with crates/. A call
@@ -21,6 +21,7 @@ OWNERS = range(1, 5)
 OWN_HOLDS = 8
 GROUP = 1024
 MAGIC = 0x2F8DBE2A
+FILE = 1
 FOLDER = 2
 SYMLINK = 3
 MOST_LINKS = 8
@@ -714,6 +715,76 @@ def do_resize(s, h, size):
     return ()
 
 
+# ranges: document 02's order 13
+
+ALLOCATE, PUNCH_HOLE, ZERO_RANGE, ZERO_KEEP_SIZE, COLLAPSE, INSERT = range(6)
+KEEP_SIZE = 1
+PIECE = 128
+
+
+def whole_pieces(*numbers):
+    return all(n % PIECE == 0 for n in numbers)
+
+
+def range_fits(mode, start, length, size):
+    """Document 02: 22 for the end, 6 by start, end and alignment, 22 for a size that grows."""
+    end = start + length
+    need(end <= LIMIT, 22)
+    if mode == COLLAPSE:
+        need(end < size and whole_pieces(start, length), 6)
+    if mode == INSERT:
+        need(start < size and whole_pieces(start, length), 6)
+        need(size + length <= LIMIT, 22)
+
+
+def put_zeros(s, file, start, end):
+    """A piece after the other, each a write of its own."""
+    while start < end:
+        n = min(PIECE, end - start)
+        s.files.put(file, start, bytes(n))
+        start += n
+
+
+def shift_down(s, file, start, end, by):
+    """The bytes from start to end come to stand so many places lower, the first piece first."""
+    while start < end:
+        n = min(PIECE, end - start)
+        s.files.put(file, start - by, s.files.read(file, start, n))
+        start += n
+
+
+def shift_up(s, file, start, end, by):
+    """So many places higher, the last piece first; what is left over at start comes last."""
+    while start < end:
+        n = min(PIECE, end - start)
+        end -= n
+        s.files.put(file, end + by, s.files.read(file, end, n))
+
+
+def do_fallocate(s, h, mode, flags, start, length):
+    row = s.handle(h)
+    need(not is_folder(row.rec) and row.rec.type == FILE, 21)
+    file, size, end = (1, row.rec.file), row.rec.size, start + length
+    range_fits(mode, start, length, size)
+    if mode == ZERO_RANGE:
+        put_zeros(s, file, start, end)
+    elif mode in (PUNCH_HOLE, ZERO_KEEP_SIZE):
+        put_zeros(s, file, start, min(end, size))
+    elif mode == COLLAPSE:
+        if length:
+            shift_down(s, file, end, size, length)
+        set_size(s, row, size - length)
+    elif mode == INSERT:
+        if length:
+            shift_up(s, file, start, size, length)
+        put_zeros(s, file, start, end)
+        set_size(s, row, size + length)
+    grows = mode == ZERO_RANGE or mode == ALLOCATE and not flags & KEEP_SIZE
+    if grows and end > size:
+        set_size(s, row, end)
+    return ()
+
+
 # the walk: document 02's order 7
 
 def entered(s, text, row):
@@ -944,17 +1015,18 @@ def do_mend(s):
 # ---------------------------------------------------------------- scripts
 
 NAMES = ("format", "open", "root", "find", "create", "link", "move", "metadata", "set", "entry", "list", "sync", "close", "check",
-         "read", "write", "resize", "walk", "remove-file", "remove-folder", "inventory", "mend")
-BYTES = dict(zip(NAMES, (*range(16, 22), *range(23, 31), *range(32, 40))))
+         "read", "write", "resize", "walk", "remove-file", "remove-folder", "inventory", "mend", "fallocate")
+BYTES = dict(zip(NAMES, (*range(16, 22), *range(23, 31), *range(32, 41))))
 NAMED = {byte: name for name, byte in BYTES.items()}
 DOES = {"root": do_root, "find": do_find, "create": do_create, "link": do_link, "move": do_move, "metadata": do_metadata, "set": do_set,
-        "sync": do_sync, "close": do_close, "write": do_write, "resize": do_resize, "walk": do_walk, "remove-file": do_remove_file, "remove-folder": do_remove_folder, "mend": do_mend}
+        "sync": do_sync, "close": do_close, "write": do_write, "resize": do_resize, "walk": do_walk, "remove-file": do_remove_file, "remove-folder": do_remove_folder, "mend": do_mend,
+        "fallocate": do_fallocate}
 OUTPUTS = {"entry": entry_slots, "list": list_slots, "read": read_bytes}
-# What follows a command's byte; p, the owner who asks, stands first where there is one, d says whether the dots are asked for, and l is a path.
+# What follows a command's byte; p, the owner who asks, stands first where there is one, d says whether the dots are asked for, l is a path, and m a mode.
 SHAPES = {"format": "tf", "open": "", "root": "p", "find": "phn", "create": "phn42tf", "link": "phnh", "move": "phnhn",
           "metadata": "ph", "set": "ph288ttt", "entry": "ph8o", "list": "ph8do", "sync": "", "close": "ph", "check": "",
           "read": "ph8o", "write": "ph8w", "resize": "ph8", "walk": "phlo", "remove-file": "phn", "remove-folder": "phn",
-          "inventory": "o", "mend": ""}
+          "inventory": "o", "mend": "", "fallocate": "phm188"}
 
 
 class BadScript(Exception):
@@ -978,10 +1050,12 @@ class Script:
         return value
 
     def item(self, shape):
-        if shape in "248":
+        if shape in "1248":
             return self.number(int(shape))
         if shape in "pd":
             return self.number(1)
+        if shape == "m":
+            return self.number(1, INSERT)
         if shape == "o":
             return self.number(2, OUTPUT)
         if shape == "h":

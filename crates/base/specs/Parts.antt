@@ -1,6 +1,7 @@
 -- Parts of a list: what a lent part is, what its lender is when the part is back, and lists filled by index.
 use mathlib.Core.List.{List, [], _∷_, _++_}
-use Prim.Native.Nat.{ℕ, zero, suc, _+_, _-_}
+use mathlib.Core.Logic.{_⊎_}
+use Prim.Native.Nat.{ℕ, zero, suc, _+_, _-_, _≤_, _<_}
 use lib.ListN.{length, take, drop}
 
 -- the elements from s up to e: `&a[s..e]`
@@ -19,3 +20,7 @@ paste a s b = back a s (s + length b) b
 unfoldable pub tab : (ℕ → ℕ) → ℕ → ℕ → List ℕ
 tab f s zero = []
 tab f s (suc n) = f s ∷ tab f (suc s) n
+
+-- place p is none of the n places from x on
+abbrev pub Outside : ℕ → ℕ → ℕ → Type 0
+Outside p x n = (p < x) ⊎ (x + n ≤ p)

@@ -1,3 +1,1 @@
-pub mod Plans
-pub mod Puts
 pub mod Writes

@@ -23,10 +23,10 @@ use Rattle.sefs.specs.Contents.{resizeSteps, writeSteps, callWrite}
 use Rattle.mem.specs.Mem.{tableIn}
 use Rattle.steps.specs.Ends.{Rest, on, ending, Ended, went}
 use Rattle.steps.proofs.Ends.{rest-off}
-use Rattle.calls_resize.specs.Resize.{askEnd, Reached, Sized}
-use Rattle.calls_resize.proofs.Asked.{end-split}
-use Rattle.calls_write.specs.Write.{Planned, Decided}
-use Rattle.calls_write.proofs.Plans.{decided-can, decided-not}
+use Rattle.sizes.specs.Sizes.{askEnd, Reached, Sized}
+use Rattle.sizes.proofs.Asked.{end-split}
+use Rattle.plans.specs.Plan.{Planned, Decided}
+use Rattle.plans.proofs.Decides.{decided-can, decided-not}
 
 -- a missing file is the first that the steps meet
 steps-missing : (a : List ℕ) (t : Table) (place : ℕ) (src : List ℕ) (i : ℕ) → there a (nodeFile (rowAt t i .rec)) ≡ false → ending (writeSteps (start a t) i place src) ≡ refused 19

@@ -15,59 +15,30 @@ ghost use Rattle.files.specs.Store.{putFile};
 ghost use Rattle.sefs.specs.Nodes.{nodeFile};
 ghost use Rattle.sefs.specs.Ask.{start};
 ghost use Rattle.sefs.specs.Contents.{writeSteps, callWrite};
-ghost use Rattle.chains.specs.Led.{Led};
 ghost use Rattle.mem.specs.Mem.{tableIn, Whole};
 ghost use Rattle.calls.specs.Asked.{Admitted};
 ghost use Rattle.steps.specs.Ends.{Rest, ending, Ended, Returned};
-ghost use Rattle.calls_resize.specs.Resize.{Reached};
-ghost use Rattle.calls_write.specs.Write.{Planned, Decided};
-use arena::free_count;
+ghost use Rattle.sizes.specs.Sizes.{Reached};
+ghost use Rattle.plans.specs.Plan.{Planned};
 use base::index16;
 use calls::Reply;
 use calls::led::admit;
 use calls::settle;
-use calls_resize::Sizing;
-use calls_resize::not_sized;
-use calls_resize::reach_file;
-use calls_resize::set_size;
 use inplace::raise;
 use mem::MEMORY;
 use mem::put_table;
 use mem::rec_at;
-use plans::plan_blocks;
+use plans::decide;
 use plans::put_block;
 use plans::touched;
-use structs::DiskINode;
+use sizes::Sizing;
+use sizes::not_sized;
+use sizes::reach_file;
+use sizes::set_size;
 use table::Handle;
 use table::Table;
 
 // ---- before any store
-
-// 17 where the absent blocks are more than the free ones. More blocks than there are need no search.
-fn decide(
-    arena: &[u8],
-    first: &[u16],
-    next: &[u16],
-    rec: DiskINode,
-    pos: usize,
-    n: usize,
-    plan: &mut [u16],
-) -> u8
-    requires { ⌜ Led (now arena) (now first) (now next) ⌝ }
-    requires { ⌜ (length (now plan) ≡ 4096) × ((pos + n ≤ 4294967295) × (there (now arena) (nodeFile rec) ≡ true)) ⌝ }
-    ensures { λ r. ⌜ Decided (now (arena .entry)) (nodeFile rec) pos n (now (plan .exit)) r ⌝ }
-{
-    let k = touched(pos, n);
-    if k > arena.len() / 512 {
-        return 17;
-    }
-    let name = rec.file;
-    let lacking = plan_blocks(arena, first, next, 1, &name, pos, k, plan);
-    if lacking > free_count(arena) {
-        return 17;
-    }
-    0
-}
 
 // What follows the tests of arena and table, by the chains that they left: nothing refuses the call after it.
 pub fn write_led(
@@ -90,7 +61,8 @@ pub fn write_led(
         return s;
     }
     let rec = rec_at(mem, s.row);
-    let r = decide(arena, first, next, rec, place as usize, n, plan);
+    let name = rec.file;
+    let r = decide(arena, first, next, 1, &name, place as usize, n, plan);
     if r != 0 {
         return not_sized(r);
     }

@@ -4,13 +4,14 @@ use mathlib.Core.Logic.{_⊎_, inl, inr, ⊎-elim}
 use Prim.Native.Nat.{ℕ, _+_, _*_, _≤_, _<_}
 use native.Mathlib.Omega.{arith}
 use Rattle.base.proofs.Lists.{tab-cong}
+use Rattle.base.specs.Parts.{Outside}
 use Rattle.structs.specs.Layout.{recordBytes}
 use Rattle.files.specs.Read.{byteAt}
 use Rattle.sefs.specs.Meta.{metaFile, mapAt}
 use Rattle.rules.specs.Image.{storedBytes}
 use Rattle.image.proofs.Stores.{node-apart}
 use Rattle.cuts.specs.Creates.{newParent, beforeParent}
-use Rattle.cuts.specs.Cuts.{Outside, OnlyTraces, KeepsRecords, KeepsParent}
+use Rattle.cuts.specs.Cuts.{OnlyTraces, KeepsRecords, KeepsParent}
 use Rattle.cuts.proofs.Along.{is-stored, not-stored}
 use Rattle.cuts.proofs.Facts.{node-zero, new-id}
 use Rattle.cuts.proofs.SoFar.{only-traces, record-map, positive, apart-ids}

@@ -9,7 +9,7 @@ use lib.ListN.{length, getD}
 use borrow.Author.Tests.{lt-ltb, le-ltb, ltb-false}
 use Rattle.base.specs.Count.{bit}
 use Rattle.base.specs.Out.{done}
-use Rattle.base.specs.Parts.{tab}
+use Rattle.base.specs.Parts.{tab, Outside}
 use Rattle.base.specs.Search.{pick}
 use Rattle.base.proofs.Bools.{bool-cases, true-false}
 use Rattle.base.proofs.Lists.{tab-cong}
@@ -43,7 +43,7 @@ use Rattle.sequences.proofs.Passing.{allowed}
 use Rattle.cuts.specs.Stores.{Store, super, map, node, slot, long, make, afterStore, cutAfter}
 use Rattle.cuts.specs.Creates.{Birth, grows, newParent, naming, dotStores, createStores, beforeFile, beforeDots, beforeSlot, beforeSuper, beforeMap, beforeNode, beforeParent, isStored}
 use Rattle.cuts.specs.Premise.{Creation}
-use Rattle.cuts.specs.Cuts.{Outside, SoFar, OnlyTraces, OldSlots, KeepsFolder, KeepsOthers}
+use Rattle.cuts.specs.Cuts.{SoFar, OnlyTraces, OldSlots, KeepsFolder, KeepsOthers}
 use Rattle.cuts.proofs.Stores.{groupMap}
 use Rattle.cuts.proofs.Steps.{dotEntry}
 use Rattle.cuts.proofs.Spares.{put-is, cut-is, make-is, Spares, spare-one, Else, kept-one}

@@ -6,7 +6,7 @@ use mathlib.Core.Logic.{_≢_, _⊎_}
 use Prim.Native.Nat.{ℕ, _+_, _*_, _<_, _≤_}
 use Rattle.base.specs.Count.{bit}
 use Rattle.base.specs.Out.{Out, done, refused}
-use Rattle.base.specs.Parts.{part}
+use Rattle.base.specs.Parts.{part, Outside}
 use Rattle.base.specs.Reasons.{entryNotFound}
 use Rattle.base.specs.Search.{pick}
 use Rattle.structs.specs.Constants.{typeDir}
@@ -87,10 +87,6 @@ unfoldable pub FindsNew : Type 0
 FindsNew = OfCuts (λ a c n b. beforeParent c < n → NewThere c b)
 
 -- ---- ".. are the only other traces": all that n stores have changed so far, byte by byte. Each part is as it was until its own store is done
-
--- place p is not among the n from x on
-abbrev pub Outside : ℕ → ℕ → ℕ → Type 0
-Outside p x n = (p < x) ⊎ (x + n ≤ p)
 
 pub record SoFar (a : List ℕ) (c : Birth) (n : ℕ) (b : List ℕ) : Type 0 where
   pub fine : Rule1 b

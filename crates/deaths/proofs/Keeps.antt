@@ -39,6 +39,8 @@ use Rattle.sefs.specs.Move.{callMove}
 use Rattle.sefs.specs.Read.{callSet, callMetadata, callEntry, callListing}
 use Rattle.sefs.specs.Contents.{hasContents, notTooBig, callRead, callWrite, callResize}
 use Rattle.sefs.specs.Close.{callSync, closeSteps, callClose}
+use Rattle.ranges.specs.Ranges.{plainFile, fitsMode, callFallocate}
+use Rattle.ranges.specs.declared.FallocateMode.{FallocateMode}
 use Rattle.rules.specs.Image.{isNode, storedSuper, storedBytes, recBy, recOf}
 use Rattle.rules.specs.Rules.{Allowed}
 use Rattle.sefs_laws.proofs.Rows.{Any, any, any-pick, LeavesAfter, leaves-sync-all}
@@ -49,7 +51,7 @@ use Rattle.image.proofs.Handles.{formed, row-rec}
 use Rattle.image.proofs.Holds.{add-rows}
 use Rattle.image.proofs.Stores.{node-apart}
 use Rattle.sequences.specs.Pairs.{Pair, Passed}
-use Rattle.sequences.specs.Calls.{Call, root, find, walk, create, link, removeFile, removeFolder, move, metadata, setMetadata, getEntry, listing, read, write, resize, sync, close, check, inventory, mend, NewFits, Fits, does}
+use Rattle.sequences.specs.Calls.{Call, root, find, walk, create, link, removeFile, removeFolder, move, metadata, setMetadata, getEntry, listing, read, write, resize, fallocate, sync, close, check, inventory, mend, NewFits, Fits, does}
 use Rattle.sequences.specs.Promises.{Keeps}
 use Rattle.sequences.proofs.Passing.{allowed}
 use Rattle.sequences.proofs.Closes.{close-rows}
@@ -64,7 +66,7 @@ use Rattle.mending.proofs.Stores.{lacking-less, lacking-none}
 use Rattle.inventory.specs.Inventory.{callInventory}
 use Rattle.deaths.specs.Deaths.{Backed, Stocked, KeepsLasting, KeepsStocked, StockedBacked}
 use Rattle.deaths.proofs.Upheld.{RecordsStay, stay-bytes, Since, since-same, By, lasts-is, Upheld, upheld-more, upheld-rows, upheld-loads, upheld-node, upheld-set, upheld-gone}
-use Rattle.deaths.proofs.UpheldCalls.{Nobody, Clean, link-upheld, remove-upheld, upheld-stores, resize-upheld, write-upheld, move-upheld, create-upheld}
+use Rattle.deaths.proofs.UpheldCalls.{Nobody, Clean, link-upheld, remove-upheld, upheld-stores, resize-upheld, write-upheld, mode-upheld, move-upheld, create-upheld}
 
 module _ (p : Pair) (y : Passed p) where
   abbrev a : List ℕ
@@ -150,6 +152,13 @@ module _ (p : Pair) (y : Passed p) where
       ok-bind (any (admit a t)) λ _ _. ok-bind (any (byHandle t w g)) λ i _. ok-bind (any (hasContents (rowAt t i .rec))) λ _ _. ok-bind (any (notTooBig n)) λ _ _.
       ok-bind (resize-upheld p Nobody (start a t) i n begins) λ s H. went (clean H)
 
+  fallocates : (w : ℕ) (g : Handle) (mode : FallocateMode) (from len : ℕ) → LeavesAfter (Upheld p Clean) (callFallocate (p .arena) (p .table) w g mode from len)
+  unfolding callFallocate
+  fallocates w g mode from len =
+      ok-bind (any (admit a t)) λ _ _. ok-bind (any (byHandle t w g)) λ i _. ok-bind (any (plainFile (rowAt t i .rec))) λ _ _. ok-bind (any (notTooBig (from + len))) λ _ _.
+      ok-bind (any (fitsMode mode (rowAt t i .rec .size) from len)) λ _ _.
+      ok-bind (mode-upheld p Nobody mode (start a t) i from len begins) λ s H. went (clean H)
+
   syncs : LeavesAfter (Upheld p Clean) (callSync (p .arena) (p .table))
   unfolding callSync
   syncs = ok-bind (any (admit a t)) λ _ _. ok-bind (leaves-sync-all (Upheld p Clean) (upheld-stores p) (start a t) 0 34 (clean begins)) λ s H. went H
@@ -180,6 +189,7 @@ module _ (p : Pair) (y : Passed p) where
   calls (read w h place room) F = ok-bind (any (callRead a t w h place room)) λ x _. went (clean begins)
   calls (write w h place bytes) F = ok-bind (writes w h place bytes) λ x H. went H
   calls (resize w h n) F = ok-bind (resizes w h n) λ x H. went H
+  calls (fallocate w h mode from len) F = ok-bind (fallocates w h mode from len) λ x H. went H
   calls sync F = ok-bind syncs λ x H. went H
   calls (close w h) F = ok-bind (closes w h) λ x H. went H
   calls check F = went (clean begins)

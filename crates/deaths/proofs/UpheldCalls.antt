@@ -32,8 +32,11 @@ use Rattle.sefs.specs.Create.{Given, after, birth, nameFolder, named, createSte
 use Rattle.sefs.specs.Remove.{removeSteps}
 use Rattle.sefs.specs.Contents.{resizeSteps, writeSteps}
 use Rattle.sefs.specs.Move.{Replaced, none, node, readSlots, judge, removeReplaced, moveWithin, moveDots, moveLinks, moveParent, moveBetween, moveSteps, notBelow, moveOnto, replace, moveFree, moveTo}
+use Rattle.ranges.specs.Ranges.{modeSteps}
+use Rattle.ranges.specs.declared.FallocateMode.{FallocateMode}
 use Rattle.sefs_laws.proofs.Rows.{Any, any, any-guard, any-pick, Leaves, LeavesAfter, Stores}
 use Rattle.sequences.specs.Pairs.{Pair}
+use Rattle.sequences.proofs.RangeSteps.{goes-mode}
 use Rattle.deaths.proofs.Upheld.{RecordsStay, LetOff, By, Upheld, knowing, upheld-more, upheld-fill, upheld-cut, upheld-store, upheld-sync, upheld-release, upheld-node, upheld-set, upheld-meta, upheld-new, upheld-rows}
 
 -- in the beginning no row is let off, in the end only clean ones
@@ -172,6 +175,10 @@ module _ (p : Pair) where
         ok-bind (upheld-fill (recAt s i .file) place bytes h) λ a g.
         any-pick (ltb (recAt s i .size) (place + length bytes)) (resizeSteps (withArena s a) i (place + length bytes)) (done (withArena s a))
         (λ _. resize-upheld (withArena s a) i (place + length bytes) g) (λ _. went g)
+
+    pub mode-upheld : (mode : FallocateMode) (s : Fs) (i from len : ℕ) → Upheld p (By own) (s .arena) (s .table) → Leaves (Upheld p (By own)) (modeSteps mode s i from len)
+    mode-upheld mode s i =
+        goes-mode Any tt tt (Upheld p (By own)) i (λ s pos src h. upheld-fill (recAt s i .file) pos src h) (λ s n h. resize-upheld s i n h) tt mode s
 
   -- ---- a move
 

@@ -32,7 +32,7 @@ use Rattle.image.proofs.Lookups.{Hit}
 use Rattle.image.proofs.Hits.{row-hit}
 use Rattle.sequences.specs.Pairs.{Pair, pair, Passed}
 use Rattle.sequences.specs.Calls.{Call, find, does, next}
-use Rattle.sequences.specs.Promises.{On, Through, writes, resizes}
+use Rattle.sequences.specs.Promises.{On, Through, writes, resizes, fallocates}
 use Rattle.sequences.proofs.Passing.{allowed}
 use Rattle.sequences.proofs.Corner.{on-used}
 use Rattle.walk.proofs.Chains.{part-done}
@@ -50,6 +50,7 @@ is-empty (x ∷ l) e = absurd (omega arith)
 no-through : {n : ℕ} {t : Table} {c : Call} {w : ℕ} {g : Handle} {name : List ℕ} → Through n t c → c ≡ find w g name → ⊥
 no-through (writes l q) e = let z : _≡_ {A = ℕ} 0 1 = cc in omega arith
 no-through (resizes l q) e = let z : _≡_ {A = ℕ} 0 1 = cc in omega arith
+no-through (fallocates l q) e = let z : _≡_ {A = ℕ} 0 1 = cc in omega arith
 
 module _ (p : Pair) (y : Passed p) where
   abbrev a : List ℕ

@@ -39,10 +39,14 @@ use Rattle.sefs.specs.Ask.{admit, byHandle, goodName, newName, notLong, known, 
 use Rattle.sefs.specs.Create.{Given, canMake, birth, createSteps, callCreate, linkSteps, callLink}
 use Rattle.sefs.specs.Remove.{removable, removeSteps, callRemove}
 use Rattle.sefs.specs.Contents.{hasContents, notTooBig, callWrite, callResize}
+use Rattle.ranges.specs.Ranges.{plainFile, fitsMode, callFallocate}
+use Rattle.ranges.specs.declared.FallocateMode.{FallocateMode}
+use Rattle.ranges.proofs.Asks.{kind-one}
 use Rattle.rules.specs.Image.{run, isNode, recOf, isFolderAt, slotIn}
 use Rattle.rules.specs.Rules.{Allowed, Folder}
 use Rattle.rules.proofs.Folders.{folder-node}
 use Rattle.sefs_laws.proofs.Says.{ensure-asks}
+use Rattle.sefs_laws.proofs.Contents.{asks}
 use Rattle.sefs_laws.proofs.Rows.{Any, any, any-pick, ok-and, LeavesAfter, Changes, bears-and, Fills, leaves-meta, leaves-node, leaves-resize, leaves-write, leaves-inc, leaves-named, leaves-sync}
 use Rattle.image.specs.Midway.{Used, storedMeta}
 use Rattle.image.proofs.Handles.{formed, row-rec, row-node, row-folder}
@@ -59,6 +63,8 @@ use Rattle.sequences.proofs.Passing.{allowed, spelled-any, spelled-midway}
 use Rattle.sequences.proofs.Corner.{at-put}
 use Rattle.sequences.proofs.Removes.{removable-law}
 use Rattle.sequences.proofs.Tables.{handle-live, folder-asks}
+use Rattle.sequences.proofs.RangeSteps.{leaves-mode}
+use Rattle.sequences.proofs.Ranges.{one-no-folder}
 use Rattle.sequences.proofs.Bytes.{Firm, FirmSince, firm-bears, nodes-start, make, made, live-row, live-firm}
 use Rattle.drawings.proofs.NameSlots.{StandsIn, same-stands, Holds, holds-bears, holds-adds, holds-fill, puts, appends, Somewhere, node-takes}
 
@@ -190,6 +196,15 @@ module _ (p : Pair) (y : Passed p) where
     slot-resizes w g n =
         ok-bind (any (admit a t)) λ _ _. ok-bind (handle-live t w g) λ i m. ok-bind (contents-asks (rowAt t i .rec)) λ _ e. ok-bind (any (notTooBig n)) λ _ _.
         ok-bind (leaves-resize Firmly i (fills-other i (live-firm p y w g i m) (no-folder i (live-row p y w g i m) e)) firmly-changes (start a t) n (holds-start, λ i x. x)) λ s h. went (remains (s .arena) (s .table) (h .0))
+
+    pub slot-fallocates : (w : ℕ) (g : Handle) (mode : FallocateMode) (from len : ℕ) → LeavesAfter (Remains p d (bytesOf p d (N .slot))) (callFallocate (p .arena) (p .table) w g mode from len)
+    unfolding callFallocate
+    slot-fallocates w g mode from len =
+        ok-bind (any (admit a t)) λ _ _. ok-bind (handle-live t w g) λ i m. ok-bind (asks (plainFile (rowAt t i .rec))) λ _ e. ok-bind (any (notTooBig (from + len))) λ _ _.
+        ok-bind (any (fitsMode mode (rowAt t i .rec .size) from len)) λ _ _.
+        let k : isFolder (rowAt t i .rec .kind) ≡ false = one-no-folder (rowAt t i .rec .kind) (kind-one (rowAt t i .rec) e) in
+        ok-bind (leaves-mode Firmly i (fills-other i (live-firm p y w g i m) (no-folder i (live-row p y w g i m) k)) firmly-changes mode (start a t) from len (holds-start, λ i x. x)) λ s h.
+        went (remains (s .arena) (s .table) (h .0))
 
     -- ---- a name more
 

@@ -33,7 +33,7 @@ use Rattle.tree.proofs.Trees.{up-first}
 use Rattle.image.specs.Midway.{treeOf}
 use Rattle.image.proofs.Images.{fair, root-node}
 use Rattle.sequences.specs.Pairs.{Pair, Passed}
-use Rattle.sequences.specs.Calls.{Call, root, find, walk, create, link, removeFile, removeFolder, move, metadata, setMetadata, getEntry, listing, read, write, resize, sync, close, check, inventory, mend, Fits, does, next}
+use Rattle.sequences.specs.Calls.{Call, root, find, walk, create, link, removeFile, removeFolder, move, metadata, setMetadata, getEntry, listing, read, write, resize, fallocate, sync, close, check, inventory, mend, Fits, does, next}
 use Rattle.sequences.specs.Promises.{Along, ends, goes, Keeps, Apart, Safe}
 use Rattle.sequences.proofs.Passing.{allowed}
 use Rattle.sequences.proofs.Looks.{mend-stays}
@@ -49,7 +49,7 @@ use Rattle.drawings.proofs.Saved.{after-save}
 use Rattle.drawings.proofs.Rests.{node-named}
 use Rattle.drawings.proofs.Found.{found-and-kept}
 use Rattle.drawings.proofs.NameSlots.{Stands, Holds, holds-bears, holds-adds}
-use Rattle.drawings.proofs.NameCalls.{Remains, Filled, bytesOf, holds-start, remains, slot-writes, slot-resizes, slot-links, slot-creates, slot-removes}
+use Rattle.drawings.proofs.NameCalls.{Remains, Filled, bytesOf, holds-start, remains, slot-writes, slot-resizes, slot-fallocates, slot-links, slot-creates, slot-removes}
 use Rattle.drawings.proofs.NameMoves.{Rehomed, slot-moves, folder-moves}
 
 -- ---- a slot that is left, in a pair that passes and has the folder
@@ -130,6 +130,7 @@ module _ (p : Pair) (y : Passed p) {d n : ℕ} {own : List ℕ} (N : Named d own
     each (read w g place room) F gone moved = ok-bind (any (callRead a t w g place room)) λ x _. went (holds a t begin)
     each (write w g place bytes) F gone moved = ok-bind (slot-writes p y N w g place bytes) λ x r. went (so (x .arena) (x .table) r)
     each (resize w g n) F gone moved = ok-bind (slot-resizes p y N w g n) λ x r. went (so (x .arena) (x .table) r)
+    each (fallocate w g mode from len) F gone moved = ok-bind (slot-fallocates p y N w g mode from len) λ x r. went (so (x .arena) (x .table) r)
     each sync F gone moved = ok-bind (keeps-sync H K a t begin) λ x h. went (holds (x .arena) (x .table) h)
     each (close w g) F gone moved = ok-bind (keeps-close H K a t w g (λ i m. (nodes-rows p y a t (closeHold t (g .hold) .table) (close-rows t (g .hold)) (begin .0), begin .1))) λ x h. went (holds (x .arena) (x .table) h)
     each check F gone moved = went (holds a t begin)

@@ -174,7 +174,7 @@ both-saved p q r l k w v h g n m f e place at hers his y S along d T alongw alon
 -- ---- any read after a write or a resize
 
 -- a file that holds a text is read as its parts
-text-read : (p : Pair) → Passed p → {w : ℕ} {h : Handle} {n : ℕ} {f : List ℕ} → On (p .table) w h n f → isFolder (recOf (p .arena) (p .table) n .kind) ≡ false → (text : List ℕ)
+pub text-read : (p : Pair) → Passed p → {w : ℕ} {h : Handle} {n : ℕ} {f : List ℕ} → On (p .table) w h n f → isFolder (recOf (p .arena) (p .table) n .kind) ≡ false → (text : List ℕ)
     → lengthOf (p .arena) (file 1 f) ≡ length text → ((j : ℕ) → j < length text → byteAt (p .arena) (file 1 f) j ≡ getD text j 0)
     → (at room : ℕ) → callRead (p .arena) (p .table) w h at room ≡ done (part text at (at + room))
 text-read p y {f = f} o no-dir text long bytes at room =
@@ -203,9 +203,9 @@ module _ (p : Pair) (w : ℕ) (h : Handle) (old : List ℕ) (H : WholeFile p w h
   old-byte j l = ap (λ (x : List ℕ). getD x j 0) (H .bytes) ∙ getD-tab (byteAt (p .arena) (file 1 f)) 0 (length old) j l ∙ ap (byteAt (p .arena) (file 1 f)) (let e : 0 + j ≡ j = omega arith in e)
 
   -- what a call c left is read as the text
-  reads-text : (c : Call) (q : Pair) (x : After) → AfterDone w h n f c p q → pair (x .arena) (x .table) ≡ q → (text : List ℕ) → lengthOf (x .arena) (file 1 f) ≡ length text
+  reads-left : (c : Call) (q : Pair) (x : After) → AfterDone w h n f c p q → pair (x .arena) (x .table) ≡ q → (text : List ℕ) → lengthOf (x .arena) (file 1 f) ≡ length text
       → ((j : ℕ) → j < length text → byteAt (x .arena) (file 1 f) j ≡ getD text j 0) → (at room : ℕ) → callRead (q .arena) (q .table) w h at room ≡ done (part text at (at + room))
-  reads-text c q x L e text long bytes at room =
+  reads-left c q x L e text long bytes at room =
       text-read q (L .passes) (L .on) (ap isFolder (L .kind) ∙ H .no-dir) text
       (subst (λ (z : Pair). lengthOf (z .arena) (file 1 f) ≡ length text) e long)
       (λ j l. subst (λ (z : Pair). byteAt (z .arena) (file 1 f) j ≡ getD text j 0) e (bytes j l)) at room
@@ -247,7 +247,7 @@ module _ (p : Pair) (w : ℕ) (h : Handle) (old : List ℕ) (H : WholeFile p w h
         out j z k = laid-out j z k ∙ sym (getD-paste-out base place new fits j z ∙ filled-at (place + length new) old j k)
 
     laid-read : (q : Pair) → AfterDone w h n f (write w h place new) p q → pair (x .arena) (x .table) ≡ q → (at room : ℕ) → callRead (q .arena) (q .table) w h at room ≡ done (part (paste base place new) at (at + room))
-    laid-read q L e = reads-text (write w h place new) q x L e (paste base place new) laid-long laid-bytes
+    laid-read q L e = reads-left (write w h place new) q x L e (paste base place new) laid-long laid-bytes
 
   module _ (m : ℕ) (x : After) (R : Resized (p .arena) (p .table) (H .row) m x) where
     cut-long : length (take m (filledTo m old)) ≡ m
@@ -263,7 +263,7 @@ module _ (p : Pair) (w : ℕ) (h : Handle) (old : List ℕ) (H : WholeFile p w h
         ∙ sym (getD-take m (filledTo m old) j 0 k ∙ filled-at m old j (omega arith))
 
     cut-read : (q : Pair) → AfterDone w h n f (resize w h m) p q → pair (x .arena) (x .table) ≡ q → (at room : ℕ) → callRead (q .arena) (q .table) w h at room ≡ done (part (take m (filledTo m old)) at (at + room))
-    cut-read q L e = reads-text (resize w h m) q x L e (take m (filledTo m old)) (sized-long (p .arena) (p .table) i x m true (R .only) (R .exact) ∙ sym cut-long) cut-bytes
+    cut-read q L e = reads-left (resize w h m) q x L e (take m (filledTo m old)) (sized-long (p .arena) (p .table) i x m true (R .only) (R .exact) ∙ sym cut-long) cut-bytes
 
 pub laid-over : LaidOver
 unfolding LaidOver IsWritten

@@ -42,7 +42,7 @@ NamesStay = (p : Pair) (l : List Call) (d n : ℕ) (name : List ℕ) → Passed 
 
 -- ---- the sentence
 
--- a call, whoever's, that leaves the name, and the drawing too: no write or resize is done through a handle on node n
+-- a call, whoever's, that leaves the name, and the drawing too: no write, resize or fallocate is done through a handle on node n
 pub record LeavesBoth (d : ℕ) (name : List ℕ) (n : ℕ) (c : Call) (p : Pair) : Type 0 where
   pub leaves-name : LeavesName d name c p
   pub not-written : Through n (p .table) c → reasonOf c p ≢ 0

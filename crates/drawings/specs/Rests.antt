@@ -30,8 +30,8 @@ pub record SameNode (n : ℕ) (p q : Pair) : Type 0 where
   pub size : recOf (q .arena) (q .table) n .size ≡ recOf (p .arena) (p .table) n .size
   pub bytes : SameFile (recOf (p .arena) (p .table) n .file) (p .arena) (q .arena)
 
--- a call, whoever's, that leaves the drawing: no write or resize is done through a handle on node n, and n is a node afterwards. Opening it, closing
--- it, its names and its metadata are free. (A number that is no node's any more may become another's; when it stays one is said below.)
+-- a call, whoever's, that leaves the drawing: no write, resize or fallocate is done through a handle on node n, and n is a node afterwards. Opening
+-- it, closing it, its names and its metadata are free. (A number that is no node's any more may become another's; when it stays one is said below.)
 pub record LeavesBe (n : ℕ) (c : Call) (p : Pair) : Type 0 where
   pub fits : Fits c
   pub not-written : Through n (p .table) c → reasonOf c p ≢ 0

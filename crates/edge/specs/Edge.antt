@@ -47,7 +47,7 @@ pub record Answers {A P : Type 0} (o : Out A) (leaves : A → P) (before after :
 
 -- ---- what a call that is done leaves. (open and set metadata: `tableBytes`; metadata: `metadataWords`; get entry: `paste` over its output's start)
 
--- sync, close, link, the removals, move, write, resize, format: arena and table
+-- sync, close, link, the removals, move, write, resize, fallocate, format: arena and table
 abbrev pub leftOf : After → List ℕ × List ℕ
 leftOf x = (x .arena, tableBytes (x .table))
 

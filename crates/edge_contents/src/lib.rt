@@ -4,9 +4,12 @@ ghost use Rattle.base.specs.Parts.{paste};
 ghost use Rattle.table_bytes.specs.Layout.{tableOf};
 ghost use Rattle.sefs.specs.Contents.{callRead, callWrite, callResize};
 ghost use Rattle.sefs.specs.Read.{callEntry, callListing};
+ghost use Rattle.ranges.specs.Modes.{modeOf};
+ghost use Rattle.ranges.specs.Ranges.{callFallocate};
 ghost use Rattle.edge_words.specs.Words.{handleOf};
 ghost use Rattle.edge.specs.Edge.{sized, Answers, leftOf, startIn, listedIn, readIn};
 use calls_entry::entry_on;
+use calls_fallocate::fallocate_on;
 use calls_list::listing_on;
 use calls_read::read_on;
 use calls_resize::resize_on;
@@ -22,6 +25,7 @@ use edge_words::WRONG_SIZE;
 use edge_words::args::handle;
 use mem::MEMORY;
 use mem::begin;
+use ranges::mode_of;
 use verdicts::start_of;
 
 // ---- bytes
@@ -91,6 +95,38 @@ pub extern "C" fn dz_resize(
     let mut mem = [0u8; MEMORY];
     begin(&mut mem, &table[..]);
     let r = resize_on(arena, &mut mem, owner, handle(hold, stamp), n);
+    end_after(table, &mem, r)
+}
+
+// Insert, collapse, zeros: `mode` is the mode's number; of `flags` bit 0 asks allocate to keep the size.
+#[no_mangle]
+pub extern "C" fn dz_fallocate(
+    arena: &mut [u8],
+    table: &mut [u8],
+    owner: u8,
+    hold: u32,
+    stamp: u64,
+    mode: u8,
+    flags: u8,
+    from: u64,
+    len: u64,
+) -> u32
+    ensures { λ r. ⌜ Answers (sized 4402 (now (table .entry)) (callFallocate (now (arena .entry)) (tableOf (now (table .entry))) owner (handleOf hold stamp) (modeOf mode flags) from len)) leftOf (now (arena .entry), now (table .entry)) (now (arena .exit), now (table .exit)) r ⌝ }
+{
+    if table.len() != TABLE {
+        return WRONG_SIZE;
+    }
+    let mut mem = [0u8; MEMORY];
+    begin(&mut mem, &table[..]);
+    let r = fallocate_on(
+        arena,
+        &mut mem,
+        owner,
+        handle(hold, stamp),
+        mode_of(mode, flags),
+        from,
+        len,
+    );
     end_after(table, &mem, r)
 }
 

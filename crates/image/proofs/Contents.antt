@@ -49,21 +49,21 @@ use Rattle.files_laws.specs.Laws as laws
 
 -- ---- the arena: file f has length n, and every other file is as it was
 
-record Rewritten (a : List ℕ) (f : File) (n : ℕ) (b : List ℕ) : Type 0 where
-  size : length b ≡ length a
-  bytes : Bytes b
-  sound : sound b ≡ true
-  exists : there b f ≡ true
-  long : lengthOf b f ≡ n
-  others : (g : File) → f ≢ g → Kept a b g
+pub record RewrittenFile (a : List ℕ) (f : File) (n : ℕ) (b : List ℕ) : Type 0 where
+  pub size : length b ≡ length a
+  pub bytes : Bytes b
+  pub sound : sound b ≡ true
+  pub exists : there b f ≡ true
+  pub long : lengthOf b f ≡ n
+  pub others : (g : File) → f ≢ g → Kept a b g
 
-put-rewrites : (a : List ℕ) (f : File) (place : ℕ) (src b : List ℕ) → Bytes a → Bytes src → sound a ≡ true → Put a f place src b → Rewritten a f (max (lengthOf a f) (place + length src)) b
+put-rewrites : (a : List ℕ) (f : File) (place : ℕ) (src b : List ℕ) → Bytes a → Bytes src → sound a ≡ true → Put a f place src b → RewrittenFile a f (max (lengthOf a f) (place + length src)) b
 put-rewrites a f place src b y s fine P = record { size = P .size; bytes = P .bytes y s; sound = P .keeps y s fine; exists = P .exists; long = P .long; others = P .others }
 
-cut-rewrites : (a : List ℕ) (f : File) (n : ℕ) (b : List ℕ) → Bytes a → sound a ≡ true → Cut a f n b → Rewritten a f n b
+cut-rewrites : (a : List ℕ) (f : File) (n : ℕ) (b : List ℕ) → Bytes a → sound a ≡ true → Cut a f n b → RewrittenFile a f n b
 cut-rewrites a f n b y fine C = record { size = C .size; bytes = C .bytes y; sound = C .keeps y fine; exists = C .exists; long = C .long; others = C .others }
 
-rewritten-then : (a : List ℕ) (f : File) (m n : ℕ) (b c : List ℕ) → Rewritten a f m b → Rewritten b f n c → Rewritten a f n c
+rewritten-then : (a : List ℕ) (f : File) (m n : ℕ) (b c : List ℕ) → RewrittenFile a f m b → RewrittenFile b f n c → RewrittenFile a f n c
 rewritten-then a f m n b c X Y = record {
   size = Y .size ∙ X .size;
   bytes = Y .bytes;
@@ -75,15 +75,15 @@ rewritten-then a f m n b c X Y = record {
 
 -- ---- the table: the record of row i has size n, and all else is as it was
 
-record Sized (own : ℕ → Type 0) (a : List ℕ) (t : Table) (i n : ℕ) (u : Table) : Type 0 where
-  formed : Formed own u
-  fits : TableFits u
-  ids : (j : ℕ) → rowAt u j .id ≡ rowAt t j .id
-  clean : Cleans a u
-  opens : (x : ℕ) → isOpen u x ≡ isOpen t x
-  same : (x : ℕ) → withSize (recOf a u x) 0 ≡ withSize (recOf a t x) 0
-  here : recOf a u (rowAt t i .id) .size ≡ n
-  else : (x : ℕ) → x ≢ rowAt t i .id → recOf a u x .size ≡ recOf a t x .size
+pub record SizedRow (own : ℕ → Type 0) (a : List ℕ) (t : Table) (i n : ℕ) (u : Table) : Type 0 where
+  pub formed : Formed own u
+  pub fits : TableFits u
+  pub ids : (j : ℕ) → rowAt u j .id ≡ rowAt t j .id
+  pub clean : Cleans a u
+  pub opens : (x : ℕ) → isOpen u x ≡ isOpen t x
+  pub same : (x : ℕ) → withSize (recOf a u x) 0 ≡ withSize (recOf a t x) 0
+  pub here : recOf a u (rowAt t i .id) .size ≡ n
+  pub else : (x : ℕ) → x ≢ rowAt t i .id → recOf a u x .size ≡ recOf a t x .size
 
 pub size-fits : (r : DiskINode) (n : ℕ) → RecordFits r → n < 2 ^ 64 → RecordFits (withSize r n)
 size-fits r n R l = record {
@@ -108,7 +108,7 @@ module _ {style : Spelling} {own : ℕ → Type 0} (a : List ℕ) (t : Table) (M
   rec-is : recOf a t (rowAt t i .id) ≡ rowAt t i .rec
   rec-is = mid-rec a t (M .formed) i used
 
-  sized-none : Sized own a t i (rowAt t i .rec .size) t
+  pub sized-none : SizedRow own a t i (rowAt t i .rec .size) t
   sized-none = record {
     formed = M .formed;
     fits = M .fits;
@@ -120,7 +120,7 @@ module _ {style : Spelling} {own : ℕ → Type 0} (a : List ℕ) (t : Table) (M
     else = λ x d. refl;
   }
 
-  sized-set : (n : ℕ) → n ≤ longest → Sized own a t i n (takeRow t i (rowAt t i .id) (withSize (rowAt t i .rec) n) true)
+  pub sized-set : (n : ℕ) → n ≤ longest → SizedRow own a t i n (takeRow t i (rowAt t i .id) (withSize (rowAt t i .rec) n) true)
   sized-set n l =
       record {
         formed = reset-formed t (M .formed) i used (withSize (rowAt t i .rec) n);
@@ -139,7 +139,7 @@ module _ {style : Spelling} {own : ℕ → Type 0} (a : List ℕ) (t : Table) (M
 
   -- ---- the image then
 
-  module _ (no-dir : isFolder (rowAt t i .rec .kind) ≡ false) (n : ℕ) (b : List ℕ) (B : Rewritten a (nodeFile (rowAt t i .rec)) n b) (u : Table) (S : Sized own a t i n u) where
+  module _ (no-dir : isFolder (rowAt t i .rec .kind) ≡ false) (n : ℕ) (b : List ℕ) (B : RewrittenFile a (nodeFile (rowAt t i .rec)) n b) (u : Table) (S : SizedRow own a t i n u) where
     abbrev d : ℕ
     d = rowAt t i .id
 
@@ -213,7 +213,7 @@ module _ {style : Spelling} {own : ℕ → Type 0} (a : List ℕ) (t : Table) (M
         (λ z. B .others (file 1 f) z .exists)
         (file-cases (nodeFile (rowAt t i .rec)) (file 1 f))
 
-    rewritten-mid : Midway style own b u
+    pub rewritten-mid : Midway style own b u
     rewritten-mid = record {
       fair = fair-by-tree (plain style) a b t u A
           (record { length = legal-same a b (B .size) ∙ A .rule1 .length; sound = B .sound })
@@ -232,11 +232,11 @@ module _ {style : Spelling} {own : ℕ → Type 0} (s : Fs) (M : Midway style ow
   abbrev f : File
   f = nodeFile (recAt s i)
 
-  is-there : there a f ≡ true
+  pub is-there : there a f ≡ true
   is-there = ap (λ (r : DiskINode). there a (nodeFile r)) (sym (rec-is a (s .table) M i used)) ∙ M .fair .rule5 .own (rowAt (s .table) i .id) (M .fair .rule4 .node i (used .below) (used .node))
 
   -- its length is its size
-  long-is : lengthOf a f ≡ recAt s i .size
+  pub long-is : lengthOf a f ≡ recAt s i .size
   unfolding isFolderAt
   long-is =
       let e = rec-is a (s .table) M i used in
@@ -271,7 +271,7 @@ module _ {style : Spelling} {own : ℕ → Type 0} (s : Fs) (M : Midway style ow
         why (laws.far _ _) = refl
         why (laws.full _ _ _) = refl
 
-    put-in : (b : List ℕ) → Put a f place src b → Rewritten a f (max (lengthOf a f) end) b
+    put-in : (b : List ℕ) → Put a f place src b → RewrittenFile a f (max (lengthOf a f) end) b
     put-in b P = put-rewrites a f place src b (M .bytes) y (M .fair .rule1 .sound) P
 
     -- past the size the length becomes the end, and so does the size; else both stay
@@ -285,7 +285,7 @@ module _ {style : Spelling} {own : ℕ → Type 0} (s : Fs) (M : Midway style ow
         (takeRow (s .table) i (rowAt (s .table) i .id) (withSize (recAt s i) end) true) (sized-set a (s .table) M i used end l))
     rest b P false e =
         let z : max (lengthOf a f) end ≡ recAt s i .size = omega (arith, long-is, ltb-false (recAt s i .size) end e) in
-        went (rewritten-mid a (s .table) M i used no-dir (recAt s i .size) b (subst (λ (n : ℕ). Rewritten a f n b) z (put-in b P)) (s .table) (sized-none a (s .table) M i used))
+        went (rewritten-mid a (s .table) M i used no-dir (recAt s i .size) b (subst (λ (n : ℕ). RewrittenFile a f n b) z (put-in b P)) (s .table) (sized-none a (s .table) M i used))
 
     pub write-mid : Ok (λ (d : Fs). Midway style own (d .arena) (d .table)) (λ r. r ≡ 17) (writeSteps s i place src)
     unfolding writeSteps

@@ -4,6 +4,7 @@ mod host;
 mod slots;
 mod support;
 
+use lesson_made::log;
 use lesson_made::made;
 use lesson_made::paths;
 use lesson_made::stops;
@@ -23,6 +24,7 @@ fn main() {
     paths::masters();
     slots::two_keys(&mut world);
     support::support_call(&mut world);
+    log::log_edited(&mut world, &mut kept);
     host::host_down(&mut world, &mut kept);
     stops::create_stops(&mut world, &mut kept);
 }

@@ -56,6 +56,17 @@ pub fn node(world: &[u8], who: u8, h: Handle, story: &[u8], k: u8)
     }
 }
 
+// How many bytes of its own the node has.
+pub fn size(world: &[u8], who: u8, h: Handle, story: &[u8], k: u8)
+    requires { ⌜ 4402 ≤ length (now world) ⌝ }
+{
+    let told = metadata(world, who, h);
+    match told {
+        Told::Tells(m) => say::number(story, k, m.size),
+        Told::Refused(r) => say::refusal(r),
+    }
+}
+
 // What a node's own bytes say.
 pub fn outline(world: &[u8], who: u8, h: Handle, story: &[u8], k: u8)
     requires { ⌜ 4402 ≤ length (now world) ⌝ }

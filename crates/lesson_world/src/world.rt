@@ -9,6 +9,7 @@ use calls::Reply;
 use calls::Told;
 use calls_create::New;
 use fsck::Verdict;
+use ranges::FallocateMode;
 use structs::Timespec;
 use table::Handle;
 use table_bytes::put_empty;
@@ -152,6 +153,21 @@ pub fn write(world: &mut [u8], who: u8, h: Handle, place: u64, src: &[u8]) -> An
 {
     let t = read_table(&world[..]);
     let r = calls_write::write(&mut world[4402..], t, who, h, place, src);
+    keep(world, r)
+}
+
+pub fn fallocate(
+    world: &mut [u8],
+    who: u8,
+    h: Handle,
+    mode: FallocateMode,
+    from: u64,
+    len: u64,
+) -> Answer
+    requires { ⌜ 4402 ≤ length (now world) ⌝ }
+{
+    let t = read_table(&world[..]);
+    let r = calls_fallocate::fallocate(&mut world[4402..], t, who, h, mode, from, len);
     keep(world, r)
 }
 

@@ -1,12 +1,14 @@
 -- What a designer was told of her drawings, of runs: a list of runs leads where its calls lead, and a read at its end gives what the call gives there.
 use mathlib.Core.Path.{_≡_, refl, sym, ap, _∙_, subst}
 use mathlib.Core.List.{List, _∷_}
-use mathlib.Core.Logic.{_≢_, _⊎_, _↔_}
+use mathlib.Core.Logic.{_≢_, _⊎_, _↔_, inl, inr}
 use Prim.Native.Nat.{ℕ}
 use native.Mathlib.Omega.{arith}
+use lib.Dec.{T}
 use lib.ListN.{length, getD}
 use denote.Ref.{now}
-use Rattle.base.specs.Out.{Out, done, refused, bind, answer, kept}
+use Rattle.base.specs.Out.{Out, done, refused, bind, answer, kept, Ok}
+use Rattle.base.specs.Out as out
 use Rattle.base.specs.Reasons.{tableFull}
 use Rattle.base.proofs.Outs.{bind-is-done}
 use Rattle.table.specs.declared.Handle.{Handle}
@@ -16,24 +18,28 @@ use Rattle.sefs.specs.Open.{callFind}
 use Rattle.sefs.specs.Contents.{callRead}
 use Rattle.edge_words.specs.Words.{handleWords}
 use Rattle.sequences.specs.Pairs.{Pair, pair}
-use Rattle.sequences.specs.Calls.{Call, find, read, write, Fits, does, reasonOf, next, asker}
+use Rattle.sequences.specs.Calls.{Call, find, read, write, fallocate, Fits, does, reasonOf, next, asker}
 use Rattle.sequences.specs.Promises.{On}
 use Rattle.sequences.specs.TableFull.{ReachesCheck, NoPlace, FullExactly}
-use Rattle.sequences.specs.Reasons.{OldOpen}
+use Rattle.sequences.specs.Reasons.{has, OldOpen}
+use Rattle.sequences.specs.Ranges.{reasonsIn, ReasonsRanges, RangesFull}
 use Rattle.sequences.proofs.TableFull.{full-exactly}
 use Rattle.sequences.proofs.OpenCall.{old-open}
+use Rattle.sequences.proofs.Ranges.{reasons-ranges, ranges-full}
 use Rattle.drawings.specs.Saved.{led, Saves, Saved, BothSaved, ReadStays, LaidOver, ResizedTo}
 use Rattle.drawings.specs.Rests.{Drawing, RestsAlong, Rested, ClosedAndKept, ReadRests, Named}
 use Rattle.drawings.specs.Names.{NamesStay, FoundByName, FindsIt}
+use Rattle.drawings.specs.Ranges.{ReadsText, ReadsNew}
 use Rattle.drawings.proofs.Saved.{saved, both-saved, read-stays, laid-over, resized-to}
 use Rattle.drawings.proofs.Rests.{rests-along, closed-and-kept, read-rests}
 use Rattle.drawings.proofs.Names.{names-stay, found-by-name}
 use Rattle.drawings.proofs.NameFinds.{finds-it}
+use Rattle.drawings.proofs.Ranges.{reads-text, reads-new}
 use Rattle.linked.specs.Images.{Image, pairOf, Passes, Ready, Places, handed}
 use Rattle.linked.specs.Tested.{Ran}
 use Rattle.linked.specs.Owning.{Owns}
 use Rattle.linked.specs.Linked.{Does, Functions, Runs, none, ran, Goes, Transports, Linked, OwnLinked, Mixed, MixedLinked, CheckSays, OpenDoes}
-use Rattle.linked.specs.Drawings.{GaveBytes, GaveSame, both-gave, both-refused, SavesRun, RunsSaved, RunsBothSaved, RunsReadStays, RunsRest, RunsKept, RunsReadRests, RunsNamesStay, RunsFound, RunsFindsIt, RunsLaidOver, RunsResized, Drawings, NumberFull, OldOpens}
+use Rattle.linked.specs.Drawings.{GaveBytes, GaveSame, both-gave, both-refused, SavesRun, RunsSaved, RunsBothSaved, RunsReadStays, RunsRest, RunsKept, RunsReadRests, RunsNamesStay, RunsFound, RunsFindsIt, RunsLaidOver, RunsResized, RunsReadNew, RunsReadText, RunsRangesFull, Drawings, NumberFull, NumberRanges, OldOpens}
 use Rattle.linked.proofs.Functions.{does-calls}
 use Rattle.linked.proofs.Transport.{zero-done, not-255, number-is}
 use Rattle.linked.proofs.Runs.{Free, joined, one, goes-after, led-after, passes-after}
@@ -97,6 +103,11 @@ module _ (p : Pair) (w : ℕ) (h : Handle) (name : List ℕ) (g : Added) (d : ca
 -- words are one handle's
 words-one : (g h : Handle) → handleWords g ≡ handleWords h → g ≡ h
 words-one g h e = λ i. record { hold = getD (e i) 0 0; stamp = getD (e i) 1 0 }
+
+-- what is so where an outcome is done, and what of its reason, so of its number
+ok-number : {A P Q : Type 0} {m k : ℕ} {o : Out A} → k ≡ answer o → Ok (λ (_ : A). P) (λ (r : ℕ). (r ≡ m) × Q) o → ((k ≡ 0) × P) ⊎ ((k ≡ m) × Q)
+ok-number e (out.went p) = inl (e, p)
+ok-number e (out.said p) = inr (e ∙ p .0, p .1)
 
 module _ {R : Functions} {I : Image → Type 0} (T : Transports R I) (trusted : (s : Image) → I s → Passes s) where
   -- a read after a list of runs, where the definitions say what it gives there
@@ -206,6 +217,21 @@ module _ {R : Functions} {I : Image → Type 0} (T : Transports R I) (trusted : 
   runs-resized s u z w h n old at room a b x y k i O F r G t q =
       gave w h at room _ i (ran F r not-255 none) G t q (resized-to (pairOf s) (pairOf u) w h n old at room (trusted s i .passes) O F (went i none F r))
 
+  runs-read-new : RunsReadNew R I
+  unfolding RunsReadNew ReadsNew
+  runs-read-new s u z w h mode from len old at room a b x y k i O F r G t q =
+      gave w h at room _ i (ran F r not-255 none) G t q (reads-new (pairOf s) (pairOf u) w h mode from len old at room (trusted s i .passes) O (went i none F r))
+
+  runs-read-text : RunsReadText R I
+  unfolding RunsReadText ReadsText
+  runs-read-text s u z w v h g mode from len j at room a b x y k i L K F r G t q =
+      gave v g at room _ i (ran F r not-255 none) G t q (reads-text (pairOf s) (pairOf u) w v h g mode from len j at room (trusted s i .passes) L K (went i none F r))
+
+  runs-ranges-full : RunsRangesFull R I
+  unfolding RunsRangesFull RangesFull
+  runs-ranges-full s u w h mode from len j x y k i F r z q =
+      ok-number (one T i F r z .number) (ranges-full (pairOf s) w h mode from len j (trusted s i .passes) q)
+
   drawings : Drawings R I
   drawings = record {
     saved = runs-saved;
@@ -219,6 +245,9 @@ module _ {R : Functions} {I : Image → Type 0} (T : Transports R I) (trusted : 
     finds-it = runs-finds-it;
     laid-over = runs-laid-over;
     resized = runs-resized;
+    read-new = runs-read-new;
+    read-text = runs-read-text;
+    ranges-full = runs-ranges-full;
   }
 
 -- of tested functions, of an owner's, of both
@@ -240,6 +269,11 @@ pub number-full : NumberFull
 unfolding NumberFull Does FullExactly
 number-full c s u x y n r z =
     subst (λ (k : ℕ). (k ≡ tableFull) ↔ (ReachesCheck (pairOf s) c × NoPlace (pairOf s .table) (asker c))) (sym (number-is (does-calls c s u x y n r) z)) (full-exactly c (pairOf s))
+
+pub number-ranges : NumberRanges
+unfolding NumberRanges Does ReasonsRanges
+number-ranges s u x y n w h mode from len r z =
+    subst (λ (k : ℕ). (k ≡ 0) ⊎ T (has (reasonsIn mode) k)) (sym (number-is (does-calls (fallocate w h mode from len) s u x y n r) z)) (reasons-ranges w h mode from len (pairOf s))
 
 pub old-opens : OldOpens
 unfolding OldOpens OldOpen CheckSays OpenDoes

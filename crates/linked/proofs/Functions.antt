@@ -147,6 +147,7 @@ ran-did (tested.lists _ a t next _ _ _ _ _ _ _ _ L) = answers-did (λ x. (now a,
 ran-did (tested.reads _ a t _ _ count _ _ _ _ _ _ L) = answers-did (λ x. (now a, now t, places (x .1) (x .0) [])) L (fixed 4402 (now t) (fixed 1 (now count) same)) refl refl (λ _. unwritten refl refl refl)
 ran-did (tested.writes _ _ _ t _ _ _ _ _ _ _ L) = left-did L (fixed 4402 (now t) same) refl refl
 ran-did (tested.resizes _ _ _ t _ _ _ _ _ _ L) = left-did L (fixed 4402 (now t) same) refl refl
+ran-did (tested.fallocates _ _ _ t _ _ _ _ _ _ _ _ _ L) = left-did L (fixed 4402 (now t) same) refl refl
 ran-did (tested.syncs _ _ _ t _ _ L) = left-did L (fixed 4402 (now t) same) refl refl
 ran-did (tested.closes _ _ _ t _ _ _ _ _ L) = left-did L (fixed 4402 (now t) same) refl refl
 ran-did (tested.checks _ _ t out _ _ L) = check-did L (fixed 4402 (now t) (fixed 3 (now out) same))
@@ -186,6 +187,7 @@ owns-did y (owning.lists _ a _ t next _ _ _ _ _ _ _ _ L) = (answers-did (λ x. (
 owns-did y (owning.reads _ a _ t _ _ count _ _ _ _ _ _ L) = (answers-did (λ x. (now a, now t, places (x .1) (x .0) [])) (L (asked y)) (fixed 1 (now count) same) refl refl (λ _. unwritten refl refl refl), y .chained)
 owns-did y (owning.writes _ _ _ _ _ _ _ _ _ _ _ _ _ L) = (left-did (L (asked y) .0) same refl refl, L (asked y) .1)
 owns-did y (owning.resizes _ _ _ _ _ _ _ _ _ _ _ _ L) = (left-did (L (asked y) .0) same refl refl, L (asked y) .1)
+owns-did y (owning.fallocates _ _ _ _ _ _ _ _ _ _ _ _ _ _ _ L) = (left-did (L (asked y) .0) same refl refl, L (asked y) .1)
 owns-did y (owning.syncs _ _ _ _ _ _ _ _ L) = (left-did (L (asked y) .0) same refl refl, L (asked y) .1)
 owns-did y (owning.closes _ _ _ _ _ _ _ _ _ _ _ L) = (left-did (L (asked y) .0) same refl refl, L (asked y) .1)
 

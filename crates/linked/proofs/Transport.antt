@@ -11,7 +11,7 @@ use Rattle.table.specs.declared.Table.{Table}
 use Rattle.table_bytes.specs.Layout.{tableOf, tableBytes}
 use Rattle.table_bytes.proofs.Layouts.{length-fits, tableOf-tableBytes}
 use Rattle.sequences.specs.Pairs.{Pair, pair, Passed}
-use Rattle.sequences.specs.Calls.{Call, root, find, walk, create, link, removeFile, removeFolder, move, metadata, setMetadata, getEntry, listing, read, write, resize, sync, close, check, inventory, mend, Fits, does, reasonOf, next}
+use Rattle.sequences.specs.Calls.{Call, root, find, walk, create, link, removeFile, removeFolder, move, metadata, setMetadata, getEntry, listing, read, write, resize, fallocate, sync, close, check, inventory, mend, Fits, does, reasonOf, next}
 use Rattle.sequences.specs.Reasons.{reasonsOf, has}
 use Rattle.sequences.specs.Promises.{Along, Keeps}
 use Rattle.sequences.specs.Promises as along
@@ -39,6 +39,7 @@ not-in (listing w h m room) = (λ z. z, λ z. z)
 not-in (read w h place room) = (λ z. z, λ z. z)
 not-in (write w h place bytes) = (λ z. z, λ z. z)
 not-in (resize w h n) = (λ z. z, λ z. z)
+not-in (fallocate w h mode from len) = (λ z. z, λ z. z)
 not-in sync = (λ z. z, λ z. z)
 not-in (close w h) = (λ z. z, λ z. z)
 not-in check = (λ z. z, λ z. z)

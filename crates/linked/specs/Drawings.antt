@@ -3,21 +3,32 @@
 use mathlib.Core.Path.{_≡_}
 use mathlib.Core.List.{List, [], _∷_}
 use mathlib.Core.Logic.{_≢_, _⊎_, _↔_}
-use Prim.Native.Nat.{ℕ, _+_}
+use Prim.Native.Nat.{ℕ, _+_, _≤_, _<_}
+use lib.Dec.{T}
 use lib.ListN.{length, take}
 use contract.Lifetimes.{Lfts}
+use Rattle.base.specs.Out.{done}
 use Rattle.base.specs.Parts.{part, paste}
-use Rattle.base.specs.Reasons.{tableFull}
+use Rattle.base.specs.Reasons.{tableFull, noDeviceSpace}
+use Rattle.base.specs.declared.Found.the-variants.{At}
+use Rattle.arena.specs.Places.{freeCount}
 use Rattle.table.specs.declared.Handle.{Handle}
+use Rattle.table.specs.Table.{liveRow}
+use Rattle.sefs_laws.specs.Contents.{fileAt, sizeAt}
+use Rattle.ranges.specs.declared.FallocateMode.{FallocateMode}
+use Rattle.ranges.specs.Says.{questions, blocksWanted}
 use Rattle.edge_words.specs.Words.{handleWords}
 use Rattle.edge.proofs.dz_open.Reads as dz-open
 use Rattle.edge.proofs.dz_check.Reads as dz-check
-use Rattle.sequences.specs.Calls.{Call, find, read, write, resize, Fits, asker}
+use Rattle.sequences.specs.Calls.{Call, find, read, write, resize, fallocate, Fits, asker}
 use Rattle.sequences.specs.Promises.{Along, On}
 use Rattle.sequences.specs.TableFull.{ReachesCheck, NoPlace}
+use Rattle.sequences.specs.Reasons.{has}
+use Rattle.sequences.specs.Ranges.{reasonsIn}
 use Rattle.drawings.specs.Saved.{Elsewhere, ReadsAll, filledTo}
 use Rattle.drawings.specs.Rests.{Drawing, LeavesBe, Rested, Named}
 use Rattle.drawings.specs.Names.{LeavesName, LeavesBoth}
+use Rattle.drawings.specs.Ranges.{textAt, newText}
 use Rattle.linked.specs.Images.{_&_, Slice, Image, pairOf, Places}
 use Rattle.linked.specs.Tested.{Ran}
 use Rattle.linked.specs.Linked.{Functions, Runs}
@@ -111,6 +122,27 @@ module _ (R : Functions) (I : Image → Type 0) where
       → Fits (resize w h n) → R (resize w h n) s a u b 0
       → Fits (read w h at room) → R (read w h at room) u x z y k → k ≢ 255 → GaveBytes (part (take n (filledTo n old)) at (at + room)) x y k
 
+  -- `reads-new`: and after a fallocate that answers 0, in whatever mode
+  unfoldable pub RunsReadNew : Type 0
+  RunsReadNew = (s u z : Image) (w : ℕ) (h : Handle) (mode : FallocateMode) (from len : ℕ) (old : List ℕ) (at room : ℕ) (a b x y : Places) (k : ℕ) → I s → ReadsAll w h old (pairOf s)
+      → Fits (fallocate w h mode from len) → R (fallocate w h mode from len) s a u b 0
+      → Fits (read w h at room) → R (read w h at room) u x z y k → k ≢ 255 → GaveBytes (part (newText mode from len old) at (at + room)) x y k
+
+  -- `reads-text`: so through anybody's handle g on the row of h, whose file had that text
+  unfoldable pub RunsReadText : Type 0
+  RunsReadText = (s u z : Image) (w v : ℕ) (h g : Handle) (mode : FallocateMode) (from len i at room : ℕ) (a b x y : Places) (k : ℕ) → I s
+      → liveRow (pairOf s .table) w h ≡ At i → liveRow (pairOf s .table) v g ≡ At i
+      → Fits (fallocate w h mode from len) → R (fallocate w h mode from len) s a u b 0
+      → Fits (read v g at room) → R (read v g at room) u x z y k → k ≢ 255
+      → GaveBytes (part (newText mode from len (textAt (s .arena) (pairOf s .table) i)) at (at + room)) x y k
+
+  -- `ranges-full`: once all is asked, a fallocate answers 0 where the blocks that its mode wants are free, and else 17
+  unfoldable pub RunsRangesFull : Type 0
+  RunsRangesFull = (s u : Image) (w : ℕ) (h : Handle) (mode : FallocateMode) (from len i : ℕ) (x y : Places) (k : ℕ) → I s
+      → Fits (fallocate w h mode from len) → R (fallocate w h mode from len) s x u y k → k ≢ 255 → questions (s .arena) (pairOf s .table) w h mode from len ≡ done i
+      → ((k ≡ 0) × (blocksWanted mode (s .arena) (fileAt (pairOf s .table) i) (sizeAt (pairOf s .table) i) from len ≤ freeCount (s .arena)))
+      ⊎ ((k ≡ noDeviceSpace) × (freeCount (s .arena) < blocksWanted mode (s .arena) (fileAt (pairOf s .table) i) (sizeAt (pairOf s .table) i) from len))
+
   pub record Drawings : Type 0 where
     pub saved : RunsSaved
     pub both-saved : RunsBothSaved
@@ -123,12 +155,20 @@ module _ (R : Functions) (I : Image → Type 0) where
     pub finds-it : RunsFindsIt
     pub laid-over : RunsLaidOver
     pub resized : RunsResized
+    pub read-new : RunsReadNew
+    pub read-text : RunsReadText
+    pub ranges-full : RunsRangesFull
 
 -- ---- on any bytes
 
 -- `full-exactly`, of a tested function: 16 exactly where its call reaches the check and its asker has no place left
 unfoldable pub NumberFull : Type 0
 NumberFull = (c : Call) (s u : Image) (x y : Places) (n : ℕ) → Ran c s x u y n → n ≢ 255 → (n ≡ tableFull) ↔ (ReachesCheck (pairOf s) c × NoPlace (pairOf s .table) (asker c))
+
+-- `reasons-ranges`, of a tested function: which numbers each mode of a fallocate can answer
+unfoldable pub NumberRanges : Type 0
+NumberRanges = (s u : Image) (x y : Places) (n w : ℕ) (h : Handle) (mode : FallocateMode) (from len : ℕ) → Ran (fallocate w h mode from len) s x u y n → n ≢ 255
+    → (n ≡ 0) ⊎ T (has (reasonsIn mode) n)
 
 -- `old-open`: "so old projects open": where a check of the arena, with whatever table, answers 0, `dz_open` does
 unfoldable pub OldOpens : Type 0

@@ -20,7 +20,7 @@ use Rattle.edge_words.specs.Words.{handleWords, metadataWords}
 use Rattle.edge.specs.Edge.{lent, counted}
 use Rattle.owners_kept.specs.Owned.{Chained}
 use Rattle.sequences.specs.Pairs.{Pair, pair, Passed}
-use Rattle.sequences.specs.Calls.{Call, root, find, walk, create, link, removeFile, removeFolder, move, metadata, setMetadata, getEntry, listing, read, write, resize, sync, close, check, inventory, mend, does}
+use Rattle.sequences.specs.Calls.{Call, root, find, walk, create, link, removeFile, removeFolder, move, metadata, setMetadata, getEntry, listing, read, write, resize, fallocate, sync, close, check, inventory, mend, does}
 
 -- a slice as a contract sees it; `now` is what it holds
 abbrev pub Slice : Type 0
@@ -102,6 +102,7 @@ handed (listing w h next room) p x = lent (λ l. places ((next + length l / 264)
 handed (read w h place room) p x = lent (λ l. places (length l ∷ []) (paste (x .output) 0 l) (x .links)) x (callRead (p .arena) (p .table) w h place room)
 handed (write w h place bytes) p x = x
 handed (resize w h n) p x = x
+handed (fallocate w h mode from len) p x = x
 handed sync p x = x
 handed (close w h) p x = x
 handed check p x = lent (withWords x) x (counted (verdictOf (p .arena) (p .table)))

@@ -6,6 +6,7 @@ use lib.IntN.{ℤ}
 use lib.ListN.{length}
 use contract.Lifetimes.{Lfts}
 use denote.Ref.{now}
+use Rattle.ranges.specs.Modes.{modeOf}
 use Rattle.edge_words.specs.Words.{handleOf, timeOf}
 use Rattle.edge.specs.Edge.{startIn}
 use Rattle.owners.proofs.dz_own_root.Reads as own-root
@@ -23,9 +24,10 @@ use Rattle.owners_contents.proofs.dz_own_list.Reads as own-list
 use Rattle.owners_contents.proofs.dz_own_read.Reads as own-read
 use Rattle.owners_contents.proofs.dz_own_write.Reads as own-write
 use Rattle.owners_contents.proofs.dz_own_resize.Reads as own-resize
+use Rattle.owners_contents.proofs.dz_own_fallocate.Reads as own-fallocate
 use Rattle.owners.proofs.dz_own_sync.Reads as own-sync
 use Rattle.owners.proofs.dz_own_close.Reads as own-close
-use Rattle.sequences.specs.Calls.{Call, root, find, walk, create, link, removeFile, removeFolder, move, metadata, setMetadata, getEntry, listing, read, write, resize, sync, close}
+use Rattle.sequences.specs.Calls.{Call, root, find, walk, create, link, removeFile, removeFolder, move, metadata, setMetadata, getEntry, listing, read, write, resize, fallocate, sync, close}
 use Rattle.linked.specs.Images.{_&_, Slice, Image, image, Places, places, inWords, nowhere}
 
 pub data Owns : Call → Image → Places → Image → Places → ℕ → Type 0 where
@@ -89,6 +91,10 @@ pub data Owns : Call → Image → Places → Image → Places → ℕ → Type 
       → (own-resize.Asked κs (a & k & t & w & hold & stamp & size & tt)
       → own-resize.Learnt κs (a & k & t & w & hold & stamp & size & tt) n (a' & k' & t' & w & hold & stamp & size & tt))
       → Owns (resize w (handleOf hold stamp) size) (image (now a) (now k) (now t)) nowhere (image (now a') (now k') (now t')) nowhere n
+  fallocates : (κs : Lfts 3) (a a' k k' t t' : Slice) (w hold stamp mode flags from len n : ℕ)
+      → (own-fallocate.Asked κs (a & k & t & w & hold & stamp & mode & flags & from & len & tt)
+      → own-fallocate.Learnt κs (a & k & t & w & hold & stamp & mode & flags & from & len & tt) n (a' & k' & t' & w & hold & stamp & mode & flags & from & len & tt))
+      → Owns (fallocate w (handleOf hold stamp) (modeOf mode flags) from len) (image (now a) (now k) (now t)) nowhere (image (now a') (now k') (now t')) nowhere n
   syncs : (κs : Lfts 3) (a a' k k' t t' : Slice) (n : ℕ)
       → (own-sync.Asked κs (a & k & t & tt)
       → own-sync.Learnt κs (a & k & t & tt) n (a' & k' & t' & tt))

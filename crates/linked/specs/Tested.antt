@@ -10,6 +10,7 @@ use lib.IntN.{ℤ}
 use lib.ListN.{length}
 use contract.Lifetimes.{Lfts}
 use denote.Ref.{now}
+use Rattle.ranges.specs.Modes.{modeOf}
 use Rattle.edge_words.specs.Words.{handleOf, timeOf}
 use Rattle.edge.specs.Edge.{startIn}
 use Rattle.edge.proofs.dz_root.Reads as dz-root
@@ -27,12 +28,13 @@ use Rattle.edge_contents.proofs.dz_list.Reads as dz-list
 use Rattle.edge_contents.proofs.dz_read.Reads as dz-read
 use Rattle.edge_contents.proofs.dz_write.Reads as dz-write
 use Rattle.edge_contents.proofs.dz_resize.Reads as dz-resize
+use Rattle.edge_contents.proofs.dz_fallocate.Reads as dz-fallocate
 use Rattle.edge.proofs.dz_sync.Reads as dz-sync
 use Rattle.edge.proofs.dz_close.Reads as dz-close
 use Rattle.edge.proofs.dz_check.Reads as dz-check
 use Rattle.edge.proofs.dz_inventory.Reads as dz-inventory
 use Rattle.edge.proofs.dz_mend.Reads as dz-mend
-use Rattle.sequences.specs.Calls.{Call, root, find, walk, create, link, removeFile, removeFolder, move, metadata, setMetadata, getEntry, listing, read, write, resize, sync, close, check, inventory, mend}
+use Rattle.sequences.specs.Calls.{Call, root, find, walk, create, link, removeFile, removeFolder, move, metadata, setMetadata, getEntry, listing, read, write, resize, fallocate, sync, close, check, inventory, mend}
 use Rattle.linked.specs.Images.{_&_, Slice, Image, image, Places, places, inWords, nowhere, reasonIn}
 
 -- a primed slice is the slice at exit; k are the chains, that the function is not lent
@@ -82,6 +84,9 @@ pub data Ran : Call → Image → Places → Image → Places → ℕ → Type 0
   resizes : (κs : Lfts 2) (a a' t t' : Slice) (w hold stamp size n : ℕ) {k : List ℕ}
       → dz-resize.Learnt κs (a & t & w & hold & stamp & size & tt) n (a' & t' & w & hold & stamp & size & tt)
       → Ran (resize w (handleOf hold stamp) size) (image (now a) k (now t)) nowhere (image (now a') k (now t')) nowhere n
+  fallocates : (κs : Lfts 2) (a a' t t' : Slice) (w hold stamp mode flags from len n : ℕ) {k : List ℕ}
+      → dz-fallocate.Learnt κs (a & t & w & hold & stamp & mode & flags & from & len & tt) n (a' & t' & w & hold & stamp & mode & flags & from & len & tt)
+      → Ran (fallocate w (handleOf hold stamp) (modeOf mode flags) from len) (image (now a) k (now t)) nowhere (image (now a') k (now t')) nowhere n
   syncs : (κs : Lfts 2) (a a' t t' : Slice) (n : ℕ) {k : List ℕ}
       → dz-sync.Learnt κs (a & t & tt) n (a' & t' & tt)
       → Ran sync (image (now a) k (now t)) nowhere (image (now a') k (now t')) nowhere n

@@ -24,7 +24,6 @@ ghost use Rattle.mending.specs.Mend.{mendSteps};
 ghost use Rattle.mending.specs.Room.{wanted, givenBack};
 ghost use Rattle.mend_plan.specs.Plan.{Placed, Ready, Fated};
 ghost use Rattle.mend_stores.specs.Stores.{stateOf, Storable, PutInMeta, freedIn, renewedBy, FreedTo, Begun, StoredTo, MetaHasBlocks};
-use base::clear;
 use base::copy;
 use base::index;
 use base::index16;
@@ -38,6 +37,7 @@ use mem::super_bytes;
 use mend_plan::GONE;
 use nodes::meta::map_at;
 use plans::put_block;
+use plans::read_block;
 use plans::touched;
 use structs::DiskINode;
 use structs::disk_inode_at;
@@ -51,14 +51,7 @@ fn read_place(arena: &[u8], places: &[u16], q: usize, off: usize, out: &mut [u8]
     requires { ⌜ off + length (now out) ≤ 480 ⌝ }
     ensures { λ _. ⌜ now (out .exit) ≡ run (now (arena .entry)) metaFile (480 * q + off) (length (now (out .entry))) ⌝ }
 {
-    let c = index16(places[q]);
-    if c == 0 {
-        clear(out);
-        return;
-    }
-    let s = 512 * (c - 1) + 24 + off;
-    let e = s + out.len();
-    copy(out, &arena[s..e]);
+    read_block(arena, index16(places[q]), off, out);
 }
 
 // The id's record, in one block or two.

@@ -5,16 +5,21 @@ ghost use Rattle.base.specs.Parts.{paste};
 ghost use Rattle.table_bytes.specs.Layout.{tableOf};
 ghost use Rattle.sefs.specs.Contents.{callRead, callWrite, callResize};
 ghost use Rattle.sefs.specs.Read.{callEntry, callListing};
+ghost use Rattle.ranges.specs.Modes.{modeOf};
+ghost use Rattle.ranges.specs.Ranges.{callFallocate};
 ghost use Rattle.mem.specs.Mem.{tableIn};
 ghost use Rattle.steps.specs.Ends.{Ended};
 ghost use Rattle.edge_words.specs.Words.{handleOf};
 ghost use Rattle.edge.specs.Edge.{sized, Answers, leftOf, startIn, listedIn, readIn};
 ghost use Rattle.owners_kept.specs.Owned.{Chained, Owned, Kept};
 use calls_entry::entry_led;
+use calls_fallocate::PLAN;
+use calls_fallocate::SOURCE;
+use calls_fallocate::fallocate_led;
+use calls_fallocate::fallocate_row;
 use calls_list::list_led;
 use calls_read::read_led;
 use calls_resize::resize_led;
-use calls_resize::set_size;
 use calls_write::write_led;
 use calls_write::write_row;
 use edge_ends::ends::end_after;
@@ -26,6 +31,9 @@ use edge_words::WRONG_SIZE;
 use edge_words::args::handle;
 use mem::MEMORY;
 use mem::begin;
+use ranges::FallocateMode;
+use ranges::mode_of;
+use sizes::set_size;
 use sound::chain_all;
 use table::Handle;
 use verdicts::start_of;
@@ -182,6 +190,122 @@ pub extern "C" fn dz_own_resize(
     let mut mem = [0u8; MEMORY];
     begin(&mut mem, &table[..]);
     let r = resize_on(arena, chains, &mut mem, owner, handle(hold, stamp), size);
+    end_after(table, &mem, r)
+}
+
+// ---- fallocate
+
+// Where nothing is refused and nothing is to do, arena and chains stay.
+fn fallocate_in(
+    arena: &mut [u8],
+    chains: &mut [u16],
+    mem: &mut [u8],
+    who: u8,
+    h: Handle,
+    mode: FallocateMode,
+    from: u64,
+    len: u64,
+    plan: &mut [u16],
+    source: &mut [u16],
+) -> u8
+    requires { ⌜ Kept (now arena) (now chains) (now mem) × ((length (now plan) ≡ 4096) × (length (now source) ≡ 4097)) ⌝ }
+    ensures { λ r. ⌜ Ended (callFallocate (now (arena .entry)) (tableIn (now (mem .entry))) who h mode from len) (now (arena .entry)) (now (arena .exit)) (tableIn (now (mem .exit))) r ⌝ }
+    ensures { λ _. ⌜ Chained (now (arena .exit)) (now (chains .exit)) ⌝ }
+{
+    let c = &chains[..];
+    let s = fallocate_led(
+        &arena[..],
+        &c[..4096],
+        &c[4096..8192],
+        &mem[..],
+        who,
+        h,
+        mode,
+        from,
+        len,
+        plan,
+        source,
+    );
+    if s.reason != 0 {
+        return s.reason;
+    }
+    if s.idle {
+        return 0;
+    }
+    fallocate_row(
+        arena,
+        mem,
+        s.row,
+        s.head,
+        mode,
+        from,
+        len,
+        plan,
+        &source[..],
+    );
+    chain_all(&arena[..], chains);
+    0
+}
+
+fn fallocate_on(
+    arena: &mut [u8],
+    chains: &mut [u16],
+    mem: &mut [u8],
+    who: u8,
+    h: Handle,
+    mode: FallocateMode,
+    from: u64,
+    len: u64,
+) -> u8
+    requires { ⌜ Kept (now arena) (now chains) (now mem) ⌝ }
+    ensures { λ r. ⌜ Ended (callFallocate (now (arena .entry)) (tableIn (now (mem .entry))) who h mode from len) (now (arena .entry)) (now (arena .exit)) (tableIn (now (mem .exit))) r ⌝ }
+    ensures { λ _. ⌜ Chained (now (arena .exit)) (now (chains .exit)) ⌝ }
+{
+    let mut plan = [0u16; PLAN];
+    let mut source = [0u16; SOURCE];
+    fallocate_in(
+        arena,
+        chains,
+        mem,
+        who,
+        h,
+        mode,
+        from,
+        len,
+        &mut plan,
+        &mut source,
+    )
+}
+
+#[no_mangle]
+pub extern "C" fn dz_own_fallocate(
+    arena: &mut [u8],
+    chains: &mut [u16],
+    table: &mut [u8],
+    owner: u8,
+    hold: u32,
+    stamp: u64,
+    mode: u8,
+    flags: u8,
+    from: u64,
+    len: u64,
+) -> u32
+    requires { ⌜ Owned (now arena) (now chains) (now table) ⌝ }
+    ensures { λ r. ⌜ Answers (callFallocate (now (arena .entry)) (tableOf (now (table .entry))) owner (handleOf hold stamp) (modeOf mode flags) from len) leftOf (now (arena .entry), now (table .entry)) (now (arena .exit), now (table .exit)) r ⌝ }
+    ensures { λ _. ⌜ Chained (now (arena .exit)) (now (chains .exit)) ⌝ }
+{
+    let mut mem = [0u8; MEMORY];
+    begin(&mut mem, &table[..]);
+    let r = fallocate_on(
+        arena,
+        chains,
+        &mut mem,
+        owner,
+        handle(hold, stamp),
+        mode_of(mode, flags),
+        from,
+        len,
+    );
     end_after(table, &mem, r)
 }
 

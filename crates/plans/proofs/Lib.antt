@@ -1,2 +1,5 @@
+pub mod Decides
+pub mod Payloads
+pub mod Planned
 pub mod Plans
 pub mod Puts

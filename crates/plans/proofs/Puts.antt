@@ -2,17 +2,17 @@
 use mathlib.Core.Path.{_≡_, sym, ap, _∙_}
 use mathlib.Core.Bool.{true}
 use mathlib.Core.List.{List}
-use Prim.Native.Nat.{ℕ, _+_, _*_, _-_, _/_, _≤_, _<_}
+use Prim.Native.Nat.{ℕ, _+_, _-_, _/_, _≤_, _<_}
 use native.Mathlib.Omega.{arith}
 use lib.ListN.{length}
 use borrow.Author.Tests.{lt-ltb}
 use Rattle.base.specs.Out.{done}
-use Rattle.base.specs.Parts.{part, paste}
+use Rattle.base.specs.Parts.{paste}
 use Rattle.arena.specs.Blocks.{blk, putBlk, blocks}
 use Rattle.arena.specs.Fields.{File, seal, fresh}
 use Rattle.arena.specs.Places.{freeOf, freeCount}
 use Rattle.files.specs.Read.{there}
-use Rattle.files.specs.Store.{longest, claim, writeBlk, lo, hi, putBlock, putTo, touched, putFile}
+use Rattle.files.specs.Store.{longest, claim, writeBlk, putBlock, putTo, touched, putFile}
 use Rattle.files_laws.specs.Laws.{lacking}
 use Rattle.files_laws.proofs.Put.{put-upto, put-next, put-finds, put-all, put-more}
 use Rattle.chains.specs.Led.{blockAt}
@@ -20,16 +20,16 @@ use Rattle.plans.proofs.Plans.{block-there, block-gone}
 
 -- ---- one block
 
-module _ (d : List ℕ) (f : File) (pos : ℕ) (src : List ℕ) (q c : ℕ) (is : c ≡ blockAt d f q) where
+module _ (d : List ℕ) (f : File) (q off : ℕ) (src : List ℕ) (c : ℕ) (is : c ≡ blockAt d f q) where
   -- one that is there
-  pub put-old : (e : List ℕ) → 0 < c → e ≡ putBlk d (c - 1) (seal (paste (blk d (c - 1)) (24 + (lo pos q - 480 * q)) (part src (lo pos q - pos) (hi pos (length src) q - pos)))) → putBlock d f pos src q ≡ done e
-  unfolding putBlock writeBlk
-  put-old e l h = let b = block-there d f q c is l in rw (b .0, b .1) (ap done (sym h))
+  pub write-old : (e : List ℕ) → 0 < c → e ≡ putBlk d (c - 1) (seal (paste (blk d (c - 1)) (24 + off) src)) → writeBlk d f q off src ≡ done e
+  unfolding writeBlk
+  write-old e l h = let b = block-there d f q c is l in rw (b .0, b .1) (ap done (sym h))
 
   -- a new one
-  pub put-new : (e : List ℕ) (k : ℕ) → c ≡ 0 → k ≡ freeOf d → k < blocks d → e ≡ putBlk d k (seal (paste (fresh 2 f q) (24 + (lo pos q - 480 * q)) (part src (lo pos q - pos) (hi pos (length src) q - pos)))) → putBlock d f pos src q ≡ done e
-  unfolding putBlock writeBlk claim
-  put-new e k z at l h = rw (block-gone d f q c is z, ← at, lt-ltb k (blocks d) l) (ap done (sym h))
+  pub write-new : (e : List ℕ) (k : ℕ) → c ≡ 0 → k ≡ freeOf d → k < blocks d → e ≡ putBlk d k (seal (paste (fresh 2 f q) (24 + off) src)) → writeBlk d f q off src ≡ done e
+  unfolding writeBlk claim
+  write-new e k z at l h = rw (block-gone d f q c is z, ← at, lt-ltb k (blocks d) l) (ap done (sym h))
 
 -- ---- block by block
 

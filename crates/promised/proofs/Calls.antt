@@ -19,6 +19,8 @@ use Rattle.sefs.specs.Move.{callMove}
 use Rattle.sefs.specs.Read.{callMetadata, callSet, callEntry, callListing}
 use Rattle.sefs.specs.Contents.{callRead, callWrite, callResize}
 use Rattle.sefs.specs.Close.{callSync, callClose}
+use Rattle.ranges.specs.Ranges.{callFallocate}
+use Rattle.ranges.specs.declared.FallocateMode.{FallocateMode}
 use Rattle.walk.specs.Walk.{callWalk}
 use Rattle.inventory.specs.Inventory.{callInventory}
 use Rattle.mending.specs.Mend.{callMend}
@@ -38,7 +40,7 @@ use Rattle.calls_format.specs.Format.{formatted}
 use Rattle.calls_find.specs.Finds.{Gives}
 use Rattle.calls_mend.specs.Mends.{Mends}
 use Rattle.sequences.specs.Pairs.{Pair, pair, Passed}
-use Rattle.sequences.specs.Calls.{Call, root, find, walk, create, link, removeFile, removeFolder, move, metadata, setMetadata, getEntry, listing, read, write, resize, sync, close, inventory, mend, Fits, AskerFits, HandleFits, NewFits, SetFits, does, reasonOf, next}
+use Rattle.sequences.specs.Calls.{Call, root, find, walk, create, link, removeFile, removeFolder, move, metadata, setMetadata, getEntry, listing, read, write, resize, fallocate, sync, close, inventory, mend, Fits, AskerFits, HandleFits, NewFits, SetFits, does, reasonOf, next}
 use Rattle.sequences.specs.Promises.{Keeps, Well, Fresh}
 use Rattle.sequences.proofs.Sequences.{keeps}
 use Rattle.sequences.proofs.Fresh.{fresh}
@@ -228,6 +230,12 @@ module _ (p : Pair) (y : Passed p) where
         → Returned (p .table) (callResize (p .arena) (p .table) who h n) (p .arena) b r → Stays b (r .table) (answerNumber (r .answer))
     unfolding does
     resize-keeps n N = by-return (resize who h n) p (callResize (p .arena) (p .table) who h n) (held (resize who h n) (Q, H, N)) refl
+
+    pub fallocate-keeps : (mode : FallocateMode) (from len : ℕ) → from < 2 ^ 64 → len < 2 ^ 64 → (b : List ℕ) (r : answered.Reply)
+        → Returned (p .table) (callFallocate (p .arena) (p .table) who h mode from len) (p .arena) b r → Stays b (r .table) (answerNumber (r .answer))
+    unfolding does
+    fallocate-keeps mode from len F L =
+        by-return (fallocate who h mode from len) p (callFallocate (p .arena) (p .table) who h mode from len) (held (fallocate who h mode from len) (Q, H, F, L)) refl
 
     pub close-keeps : (b : List ℕ) (r : answered.Reply) → Returned (p .table) (callClose (p .arena) (p .table) who h) (p .arena) b r → Stays b (r .table) (answerNumber (r .answer))
     unfolding does

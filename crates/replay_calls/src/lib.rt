@@ -13,6 +13,7 @@ use le::u16_at;
 use le::u32_at;
 use le::u64_at;
 use mem::put_empty;
+use ranges::mode_of;
 use reads::set;
 use script::args::file_at;
 use script::args::handle_at;
@@ -134,7 +135,7 @@ fn rename(command: &[u8], arena: &mut [u8], mem: &mut [u8]) -> u8
     }
 }
 
-// ---- and close, write, resize, sync, set metadata
+// ---- and close, write, resize, fallocate, sync, set metadata
 
 fn close(command: &[u8], arena: &mut [u8], mem: &mut [u8]) -> u8
     requires { ⌜ length (now command) ≡ 8218 ⌝ }
@@ -163,6 +164,17 @@ fn resize(command: &[u8], arena: &mut [u8], mem: &mut [u8]) -> u8
     calls_resize::resize_on(arena, mem, command[1], h, n)
 }
 
+fn fallocate(command: &[u8], arena: &mut [u8], mem: &mut [u8]) -> u8
+    requires { ⌜ length (now command) ≡ 8218 ⌝ }
+    requires { ⌜ Whole (now mem) ⌝ }
+{
+    let h = handle_at(command, 2);
+    let mode = mode_of(command[14], command[15]);
+    let start = u64_at(command, 16);
+    let n = u64_at(command, 24);
+    calls_fallocate::fallocate_on(arena, mem, command[1], h, mode, start, n)
+}
+
 pub fn change(command: &[u8], arena: &mut [u8], mem: &mut [u8]) -> u8
     requires { ⌜ length (now command) ≡ 8218 ⌝ }
     requires { ⌜ Whole (now mem) ⌝ }
@@ -173,6 +185,7 @@ pub fn change(command: &[u8], arena: &mut [u8], mem: &mut [u8]) -> u8
         29 => close(command, arena, mem),
         33 => write(command, arena, mem),
         34 => resize(command, arena, mem),
+        40 => fallocate(command, arena, mem),
         _ => rename(command, arena, mem),
     }
 }

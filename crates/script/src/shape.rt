@@ -84,6 +84,19 @@ fn path_output(rest: &[u8]) -> usize
     with_output(rest, n)
 }
 
+// Who asks, a handle, a mode, which is at most 5, its flags and a range: fallocate.
+fn ranged(rest: &[u8]) -> usize
+    ensures { λ r. ⌜ r ≤ length (now (rest .entry)) ⌝ }
+{
+    if rest.len() < 32 {
+        return 0;
+    }
+    if rest[14] > 5 {
+        return 0;
+    }
+    32
+}
+
 // The commands of one size each.
 fn fixed(c: u8) -> usize {
     match c {
@@ -115,6 +128,7 @@ pub fn size_of(rest: &[u8], limit: usize) -> usize
         33 => named(rest, 22, 8192, 0),
         35 => path_output(rest),
         38 => with_output(rest, 1),
+        40 => ranged(rest),
         c => whole(rest, fixed(c)),
     }
 }

@@ -52,17 +52,17 @@ use Rattle.sefs_laws.proofs.Rows.{Any, any-pick}
 
 -- ---- what the three calls ask first
 
-record Admitted (a : List ℕ) (t : Table) : Type 0 where
-  right : legal a ≡ true
-  whole : sound a ≡ true
-  formed : wellFormed t ≡ true
+pub record Admitted (a : List ℕ) (t : Table) : Type 0 where
+  pub right : legal a ≡ true
+  pub whole : sound a ≡ true
+  pub formed : wellFormed t ≡ true
 
-record Asked (a : List ℕ) (t : Table) (w : ℕ) (h : Handle) (i : ℕ) : Type 0 where
-  admits : Admitted a t
-  owns : Owns t w h i
-  contents : hasContents (rowAt t i .rec) ≡ done tt
+pub record Asked (a : List ℕ) (t : Table) (w : ℕ) (h : Handle) (i : ℕ) : Type 0 where
+  pub admits : Admitted a t
+  pub owns : Owns t w h i
+  pub contents : hasContents (rowAt t i .rec) ≡ done tt
 
-admit-asks : (a : List ℕ) (t : Table) → Ok (λ _. Admitted a t) Any (admit a t)
+pub admit-asks : (a : List ℕ) (t : Table) → Ok (λ _. Admitted a t) Any (admit a t)
 unfolding admit admitArena
 admit-asks a t =
     ok-bind {P = λ _. (legal a ≡ true) × (sound a ≡ true)}
@@ -70,12 +70,12 @@ admit-asks a t =
     ok-weaken (λ _ w. record { right = p .0; whole = p .1; formed = w }) (λ _ _. tt) (ensure-asks {R = Any} (wellFormed t) 3 tt)
 
 -- an outcome that is done is done
-asks : (o : Out Unit) → Ok (λ _. o ≡ done tt) Any o
+pub asks : (o : Out Unit) → Ok (λ _. o ≡ done tt) Any o
 asks (done tt) = went refl
 asks (refused n) = said tt
 
 -- a read through a handle on row j
-reads-at : (a : List ℕ) (t : Table) (w : ℕ) (g : Handle) (j at room : ℕ) → Admitted a t → liveRow t w g ≡ At j
+pub reads-at : (a : List ℕ) (t : Table) (w : ℕ) (g : Handle) (j at room : ℕ) → Admitted a t → liveRow t w g ≡ At j
     → callRead a t w g at room ≡ bind (hasContents (rowAt t j .rec)) (λ _. readBytes a (fileAt t j) at (readCount (sizeAt t j) at room))
 unfolding callRead admit admitArena
 reads-at a t w g j at room A e =
@@ -83,21 +83,21 @@ reads-at a t w g j at room A e =
     rw (A .right, A .whole, A .formed, handle-done t w g j o) refl
 
 -- where the file is there, it gives the bytes below the size
-reads : (a : List ℕ) (t : Table) (w : ℕ) (h : Handle) (i at room : ℕ) → Asked a t w h i → there a (fileAt t i) ≡ true
+pub reads : (a : List ℕ) (t : Table) (w : ℕ) (h : Handle) (i at room : ℕ) → Asked a t w h i → there a (fileAt t i) ≡ true
     → callRead a t w h at room ≡ done (tab (byteAt a (fileAt t i)) at (readCount (sizeAt t i) at room))
 unfolding readBytes
 reads a t w h i at room A e = reads-at a t w h i at room (A .admits) (A .owns .live) ∙ rw (A .contents, e) refl
 
 -- a file that is as it was reads as it did
-reads-kept : (a d : List ℕ) (f : File) (at n : ℕ) → Kept a d f → readBytes d f at n ≡ readBytes a f at n
+pub reads-kept : (a d : List ℕ) (f : File) (at n : ℕ) → Kept a d f → readBytes d f at n ≡ readBytes a f at n
 unfolding readBytes
 reads-kept a d f at n K = rw (K .exists, tab-cong (byteAt d f) (byteAt a f) at at n (λ k _. K .byte (at + k))) refl
 
 -- all of a part below the size is read, and as much where the size is the same
-count-all : (n at room : ℕ) → at + room ≤ n → readCount n at room ≡ room
+pub count-all : (n at room : ℕ) → at + room ≤ n → readCount n at room ≡ room
 count-all n at room l = omega arith
 
-count-same : (n end at room : ℕ) → (at + room ≤ n) ⊎ (end ≤ n) → readCount (max n end) at room ≡ readCount n at room
+pub count-same : (n end at room : ℕ) → (at + room ≤ n) ⊎ (end ≤ n) → readCount (max n end) at room ≡ readCount n at room
 count-same n end at room low =
     ⊎-elim
     (λ l. count-all (max n end) at room (omega arith) ∙ sym (count-all n at room l))
@@ -108,16 +108,16 @@ count-below : (n end at room k : ℕ) → k < readCount n at room → (k < room)
 count-below n end at room k l = let m : at + k < n = omega arith in (omega arith, omega arith)
 
 -- zeros read
-tab-zero : (f : ℕ → ℕ) (at n : ℕ) → ((k : ℕ) → k < n → f (at + k) ≡ 0) → tab f at n ≡ replicate n 0
+pub tab-zero : (f : ℕ → ℕ) (at n : ℕ) → ((k : ℕ) → k < n → f (at + k) ≡ 0) → tab f at n ≡ replicate n 0
 tab-zero f at n z = tab-cong f (λ _. 0) at at n z ∙ tab-zeros at n
 
 -- ---- a row with another size
 
-one-row : (t : Table) (w : ℕ) (h : Handle) (i j : ℕ) → liveRow t w h ≡ At i → liveRow t w h ≡ At j → i ≡ j
+pub one-row : (t : Table) (w : ℕ) (h : Handle) (i j : ℕ) → liveRow t w h ≡ At i → liveRow t w h ≡ At j → i ≡ j
 one-row t w h i j e f = sym (live-means t w h i .0 e .names) ∙ live-means t w h j .0 f .names
 
 -- the holds alone say which row a handle has
-live-same : (t u : Table) (w : ℕ) (h : Handle) → u .holds ≡ t .holds → liveRow u w h ≡ liveRow t w h
+pub live-same : (t u : Table) (w : ℕ) (h : Handle) → u .holds ≡ t .holds → liveRow u w h ≡ liveRow t w h
 unfolding liveRow
 live-same t u w h e =
     ap (λ (l : List Hold). pick ((ltb (h .hold) 32 && (not (eqb (h .stamp) 0) && eqb (getD l (h .hold) zeroHold .stamp) (h .stamp))) && eqb (getD l (h .hold) zeroHold .owner) w) (foundBelow (getD l (h .hold) zeroHold .row) 34) Nothing) e
@@ -127,40 +127,40 @@ unfolding hasContents
 contents-same r n = refl
 
 module _ {a : List ℕ} {t : Table} {i n : ℕ} {dirty : Bool} {x : After} (O : Only a t i n dirty x) where
-  size-after : sizeAt (x .table) i ≡ n
+  pub size-after : sizeAt (x .table) i ≡ n
   size-after = ap (λ (r : Row). r .rec .size) (O .row)
 
-  file-after : fileAt (x .table) i ≡ fileAt t i
+  pub file-after : fileAt (x .table) i ≡ fileAt t i
   file-after = ap (λ (r : Row). nodeFile (r .rec)) (O .row)
 
-  asked-after : (w : ℕ) (h : Handle) → Asked a t w h i → Asked (x .arena) (x .table) w h i
+  pub asked-after : (w : ℕ) (h : Handle) → Asked a t w h i → Asked (x .arena) (x .table) w h i
   asked-after w h A = record {
     admits = record { right = legal-same a (x .arena) (O .long) ∙ A .admits .right; whole = O .keeps; formed = O .formed };
     owns = record { owner = A .owns .owner; live = live-same t (x .table) w h (O .holds) ∙ A .owns .live };
     contents = ap (λ (r : Row). hasContents (r .rec)) (O .row) ∙ contents-same (rowAt t i .rec) n ∙ A .contents;
   }
 
-  reads-after : (w : ℕ) (h : Handle) (at room : ℕ) → Asked a t w h i
+  pub reads-after : (w : ℕ) (h : Handle) (at room : ℕ) → Asked a t w h i
       → callRead (x .arena) (x .table) w h at room ≡ done (tab (byteAt (x .arena) (fileAt t i)) at (readCount n at room))
   reads-after w h at room A =
       reads (x .arena) (x .table) w h i at room (asked-after w h A) (ap (there (x .arena)) file-after ∙ O .exists)
       ∙ ap₂ (λ (f : File) (m : ℕ). done (tab (byteAt (x .arena) f) at (readCount m at room))) file-after size-after
 
-only-as : {a : List ℕ} {t : Table} {i m n : ℕ} {b c : Bool} {x : After} → m ≡ n → b ≡ c → Only a t i n c x → Only a t i m b x
+pub only-as : {a : List ℕ} {t : Table} {i m n : ℕ} {b c : Bool} {x : After} → m ≡ n → b ≡ c → Only a t i n c x → Only a t i m b x
 only-as {a} {t} {i} {m} {n} {b} {c} {x} e f O = subst (λ (k : ℕ). Only a t i k b x) (sym e) (subst (λ (y : Bool). Only a t i n y x) (sym f) O)
 
 -- what is known of the arena that a store on row i's file leaves
-record Stored (a : List ℕ) (f : File) (d : List ℕ) : Type 0 where
-  was : there a f ≡ true
-  files : (g : File) → f ≢ g → Kept a d g
-  exists : there d f ≡ true
-  long : length d ≡ length a
-  bytes : Bytes d
-  keeps : sound d ≡ true
+pub record Stored (a : List ℕ) (f : File) (d : List ℕ) : Type 0 where
+  pub was : there a f ≡ true
+  pub files : (g : File) → f ≢ g → Kept a d g
+  pub exists : there d f ≡ true
+  pub long : length d ≡ length a
+  pub bytes : Bytes d
+  pub keeps : sound d ≡ true
 
 module _ (a : List ℕ) (t : Table) (w : ℕ) (h : Handle) (i : ℕ) (A : Asked a t w h i) (d : List ℕ) (S : Stored a (fileAt t i) d) where
   -- the table stays
-  only-file : Only a t i (sizeAt t i) (rowAt t i .dirty) (record { arena = d; table = t })
+  pub only-file : Only a t i (sizeAt t i) (rowAt t i .dirty) (record { arena = d; table = t })
   only-file = record {
     row = refl;
     rows = λ j _. refl;
@@ -176,7 +176,7 @@ module _ (a : List ℕ) (t : Table) (w : ℕ) (h : Handle) (i : ℕ) (A : Asked 
   }
 
   -- row i gets another size
-  only-sized : (n : ℕ) → Only a t i n true (record { arena = d; table = takeRow t i (rowAt t i .id) (withSize (rowAt t i .rec) n) true })
+  pub only-sized : (n : ℕ) → Only a t i n true (record { arena = d; table = takeRow t i (rowAt t i .id) (withSize (rowAt t i .rec) n) true })
   only-sized n =
       let y : WellFormed t = well-formed t .0 (A .admits .formed) in
       let L = live-means t w h i .0 (A .owns .live) in
@@ -201,7 +201,7 @@ module _ (a : List ℕ) (t : Table) (w : ℕ) (h : Handle) (bytes-a : Bytes a) w
   cut-stored : (f : File) (n : ℕ) (d : List ℕ) → sound a ≡ true → Cut a f n d → Stored a f d
   cut-stored f n d ok C = record { was = C .was; files = C .others; exists = C .exists; long = C .size; bytes = C .bytes bytes-a; keeps = C .keeps bytes-a ok }
 
-  cut-resized : (i n : ℕ) (d : List ℕ) → Asked a t w h i → Cut a (fileAt t i) n d → Resized a t i n (record { arena = d; table = takeRow t i (rowAt t i .id) (withSize (rowAt t i .rec) n) true })
+  pub cut-resized : (i n : ℕ) (d : List ℕ) → Asked a t w h i → Cut a (fileAt t i) n d → Resized a t i n (record { arena = d; table = takeRow t i (rowAt t i .id) (withSize (rowAt t i .rec) n) true })
   cut-resized i n d A C =
       let O = only-sized a t w h i A d (cut-stored (fileAt t i) n d (A .admits .whole) C) n in
       record {

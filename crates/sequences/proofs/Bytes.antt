@@ -1,6 +1,6 @@
 -- What each call leaves of a node that is no folder, open or not: its type and its file, and the file's bytes where it is still there, unless the call
--- writes or resizes through a handle on it. A call stores into the metadata file, into the files of folders that it has handles on or moves, into a new
--- node's, and into the file of the node that it writes or resizes; and it removes files.
+-- writes, resizes or fallocates through a handle on it. A call stores into the metadata file, into the files of folders that it has handles on or moves,
+-- into a new node's, and into the file of the node that it writes, resizes or fallocates; and it removes files.
 use mathlib.Core.Path.{_≡_, refl, sym, ap, _∙_, subst}
 use mathlib.Core.Bool.{true, false}
 use mathlib.Core.List.{List}
@@ -57,11 +57,11 @@ use Rattle.image.proofs.Appends.{file-apart}
 use Rattle.image.proofs.Allocs.{taken-new}
 use Rattle.image.proofs.Makes.{Makes, new-node-law}
 use Rattle.sequences.specs.Pairs.{Pair, Passed}
-use Rattle.sequences.specs.Calls.{Call, root, find, walk, create, link, removeFile, removeFolder, move, metadata, setMetadata, getEntry, listing, read, write, resize, sync, close, check, inventory, mend, NewFits, Fits, does, next}
-use Rattle.sequences.specs.Promises.{Through, writes, resizes}
+use Rattle.sequences.specs.Calls.{Call, root, find, walk, create, link, removeFile, removeFolder, move, metadata, setMetadata, getEntry, listing, read, write, resize, fallocate, sync, close, check, inventory, mend, NewFits, Fits, does, next}
+use Rattle.sequences.specs.Promises.{Through, writes, resizes, fallocates}
 use Rattle.sequences.proofs.Passing.{allowed, spelled-any}
 use Rattle.sequences.proofs.Looks.{mend-stays}
-use Rattle.sequences.proofs.Tables.{FillsFolders, Turns, keeps-create, keeps-root, keeps-find, keeps-walk, keeps-set, keeps-link, keeps-remove, keeps-write, keeps-resize, keeps-sync, keeps-close}
+use Rattle.sequences.proofs.Tables.{FillsFolders, Turns, keeps-create, keeps-root, keeps-find, keeps-walk, keeps-set, keeps-link, keeps-remove, keeps-write, keeps-resize, keeps-fallocate, keeps-sync, keeps-close}
 use Rattle.sequences.proofs.Closes.{close-rows}
 use Rattle.sequences.proofs.Creates.{fair-sane}
 use Rattle.sequences.proofs.Moves.{move-call}
@@ -355,6 +355,8 @@ module _ (p : Pair) (y : Passed p) where
         ok-bind (keeps-write C (calm-bears f) a t w g place bytes (λ i l. calm-fills f i (live-firm w g i l) (row-apart w g i l (λ q. z (writes (live-means t w g i .1 l) q)))) (calm-start f)) λ x l. went (l .0)
     leaves (resize w g m) x z =
         ok-bind (keeps-resize C (calm-bears f) a t w g m (λ i l. calm-fills f i (live-firm w g i l) (row-apart w g i l (λ q. z (resizes (live-means t w g i .1 l) q)))) (calm-start f)) λ x l. went (l .0)
+    leaves (fallocate w g mode from len) x z =
+        ok-bind (keeps-fallocate C (calm-bears f) a t w g mode from len (λ i l. calm-fills f i (live-firm w g i l) (row-apart w g i l (λ q. z (fallocates (live-means t w g i .1 l) q)))) (calm-start f)) λ x l. went (l .0)
     leaves sync x z = ok-bind (keeps-sync C (calm-bears f) a t (calm-start f)) λ x l. went (l .0)
     -- the closed hold's row is firm no more
     leaves (close w g) x z =

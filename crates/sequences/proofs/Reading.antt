@@ -104,14 +104,14 @@ module _ (p : Pair) (y : Passed p) {w : ℕ} {h : Handle} {n : ℕ} {f : List �
     not-folder = rw (no-dir, node-is) refl
 
     -- "a non-folder's file length is its size"
-    long-is : lengthOf (p .arena) (file 1 f) ≡ rowAt (p .table) (o .row) .rec .size
+    pub long-is : lengthOf (p .arena) (file 1 f) ≡ rowAt (p .table) (o .row) .rec .size
     long-is =
         ap (λ (x : List ℕ). lengthOf a (file 1 x)) (sym (o .file))
         ∙ ap (λ (r : DiskINode). lengthOf a (nodeFile r)) (sym rec-is)
         ∙ A .rule6 .size n node-is not-folder
         ∙ ap (λ (r : DiskINode). r .size) rec-is
 
-    there-is : there (p .arena) (nodeFile (rowAt (p .table) (o .row) .rec)) ≡ true
+    pub there-is : there (p .arena) (nodeFile (rowAt (p .table) (o .row) .rec)) ≡ true
     there-is = ap (λ (r : DiskINode). there a (nodeFile r)) (sym rec-is) ∙ A .rule5 .own n node-is
 
     read-bytes : (at m : ℕ) → readBytes (p .arena) (nodeFile (rowAt (p .table) (o .row) .rec)) at m ≡ done (tab (byteAt (p .arena) (file 1 f)) at m)

@@ -29,7 +29,7 @@ use Rattle.sefs_laws.proofs.Says.{Says, says-then, says-ensure, says-done, says
 use Rattle.sefs_laws.proofs.Handles.{says-handle}
 use Rattle.image.proofs.Handles.{formed}
 use Rattle.sequences.specs.Pairs.{Pair, pair}
-use Rattle.sequences.specs.Calls.{Call, root, find, walk, create, link, removeFile, removeFolder, move, metadata, setMetadata, getEntry, listing, read, write, resize, sync, close, check, inventory, mend, asker, does, reasonOf, next}
+use Rattle.sequences.specs.Calls.{Call, root, find, walk, create, link, removeFile, removeFolder, move, metadata, setMetadata, getEntry, listing, read, write, resize, fallocate, sync, close, check, inventory, mend, asker, does, reasonOf, next}
 use Rattle.sequences.specs.Reasons.{reasonsOf, has, Reasons}
 use Rattle.sequences.specs.Places.{Makes, by-root, by-find, by-walk, by-create}
 use Rattle.sequences.specs.TableFull.{rootTo, findTo, walkTo, createTo, AreUpToCheck, ReachesCheck, root-to, find-to, walk-to, create-to, mostHolds, lastStamp, NoPlace, FullExactly, NoPlaceIs}
@@ -238,6 +238,7 @@ module _ (p : Pair) where
   full-says (read w h place room) e = absurd (never (read w h place room) refl e)
   full-says (write w h place bytes) e = absurd (never (write w h place bytes) refl e)
   full-says (resize w h n) e = absurd (never (resize w h n) refl e)
+  full-says (fallocate w h mode from len) e = absurd (never (fallocate w h mode from len) refl e)
   full-says sync e = absurd (never sync refl e)
   full-says (close w h) e = absurd (never (close w h) refl e)
   full-says check e = absurd (never check refl e)

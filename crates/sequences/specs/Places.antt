@@ -14,9 +14,10 @@ use Rattle.table.specs.Table.{rowAt, liveRow, ownHolds, canHold}
 use Rattle.table.specs.Formed.{wellFormed}
 use Rattle.table_laws.specs.Rules.{Owner}
 use Rattle.sefs.specs.Ask.{start}
+use Rattle.ranges.specs.declared.FallocateMode.{FallocateMode}
 use Rattle.walk.specs.Walk.{Spot, spot, walkIn}
 use Rattle.sequences.specs.Pairs.{Pair, pair, Passed}
-use Rattle.sequences.specs.Calls.{Call, root, find, walk, create, link, removeFile, removeFolder, move, metadata, setMetadata, getEntry, listing, read, write, resize, close, Fits, asker, reasonOf, next}
+use Rattle.sequences.specs.Calls.{Call, root, find, walk, create, link, removeFile, removeFolder, move, metadata, setMetadata, getEntry, listing, read, write, resize, fallocate, close, Fits, asker, reasonOf, next}
 use Rattle.sequences.specs.Promises.{Along, On, Safe}
 
 -- ---- "Whether a call that reaches that check meets TableFull depends on its owner's own live holds and the stamp supply alone."
@@ -83,6 +84,7 @@ pub data Names (h : Handle) : Call → Type 0 where
   reads : {v place room : ℕ} → Names h (read v h place room)
   writes : {v place : ℕ} {bytes : List ℕ} → Names h (write v h place bytes)
   resizes : {v n : ℕ} → Names h (resize v h n)
+  fallocates : {v from len : ℕ} {mode : FallocateMode} → Names h (fallocate v h mode from len)
   closes : {v : ℕ} → Names h (close v h)
 
 -- "4 for another's handle": w's live handle in a call of another owner

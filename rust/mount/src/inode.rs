@@ -3,8 +3,8 @@ use alloc::string::String;
 use alloc::sync::Arc;
 use alloc::vec::Vec;
 use core::any::Any;
-use dzomrelig::{Attributes, Editor, Entry, Handle, Image, Kind, NewKind, Place, Reason, Time, NAME_LONGEST};
-use rcore_fs::vfs::{self, DirentVisitor, FileSystem, FileType, FsError, INode, Metadata, Timespec};
+use dzomrelig::{Attributes, Editor, Entry, FallocateMode, Handle, Image, Kind, NewKind, Place, Reason, Time, NAME_LONGEST};
+use rcore_fs::vfs::{self, AllocFlags, DirentVisitor, FileSystem, FileType, FsError, INode, Metadata, Timespec};
 
 use crate::fs_error;
 use crate::share::Share;
@@ -112,6 +112,11 @@ impl INode for Inode {
         self.change(|editor, node| editor.resize(node, number(len)))
     }
 
+    /// Of the flags of an allocation `KEEP_SIZE` alone is looked at, as in SEFS.
+    fn fallocate(&self, mode: &vfs::FallocateMode, offset: usize, len: usize) -> vfs::Result<()> {
+        self.change(|editor, node| editor.fallocate(node, mode_of(mode), number(offset), number(len)))
+    }
+
     fn create(&self, name: &str, type_: FileType, mode: u16) -> vfs::Result<Arc<dyn INode>> {
         let kind = match type_ {
             FileType::File => NewKind::File,
@@ -206,6 +211,17 @@ fn time(t: Timespec) -> Time {
 
 fn timespec(t: Time) -> Timespec {
     Timespec { sec: t.sec, nsec: t.nsec }
+}
+
+fn mode_of(mode: &vfs::FallocateMode) -> FallocateMode {
+    match mode {
+        vfs::FallocateMode::Allocate(flags) => FallocateMode::Allocate { keep_size: flags.contains(AllocFlags::KEEP_SIZE) },
+        vfs::FallocateMode::PunchHoleKeepSize => FallocateMode::PunchHoleKeepSize,
+        vfs::FallocateMode::ZeroRange => FallocateMode::ZeroRange,
+        vfs::FallocateMode::ZeroRangeKeepSize => FallocateMode::ZeroRangeKeepSize,
+        vfs::FallocateMode::CollapseRange => FallocateMode::CollapseRange,
+        vfs::FallocateMode::InsertRange => FallocateMode::InsertRange,
+    }
 }
 
 fn type_of(kind: Kind) -> FileType {

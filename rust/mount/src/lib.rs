@@ -6,7 +6,7 @@
 //!
 //! Nothing here panics. What went wrong where nobody can be told, as in a drop, goes to [`Device::report`].
 //!
-//! What the traits have and this does not: `io_control` and `fallocate` answer `FsError::NotSupported`; `root_mac` is all zeros, since there are no MACs; `ext` is none.
+//! What the traits have and this does not: `io_control` answers `FsError::NotSupported`; `root_mac` is all zeros, since there are no MACs; `ext` is none.
 //! [`ERRORS`] has the error of each refusal.
 #![no_std]
 #![forbid(unsafe_code)]

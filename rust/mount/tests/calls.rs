@@ -7,7 +7,7 @@ use common::{fresh, no, open, root, NOW};
 use dzomrelig::{FailedRule, Owner, OWN_HOLDS};
 use dzomrelig_mount::{Device, Inode, Mount, EEXIST};
 use rcore_fs::dev::{DevResult, EIO};
-use rcore_fs::vfs::{FallocateMode, FileSystem, FileType, FsError, INode, Metadata};
+use rcore_fs::vfs::{AllocFlags, FallocateMode, FileSystem, FileType, FsError, INode, Metadata};
 
 fn file(folder: &Arc<dyn INode>, name: &str) -> Arc<dyn INode> {
     folder.create(name, FileType::File, 0o644).unwrap()
@@ -120,13 +120,49 @@ fn a_path_through_a_symlink() {
     assert_eq!(no(root.lookup_follow("link", 8)), FsError::SymLoop);
 }
 
+/// Each mode on a file of 300 bytes, the last 172 of which move in the last two.
+#[test]
+fn a_range_of_a_file() {
+    let (_, mount) = fresh(64);
+    let root = root(&mount);
+    let text: Vec<u8> = (1..=300).map(|i| (i % 251) as u8 + 1).collect();
+    let zeros = |n: usize| vec![0; n];
+    let of = |mode: FallocateMode, at: usize, len: usize| {
+        let a = file(&root, "a");
+        a.write_at(0, &text).unwrap();
+        a.fallocate(&mode, at, len).unwrap();
+        root.unlink("a").unwrap();
+        a.read_as_vec().unwrap()
+    };
+    assert_eq!(of(FallocateMode::Allocate(AllocFlags::KEEP_SIZE), 128, 256), text);
+    assert_eq!(of(FallocateMode::Allocate(AllocFlags::UNSHARE_RANGE), 128, 256), [text.clone(), zeros(84)].concat());
+    for mode in [FallocateMode::PunchHoleKeepSize, FallocateMode::ZeroRangeKeepSize] {
+        assert_eq!(of(mode, 100, 256), [text[..100].to_vec(), zeros(200)].concat());
+    }
+    assert_eq!(of(FallocateMode::ZeroRange, 100, 256), [text[..100].to_vec(), zeros(256)].concat());
+    assert_eq!(of(FallocateMode::CollapseRange, 0, 128), text[128..]);
+    assert_eq!(of(FallocateMode::InsertRange, 128, 256), [&text[..128], &zeros(256), &text[128..]].concat());
+    // what refuses them
+    let a = file(&root, "a");
+    a.write_at(0, &text).unwrap();
+    for mode in [FallocateMode::CollapseRange, FallocateMode::InsertRange] {
+        assert_eq!(root.fallocate(&mode, 0, 128), Err(FsError::NotFile));
+        assert_eq!(a.fallocate(&mode, 1, 128), Err(FsError::InvalidParam));
+        assert_eq!(a.fallocate(&mode, 384, 128), Err(FsError::InvalidParam));
+        assert_eq!(a.fallocate(&mode, usize::MAX, 128), Err(FsError::FileTooBig));
+    }
+    assert_eq!(a.fallocate(&FallocateMode::InsertRange, 0, 4_294_967_168), Err(FsError::FileTooBig));
+    assert_eq!(a.fallocate(&FallocateMode::InsertRange, 0, 480 * 64), Err(FsError::NoDeviceSpace));
+    assert_eq!(a.read_as_vec().unwrap(), text);
+    assert!(mount.check().is_ok());
+}
+
 #[test]
 fn what_there_is_not() {
     let (_, mount) = fresh(64);
     let root = root(&mount);
     let a = file(&root, "a");
     assert_eq!(a.io_control(1, 2), Err(FsError::NotSupported));
-    assert_eq!(a.fallocate(&FallocateMode::CollapseRange, 0, 128), Err(FsError::NotSupported));
     assert_eq!(mount.root_mac(), [0; 16]);
     assert!(a.ext().is_none());
     for kind in [FileType::CharDevice, FileType::BlockDevice, FileType::NamedPipe, FileType::Socket] {

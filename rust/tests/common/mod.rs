@@ -6,7 +6,7 @@ pub mod script;
 use std::ops::{Deref, DerefMut};
 use std::sync::atomic::{AtomicU64, Ordering};
 
-use dzomrelig::{Editor, FileName, Handle, Image, NewKind, Owner, Reason, Time};
+use dzomrelig::{Editor, FallocateMode, FileName, Handle, Image, NewKind, Owner, Reason, Time};
 use script::{way, TESTED};
 
 /// The first owner with an image of his own.
@@ -45,6 +45,42 @@ pub fn create<I: DerefMut<Target = Image>>(editor: &mut Editor<I>, folder: Handl
 /// The names of a folder.
 pub fn names<I: Deref<Target = Image>>(editor: &Editor<I>, folder: Handle) -> Vec<String> {
     editor.entries(folder).map(|entry| entry.unwrap().name_str().unwrap().to_owned()).collect()
+}
+
+/// The modes of ranges, in the order of their numbers.
+pub const MODES: [FallocateMode; 7] = [
+    FallocateMode::Allocate { keep_size: false },
+    FallocateMode::Allocate { keep_size: true },
+    FallocateMode::PunchHoleKeepSize,
+    FallocateMode::ZeroRange,
+    FallocateMode::ZeroRangeKeepSize,
+    FallocateMode::CollapseRange,
+    FallocateMode::InsertRange,
+];
+
+/// A mode: mostly one that moves bytes.
+pub fn mode_by_chance(n: &mut Numbers) -> FallocateMode {
+    match n.below(4) {
+        0 => FallocateMode::CollapseRange,
+        1 => FallocateMode::InsertRange,
+        _ => MODES[n.below(7) as usize],
+    }
+}
+
+/// What a file's bytes become by a call on a range of it, where that is done.
+pub fn ranged(text: &mut Vec<u8>, mode: FallocateMode, from: usize, length: usize) {
+    let (size, end) = (text.len(), from + length);
+    match mode {
+        FallocateMode::Allocate { keep_size: true } => {}
+        FallocateMode::Allocate { keep_size: false } => text.resize(size.max(end), 0),
+        FallocateMode::PunchHoleKeepSize | FallocateMode::ZeroRangeKeepSize => text[from.min(size)..end.min(size)].fill(0),
+        FallocateMode::ZeroRange => {
+            text.resize(size.max(end), 0);
+            text[from..end].fill(0);
+        }
+        FallocateMode::CollapseRange => drop(text.drain(from..end)),
+        FallocateMode::InsertRange => drop(text.splice(from..from, vec![0; length])),
+    }
 }
 
 /// A row of numbers that is the same in every run.

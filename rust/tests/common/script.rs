@@ -1,7 +1,7 @@
 //! Call scripts (docs/REPLAY.md), interpreted over the crate's public calls: a line of text for each call.
 use std::fmt::Write as _;
 
-use dzomrelig::{Attributes, Editor, FileName, Handle, Image, Place, Reason, Time, BLOCK, BLOCKS_LEAST, BLOCKS_MOST, TABLE};
+use dzomrelig::{Attributes, Editor, FallocateMode, FileName, Handle, Image, Place, Reason, Time, BLOCK, BLOCKS_LEAST, BLOCKS_MOST, TABLE};
 
 const SCRIPT_MOST: usize = 1 << 20;
 const ARENA_MOST: usize = BLOCK * (BLOCKS_MOST + 1);
@@ -67,6 +67,10 @@ impl<'a> Reader<'a> {
     fn name(&mut self) -> Read<&'a [u8]> {
         let length = Some(self.u16()? as usize).filter(|&n| n <= NAME_MOST).ok_or(BadScript)?;
         self.bytes(length)
+    }
+
+    fn mode(&mut self) -> Read<u8> {
+        Some(self.u8()?).filter(|&mode| mode <= FallocateMode::InsertRange.number()).ok_or(BadScript)
     }
 
     fn time(&mut self) -> Read<Time> {
@@ -163,7 +167,7 @@ impl Replay {
     }
 
     fn command(&mut self, byte: u8, s: &mut Reader) -> Read<()> {
-        let who = if matches!(byte, 18..=27 | 29 | 32..=37) { s.u8()? } else { 0 };
+        let who = if matches!(byte, 18..=27 | 29 | 32..=37 | 40) { s.u8()? } else { 0 };
         match byte {
             1 => {
                 let length = s.length(ARENA_MOST)?;
@@ -307,6 +311,12 @@ impl Replay {
                 let answer = self.image.mend();
                 self.image = way(&self.image);
                 self.line("mend", done(answer));
+            }
+            40 => {
+                let (h, mode, flags) = (s.handle()?, s.mode()?, s.u8()?);
+                let (from, length) = (s.u64()?, s.u64()?);
+                let answer = self.by(who).fallocate_numbered(h, mode, flags, from, length);
+                self.line("fallocate", done(answer));
             }
             _ => return Err(BadScript),
         }

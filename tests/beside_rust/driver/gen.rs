@@ -750,7 +750,21 @@ impl Sequence<'_> {
         }
     }
 
-    /// A read, write or resize, mostly of a node that has contents.
+    /// A range of a file, in any mode: mostly of whole pieces within what it has, now and then at any place, empty, past its end or far off.
+    fn range(&mut self, h: Handle) -> Call {
+        let pieces = self.world.table.row(h).map_or(0, |row| row.size()).min(20_000) / 128;
+        let mode = self.dice.of(&[0, 1, 2, 3, 4, 4, 4, 5, 5, 5]);
+        let from = if self.dice.once(6) { self.offset(h) } else { 128 * self.dice.below(pieces as usize + 2) as u64 };
+        let length = match self.dice.below(12) {
+            0 if !self.plan.hurt => self.far(),
+            0 | 1 => self.amount() as u64,
+            2 => 0,
+            _ => 128 * self.dice.of(&[1, 1, 1, 2, 3, 4, 5, 8, 15, 30]),
+        };
+        Call::Fallocate(h, mode, self.dice.of(&[0, 0, 1, 64, 255]), from, length)
+    }
+
+    /// A read, write, resize or fallocate, mostly of a node that has contents.
     fn contents(&mut self) -> Call {
         if self.world.table.own(self.who).iter().all(|h| self.is_folder(*h)) && !self.dice.once(8) {
             return if self.dice.once(2) { self.find() } else { self.create() };
@@ -760,9 +774,10 @@ impl Sequence<'_> {
         // A symlink mostly keeps its target.
         let link = !self.answered && self.links(false).contains(&h) && !self.dice.once(6);
         match if link { 0 } else { self.dice.below(30) } {
-            0..=9 => Call::Read(h, at, if self.dice.once(3) { 8192 } else { self.amount() as u16 }),
-            10..=22 => Call::Write(h, at, self.data()),
-            _ => Call::Resize(h, at),
+            0..=8 => Call::Read(h, at, if self.dice.once(3) { 8192 } else { self.amount() as u16 }),
+            9..=18 => Call::Write(h, at, self.data()),
+            19..=22 => Call::Resize(h, at),
+            _ => self.range(h),
         }
     }
 

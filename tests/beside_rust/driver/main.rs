@@ -1,7 +1,8 @@
 //! The Rust beside the port: `driver run` reads a call script and prints for each call what the Rust says of it; `driver gen SEED CALLS
 //! FILE` writes a script of its own to the file and prints the same of it; `driver sample SEED BYTES FILE` keeps only calls that the
 //! Rust answered; `driver raw` prints what the Rust itself does, no rule asked; `driver cuts` stops the script's last call after each
-//! number of its stores; `driver timed ROUNDS` times the calls, and `driver contents FILES ROUNDS` reads and writes.
+//! number of its stores; `driver timed ROUNDS` times the calls, `driver contents FILES ROUNDS` reads and writes, and
+//! `driver ranges ROUNDS` a range put in and taken out.
 //!
 //! A sum that is not known is a dash.
 //!
@@ -99,11 +100,12 @@ fn main() -> std::io::Result<()> {
             std::process::exit(0)
         }
         ["timed", rounds] => timed::timed(&mut out, &input()?, number(rounds))?,
+        ["ranges", rounds] => timed::ranges(&mut out, number(rounds))?,
         ["contents", files, rounds] => timed::contents(&mut out, number(files), number(rounds))?,
         ["gen", seed, calls, file] => gen(&mut out, gen::sequence(number(seed), number(calls) as usize, None), file)?,
         ["sample", seed, bytes, file] => gen(&mut out, gen::sample(number(seed), number(bytes) as usize), file)?,
         _ => {
-            eprintln!("driver run < SCRIPT\ndriver raw < SCRIPT\ndriver cuts < SCRIPT\ndriver timed ROUNDS < SCRIPT\ndriver contents FILES ROUNDS\ndriver gen SEED CALLS FILE\ndriver sample SEED BYTES FILE");
+            eprintln!("driver run < SCRIPT\ndriver raw < SCRIPT\ndriver cuts < SCRIPT\ndriver timed ROUNDS < SCRIPT\ndriver contents FILES ROUNDS\ndriver ranges ROUNDS\ndriver gen SEED CALLS FILE\ndriver sample SEED BYTES FILE");
             std::process::exit(2)
         }
     }

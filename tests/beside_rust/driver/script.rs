@@ -46,15 +46,17 @@ pub enum Call {
     /// Length of the output.
     Inventory(u16),
     Mend,
+    /// Mode, flags, start, length.
+    Fallocate(Handle, u8, u8, u64, u64),
 }
 
-pub const KINDS: usize = 22;
+pub const KINDS: usize = 23;
 #[rustfmt::skip]
 pub const NAMES: [&str; KINDS] =
     ["format", "open", "root", "find", "create", "link", "move", "metadata", "set", "entry", "list", "sync", "close", "check",
-     "read", "write", "resize", "walk", "remove-file", "remove-folder", "inventory", "mend"];
+     "read", "write", "resize", "walk", "remove-file", "remove-folder", "inventory", "mend", "fallocate"];
 /// The commands' bytes: from 32 on those that document 02 adds; 22 was unlink.
-const BYTES: [u8; KINDS] = [16, 17, 18, 19, 20, 21, 23, 24, 25, 26, 27, 28, 29, 30, 32, 33, 34, 35, 36, 37, 38, 39];
+const BYTES: [u8; KINDS] = [16, 17, 18, 19, 20, 21, 23, 24, 25, 26, 27, 28, 29, 30, 32, 33, 34, 35, 36, 37, 38, 39, 40];
 
 impl Call {
     /// Its place among the names.
@@ -82,6 +84,7 @@ impl Call {
             Call::RemoveFolder(..) => 19,
             Call::Inventory(_) => 20,
             Call::Mend => 21,
+            Call::Fallocate(..) => 22,
         }
     }
 
@@ -103,7 +106,7 @@ impl Call {
             Call::Find(h, _) | Call::Create(h, ..) | Call::RemoveFile(h, _) | Call::RemoveFolder(h, _) => vec![*h],
             Call::Link(h, _, g) | Call::Move(h, _, g, _) => vec![*h, *g],
             Call::Metadata(h) | Call::Set(h, ..) | Call::Entry(h, ..) | Call::List(h, ..) | Call::Close(h) => vec![*h],
-            Call::Read(h, ..) | Call::Write(h, ..) | Call::Resize(h, _) | Call::Walk(h, ..) => vec![*h],
+            Call::Read(h, ..) | Call::Write(h, ..) | Call::Resize(h, _) | Call::Walk(h, ..) | Call::Fallocate(h, ..) => vec![*h],
             _ => vec![],
         }
     }
@@ -202,6 +205,12 @@ impl Call {
                 out.extend(room.to_le_bytes());
             }
             Call::Inventory(room) => out.extend(room.to_le_bytes()),
+            Call::Fallocate(h, mode, flags, from, length) => {
+                put_handle(out, h);
+                out.extend([*mode, *flags]);
+                out.extend(from.to_le_bytes());
+                out.extend(length.to_le_bytes());
+            }
             Call::Open | Call::Root | Call::Sync | Call::Check | Call::Mend => (),
         }
     }
@@ -307,6 +316,7 @@ impl Script<'_> {
             37 => Call::RemoveFolder(self.handle()?, self.name()?),
             38 => Call::Inventory(self.room()?),
             39 => Call::Mend,
+            40 => Call::Fallocate(self.handle()?, self.mode()?, self.bytes(1)?[0], self.u64()?, self.u64()?),
             _ => return None,
         })
     }
@@ -343,6 +353,10 @@ impl Script<'_> {
 
     fn room(&mut self) -> Option<u16> {
         self.u16().filter(|n| *n <= 8192)
+    }
+
+    fn mode(&mut self) -> Option<u8> {
+        self.bytes(1).map(|b| b[0]).filter(|n| *n <= 5)
     }
 
     fn handle(&mut self) -> Option<Handle> {

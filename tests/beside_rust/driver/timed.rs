@@ -1,11 +1,11 @@
 //! `driver timed ROUNDS < SCRIPT`: the nanoseconds that the Rust takes for each kind of call of a script, the least of so many rounds. Its
 //! device keeps files as plain bytes in memory, and a hold is an `Arc` at the lowest free place: nothing is compared here.
-//! `driver contents FILES ROUNDS`: the same of reads and writes of three sizes, beside so many files.
+//! `driver contents FILES ROUNDS`: the same of reads and writes of three sizes, beside so many files. `driver ranges ROUNDS`: of a range put in and taken out.
 use crate::script::{Call, Command, Handle, Next, Script, KINDS, NAMES};
 use crate::walk::MOST_LINKS;
-use crate::world::{feed, kind_of, metadata_of, text, Lister, FED};
+use crate::world::{feed, kind_of, metadata_of, mode_of, text, Lister, FED};
 use rcore_fs::dev::{DevError, DevResult};
-use rcore_fs::vfs::{FileSystem, INode, Result, Timespec};
+use rcore_fs::vfs::{FallocateMode, FileSystem, INode, Result, Timespec};
 use rcore_fs_sefs::dev::{File, SefsMac, Storage};
 use rcore_fs_sefs::SEFS;
 use std::collections::HashMap;
@@ -128,6 +128,9 @@ impl Image {
             Call::Read(h, at, room) => self.node(h).read_at(*at as usize, &mut vec![0; *room as usize]).map(|_| ()),
             Call::Write(h, at, data) => self.node(h).write_at(*at as usize, data).map(|_| ()),
             Call::Resize(h, length) => self.node(h).resize(*length as usize),
+            Call::Fallocate(h, mode, flags, from, length) => {
+                self.node(h).fallocate(&mode_of(*mode, *flags), *from as usize, *length as usize)
+            }
             Call::Walk(h, path, _) => self.node(h).lookup_follow(text(path), MOST_LINKS).map(|node| self.hold(node)),
             Call::Check | Call::Inventory(_) | Call::Mend => panic!("the Rust has no such call"),
         }
@@ -159,6 +162,7 @@ pub fn timed(out: &mut impl Write, bytes: &[u8], rounds: u64) -> std::io::Result
 
 const LONGEST: usize = 100_000;
 const PLACE: usize = 100;
+const LINE: usize = 128;
 const TIMES: u32 = 20;
 
 /// The nanoseconds of one call, `before` not counted; the least of so many rounds.
@@ -177,7 +181,8 @@ fn least(rounds: u64, before: impl Fn(), act: impl Fn()) -> f64 {
     best
 }
 
-pub fn contents(out: &mut impl Write, files: u64, rounds: u64) -> std::io::Result<()> {
+/// An image of so many closed files, and an empty one that is open.
+fn outline(files: u64) -> (Image, Arc<dyn INode>) {
     let mut image = Image::default();
     let time = Timespec { sec: 0, nsec: 0 };
     let root = Handle { hold: 0, stamp: 1 };
@@ -190,7 +195,29 @@ pub fn contents(out: &mut impl Write, files: u64, rounds: u64) -> std::io::Resul
     }
     image.perform(&create("outline".to_string(), files)).unwrap();
     let node = image.holds[1].clone().unwrap();
-    let data: Vec<u8> = (0..LONGEST).map(|i| (i * 7 + 1) as u8).collect();
+    (image, node)
+}
+
+fn drawn(n: usize) -> Vec<u8> {
+    (0..n).map(|i| (i * 7 + 1) as u8).collect()
+}
+
+/// A line of 128 bytes put in at the start of a file of whole lines, and taken out again.
+pub fn ranges(out: &mut impl Write, rounds: u64) -> std::io::Result<()> {
+    let (_image, node) = outline(0);
+    let data = drawn(LONGEST.next_multiple_of(LINE));
+    assert_eq!(node.write_at(0, &data).unwrap(), data.len());
+    let put_in = || node.fallocate(&FallocateMode::InsertRange, 0, LINE).unwrap();
+    let take_out = || node.fallocate(&FallocateMode::CollapseRange, 0, LINE).unwrap();
+    put_in();
+    writeln!(out, "insert {TIMES} {:.0}", least(rounds, take_out, put_in))?;
+    take_out();
+    writeln!(out, "collapse {TIMES} {:.0}", least(rounds, put_in, take_out))
+}
+
+pub fn contents(out: &mut impl Write, files: u64, rounds: u64) -> std::io::Result<()> {
+    let (_image, node) = outline(files);
+    let data = drawn(LONGEST);
     let copy = std::cell::RefCell::new(vec![0; LONGEST]);
     for size in [480, 8192, LONGEST] {
         let write = || assert_eq!(node.write_at(PLACE, &data[..size]).unwrap(), size);

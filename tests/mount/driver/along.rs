@@ -6,7 +6,7 @@ use crate::gen::Beside;
 use crate::image::{Mounted, REPORTS};
 use crate::script::{Call, Command, Handle};
 use crate::walk::{Beside as WalkedBeside, Stop, Walk, Walked};
-use crate::world::{feed, kind_of, metadata_of, text, Line, World};
+use crate::world::{feed, kind_of, metadata_of, mode_of, text, Line, World};
 use dzomrelig::Reason;
 use dzomrelig_mount::fs_error;
 use rcore_fs::vfs::{DirentVisitor, FileSystem, FileType, FsError, INode, Metadata, Result};
@@ -148,6 +148,9 @@ impl<'a> Along<'a> {
                 Ok(Got::Done)
             }
             Call::Resize(h, length) => self.node(*h).resize(*length as usize).map(|_| Got::Done),
+            Call::Fallocate(h, mode, flags, from, length) => {
+                self.node(*h).fallocate(&mode_of(*mode, *flags), *from as usize, *length as usize).map(|_| Got::Done)
+            }
             Call::Format(..) | Call::Open | Call::Check | Call::Walk(..) | Call::Inventory(_) | Call::Mend => panic!("not a call of the traits"),
         }
     }

@@ -4,7 +4,7 @@ use Rattle.base.proofs.Outs.{went-has, went-not}
 use Rattle.sound.proofs.Chains.{length-firsts}
 use Rattle.mem.specs.Mem.{tableIn}
 use Rattle.calls.proofs.Asks.{blank}
-use Rattle.calls_resize.proofs.Asked.{end-unadmitted, went-reason}
+use Rattle.sizes.proofs.Asked.{end-unadmitted, went-reason}
 use borrow.Author.Needs.{needs}
 use Rattle.calls_resize.proofs.resize_asked.Statement.{statement}
 use Rattle.calls_resize.proofs.resize_asked.Tie as tie

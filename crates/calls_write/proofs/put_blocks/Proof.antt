@@ -13,8 +13,8 @@ use Rattle.files.specs.Store.{longest, putTo}
 use Rattle.files_laws.proofs.Views.{there-at}
 use Rattle.plans.proofs.Plans.{touched-lies}
 use Rattle.plans.proofs.Puts.{put-turn, put-whole}
-use Rattle.calls_write.specs.Write.{Planned}
-use Rattle.calls_write.proofs.Puts.{plan-holds, plan-room, put-first}
+use Rattle.plans.specs.Plan.{Planned}
+use Rattle.plans.proofs.Planned.{plan-holds, plan-room, put-first}
 use Rattle.calls_write.proofs.put_blocks.Statement.{statement}
 use Rattle.calls_write.proofs.put_blocks.Tie as tie
 

@@ -23,9 +23,9 @@ rec-at-requires c κs = (c .before .before .before .before .before .before .befo
 
 decide-requires : tie.Need-decide-requires
 decide-requires c κs =
-    let s = c .before .before .before .before .before .before .before .before .before .before in
-    let R = went-has (c .before .before .before .before .reach-file .ensures) (c .before .before .if1 .left) in
-    (s .pre .0 .led, (s .pre .1, (R .range, ap (λ (r : DiskINode). there (s .args .arena .now) (nodeFile r)) (c .before .rec-at .ensures) ∙ R .exists)))
+    let s = c .before .before .before .before .before .before .before .before .before .before .before .before in
+    let R = went-has (c .before .before .before .before .before .before .reach-file .ensures) (c .before .before .before .before .if1 .left) in
+    (s .pre .0 .led, (s .pre .1, (R .range, ap (λ (r : DiskINode). there (s .args .arena .now) (nodeFile r)) (c .before .before .before .rec-at .ensures) ∙ R .exists)))
 
 not-sized-requires : tie.Need-not-sized-requires
 not-sized-requires c κs = search needs
@@ -35,16 +35,16 @@ same-length c = search needs
 
 returns-2 : tie.Need-returns-2
 returns-2 c =
-    let s = c .before .before .before .before .before .before .before .before .before .before .before .before .before .before .before in
-    λ src size. rest-reason (c .not-sized .ensures) (write-full (s .args .arena .now) (tableIn (s .args .mem .now)) (s .args .who) (s .args .h) (s .args .place) (s .args .n) (c .before .before .before .before .before .before .before .before .before .reach-file .ensures) _ (c .before .before .before .before .before .before .rec-at .ensures) (c .before .before .before .before .decide .ensures) (c .before .before .before .before .before .before .before .if1 .left) (c .before .if2 .taken) _ _ src size)
+    let s = c .before .before .before .before .before .before .before .before .before .before .before .before .before .before .before .before .before in
+    λ src size. rest-reason (c .not-sized .ensures) (write-full (s .args .arena .now) (tableIn (s .args .mem .now)) (s .args .who) (s .args .h) (s .args .place) (s .args .n) (c .before .before .before .before .before .before .before .before .before .before .before .reach-file .ensures) _ (c .before .before .before .before .before .before .before .before .rec-at .ensures) (c .before .before .before .before .decide .ensures) (c .before .before .before .before .before .before .before .before .before .if1 .left) (c .before .if2 .taken) _ _ src size)
 
 same-length-2 : tie.Need-same-length-2
 same-length-2 c = search needs
 
 returns-3 : tie.Need-returns-3
 returns-3 c =
-    let s = c .before .before .before .before .before .before .before .before .before .before .before .before .before .before in
-    λ src size. rest-reason (c .before .before .before .before .before .before .if1 .left) (write-on (s .args .arena .now) (tableIn (s .args .mem .now)) (s .args .who) (s .args .h) (s .args .place) (s .args .n) (c .before .before .before .before .before .before .before .before .reach-file .ensures) _ (c .before .before .before .before .before .rec-at .ensures) (c .before .before .before .decide .ensures) (c .before .before .before .before .before .before .if1 .left) (c .if2 .left) src size)
+    let s = c .before .before .before .before .before .before .before .before .before .before .before .before .before .before .before .before in
+    λ src size. rest-reason (c .before .before .before .before .before .before .before .before .if1 .left) (write-on (s .args .arena .now) (tableIn (s .args .mem .now)) (s .args .who) (s .args .h) (s .args .place) (s .args .n) (c .before .before .before .before .before .before .before .before .before .before .reach-file .ensures) _ (c .before .before .before .before .before .before .before .rec-at .ensures) (c .before .before .before .decide .ensures) (c .before .before .before .before .before .before .before .before .if1 .left) (c .if2 .left) src size)
 
 pub write-led-spec : {M : Type 1} → statement M
 write-led-spec =

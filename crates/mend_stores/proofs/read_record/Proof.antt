@@ -5,9 +5,10 @@ use native.Mathlib.Omega.{arith}
 use lib.ListN.{length}
 use Rattle.base.specs.Parts.{part, back}
 use Rattle.base.proofs.Lists.{length-part}
+use Rattle.files.specs.Read.{byteAt}
 use Rattle.sefs.specs.Meta.{metaFile}
-use Rattle.rules.specs.Image.{run}
-use Rattle.mend_stores.proofs.Bytes.{begun, record-one, record-two}
+use Rattle.plans.proofs.Payloads.{begun, in-one, in-two}
+use Rattle.rules.specs.Image.{run, storedBytes}
 use borrow.Author.Needs.{needs}
 use Rattle.mend_stores.proofs.read_record.Statement.{statement}
 use Rattle.mend_stores.proofs.read_record.Tie as tie
@@ -49,10 +50,11 @@ same-length : tie.Need-same-length
 same-length c = search needs
 
 returns : tie.Need-returns
+unfolding storedBytes
 returns c =
     let f = c .before .before .before in
     let s = f .before .before .before .before .before .before in
-    record-one (s .args .arena .now) (s .args .id) (f .before .before .least .result) (s .args .out .now) _ (s .pre .1 .1) (omega (arith, f .before .before .least .ensures)) (first f) (c .if1 .taken)
+    in-one (byteAt (s .args .arena .now) metaFile) (128 * s .args .id) 112 (f .before .before .least .result) (s .args .out .now) _ (s .pre .1 .1) (omega (arith, f .before .before .least .ensures)) (first f) (c .if1 .taken)
 
 add-read-place : tie.Need-add-read-place
 add-read-place c = search needs
@@ -73,7 +75,7 @@ rest c =
     let s = f .before .before .before .before .before .before in
     let m = f .before .before .least .result in
     let few : m ≤ 112 = omega (arith, f .before .before .least .ensures) in
-    length-part (back (s .args .out .now) 0 m (f .read-place .last .1 .1 .1 .1 .0)) m 112 few (omega (arith, begun (s .args .arena .now) (s .args .id) m (s .args .out .now) _ (s .pre .1 .1) few (first f) .size))
+    length-part (back (s .args .out .now) 0 m (f .read-place .last .1 .1 .1 .1 .0)) m 112 few (omega (arith, begun (byteAt (s .args .arena .now) metaFile) (128 * s .args .id) 112 m (s .args .out .now) _ (s .pre .1 .1) few (first f) .size))
 
 read-place-requires-2 : tie.Need-read-place-requires-2
 read-place-requires-2 c κs =
@@ -85,13 +87,14 @@ same-length-2 : tie.Need-same-length-2
 same-length-2 c = search needs
 
 returns-2 : tie.Need-returns-2
+unfolding storedBytes
 returns-2 c =
     let g = c .before .before .before in
     let f = g .before .before .before .before in
     let s = f .before .before .before .before .before .before in
     let m = f .before .before .least .result in
     let p : 480 * (128 * s .args .id / 480 + 1) + 0 ≡ 128 * s .args .id + m = omega (arith, f .before .before .least .ensures, g .before .if1 .left) in
-    record-two (s .args .arena .now) (s .args .id) m (s .args .out .now) _ (s .pre .1 .1) (omega (arith, f .before .before .least .ensures)) (first f) _ (c .before .before .read-place2 .ensures ∙ (λ x. run (s .args .arena .now) metaFile (p x) (rest g x)))
+    in-two (byteAt (s .args .arena .now) metaFile) (128 * s .args .id) 112 m (s .args .out .now) _ (s .pre .1 .1) (omega (arith, f .before .before .least .ensures)) (first f) _ (c .before .before .read-place2 .ensures ∙ (λ x. run (s .args .arena .now) metaFile (p x) (rest g x)))
 
 pub read-record-spec : {M : Type 1} → statement M
 read-record-spec =

@@ -3,7 +3,7 @@ use mathlib.Core.Path.{refl}
 use Rattle.base.proofs.Outs.{went-is, went-has, went-not}
 use Rattle.mem.specs.Mem.{tableIn}
 use Rattle.steps.proofs.Ends.{ended-refused}
-use Rattle.calls_resize.proofs.Sizes.{resize-not, resized}
+use Rattle.calls_resize.proofs.Resizes.{resize-not, resized}
 use Rattle.owners_kept.proofs.Laws.{as-many, rechained}
 use borrow.Author.Needs.{needs}
 use Rattle.owners_contents.proofs.resize_on.Statement.{statement}

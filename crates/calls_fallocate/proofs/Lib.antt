@@ -1,0 +1,3 @@
+pub mod Questions
+pub mod Decisions
+pub mod Rows

@@ -1,0 +1,4 @@
+pub mod Pieces
+pub mod AsRust
+pub mod Counts
+pub mod Made

@@ -1,0 +1,4 @@
+pub mod Modes
+pub mod Ranges
+pub mod Laws
+pub mod Says
