@@ -1,4 +1,4 @@
-/* Dzomrelig at the C edge: the twenty-three calls of documents 01 and 02, proved (crates/edge, crates/edge_contents), and those for owners (crates/owners, crates/owners_contents). Plain C11, usable from C++.
+/* Dzomrelig at the C edge: the twenty-four calls of documents 01 and 02, proved (crates/edge, crates/edge_contents), and those for owners (crates/owners, crates/owners_contents). Plain C11, usable from C++.
  *
  * How the calls take and give things:
  * - Arena, table, names and output are a pointer and a length. No pointer is null, and a slice that a call may change overlaps no other.
@@ -37,6 +37,7 @@ extern "C" {
 #define DZ_NAME_LONGEST 255   /* a name in a folder: UTF-8, with no zero byte; a new one with no slash */
 #define DZ_LINKS_MOST 8       /* symlinks that one walk follows */
 #define DZ_FILE_LONGEST 4294967295 /* the contents of a file, symlink or socket */
+#define DZ_PATH_LONGEST 1048576 /* a folder's path: 4,096 names with a slash before each */
 
 /* ---- types */
 
@@ -77,8 +78,8 @@ extern "C" {
 #define DZ_TABLE_FULL 16      /* 8 live holds of this owner, or no stamp is left */
 #define DZ_NO_DEVICE_SPACE 17 /* no free id, or no free block */
 #define DZ_WRONG_FS 18        /* no image of this file system; in dz_inventory: the checker fails the stored image; in dz_mend: it can't be mended */
-#define DZ_STUCK 19           /* the Rust would fail an assertion here */
-#define DZ_OUT_FULL 20        /* a slot remains, and the output has no room for one; a target does not fit the link buffer, or the inventory the output */
+#define DZ_STUCK 19           /* the Rust would fail an assertion here; in dz_path: no way leads up to root */
+#define DZ_OUT_FULL 20        /* a slot remains, and the output has no room for one; a target does not fit the link buffer, or the inventory or a path the output */
 #define DZ_NOT_FILE 21        /* a folder, where contents are asked for; in dz_fallocate: no file */
 #define DZ_FILE_TOO_BIG 22    /* a write, a resize or a range would end past DZ_FILE_LONGEST, or a file grow past it */
 #define DZ_SYM_LOOP 23        /* a walk meets its ninth symlink */
@@ -308,6 +309,18 @@ uint32_t dz_get_entry(const uint8_t *arena, size_t arena_len, const uint8_t *tab
 uint32_t dz_list(const uint8_t *arena, size_t arena_len, const uint8_t *table, size_t table_len,
                  uint8_t owner, uint32_t hold, uint64_t stamp, uint64_t *next, size_t words, uint8_t dots, uint8_t *out, size_t out_len);
 
+/* ---- a folder's path */
+
+/* A folder's path from root, at the output's start: a slash before each name, the name of each folder before those in it; of root one slash. *count is its
+ * length, one word. The output's bytes after the path stay. Names are written as they are stored.
+ * No path is longer than DZ_PATH_LONGEST; of an arena and table that pass the check none is longer than 256 x (blocks / 3) bytes (theorems Longest, crates/paths, and
+ * LongestThere, crates/titles). dz_walk by it opens the same folder, where they pass, no name on it has a slash, and this owner has a hold and a stamp
+ * free (WalksBack, crates/titles).
+ * Changes: out, *count. Reasons: BadArena, Damaged, BadTable, InvalidParam (owner), BadHandle, Stuck (a type that there is not), NotDir, DirRemoved, Stuck (on
+ * the way up: over 4,096 folders, one that is none, or no name for the one below), OutFull (the path does not fit; an output of its own length does). */
+uint32_t dz_path(const uint8_t *arena, size_t arena_len, const uint8_t *table, size_t table_len,
+                 uint8_t owner, uint32_t hold, uint64_t stamp, uint8_t *out, size_t out_len, uint64_t *count, size_t words);
+
 /* ---- for owners of an image
  *
  * Each call above tests the whole arena and the table first, which is nearly all of its time. The owner of an image (not of a hold: who alone writes
@@ -367,6 +380,8 @@ uint32_t dz_own_resize(uint8_t *arena, size_t arena_len, uint16_t *chains, size_
                        uint32_t hold, uint64_t stamp, uint64_t length);
 uint32_t dz_own_fallocate(uint8_t *arena, size_t arena_len, uint16_t *chains, size_t chains_len, uint8_t *table, size_t table_len, uint8_t owner,
                           uint32_t hold, uint64_t stamp, uint8_t mode, uint8_t flags, uint64_t from, uint64_t length);
+uint32_t dz_own_path(const uint8_t *arena, size_t arena_len, const uint16_t *chains, size_t chains_len, const uint8_t *table, size_t table_len,
+                     uint8_t owner, uint32_t hold, uint64_t stamp, uint8_t *out, size_t out_len, uint64_t *count, size_t words);
 
 #ifdef __cplusplus
 }

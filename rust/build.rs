@@ -47,7 +47,7 @@ fn library(name: &str, variable: &str) -> (PathBuf, String) {
 /// The library that has a function.
 fn home(function: &str) -> &'static str {
     let call = function.strip_prefix("own_");
-    let contents = matches!(call.unwrap_or(function), "read" | "write" | "resize" | "fallocate" | "get_entry" | "list");
+    let contents = matches!(call.unwrap_or(function), "read" | "write" | "resize" | "fallocate" | "get_entry" | "list" | "path");
     match (call, contents) {
         (Some(_), true) => "owners_contents",
         (Some(_), false) => "owners",

@@ -1,5 +1,5 @@
 // A font's image in a file: a folder with two glyphs, one drawn and edited in the middle; listed, checked, its inventory printed, and mended after a host went
-// down. glyphs IMAGE.
+// down. A title bar says which folder a window shows. glyphs IMAGE.
 #include <stdio.h>
 #include <stdlib.h>
 #include <string.h>
@@ -39,6 +39,15 @@ static void close_node(dz_handle_t node)
     must("close", dz_close(arena, sizeof arena, table, DZ_TABLE, ANNA, (uint32_t)node.hold, node.stamp));
 }
 
+// What a window that shows a folder has in its title bar.
+static void title_bar(dz_handle_t folder)
+{
+    uint8_t path[256];
+    uint64_t length = 0;
+    must("path", dz_path(arena, sizeof arena, table, DZ_TABLE, ANNA, (uint32_t)folder.hold, folder.stamp, path, sizeof path, &length, DZ_LENGTH_WORDS));
+    printf("title bar: %.*s\n", (int)length, (const char *)path);
+}
+
 int main(int n, char **words)
 {
     dz_handle_t root = {0, 0};
@@ -48,6 +57,8 @@ int main(int n, char **words)
     dz_handle_t folder = create(root, "glyphs", DZ_FOLDER);
     dz_handle_t a = create(folder, "A", DZ_FILE);
     close_node(create(folder, "Ж", DZ_FILE));
+    title_bar(root);
+    title_bar(folder);
 
     // an outline is saved, and read back
     const char outline[] = "M0 0 L5 9 L9 0";

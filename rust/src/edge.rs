@@ -46,6 +46,7 @@ extern "C" {
     fn dz_fallocate(a: *mut u8, al: usize, t: *mut u8, tl: usize, who: u8, hold: u32, stamp: u64, mode: u8, flags: u8, from: u64, length: u64) -> u32;
     fn dz_get_entry(a: *const u8, al: usize, t: *const u8, tl: usize, who: u8, hold: u32, stamp: u64, slot: u64, out: *mut u8, ol: usize) -> u32;
     fn dz_list(a: *const u8, al: usize, t: *const u8, tl: usize, who: u8, hold: u32, stamp: u64, next: *mut u64, words: usize, dots: u8, out: *mut u8, ol: usize) -> u32;
+    fn dz_path(a: *const u8, al: usize, t: *const u8, tl: usize, who: u8, hold: u32, stamp: u64, out: *mut u8, ol: usize, count: *mut u64, words: usize) -> u32;
 }
 
 // The same for owners.
@@ -82,6 +83,8 @@ extern "C" {
     fn dz_own_resize(a: *mut u8, al: usize, c: *mut u16, cl: usize, t: *mut u8, tl: usize, who: u8, hold: u32, stamp: u64, length: u64) -> u32;
     fn dz_own_fallocate(a: *mut u8, al: usize, c: *mut u16, cl: usize, t: *mut u8, tl: usize, who: u8, hold: u32, stamp: u64, mode: u8, flags: u8,
                         from: u64, length: u64) -> u32;
+    fn dz_own_path(a: *const u8, al: usize, c: *const u16, cl: usize, t: *const u8, tl: usize, who: u8, hold: u32, stamp: u64, out: *mut u8, ol: usize,
+                   count: *mut u64, words: usize) -> u32;
 }
 
 /// The words of the chains.
@@ -412,5 +415,19 @@ impl Pair {
         };
         let [next] = w;
         answer(n).map(|()| next)
+    }
+
+    /// How many bytes the path has.
+    pub(crate) fn path(&self, who: u8, h: Handle, out: &mut [u8]) -> Result<u64, Reason> {
+        let (a, t, mut w) = (&self.arena, &self.table, [0; 1]);
+        let n = unsafe {
+            match &self.chains {
+                Some(c) => dz_own_path(a.as_ptr(), a.len(), c.as_ptr(), c.len(), t.as_ptr(), t.len(), who, h.hold, h.stamp, out.as_mut_ptr(), out.len(),
+                                       w.as_mut_ptr(), w.len()),
+                None => dz_path(a.as_ptr(), a.len(), t.as_ptr(), t.len(), who, h.hold, h.stamp, out.as_mut_ptr(), out.len(), w.as_mut_ptr(), w.len()),
+            }
+        };
+        let [count] = w;
+        answer(n).map(|()| count)
     }
 }

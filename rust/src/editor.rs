@@ -1,11 +1,12 @@
 //! Who asks, and the calls that take or make a handle.
+use alloc::vec;
 use alloc::vec::Vec;
 use core::fmt;
 use core::ops::{Deref, DerefMut};
 
 use crate::{
     Attributes, Entries, Entry, FallocateMode, FileName, Handle, Image, Kind, Metadata, NewKind, Owner, Place, Reason, Time, FILE_LONGEST,
-    SLOT,
+    PATH_LONGEST, SLOT,
 };
 
 /// One of the four who share an image, at work on it: every call that takes or makes a handle says who asks.
@@ -369,6 +370,60 @@ impl<I: Deref<Target = Image>> Editor<I> {
     /// Reasons: as [`entries`](Editor::entries).
     pub fn snapshot(&self, folder: Handle) -> Result<Vec<Entry>, Reason> {
         self.entries(folder).collect()
+    }
+}
+
+// ---- a folder's path
+
+impl<I: Deref<Target = Image>> Editor<I> {
+    /// A folder's path from root: a slash before each name, the name of each folder before those in it; of root one slash. It is what a title bar shows, where
+    /// two folders have the same last name.
+    ///
+    /// The bytes are as they are stored. A new name has no slash, but one from before may have one, and then its path reads like another's.
+    /// Of an image that passes the check, where no name on the path has a slash, two folders have two paths (`PathsApart`, crate `titles`), and
+    /// [`walk`](Editor::walk) by the path opens the same folder, if a hold and a stamp are free (`WalksBack`, crate `titles`).
+    ///
+    /// The call is made with a buffer of 256 bytes, which is mostly enough, and again with one twice as long while it is refused for its length, up to
+    /// [`PATH_LONGEST`].
+    ///
+    /// Reasons: `BadHandle`, `Stuck` (a type that there is not), `NotDir`, `DirRemoved`, `Stuck` (on the way up: over 4,096 folders, one that is none, or no
+    /// name for the one below). Of an image that passes the check `Stuck` does not come (`PathAnswers`, crate `titles`).
+    ///
+    /// ```
+    /// use dzomrelig::{FileName, Image, NewKind, Owner, Time};
+    /// # fn main() -> Result<(), dzomrelig::Reason> {
+    /// # let now = Time::new(1_700_000_000, 0);
+    /// # let mut image = Image::format(64, now, FileName([0; 16]))?;
+    /// # let mut anna = image.editor(Owner::One);
+    /// # let root = anna.root()?;
+    /// let light = anna.create(root, "light", NewKind::Folder, 0o755, now, FileName([1; 16]))?;
+    /// let a = anna.create(light, "a", NewKind::Folder, 0o755, now, FileName([2; 16]))?;
+    /// assert_eq!(anna.path(a)?, b"/light/a");
+    /// assert_eq!(anna.path(root)?, b"/");
+    /// let again = anna.walk(root, anna.path(a)?, &mut [])?;
+    /// assert_eq!(anna.metadata(again)?.inode, anna.metadata(a)?.inode);
+    /// # Ok(())
+    /// # }
+    /// ```
+    pub fn path(&self, folder: Handle) -> Result<Vec<u8>, Reason> {
+        let mut out = vec![0; 256];
+        loop {
+            match self.path_into(folder, &mut out) {
+                Ok(length) => {
+                    out.truncate(length);
+                    return Ok(out);
+                }
+                Err(Reason::OutFull) if out.len() < PATH_LONGEST => out = vec![0; out.len().saturating_mul(2)],
+                Err(reason) => return Err(reason),
+            }
+        }
+    }
+
+    /// Writes a folder's [path](Editor::path) at the output's start: how many bytes it has. The output's bytes after it stay, and a refusal keeps all.
+    ///
+    /// Reasons: as `path`, and last `OutFull` (the path does not fit; an output of its own length does).
+    pub fn path_into(&self, folder: Handle, out: &mut [u8]) -> Result<usize, Reason> {
+        Ok(usize::try_from(self.image.pair.path(self.who, folder, out)?).unwrap_or(0))
     }
 }
 

@@ -34,6 +34,9 @@ pub const SLOT: usize = 264;
 pub const NAME_LONGEST: usize = 255;
 /// The longest contents of a file, symlink or socket, in bytes.
 pub const FILE_LONGEST: u64 = 4_294_967_295;
+/// The longest path of a folder, in bytes: 4,096 names with a slash before each. Of an image that passes the check none is longer than 256 times a third of
+/// its blocks.
+pub const PATH_LONGEST: usize = 1_048_576;
 /// Start and length of a range that is inserted or collapsed are multiples of it.
 pub const RANGE_UNIT: u64 = 128;
 /// How many symlinks [`Editor::walk`] follows.

@@ -48,7 +48,7 @@ pub enum Reason {
     WrongFs,
     /// 19: what is stored does not fit together, and the call can't go on.
     Stuck,
-    /// 20: a slot remains, and the output has no room for one; a target does not fit the link buffer, or an inventory the output.
+    /// 20: a slot remains, and the output has no room for one; a target does not fit the link buffer, or an inventory or a path the output.
     OutFull,
     /// 21: a folder, where contents are asked for; for a range, anything but a file.
     NotFile,
@@ -87,7 +87,7 @@ const REASONS: [(Reason, &str, &str); 24] = [
     (Reason::NoDeviceSpace, "NoDeviceSpace", "no free node number, or no free block"),
     (Reason::WrongFs, "WrongFs", "no image of this file system; or what is stored fails the checker, for an inventory, or can't be mended"),
     (Reason::Stuck, "Stuck", "what is stored does not fit together, and the call can't go on"),
-    (Reason::OutFull, "OutFull", "a slot remains, and the output has no room for one; or a target or an inventory does not fit"),
+    (Reason::OutFull, "OutFull", "a slot remains, and the output has no room for one; or a target, an inventory or a path does not fit"),
     (Reason::NotFile, "NotFile", "a folder, where contents are asked for; or no file, where a range of one is"),
     (Reason::FileTooBig, "FileTooBig", "a write, a resize or a range would end past 4,294,967,295 bytes, or a file grow past them"),
     (Reason::SymLoop, "SymLoop", "a walk meets its ninth symlink"),

@@ -46,7 +46,7 @@ fn call(image: &mut Image, n: &mut Numbers, known: &mut Vec<Handle>) -> bool {
     let (h, g) = (handle(n, known), handle(n, known));
     let mut image = Editor::numbered(image, who(n));
     let mut out = vec![0; n.below(4) as usize * 200];
-    let made = match n.below(25) {
+    let made = match n.below(26) {
         0 => image.root().map(Some),
         1..=3 => image.find(h, name(n)).map(Some),
         4 | 5 => image.create_numbered(h, name(n), n.below(6) as u32, n.next() as u16, TIME, file(n.below(50))).map(Some),
@@ -67,6 +67,7 @@ fn call(image: &mut Image, n: &mut Numbers, known: &mut Vec<Handle>) -> bool {
         20 => image.inventory_into(&mut out).map(|_| None),
         21 => image.mend().map(|()| None),
         22 | 23 => image.fallocate_numbered(h, n.below(7) as u8, n.next() as u8, number(n) & !127, number(n) & !127).map(|()| None),
+        24 => image.path(h).and_then(|path| image.path_into(h, &mut vec![0; path.len()])).map(|_| None),
         _ => image.close(h).map(|()| None),
     };
     if let Ok(Some(handle)) = made {

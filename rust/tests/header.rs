@@ -2,7 +2,8 @@
 use std::collections::BTreeMap;
 
 use dzomrelig::{
-    FallocateMode, Kind, Reason, BLOCK, BLOCKS_LEAST, BLOCKS_MOST, FILE_LONGEST, LINKS_MOST, NAME_LONGEST, RANGE_UNIT, SLOT, TABLE,
+    FallocateMode, Kind, Reason, BLOCK, BLOCKS_LEAST, BLOCKS_MOST, FILE_LONGEST, LINKS_MOST, NAME_LONGEST, PATH_LONGEST, RANGE_UNIT, SLOT,
+    TABLE,
 };
 
 const HEADER: &str = include_str!("../../include/dzomrelig.h");
@@ -26,6 +27,7 @@ fn sizes_and_types() {
         ("DZ_FILE_NAME", 16),
         ("DZ_NAME_LONGEST", NAME_LONGEST),
         ("DZ_FILE_LONGEST", FILE_LONGEST as usize),
+        ("DZ_PATH_LONGEST", PATH_LONGEST),
         ("DZ_LINKS_MOST", LINKS_MOST),
         ("DZ_FILE", Kind::File.number() as usize),
         ("DZ_FOLDER", Kind::Folder.number() as usize),
@@ -93,7 +95,7 @@ fn as_rust(parameter: &str) -> &'static str {
 #[test]
 fn functions() {
     let declared: Vec<_> = HEADER.lines().filter_map(|l| l.strip_prefix("uint32_t dz_")).map(|l| l.split('(').next().unwrap()).collect();
-    assert_eq!(declared.len(), 23 + 19);
+    assert_eq!(declared.len(), 24 + 20);
     for name in declared {
         let theirs: Vec<_> = parameters(HEADER, &format!("\nuint32_t dz_{name}(")).into_iter().map(as_rust).collect();
         let ours: Vec<_> = parameters(EDGE, &format!("fn dz_{name}(")).into_iter().map(|p| p.split_once(": ").unwrap().1).collect();

@@ -11,7 +11,7 @@ use dzomrelig::{
 type Call = fn(&mut Mine, Handle, &[u8]) -> Option<Reason>;
 
 /// The calls that take a table: those with no handle, those with one (of any node, with contents, of a folder), and those with a name beside it.
-const CALLS: [Call; 23] = [
+const CALLS: [Call; 25] = [
     |i, _, _| i.root().err(),
     |i, _, _| i.sync().err(),
     |i, _, _| i.mend().err(),
@@ -27,6 +27,8 @@ const CALLS: [Call; 23] = [
     |i, h, _| i.entry_into(h, 0, &mut [0; SLOT]).err(),
     |i, h, _| i.list(&mut Place::new(h), &mut [0; SLOT]).err(),
     |i, h, _| i.snapshot(h).err(),
+    |i, h, _| i.path(h).err(),
+    |i, h, _| i.path_into(h, &mut []).err(),
     |i, h, name| i.find(h, name).err(),
     |i, h, name| i.walk(h, name, &mut [0; 8]).err(),
     |i, h, name| i.create(h, name, NewKind::File, 0, TIME, file(1)).err(),
@@ -39,7 +41,7 @@ const CALLS: [Call; 23] = [
 const HANDLES: usize = 3;
 const CONTENTS: usize = 6;
 const FOLDERS: usize = 11;
-const NAMES: usize = 15;
+const NAMES: usize = 17;
 
 /// Where the table has its holds: row, stamp, owner.
 const HOLD: usize = 34 * 117;

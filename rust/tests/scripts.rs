@@ -48,12 +48,12 @@ fn folder(path: &Path) -> Option<(usize, usize)> {
 
 #[test]
 fn acceptance() {
-    if let Some((scripts, lines)) = folder(&top().join("../shared/vectors-02/level-13")) {
-        assert!(scripts >= 17 && lines >= 4_933);
+    if let Some((scripts, lines)) = folder(&top().join("../shared/vectors-02/level-14")) {
+        assert!(scripts >= 15 && lines >= 2_612);
     }
     // scripts of earlier levels, made scripts of this one by tests/model/lifted.py
     for (level, least) in
-        [31_347, 3_578, 3_611, 3_606, 3_365, 3_548, 3_750, 3_394, 2_125, 2_472, 2_358, 2_630, 2_218].into_iter().enumerate()
+        [31_347, 3_578, 3_611, 3_606, 3_365, 3_548, 3_750, 3_394, 2_125, 2_472, 2_358, 2_630, 2_218, 4_933].into_iter().enumerate()
     {
         if let Some((_, lines)) = folder(&top().join(format!("target/lifted/level-{level}"))) {
             assert!(lines >= least);
@@ -88,9 +88,10 @@ fn broken_scripts() {
     // a walk along 8,193 bytes, and one with a link buffer of as many
     assert_eq!(replay(&[b"\x23".as_slice(), &[0; 13], &[1, 32], &[97; 8193], &[0; 2]].concat()), "bad script\n");
     assert_eq!(replay(&[b"\x23".as_slice(), &[0; 13], &[1, 0, 97], &[1, 32]].concat()), "bad script\n");
-    // an inventory of 8,193 bytes, a range in a mode that is none, and the byte after it
+    // an inventory of 8,193 bytes, a range in a mode that is none, a path of 8,193 bytes, and the byte after it
     assert_eq!(replay(b"\x26\x01\x20"), "bad script\n");
     assert_eq!(replay(&[b"\x28".as_slice(), &[0; 13], &[6], &[0; 17]].concat()), "bad script\n");
-    assert_eq!(replay(b"\x29\0\0"), "bad script\n");
+    assert_eq!(replay(&[b"\x29".as_slice(), &[0; 13], &[1, 32]].concat()), "bad script\n");
+    assert_eq!(replay(b"\x2a\0\0"), "bad script\n");
     assert_eq!(replay(&[0; (1 << 20) + 1]), "bad script\n");
 }

@@ -7,6 +7,8 @@ mod calls;
 mod inventory;
 #[path = "mend.rs"]
 mod mend;
+#[path = "paths.rs"]
+mod paths;
 #[path = "ranges.rs"]
 mod ranges;
 #[path = "reasons.rs"]

@@ -139,6 +139,7 @@ fn small_stack() {
         let b = create(&mut image, root, "b", NewKind::File).unwrap();
         image.link(root, "c", b).unwrap();
         image.rename(root, "c", a, "d").unwrap();
+        assert_eq!(image.path(a).unwrap(), b"/a");
         image.remove_file(a, "d").unwrap();
         image.write_at(b, 470, "outline of a glyph").unwrap();
         image.resize(b, 481).unwrap();

@@ -96,7 +96,7 @@ fn both(trusted: &mut Image, tested: &mut Image, n: &mut Numbers, known: &mut Ve
     let names = ["a", "b", "c", "folder", "sub", "", ".", "..", "\u{e4}"].map(str::as_bytes);
     let (x, y) = (names[n.below(9) as usize], names[n.below(9) as usize]);
     let (kind, number, slot) = (n.below(6) as u32, n.below(60), n.below(6));
-    let (what, mode, room) = (n.below(22), n.next() as u16, n.below(4) as usize * 300);
+    let (what, mode, room) = (n.below(23), n.next() as u16, n.below(4) as usize * 300);
     let (place_in, long) = (n.below(3_000), n.below(2_000));
     let (range, unit) = (mode_by_chance(n), if n.below(4) == 0 { 1 } else { 128 });
     let call = |image: &mut Image| -> (Result<Option<Handle>, Reason>, Vec<u8>) {
@@ -120,6 +120,7 @@ fn both(trusted: &mut Image, tested: &mut Image, n: &mut Numbers, known: &mut Ve
             16 => image.resize(h, place_in).map(|()| None),
             17 => image.walk(h, [x, y].join(&b'/'), &mut out).map(Some),
             18..=20 => image.fallocate(h, range, place_in / unit * unit, long / unit * unit).map(|()| None),
+            21 => image.path_into(h, &mut out).map(|n| Some(Handle { hold: n as u32, stamp: 0 })),
             _ => image.close(h).map(|()| None),
         };
         (answer, out)

@@ -4,6 +4,7 @@
 // calls contents BLOCKS FILES ROUNDS: the same of reads and writes on an image of so many blocks and files, and of plain copies (plain.c).
 // calls ranges BLOCKS FILES ROUNDS: 128 bytes put in at the start of a file of 100,000 bytes, and taken out again, on such an image and by plain.c.
 // calls deep DEPTH ROUNDS: a folder moved to the end of a way of so many folders, and back.
+// calls paths DEPTH FILES ROUNDS: the path of the folder at the end of such a way, in an image of so many files, and the walk by it.
 // calls mend BLOCKS FILES ROUNDS: the check of an image of so many blocks and files, and the mender on what hosts leave of it.
 #include <stdbool.h>
 #include <stdint.h>
@@ -289,6 +290,18 @@ static void folder(const char *name, uint32_t in_hold, uint64_t in_stamp)
     hold = (uint32_t)words[0], stamp = words[1];
 }
 
+// a way of so many folders from the root on; the last one is open
+static void way_down(int depth)
+{
+    uint32_t at = 0;
+    uint64_t at_stamp = 1;
+    for (int i = 0; i < depth; i++) {
+        folder("d", at, at_stamp);
+        if (i) must(dz_own_close(ARENA, CHAINS, TABLE, ME, at, at_stamp));
+        at = hold, at_stamp = stamp;
+    }
+}
+
 static void moved(uint32_t from_hold, uint64_t from_stamp, uint32_t to_hold, uint64_t to_stamp)
 {
     must(CALL(move, ME, from_hold, from_stamp, (in)"x", 1, to_hold, to_stamp, (in)"x", 1));
@@ -300,14 +313,12 @@ static void deep(int depth, int rounds)
     must(dz_format(ARENA, TABLE, 0, 0, (in)"file of the root", DZ_FILE_NAME));
     must(dz_own_chains(ARENA, CHAINS));
     must(dz_own_root(ARENA, CHAINS, TABLE, ME, words, DZ_HANDLE_WORDS));
-    uint32_t root = (uint32_t)words[0], at = root;
-    uint64_t root_stamp = words[1], at_stamp = root_stamp;
+    uint32_t root = (uint32_t)words[0];
+    uint64_t root_stamp = words[1];
     folder("x", root, root_stamp);
-    for (int i = 0; i < depth; i++) {
-        folder("d", at, at_stamp);
-        if (at != root) must(dz_own_close(ARENA, CHAINS, TABLE, ME, at, at_stamp));
-        at = hold, at_stamp = stamp;
-    }
+    way_down(depth);
+    uint32_t at = hold;
+    uint64_t at_stamp = stamp;
     for (int way = 0; way < 2; way++) {
         double down = 1e18, up = 1e18;
         own = way;
@@ -322,6 +333,32 @@ static void deep(int depth, int rounds)
         }
         if (!own) must(dz_own_chains(ARENA, CHAINS));
         printf("%s-down 1 %.0f\n%s-up 1 %.0f\n", own ? "owner" : "tested", down, own ? "owner" : "tested", up);
+    }
+}
+
+// ---- the path of a folder at the end of such a way, and the walk by it
+
+static void paths(int depth, int files, int rounds)
+{
+    filled(DZ_BLOCKS_MOST, files);
+    must(dz_own_chains(ARENA, CHAINS));
+    way_down(depth);
+    for (int way = 0; way < 2; way++) {
+        double path = 1e18, walk = 1e18;
+        uint64_t length = 0;
+        own = way;
+        for (int r = 0; r < rounds * TIMES; r++) {
+            double from = now();
+            must(CALL(path, ME, hold, stamp, text, sizeof text, &length, DZ_LENGTH_WORDS));
+            double then = now();
+            must(CALL(walk, ME, hold, stamp, text, length, out, 0, words, DZ_HANDLE_WORDS));
+            double end = now();
+            must(CALL(close, ME, (uint32_t)words[0], words[1]));
+            if (then - from < path) path = then - from;
+            if (end - then < walk) walk = end - then;
+        }
+        if (length != 2 * (uint64_t)depth) fprintf(stderr, "calls: another path\n"), exit(1);
+        printf("%s-path 1 %.0f\n%s-walk 1 %.0f\n", own ? "owner" : "tested", path, own ? "owner" : "tested", walk);
     }
 }
 
@@ -419,6 +456,10 @@ int main(int n, char **args)
     }
     if (n == 4 && !strcmp(args[1], "deep")) {
         deep(atoi(args[2]), atoi(args[3]));
+        return 0;
+    }
+    if (n == 5 && !strcmp(args[1], "paths")) {
+        paths(atoi(args[2]), atoi(args[3]), atoi(args[4]));
         return 0;
     }
     if (n == 5 && !strcmp(args[1], "ranges")) {

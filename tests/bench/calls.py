@@ -4,8 +4,8 @@
 An image of 16, 128, 1,024 and 4,096 blocks is filled with files, then every kind of call is made 20 times; no call is refused. Contents of 480,
 8,192 and 100,000 bytes are read, written over and written into an empty file, beside a plain copy through blocks (plain.c), and 128 bytes are put in at
 the start of a file of 100,000 and taken out again, beside a plain move. Walks along a path 50
-deep and through 8 symlinks are timed on the port alone, and so are check and inventory of a full image, and the mender on what hosts leave of it. Both sides
-are built for release; the least of 5 rounds counts. Needs a C compiler (cc) and what tests/beside_rust needs.
+deep and through 8 symlinks are timed on the port alone, and so are a folder's path beside the walk by it, check and inventory of a full image, and the mender on
+what hosts leave of it. Both sides are built for release; the least of 5 rounds counts. Needs a C compiler (cc) and what tests/beside_rust needs.
 """
 import os
 import struct
@@ -182,6 +182,18 @@ def ranges(host, rust):
             print(f"| {act}, {blocks:,} blocks | {tested:.1f} | {trusted:.1f} | {plain:.1f} | {trusted / plain:.2f} | {theirs[act] / 1000:.1f} |")
 
 
+def paths(host):
+    """A folder's path, and the walk by it."""
+    print("\n| path, 4,096 blocks | tested: path / walk | trusted: path / walk |\n|---|---|---|")
+    for depth, files in ((50, 512), (50, 0), (1000, 0)):
+        ns = times(subprocess.run([host, "paths", str(depth), str(files), ROUNDS], check=True, capture_output=True, text=True).stdout)
+        cells = []
+        for who in ("tested", "owner"):
+            path, walk = ns[who + "-path"], ns[who + "-walk"]
+            cells.append(f"{path / 1000:.1f} / {walk / 1000:.1f} ({path / walk:.2f})")
+        print(f"| {depth:,} deep, {files} files in the root | " + " | ".join(cells) + " |")
+
+
 def main():
     host, rust = build()
     path = os.path.join(OUT, "calls.script")
@@ -212,6 +224,7 @@ def main():
     for depth, links in ((50, 0), (1, 8), (50, 8)):
         data = walked(4096, depth, links, 20)
         print(f"    {depth} deep, {links} symlinks, 4,096 blocks: {port(data)['walk'] / 1000:.1f} and {port(data, 'own')['walk'] / 1000:.1f} µs")
+    paths(host)
     for blocks, files in ((128, 66), (4096, 2225)):
         listed(f"{blocks:,} blocks with {files:,} files", port(full(blocks, files)))
     listed("4,096 blocks with 577 empty folders after 3,430 other names", port(late_folders(3430, 577), "own"))

@@ -96,6 +96,9 @@ class Builder:
     def fallocate(self, h, mode, start, length, flags=0):
         self.call("fallocate", h, mode, flags, start, length, words=f"{shown(h)} {MODES[mode]} flags {flags} from {start} length {length}")
 
+    def path(self, h, room=8192):
+        self.call("path", h, room, words=f"{shown(h)} output {room}")
+
     def close(self, h):
         self.call("close", h, words=shown(h))
 

@@ -10,13 +10,15 @@ import sys
 
 import images
 import refusals
-from replay_model import BLOCK, lines
+from replay_model import BLOCK, NAMES, Script, lines
 
 TOP = pathlib.Path(__file__).resolve().parent.parent.parent
 GATE = TOP / "crates" / "replay"
 SAMPLE = TOP / "tests" / "beside_rust" / "sample"
 # The course examples stand in stdin alone, in front.
 COURSE = 2_897
+# So much of the Rust's third sequence; the rest of it has no call and answer that the others have not.
+THIRD = 42_000
 # The longest script that crates/replay takes.
 MOST = 262_144
 # The checker, the inventory into no byte, the mender and the checker again.
@@ -25,6 +27,17 @@ ASKED = b"\x1e\x26" + bytes(2) + b"\x27\x1e"
 
 def told(script):
     return script, "".join(line + "\n" for line in lines(script)).encode()
+
+
+def sample(n, most=MOST):
+    """One of the Rust's sequences with its lines: the commands that end within so many bytes."""
+    script, said = ((SAMPLE / f"rust-{n}.{kind}").read_bytes() for kind in ("script", "expected"))
+    end, calls, read = 0, 0, Script(script)
+    for name, _ in read.commands():
+        if read.at > most:
+            break
+        end, calls = read.at, calls + (name in NAMES)
+    return script[:end], b"".join(said.splitlines(True)[:calls])
 
 
 def rules():
@@ -40,8 +53,7 @@ def rules():
 
 def parts():
     yield told((GATE / "stdin").read_bytes()[:COURSE])
-    for n in (1, 2, 3):
-        yield tuple((SAMPLE / f"rust-{n}.{kind}").read_bytes() for kind in ("script", "expected"))
+    yield from (sample(1), sample(2), sample(3, THIRD))
     yield told(b"".join(rules()))
     yield refusals.made()
 

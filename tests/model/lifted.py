@@ -16,7 +16,7 @@ sys.path.insert(0, str(TOP / "tests" / "beside_rust"))
 from scripts import SOCKET, followed, model, packed, takes_owner
 
 SHARED = TOP.parent / "shared"
-LEVEL = 13
+LEVEL = 14
 # A table's bytes without owners, and where its holds stand.
 OLD_TABLE, HOLDS = 4370, 117 * model.ROWS
 UNKNOWN = b"\5"
@@ -51,7 +51,7 @@ def named(level, name, args, line):
 
 def last_of(level):
     """The last command's byte at that level."""
-    return 30 if level < 1 else 34 if level < 7 else 35 if level < 9 else 37 if level < 10 else 38 if level < 11 else 39 if level < 13 else 40
+    return 30 if level < 1 else 34 if level < 7 else 35 if level < 9 else 37 if level < 10 else 38 if level < 11 else 39 if level < 13 else 40 if level < 14 else 41
 
 
 def shapes_of(level):

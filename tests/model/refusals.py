@@ -1,6 +1,6 @@
 """The last part of the gate's script (gate.py), in which every reason of document 01 and of document 02's orders so far is answered, contents are
 written, read and resized, ranges of them put in, taken out and made zero, folders are moved to other folders, stored sockets are used, paths are walked,
-inventories written and what a host left behind is mended, and its lines.
+inventories and full paths written and what a host left behind is mended, and its lines.
 
 Each step below says the reason that the documents give, or the bytes that a read finds; the lines, sums and all, are the independent
 model's (replay_model.py), and the port is not asked.
@@ -16,6 +16,7 @@ from scripts import FILE, FOLDER, META, MODES, SOCKET, SYMLINK, TIME, Builder, m
 
 ROOT_FILE = bytes([200] * 16)
 NOBODY = (7, 7)
+LONGEST = b"n" * 255
 ALLOCATE, PUNCH, ZERO, ZERO_KEEP, COLLAPSE, INSERT = range(len(MODES))
 # Zero bytes, and what RFC 3629 does not allow: a tail alone, a lead alone, overlong, a surrogate, beyond U+10FFFF.
 BAD_NAMES = (b"\0", b"a\0b", b"\x80", b"a\xc3", b"\xc0\xaf", b"\xed\xa0\x80", b"\xf4\x90\x80\x80")
@@ -145,6 +146,23 @@ class Script(Builder):
         self.no(reason, ("inventory", room))
         assert f" o {links_sum('')} " in self.line, self.line
 
+    def named(self, h, path, room=8192):
+        """The folder's path is this text; the output after it stays."""
+        before = self.at.sums()
+        self.path(h, room)
+        output = sum_of(path.ljust(model.OUTPUT, bytes([238])))
+        assert self.line == f"path ok {len(path)} o {output} {before}", (self.line, path)
+
+    def nameless(self, reason, h, room=8192):
+        """Its path is refused, and the output stays as it is."""
+        self.no(reason, ("path", h, room))
+        assert f" o {links_sum('')} " in self.line, self.line
+
+    def just(self, h, path):
+        """Its path fits to the byte."""
+        self.named(h, path, len(path))
+        self.nameless(20, h, len(path) - 1)
+
     def idle(self):
         """The mender is done, and changes nothing."""
         before = self.at.sums()
@@ -222,7 +240,7 @@ def create(h, name, kind=FILE, file=b"f" * 16):
 def looks(h, name=b"a"):
     """Every call that takes a table and leaves the arena."""
     return (("root",), ("find", h, name), ("metadata", h), ("set", h, 420, 1, 2, TIME, TIME, TIME), ("entry", h, 0, 264),
-            ("list", h, 0, 0, 8192), ("read", h, 0, 8), ("walk", h, name, 8))
+            ("list", h, 0, 0, 8192), ("read", h, 0, 8), ("walk", h, name, 8), ("path", h, 8192))
 
 
 def removals(h, name):
@@ -604,6 +622,7 @@ def last_stamp(b):
     rows = [(2 ** 25, 1, record(FOLDER, 2, 4, ROOT_FILE)), (4, 0, record(5, 1, 0, ROOT_FILE)), (5, 0, record(FOLDER, 2, 0, files[0])), (6, 0, record(FILE, 1, 0, files[1]))]
     b.table(table_bytes(rows, [(0, 1, 1), (1, 2, 1), (2, 3, 1), (3, 4, 1)], 2 ** 64 - 2))
     b.no(19, *takes_contents((1, 2)), *takes_contents((1, 2), 2 ** 64 - 1, b"a"), *every_mode((1, 2), 2 ** 64 - 1, 1))
+    b.nameless(19, (1, 2), 0)
     b.no(17, ("sync",), ("remove-file", (0, 1), b"a"), ("close", (0, 1)))
     for at in (479, 1439, 2399, 3360):
         b.write((3, 4), at, b"ab" if at < 3360 else b"a")
@@ -647,6 +666,7 @@ def stuck(b):
     b.record(3, "type", 0)
     a = b.ok(b.find(root, "a"))
     b.no(19, ("metadata", a), ("link", root, b"b", a), create(a, b"b"), ("move", root, b"a", root, b"a"))
+    b.nameless(7, a)
     b.close(a)
     b.record(3, "type", FILE)
     b.record(3, "file", b"m" * 16)
@@ -1265,6 +1285,147 @@ def long_paths(b):
     b.not_delivered(20)
 
 
+def full_paths(b):
+    """Order 14: a folder's path from root, and what refuses it."""
+    deep(b)
+    renamed(b)
+    root, h = three(b)
+    lost_names(b, root, h)
+    around(b, h)
+    not_asked(b, h)
+
+
+def deep(b):
+    """Folders in folders, over 32 of them: what is written at a time is 32 names at most."""
+    at, path = b.fresh(128), b""
+    b.just(at, b"/")
+    b.named(at, b"/")
+    for n in range(36):
+        above, name = at, b"%c" % (97 + n % 26)
+        at, path = b.ok(b.create(above, name, FOLDER)), path + b"/" + name
+        b.close(above)
+        if n in (0, 1, 30, 31, 32, 35):
+            b.just(at, path)
+            b.named(at, path)
+    b.walks(at, path.decode(), 38)
+    b.check()
+    b.ok()
+
+
+def renamed(b):
+    """The names are those of now; 7 for a file, a symlink, 8 for a removed folder, 4 for another's handle."""
+    root = b.fresh(64)
+    a, w = (b.ok(b.create(root, name, FOLDER)) for name in ("a", "w"))
+    d = b.ok(b.create(a, "ß", FOLDER))
+    e = b.ok(b.create(d, "e", FOLDER))
+    b.just(e, "/a/ß/e".encode())
+    b.moves(a, "ß", w, "d")
+    b.just(e, b"/w/d/e")
+    b.moves(root, "w", a, "...")
+    b.just(e, b"/a/.../d/e")
+    for name, kind in (("file", FILE), ("link", SYMLINK)):
+        h = b.ok(b.create(root, name, kind))
+        b.nameless(7, h, 0)
+        b.remove_file(root, name)
+        b.nameless(7, h, 0)
+        b.close(h)
+    b.remove_folder(d, "e")
+    b.ok()
+    b.nameless(8, e, 0)
+    b.who = 2
+    b.nameless(4, d)
+    b.just(b.ok(b.walk(b.ok(b.root()), "/a/.../d")), b"/a/.../d")
+    b.who = 1
+    b.check()
+    b.ok()
+
+
+def three(b):
+    """The folders a (4), b (6) in it and one with the longest name (8) in that, a file before each; root and the last one are open."""
+    at = b.fresh(32)
+    for name in ("a", "b", LONGEST):
+        b.close(b.ok(b.create(at, "before")))
+        above, at = at, b.ok(b.create(at, name, FOLDER))
+        b.close(above)
+    b.close(b.ok(b.create(at, "in it")))
+    b.just(at, b"/a/b/" + LONGEST)
+    return b.ok(b.root()), at
+
+
+def put(b, id, k, place, data):
+    """Bytes of slot k of this node's file, from outside; what stood there."""
+    b.at.is_sound()
+    file = 1, b.at.files.read(META, 128 * id + 80, 16)
+    old = b.at.files.read(file, 264 * k + place, len(data))
+    b.change(file, 264 * k + place, data, f"slot {k} of node {id} gets {data.hex()} at {place}")
+    b.at.is_sound()
+    return old
+
+
+def number(n):
+    return n.to_bytes(4, "little")
+
+
+def lost_names(b, root, h):
+    """Damaged: no name, none that is one, no folder above. 19 also where there is no room."""
+    parents = (0, 1, 3, 4, 8, 11, 4096)
+    for id, k, place, data in ((6, 3, 0, number(9)), (6, 3, 4, b"\xff"), (6, 3, 4 + 255, b"n"), (4, 3, 5, b"\xc3\0"), (6, 3, 260, number(5)), (6, 2, 260, number(5)), (2, 2, 260, number(2 ** 31)),
+                               *((8, 1, 0, number(other)) for other in parents), (8, 1, 260, number(5)), (4, 1, 0, number(8))):
+        old = put(b, id, k, place, data)
+        b.nameless(19, h)
+        b.nameless(19, h, 0)
+        put(b, id, k, place, old)
+    old = model.Record.read(b.at.files.read(META, 128 * 6, model.RECORD))
+    for field, values in (("type", (FILE, 0, 5)), ("blocks", (0, 1, 2, 3)), ("file", (b"m" * 16,))):
+        for value in values:
+            b.record(6, field, value)
+            b.nameless(19, h, 0)
+        b.record(6, field, getattr(old, field))
+    b.superblock("groups", 5)
+    b.nameless(19, h)
+    b.just(root, b"/")
+    b.superblock("groups", 1)
+    b.close(root)
+    b.record(2, "type", FILE)
+    b.nameless(19, h)
+    b.record(2, "type", FOLDER)
+
+
+def around(b, h):
+    """Parents that go round, each with its name: the way up ends after 4,096 of them."""
+    for top, below in ((4, 8), (8, 8)):
+        above, inside = put(b, top, 1, 0, number(below)), put(b, below, 2, 0, number(top))
+        b.nameless(19, h)
+        b.nameless(19, h, 0)
+        put(b, top, 1, 0, above)
+        put(b, below, 2, 0, inside)
+
+
+def not_asked(b, h):
+    """What a path does not ask for: other names, types below 5, names of dots, its own number and slots, links above, slots after the name. A stored name is written whatever it is,
+    and of two the first."""
+    b.close(h)
+    b.record(8, "blocks", 0)
+    h = b.ok(b.walk(b.ok(b.root()), b"/a/b/" + LONGEST))
+    b.change(META, 129, b"\xff", "nodes 8 to 15 are free")
+    put(b, 6, 2, 4, b"\xff")
+    put(b, 6, 2, 260, number(0))
+    put(b, 8, 1, 4, b"\xff")
+    put(b, 8, 1, 260, number(1))
+    put(b, 6, 3, 260, number(4))
+    b.record(6, "links", 0)
+    b.record(6, "blocks", 9)
+    b.just(h, b"/a/b/" + LONGEST)
+    for name in (b"x/y", b"/", b"..", b""):
+        put(b, 6, 3, 4, name + b"\0")
+        b.just(h, b"/a/b/" + name)
+    put(b, 6, 2, 0, number(8))
+    b.nameless(19, h)
+    put(b, 6, 2, 4, b"z\0")
+    b.just(h, b"/a/b/z")
+    b.fails(3)
+
+
 def menders(b):
     """Order 11: what a host that went down has left is mended, where no hold is live."""
     b.fresh()
@@ -1482,7 +1643,7 @@ def second_group(b):
 def made():
     b = Script()
     for part in (bad_arena, damaged, bad_table, bad_owners, bad_handle, owners, bad_name, slashes, sockets, by_call, two_keys, dots, taken, links, table_full, last_stamp, no_space, stuck,
-                 contents, held_on, limits, device_full, torn, no_contents, ranges, bad_ranges, ranges_full, ranges_torn, no_ranges, carried, no_way_up, paths, inventories, menders):
+                 contents, held_on, limits, device_full, torn, no_contents, ranges, bad_ranges, ranges_full, ranges_torn, no_ranges, carried, no_way_up, paths, inventories, full_paths, menders):
         part(b)
     b.fresh()
     b.check()

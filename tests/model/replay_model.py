@@ -1,5 +1,5 @@
 #!/usr/bin/env python3
-"""An independent model of document 01's calls and of document 02's orders up to 13, for tests: a call script in, the lines a right port
+"""An independent model of document 01's calls and of document 02's orders up to 14, for tests: a call script in, the lines a right port
 prints out.
 
 Written from the documents and the readings of them in docs/DECISIONS.md, on top of arena_model.py; it shares nothing with crates/. A call
@@ -25,6 +25,8 @@ FILE = 1
 FOLDER = 2
 SYMLINK = 3
 MOST_LINKS = 8
+# From more folders than these no way up is climbed.
+MOST_FOLDERS = 4096
 OUTPUT = 8192
 TABLE_BYTES = 4402
 
@@ -550,7 +552,7 @@ def climb(s, target, id):
     """Order 2: 6 where the way from the target up to node 2 meets that node. It opens nothing: a record is the row's or the stored one."""
     at, rec, climbed = target.id, target.rec, 0
     while at not in (2, id):
-        need(rec.type == FOLDER and climbed < 4096, 19)
+        need(rec.type == FOLDER and climbed < MOST_FOLDERS, 19)
         at, climbed = u32(s.slot(Row(at, 0, rec), 1), 0), climbed + 1
         if at not in (2, id):
             rec = s.record(at)
@@ -822,6 +824,32 @@ def do_walk(s, h, path, room, links):
     return s.hold(s.open_node(at.id))
 
 
+# the full path: document 02's order 14
+
+def name_in(s, folder, id):
+    """The name in the first later slot that names this node."""
+    k = next((k for k in range(2, folder.rec.blocks) if u32(s.slot(folder, k), 0) == id), None)
+    need(k, 19)
+    return s.named_slot(folder, k)[1]
+
+
+def path_bytes(s, h, room):
+    """It opens nothing: the record of a folder above is the row's or the stored one."""
+    at, names = s.handle(h), []
+    need(is_folder(at.rec), 7)
+    need(at.rec.links > 0, 8)
+    while at.id != 2:
+        need(len(names) < MOST_FOLDERS, 19)
+        above = u32(s.slot(at, 1), 0)
+        folder = Row(above, 0, s.record(above))
+        need(folder.rec.type == FOLDER, 19)
+        names.append(name_in(s, folder, at.id))
+        at = folder
+    path = b"".join(b"/" + name for name in reversed(names)) or b"/"
+    need(len(path) <= room, 20)
+    return path
+
+
 # ---------------------------------------------------------------- the checker
 
 def verdict(model):
@@ -1015,18 +1043,18 @@ def do_mend(s):
 # ---------------------------------------------------------------- scripts
 
 NAMES = ("format", "open", "root", "find", "create", "link", "move", "metadata", "set", "entry", "list", "sync", "close", "check",
-         "read", "write", "resize", "walk", "remove-file", "remove-folder", "inventory", "mend", "fallocate")
-BYTES = dict(zip(NAMES, (*range(16, 22), *range(23, 31), *range(32, 41))))
+         "read", "write", "resize", "walk", "remove-file", "remove-folder", "inventory", "mend", "fallocate", "path")
+BYTES = dict(zip(NAMES, (*range(16, 22), *range(23, 31), *range(32, 42))))
 NAMED = {byte: name for name, byte in BYTES.items()}
 DOES = {"root": do_root, "find": do_find, "create": do_create, "link": do_link, "move": do_move, "metadata": do_metadata, "set": do_set,
         "sync": do_sync, "close": do_close, "write": do_write, "resize": do_resize, "walk": do_walk, "remove-file": do_remove_file, "remove-folder": do_remove_folder, "mend": do_mend,
         "fallocate": do_fallocate}
-OUTPUTS = {"entry": entry_slots, "list": list_slots, "read": read_bytes}
+OUTPUTS = {"entry": entry_slots, "list": list_slots, "read": read_bytes, "path": path_bytes}
 # What follows a command's byte; p, the owner who asks, stands first where there is one, d says whether the dots are asked for, l is a path, and m a mode.
 SHAPES = {"format": "tf", "open": "", "root": "p", "find": "phn", "create": "phn42tf", "link": "phnh", "move": "phnhn",
           "metadata": "ph", "set": "ph288ttt", "entry": "ph8o", "list": "ph8do", "sync": "", "close": "ph", "check": "",
           "read": "ph8o", "write": "ph8w", "resize": "ph8", "walk": "phlo", "remove-file": "phn", "remove-folder": "phn",
-          "inventory": "o", "mend": "", "fallocate": "phm188"}
+          "inventory": "o", "mend": "", "fallocate": "phm188", "path": "pho"}
 
 
 class BadScript(Exception):
@@ -1186,18 +1214,17 @@ class Model:
         return values
 
     def output(self, name, args):
-        at, dots = args[2:4]
         try:
-            step, args = self.enter(name, args)
-            out = written = OUTPUTS[name](step, *args)
+            step, rest = self.enter(name, args)
+            out = written = OUTPUTS[name](step, *rest)
         except Refused as refusal:
             out, written = refusal.reason, b""
         middle = output_sum(written)
         if name == "entry":
             return out, (), middle
-        if name == "read":
+        if name in ("read", "path"):
             return out, (len(written),), middle
-        count = len(written) // SLOT
+        (at, dots), count = args[2:4], len(written) // SLOT
         return out, (count,), f"{middle} p {at if isinstance(out, int) else first_slot(at, dots) + count}"
 
     def format(self, time, file):

@@ -3,7 +3,7 @@ use mathlib.Core.Path.{_≡_, refl, sym, ap, subst}
 use mathlib.Core.Bool.{Bool, true, false}
 use Prim.Native.Nat.{ℕ, zero, suc, _<_}
 use native.Mathlib.Omega.{arith}
-use Rattle.base.specs.Out.{Out, done, refused, bind, guard, answer, kept, Ok, went, said, Went, well, ill}
+use Rattle.base.specs.Out.{Out, done, refused, bind, guard, ensure, answer, kept, Ok, went, said, Went, well, ill}
 
 pub ok-bind : {A B : Type 0} {P : A → Type 0} {Q : B → Type 0} {R : ℕ → Type 0} {m : Out A} {f : A → Out B}
     → Ok P R m → ((a : A) → P a → Ok Q R (f a)) → Ok Q R (bind m f)
@@ -17,6 +17,11 @@ ok-weaken f g (said h) = said (g _ h)
 pub ok-guard : {A : Type 0} {Q : A → Type 0} {R : ℕ → Type 0} (b : Bool) (n : ℕ) {m : Out A} → R n → (b ≡ true → Ok Q R m) → Ok Q R (guard b n m)
 ok-guard true n r h = h refl
 ok-guard false n r h = said r
+
+-- a test that stands alone guards what comes after it
+pub ensure-guard : {A : Type 0} (b : Bool) (n : ℕ) (m : Out A) → bind (ensure b n) (λ _. m) ≡ guard b n m
+ensure-guard true n m = refl
+ensure-guard false n m = refl
 
 -- what is known of an outcome that was done
 of-done : {A : Type 0} {Q : A → Type 0} {R : ℕ → Type 0} {m : Out A} → Ok Q R m → (a : A) → m ≡ done a → Q a

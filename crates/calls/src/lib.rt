@@ -209,7 +209,7 @@ pub fn folder(rec: DiskINode) -> u8
     7
 }
 
-fn not_removed(rec: DiskINode) -> u8
+pub fn not_removed(rec: DiskINode) -> u8
     ensures { λ r. ⌜ r ≡ answer (notRemoved rec) ⌝ }
 {
     if 0 < rec.nlinks {

@@ -77,12 +77,12 @@ pub fn judge(arena: &[u8], first: &[u16], next: &[u16], mem: &[u8], c: usize, d:
 // ---- a folder does not go into itself or below
 
 // What slot 1 of a folder names, where the reason is 0.
-struct Dots {
-    reason: u8,
-    id: u32,
+pub struct Dots {
+    pub reason: u8,
+    pub id: u32,
 }
 
-fn dots_of(arena: &[u8], first: &[u16], next: &[u16], rec: DiskINode) -> Dots
+pub fn dots_of(arena: &[u8], first: &[u16], next: &[u16], rec: DiskINode) -> Dots
     requires { ⌜ Led (now arena) (now first) (now next) ⌝ }
     ensures { λ r. ⌜ ((m : List ℕ) → Went (dotsOf (fsAt (now (arena .entry)) m) rec) (r .id) Unit (r .reason)) ⌝ }
 {

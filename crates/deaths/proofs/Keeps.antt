@@ -39,6 +39,7 @@ use Rattle.sefs.specs.Move.{callMove}
 use Rattle.sefs.specs.Read.{callSet, callMetadata, callEntry, callListing}
 use Rattle.sefs.specs.Contents.{hasContents, notTooBig, callRead, callWrite, callResize}
 use Rattle.sefs.specs.Close.{callSync, closeSteps, callClose}
+use Rattle.paths.specs.Path.{callPath}
 use Rattle.ranges.specs.Ranges.{plainFile, fitsMode, callFallocate}
 use Rattle.ranges.specs.declared.FallocateMode.{FallocateMode}
 use Rattle.rules.specs.Image.{isNode, storedSuper, storedBytes, recBy, recOf}
@@ -51,7 +52,7 @@ use Rattle.image.proofs.Handles.{formed, row-rec}
 use Rattle.image.proofs.Holds.{add-rows}
 use Rattle.image.proofs.Stores.{node-apart}
 use Rattle.sequences.specs.Pairs.{Pair, Passed}
-use Rattle.sequences.specs.Calls.{Call, root, find, walk, create, link, removeFile, removeFolder, move, metadata, setMetadata, getEntry, listing, read, write, resize, fallocate, sync, close, check, inventory, mend, NewFits, Fits, does}
+use Rattle.sequences.specs.Calls.{Call, root, find, walk, create, link, removeFile, removeFolder, move, metadata, setMetadata, getEntry, listing, fullPath, read, write, resize, fallocate, sync, close, check, inventory, mend, NewFits, Fits, does}
 use Rattle.sequences.specs.Promises.{Keeps}
 use Rattle.sequences.proofs.Passing.{allowed}
 use Rattle.sequences.proofs.Closes.{close-rows}
@@ -186,6 +187,7 @@ module _ (p : Pair) (y : Passed p) where
   calls (setMetadata w h mode uid gid at mt ct) F = ok-bind (sets w h mode uid gid at mt ct) λ x H. went H
   calls (getEntry w h k room) F = ok-bind (any (callEntry a t w h k room)) λ x _. went (clean begins)
   calls (listing w h m room) F = ok-bind (any (callListing a t w h m room)) λ x _. went (clean begins)
+  calls (fullPath w h room) F = ok-bind (any (callPath a t w h room)) λ x _. went (clean begins)
   calls (read w h place room) F = ok-bind (any (callRead a t w h place room)) λ x _. went (clean begins)
   calls (write w h place bytes) F = ok-bind (writes w h place bytes) λ x H. went H
   calls (resize w h n) F = ok-bind (resizes w h n) λ x H. went H

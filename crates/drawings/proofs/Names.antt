@@ -22,6 +22,7 @@ use Rattle.table_laws.specs.Rules.{Live}
 use Rattle.table_laws.proofs.Handles.{live-means}
 use Rattle.sefs.specs.Move.{callMove}
 use Rattle.sefs.specs.Read.{callMetadata, callEntry, callListing}
+use Rattle.paths.specs.Path.{callPath}
 use Rattle.inventory.specs.Inventory.{callInventory}
 use Rattle.sefs.specs.Contents.{callRead}
 use Rattle.rules.specs.Image.{run, isNode, recOf, isFolderAt, slotIn}
@@ -33,7 +34,7 @@ use Rattle.tree.proofs.Trees.{up-first}
 use Rattle.image.specs.Midway.{treeOf}
 use Rattle.image.proofs.Images.{fair, root-node}
 use Rattle.sequences.specs.Pairs.{Pair, Passed}
-use Rattle.sequences.specs.Calls.{Call, root, find, walk, create, link, removeFile, removeFolder, move, metadata, setMetadata, getEntry, listing, read, write, resize, fallocate, sync, close, check, inventory, mend, Fits, does, next}
+use Rattle.sequences.specs.Calls.{Call, root, find, walk, create, link, removeFile, removeFolder, move, metadata, setMetadata, getEntry, listing, fullPath, read, write, resize, fallocate, sync, close, check, inventory, mend, Fits, does, next}
 use Rattle.sequences.specs.Promises.{Along, ends, goes, Keeps, Apart, Safe}
 use Rattle.sequences.proofs.Passing.{allowed}
 use Rattle.sequences.proofs.Looks.{mend-stays}
@@ -127,6 +128,7 @@ module _ (p : Pair) (y : Passed p) {d n : ℕ} {own : List ℕ} (N : Named d own
     each (setMetadata w g mode uid gid at mt ct) F gone moved = ok-bind (keeps-set H K a t w g mode uid gid at mt ct begin) λ u h. went (holds a u h)
     each (getEntry w g j room) F gone moved = ok-bind (any (callEntry a t w g j room)) λ x _. went (holds a t begin)
     each (listing w g m room) F gone moved = ok-bind (any (callListing a t w g m room)) λ x _. went (holds a t begin)
+    each (fullPath w g room) F gone moved = ok-bind (any (callPath a t w g room)) λ x _. went (holds a t begin)
     each (read w g place room) F gone moved = ok-bind (any (callRead a t w g place room)) λ x _. went (holds a t begin)
     each (write w g place bytes) F gone moved = ok-bind (slot-writes p y N w g place bytes) λ x r. went (so (x .arena) (x .table) r)
     each (resize w g n) F gone moved = ok-bind (slot-resizes p y N w g n) λ x r. went (so (x .arena) (x .table) r)

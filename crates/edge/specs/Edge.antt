@@ -72,7 +72,7 @@ startIn dots w = startOf (not (eqb dots 0)) (getD w 0 0)
 abbrev pub listedIn : ℕ → List ℕ → List ℕ → List ℕ × List ℕ
 listedIn from out l = ((from + length l / 264) ∷ [], paste out 0 l)
 
--- read, inventory: the bytes over the output's start, and the word is how many they are
+-- read, inventory, path: the bytes over the output's start, and the word is how many they are
 abbrev pub readIn : List ℕ → List ℕ → List ℕ × List ℕ
 readIn out l = (paste out 0 l, length l ∷ [])
 

@@ -1,9 +1,10 @@
-// The calls on what a node holds, as C functions: a file's own bytes, a folder's slots. How they answer says crate `edge`.
+// The calls on what a node holds, as C functions: a file's own bytes, a folder's slots and its path. How they answer says crate `edge`.
 ghost use lib.ListN.{length};
 ghost use Rattle.base.specs.Parts.{paste};
 ghost use Rattle.table_bytes.specs.Layout.{tableOf};
 ghost use Rattle.sefs.specs.Contents.{callRead, callWrite, callResize};
 ghost use Rattle.sefs.specs.Read.{callEntry, callListing};
+ghost use Rattle.paths.specs.Path.{callPath};
 ghost use Rattle.ranges.specs.Modes.{modeOf};
 ghost use Rattle.ranges.specs.Ranges.{callFallocate};
 ghost use Rattle.edge_words.specs.Words.{handleOf};
@@ -11,6 +12,7 @@ ghost use Rattle.edge.specs.Edge.{sized, Answers, leftOf, startIn, listedIn, re
 use calls_entry::entry_on;
 use calls_fallocate::fallocate_on;
 use calls_list::listing_on;
+use calls_path::path_on;
 use calls_read::read_on;
 use calls_resize::resize_on;
 use calls_write::write_on;
@@ -180,4 +182,32 @@ pub extern "C" fn dz_list(
     begin(&mut mem, table);
     let l = listing_on(arena, &mem, owner, handle(hold, stamp), from, out);
     end_listed(next, from, l)
+}
+
+// ---- a folder's path
+
+// The word is how many bytes were written.
+#[no_mangle]
+pub extern "C" fn dz_path(
+    arena: &[u8],
+    table: &[u8],
+    owner: u8,
+    hold: u32,
+    stamp: u64,
+    out: &mut [u8],
+    count: &mut [u64],
+) -> u32
+    ensures { λ r. ⌜ Answers (sized 4402 (now (table .entry)) (sized 1 (now (count .entry)) (callPath (now (arena .entry)) (tableOf (now (table .entry))) owner (handleOf hold stamp) (length (now (out .entry))))))
+        (readIn (now (out .entry))) (now (out .entry), now (count .entry)) (now (out .exit), now (count .exit)) r ⌝ }
+{
+    if table.len() != TABLE {
+        return WRONG_SIZE;
+    }
+    if count.len() != LENGTH_WORDS {
+        return WRONG_SIZE;
+    }
+    let mut mem = [0u8; MEMORY];
+    begin(&mut mem, table);
+    let t = path_on(arena, &mut mem, owner, handle(hold, stamp), out);
+    end_taken(count, t)
 }

@@ -47,7 +47,7 @@ module _ {style : Spelling} (s : Fs) (A : Fair style (s .arena) (s .table)) (met
   I = A .tidy
 
   -- a node's record
-  record-is : (id : ℕ) → isNode a id ≡ true → recordOn s id ≡ done (recOf a t id)
+  pub record-is : (id : ℕ) → isNode (s .arena) id ≡ true → recordOn s id ≡ done (recOf (s .arena) (s .table) id)
   unfolding recordOn recOf storedBytes
   record-is id n =
       ap (λ (m : Out Meta). bind m (λ m. guard (isUsed m id) 19 (recordBy s id (rowOf t id)))) meta
@@ -59,7 +59,7 @@ module _ {style : Spelling} (s : Fs) (A : Fair style (s .arena) (s .table)) (met
       go Nothing = rw (meta-read (s .arena) (s .table) A (128 * id) 112 (omega (arith, node-below (s .arena) id n)))
 
   -- what its slot 1 names
-  dots-is : (x : ℕ) → Lives v x → dotsOf s (recOf a t x) ≡ done (parent v x)
+  pub dots-is : (x : ℕ) → Lives (treeOf (s .arena) (s .table)) x → dotsOf s (recOf (s .arena) (s .table) x) ≡ done (parent (treeOf (s .arena) (s .table)) x)
   unfolding dotsOf slotIn
   dots-is x l =
       let F = I .folder x (l .folder) in

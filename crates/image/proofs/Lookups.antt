@@ -37,12 +37,11 @@ pick-cond : (b : Bool) (m n : ℕ) → pick b m n ≡ cond b m n
 pick-cond true m n = refl
 pick-cond false m n = refl
 
--- one slot more
-look-next : (name : List ℕ) (n k : ℕ) (b : Bool) (o : Out DiskEntry) (x : DiskEntry) → o ≡ done x
-    → pick b (done k) (bind o (λ e. done (pick (isNamed (e .name) name) n (suc n)))) ≡ done (cond b k (cond (isNamed (x .name) name) n (suc n)))
-look-next name n k true o x e = refl
-look-next name n k false o x e =
-    ap (λ (m : Out DiskEntry). bind m (λ e. done (pick (isNamed (e .name) name) n (suc n)))) e ∙ ap done (pick-cond (isNamed (x .name) name) n (suc n))
+-- a search that looks at one thing more
+pub search-next : {A : Type 0} (q : A → Bool) (n k : ℕ) (b : Bool) (o : Out A) (x : A) → o ≡ done x
+    → pick b (done k) (bind o (λ e. done (pick (q e) n (suc n)))) ≡ done (cond b k (cond (q x) n (suc n)))
+search-next q n k true o x e = refl
+search-next {A} q n k false o x e = ap (λ (m : Out A). bind m (λ e. done (pick (q e) n (suc n)))) e ∙ ap done (pick-cond (q x) n (suc n))
 
 -- a slot that was found
 pub record Hit (a : List ℕ) (r : DiskINode) (name : List ℕ) (s : Slot) : Type 0 where
@@ -63,7 +62,7 @@ module _ (a : List ℕ) (t : Table) (A : Allowed a t) (b : Bytes a) (id : ℕ) (
   look-is zero l = refl
   look-is (suc n) l =
       ap (λ (o : Out ℕ). bind o (λ k. pick (ltb k n) (done k) (bind (slotAt a r n) (λ e. done (pick (isNamed (e .name) name) n (suc n)))))) (look-is n (omega arith))
-      ∙ look-next name n (lowest p n) (ltb (lowest p n) n) (slotAt a r n) (slotIn a r n) (slot-is a t A b id f n (omega arith))
+      ∙ search-next (λ (e : DiskEntry). isNamed (e .name) name) n (lowest p n) (ltb (lowest p n) n) (slotAt a r n) (slotIn a r n) (slot-is a t A b id f n (omega arith))
 
   pub lookup-is : lookup a (recOf a t id) name ≡ done (foundBelow (lowest (λ k. isNamed (slotIn a (recOf a t id) k .name) name) (recOf a t id .blocks)) (recOf a t id .blocks))
   unfolding lookup

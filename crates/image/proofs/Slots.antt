@@ -72,7 +72,8 @@ module _ (a : List ℕ) (t : Table) (A : Allowed a t) (b : Bytes a) (id : ℕ) (
   F : Folder a t id
   F = A .rule6 .folder id f
 
-  name-long : (k : ℕ) → length (slotIn a r k .name) ≡ 256
+  -- a stored name, with the zeros after it, has 256 bytes
+  pub name-long : (k : ℕ) → length (slotIn a (recOf a t id) k .name) ≡ 256
   unfolding slotIn
   name-long k = entryOf-fits (slotRun a r k) (run-bytes a (nodeFile r) (264 * k) 264 b) (length-tab (byteAt a (nodeFile r)) (264 * k) 264) .name
 

@@ -1,16 +1,14 @@
 -- The call: what it answers, and when.
 use mathlib.Core.Path.{_≡_, refl, subst}
-use mathlib.Core.Bool.{Bool, true, false}
 use mathlib.Core.List.{List}
 use mathlib.Core.Logic.{_⊎_, inl, inr}
 use Prim.Native.Nat.{ℕ, _≤_}
 use lib.Dec.{eqb, leb}
 use lib.ListN.{length}
 use borrow.Author.Tests.{eq-eqb, ne-eqb, eqb-true, leb-true}
-use Rattle.base.specs.Out.{Out, done, bind, guard, ensure, answer, Ok, went, said}
-use Rattle.base.proofs.Outs.{ok-bind, ok-done}
+use Rattle.base.specs.Out.{Out, done, answer, Ok, went, said}
+use Rattle.base.proofs.Outs.{ok-bind, ensure-guard, ok-done}
 use Rattle.table.specs.Table.{emptyTable}
-use Rattle.arena.specs.Blocks.{legal}
 use Rattle.sound.specs.Sound.{sound}
 use Rattle.sefs.specs.Ask.{admitArena}
 use Rattle.sefs_laws.proofs.Says.{ensure-asks, says-arena}
@@ -46,10 +44,6 @@ answers-of Q o (said r) = inr r
 pub refusals : Refusals
 unfolding Refusals
 refusals a room = answers-of (Called a room) (callInventory a room) (call-law a room)
-
-ensure-guard : {A : Type 0} (b : Bool) (n : ℕ) (m : Out A) → bind (ensure b n) (λ _. m) ≡ guard b n m
-ensure-guard true n m = refl
-ensure-guard false n m = refl
 
 pub exactly : Exactly
 unfolding Exactly callInventory admitArena

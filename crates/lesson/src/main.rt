@@ -6,8 +6,9 @@ mod support;
 
 use lesson_made::log;
 use lesson_made::made;
-use lesson_made::paths;
 use lesson_made::stops;
+use lesson_made::walks;
+use lesson_made::weights;
 
 fn main() {
     let mut world = [0u8; 12594];
@@ -21,10 +22,11 @@ fn main() {
     made::names(&mut world, &mut kept);
     slots::same_node(&mut world, &mut kept);
     slots::families(&mut world);
-    paths::masters();
+    walks::masters();
     slots::two_keys(&mut world);
     support::support_call(&mut world);
     log::log_edited(&mut world, &mut kept);
     host::host_down(&mut world, &mut kept);
     stops::create_stops(&mut world, &mut kept);
+    weights::title_bars();
 }

@@ -8,6 +8,7 @@ use crate::world::get_entry;
 use crate::world::handle;
 use crate::world::mend;
 use crate::world::metadata;
+use crate::world::path;
 use crate::world::read;
 use crate::world::walk;
 use crate::world::write;
@@ -73,6 +74,16 @@ pub fn outline(world: &[u8], who: u8, h: Handle, story: &[u8], k: u8)
 {
     let mut out = [0u8; 64];
     read(world, who, h, 0, &mut out);
+    part(story, k);
+    stored(&out);
+}
+
+// A folder's path, as its title bar shows it.
+pub fn title(world: &[u8], who: u8, h: Handle, story: &[u8], k: u8)
+    requires { ⌜ 4402 ≤ length (now world) ⌝ }
+{
+    let mut out = [0u8; 64];
+    path(world, who, h, &mut out);
     part(story, k);
     stored(&out);
 }

@@ -189,6 +189,12 @@ pub fn get_entry(world: &[u8], who: u8, h: Handle, k: u64, out: &mut [u8])
     calls_entry::get_entry(&world[4402..], read_table(world), who, h, k, out);
 }
 
+pub fn path(world: &[u8], who: u8, h: Handle, out: &mut [u8])
+    requires { ⌜ 4402 ≤ length (now world) ⌝ }
+{
+    calls_path::path(&world[4402..], read_table(world), who, h, out);
+}
+
 pub fn check(world: &[u8]) -> Verdict
     requires { ⌜ 4402 ≤ length (now world) ⌝ }
 {

@@ -6,6 +6,7 @@ pub mod Linked
 pub mod Symlinks
 pub mod Starts
 pub mod Drawings
+pub mod Titles
 pub mod Inventory
 pub mod Mends
 pub mod Cuts

@@ -26,7 +26,7 @@ walk-left : (p : Pair) (o : Out Added) → kept p (bind o (λ g. done (pair (p .
 walk-left p (done g) = refl
 walk-left p (refused n) = refl
 
-did-walk : {s u : Image} {x y : Places} {n w : ℕ} {h : Handle} {path : List ℕ} {room : ℕ} {o : Walked Added} → Goes Free (walk w h path room) s x u y n
+pub did-walk : {s u : Image} {x y : Places} {n w : ℕ} {h : Handle} {path : List ℕ} {room : ℕ} {o : Walked Added} → Goes Free (walk w h path room) s x u y n
     → callWalk (s .arena) (pairOf s .table) w h path room ≡ o → WalkedAs o s x u y n
 unfolding does handed
 did-walk {s} {u} {x} {y} {n} {w} {h} {path} {room} G e =

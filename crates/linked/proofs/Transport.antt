@@ -11,7 +11,7 @@ use Rattle.table.specs.declared.Table.{Table}
 use Rattle.table_bytes.specs.Layout.{tableOf, tableBytes}
 use Rattle.table_bytes.proofs.Layouts.{length-fits, tableOf-tableBytes}
 use Rattle.sequences.specs.Pairs.{Pair, pair, Passed}
-use Rattle.sequences.specs.Calls.{Call, root, find, walk, create, link, removeFile, removeFolder, move, metadata, setMetadata, getEntry, listing, read, write, resize, fallocate, sync, close, check, inventory, mend, Fits, does, reasonOf, next}
+use Rattle.sequences.specs.Calls.{Call, root, find, walk, create, link, removeFile, removeFolder, move, metadata, setMetadata, getEntry, listing, fullPath, read, write, resize, fallocate, sync, close, check, inventory, mend, Fits, does, reasonOf, next}
 use Rattle.sequences.specs.Reasons.{reasonsOf, has}
 use Rattle.sequences.specs.Promises.{Along, Keeps}
 use Rattle.sequences.specs.Promises as along
@@ -36,6 +36,7 @@ not-in (metadata w h) = (λ z. z, λ z. z)
 not-in (setMetadata w h mode uid gid atime mtime ctime) = (λ z. z, λ z. z)
 not-in (getEntry w h k room) = (λ z. z, λ z. z)
 not-in (listing w h m room) = (λ z. z, λ z. z)
+not-in (fullPath w h room) = (λ z. z, λ z. z)
 not-in (read w h place room) = (λ z. z, λ z. z)
 not-in (write w h place bytes) = (λ z. z, λ z. z)
 not-in (resize w h n) = (λ z. z, λ z. z)

@@ -14,13 +14,14 @@ use Rattle.sefs.specs.Create.{callCreate}
 use Rattle.sefs.specs.Read.{callMetadata, callEntry, callListing}
 use Rattle.sefs.specs.Contents.{callRead}
 use Rattle.walk.specs.Walk.{callWalk}
+use Rattle.paths.specs.Path.{callPath}
 use Rattle.inventory.specs.Inventory.{callInventory}
 use Rattle.fsck.specs.Verdicts.{verdictOf}
 use Rattle.edge_words.specs.Words.{handleWords, metadataWords}
 use Rattle.edge.specs.Edge.{lent, counted}
 use Rattle.owners_kept.specs.Owned.{Chained}
 use Rattle.sequences.specs.Pairs.{Pair, pair, Passed}
-use Rattle.sequences.specs.Calls.{Call, root, find, walk, create, link, removeFile, removeFolder, move, metadata, setMetadata, getEntry, listing, read, write, resize, fallocate, sync, close, check, inventory, mend, does}
+use Rattle.sequences.specs.Calls.{Call, root, find, walk, create, link, removeFile, removeFolder, move, metadata, setMetadata, getEntry, listing, fullPath, read, write, resize, fallocate, sync, close, check, inventory, mend, does}
 
 -- a slice as a contract sees it; `now` is what it holds
 abbrev pub Slice : Type 0
@@ -99,6 +100,7 @@ handed (metadata w h) p x = lent (λ m. withWords x (metadataWords m)) x (callMe
 handed (setMetadata w h mode uid gid atime mtime ctime) p x = x
 handed (getEntry w h k room) p x = lent (λ l. places (x .words) (paste (x .output) 0 l) (x .links)) x (callEntry (p .arena) (p .table) w h k room)
 handed (listing w h next room) p x = lent (λ l. places ((next + length l / 264) ∷ []) (paste (x .output) 0 l) (x .links)) x (callListing (p .arena) (p .table) w h next room)
+handed (fullPath w h room) p x = lent (λ l. places (length l ∷ []) (paste (x .output) 0 l) (x .links)) x (callPath (p .arena) (p .table) w h room)
 handed (read w h place room) p x = lent (λ l. places (length l ∷ []) (paste (x .output) 0 l) (x .links)) x (callRead (p .arena) (p .table) w h place room)
 handed (write w h place bytes) p x = x
 handed (resize w h n) p x = x

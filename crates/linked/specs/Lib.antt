@@ -7,3 +7,4 @@ pub mod Drawings
 pub mod Inventory
 pub mod Mends
 pub mod Cuts
+pub mod Titles

@@ -21,13 +21,14 @@ use Rattle.owners.proofs.dz_own_metadata.Reads as own-metadata
 use Rattle.owners.proofs.dz_own_set_metadata.Reads as own-set-metadata
 use Rattle.owners_contents.proofs.dz_own_get_entry.Reads as own-get-entry
 use Rattle.owners_contents.proofs.dz_own_list.Reads as own-list
+use Rattle.owners_contents.proofs.dz_own_path.Reads as own-path
 use Rattle.owners_contents.proofs.dz_own_read.Reads as own-read
 use Rattle.owners_contents.proofs.dz_own_write.Reads as own-write
 use Rattle.owners_contents.proofs.dz_own_resize.Reads as own-resize
 use Rattle.owners_contents.proofs.dz_own_fallocate.Reads as own-fallocate
 use Rattle.owners.proofs.dz_own_sync.Reads as own-sync
 use Rattle.owners.proofs.dz_own_close.Reads as own-close
-use Rattle.sequences.specs.Calls.{Call, root, find, walk, create, link, removeFile, removeFolder, move, metadata, setMetadata, getEntry, listing, read, write, resize, fallocate, sync, close}
+use Rattle.sequences.specs.Calls.{Call, root, find, walk, create, link, removeFile, removeFolder, move, metadata, setMetadata, getEntry, listing, fullPath, read, write, resize, fallocate, sync, close}
 use Rattle.linked.specs.Images.{_&_, Slice, Image, image, Places, places, inWords, nowhere}
 
 pub data Owns : Call → Image → Places → Image → Places → ℕ → Type 0 where
@@ -79,6 +80,10 @@ pub data Owns : Call → Image → Places → Image → Places → ℕ → Type 
       → (own-list.Asked κs (a & k & t & w & hold & stamp & next & dots & out & tt)
       → own-list.Learnt κs (a & k & t & w & hold & stamp & next & dots & out & tt) n (a & k & t & w & hold & stamp & next' & dots & out' & tt))
       → Owns (listing w (handleOf hold stamp) (startIn dots (now next)) (length (now out))) (image (now a) (now k) (now t)) (places (now next) (now out) []) (image (now a) (now k) (now t)) (places (now next') (now out') []) n
+  paths : (κs : Lfts 5) (a k t out out' count count' : Slice) (w hold stamp n : ℕ)
+      → (own-path.Asked κs (a & k & t & w & hold & stamp & out & count & tt)
+      → own-path.Learnt κs (a & k & t & w & hold & stamp & out & count & tt) n (a & k & t & w & hold & stamp & out' & count' & tt))
+      → Owns (fullPath w (handleOf hold stamp) (length (now out))) (image (now a) (now k) (now t)) (places (now count) (now out) []) (image (now a) (now k) (now t)) (places (now count') (now out') []) n
   reads : (κs : Lfts 5) (a k t out out' count count' : Slice) (w hold stamp place n : ℕ)
       → (own-read.Asked κs (a & k & t & w & hold & stamp & place & out & count & tt)
       → own-read.Learnt κs (a & k & t & w & hold & stamp & place & out & count & tt) n (a & k & t & w & hold & stamp & place & out' & count' & tt))

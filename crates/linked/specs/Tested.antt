@@ -25,6 +25,7 @@ use Rattle.edge.proofs.dz_metadata.Reads as dz-metadata
 use Rattle.edge.proofs.dz_set_metadata.Reads as dz-set-metadata
 use Rattle.edge_contents.proofs.dz_get_entry.Reads as dz-get-entry
 use Rattle.edge_contents.proofs.dz_list.Reads as dz-list
+use Rattle.edge_contents.proofs.dz_path.Reads as dz-path
 use Rattle.edge_contents.proofs.dz_read.Reads as dz-read
 use Rattle.edge_contents.proofs.dz_write.Reads as dz-write
 use Rattle.edge_contents.proofs.dz_resize.Reads as dz-resize
@@ -34,7 +35,7 @@ use Rattle.edge.proofs.dz_close.Reads as dz-close
 use Rattle.edge.proofs.dz_check.Reads as dz-check
 use Rattle.edge.proofs.dz_inventory.Reads as dz-inventory
 use Rattle.edge.proofs.dz_mend.Reads as dz-mend
-use Rattle.sequences.specs.Calls.{Call, root, find, walk, create, link, removeFile, removeFolder, move, metadata, setMetadata, getEntry, listing, read, write, resize, fallocate, sync, close, check, inventory, mend}
+use Rattle.sequences.specs.Calls.{Call, root, find, walk, create, link, removeFile, removeFolder, move, metadata, setMetadata, getEntry, listing, fullPath, read, write, resize, fallocate, sync, close, check, inventory, mend}
 use Rattle.linked.specs.Images.{_&_, Slice, Image, image, Places, places, inWords, nowhere, reasonIn}
 
 -- a primed slice is the slice at exit; k are the chains, that the function is not lent
@@ -75,6 +76,9 @@ pub data Ran : Call → Image → Places → Image → Places → ℕ → Type 0
   lists : (κs : Lfts 4) (a t next next' out out' : Slice) (w hold stamp dots n : ℕ) {k : List ℕ}
       → dz-list.Learnt κs (a & t & w & hold & stamp & next & dots & out & tt) n (a & t & w & hold & stamp & next' & dots & out' & tt)
       → Ran (listing w (handleOf hold stamp) (startIn dots (now next)) (length (now out))) (image (now a) k (now t)) (places (now next) (now out) []) (image (now a) k (now t)) (places (now next') (now out') []) n
+  paths : (κs : Lfts 4) (a t out out' count count' : Slice) (w hold stamp n : ℕ) {k : List ℕ}
+      → dz-path.Learnt κs (a & t & w & hold & stamp & out & count & tt) n (a & t & w & hold & stamp & out' & count' & tt)
+      → Ran (fullPath w (handleOf hold stamp) (length (now out))) (image (now a) k (now t)) (places (now count) (now out) []) (image (now a) k (now t)) (places (now count') (now out') []) n
   reads : (κs : Lfts 4) (a t out out' count count' : Slice) (w hold stamp place n : ℕ) {k : List ℕ}
       → dz-read.Learnt κs (a & t & w & hold & stamp & place & out & count & tt) n (a & t & w & hold & stamp & place & out' & count' & tt)
       → Ran (read w (handleOf hold stamp) place (length (now out))) (image (now a) k (now t)) (places (now count) (now out) []) (image (now a) k (now t)) (places (now count') (now out') []) n

@@ -1,10 +1,11 @@
-// The calls of an owner on what a node holds: a file's own bytes, a folder's slots. Who may make them, and what is kept beside the arena, says crate `owners_kept`.
+// The calls of an owner on what a node holds: a file's own bytes, a folder's slots and its path. Who may make them, and what is kept beside the arena, says crate `owners_kept`.
 ghost use mathlib.Core.Path.{_≡_};
 ghost use lib.ListN.{length};
 ghost use Rattle.base.specs.Parts.{paste};
 ghost use Rattle.table_bytes.specs.Layout.{tableOf};
 ghost use Rattle.sefs.specs.Contents.{callRead, callWrite, callResize};
 ghost use Rattle.sefs.specs.Read.{callEntry, callListing};
+ghost use Rattle.paths.specs.Path.{callPath};
 ghost use Rattle.ranges.specs.Modes.{modeOf};
 ghost use Rattle.ranges.specs.Ranges.{callFallocate};
 ghost use Rattle.mem.specs.Mem.{tableIn};
@@ -18,6 +19,7 @@ use calls_fallocate::SOURCE;
 use calls_fallocate::fallocate_led;
 use calls_fallocate::fallocate_row;
 use calls_list::list_led;
+use calls_path::path_led;
 use calls_read::read_led;
 use calls_resize::resize_led;
 use calls_write::write_led;
@@ -375,4 +377,38 @@ pub extern "C" fn dz_own_list(
         out,
     );
     end_listed(next, from, l)
+}
+
+// ---- a folder's path
+
+// The word is how many bytes were written.
+#[no_mangle]
+pub extern "C" fn dz_own_path(
+    arena: &[u8],
+    chains: &[u16],
+    table: &[u8],
+    owner: u8,
+    hold: u32,
+    stamp: u64,
+    out: &mut [u8],
+    count: &mut [u64],
+) -> u32
+    requires { ⌜ Owned (now arena) (now chains) (now table) ⌝ }
+    ensures { λ r. ⌜ Answers (sized 1 (now (count .entry)) (callPath (now (arena .entry)) (tableOf (now (table .entry))) owner (handleOf hold stamp) (length (now (out .entry))))) (readIn (now (out .entry))) (now (out .entry), now (count .entry)) (now (out .exit), now (count .exit)) r ⌝ }
+{
+    if count.len() != LENGTH_WORDS {
+        return WRONG_SIZE;
+    }
+    let mut mem = [0u8; MEMORY];
+    begin(&mut mem, table);
+    let t = path_led(
+        arena,
+        &chains[..4096],
+        &chains[4096..8192],
+        &mut mem,
+        owner,
+        handle(hold, stamp),
+        out,
+    );
+    end_taken(count, t)
 }

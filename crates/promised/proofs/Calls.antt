@@ -19,6 +19,7 @@ use Rattle.sefs.specs.Move.{callMove}
 use Rattle.sefs.specs.Read.{callMetadata, callSet, callEntry, callListing}
 use Rattle.sefs.specs.Contents.{callRead, callWrite, callResize}
 use Rattle.sefs.specs.Close.{callSync, callClose}
+use Rattle.paths.specs.Path.{callPath}
 use Rattle.ranges.specs.Ranges.{callFallocate}
 use Rattle.ranges.specs.declared.FallocateMode.{FallocateMode}
 use Rattle.walk.specs.Walk.{callWalk}
@@ -40,7 +41,7 @@ use Rattle.calls_format.specs.Format.{formatted}
 use Rattle.calls_find.specs.Finds.{Gives}
 use Rattle.calls_mend.specs.Mends.{Mends}
 use Rattle.sequences.specs.Pairs.{Pair, pair, Passed}
-use Rattle.sequences.specs.Calls.{Call, root, find, walk, create, link, removeFile, removeFolder, move, metadata, setMetadata, getEntry, listing, read, write, resize, fallocate, sync, close, inventory, mend, Fits, AskerFits, HandleFits, NewFits, SetFits, does, reasonOf, next}
+use Rattle.sequences.specs.Calls.{Call, root, find, walk, create, link, removeFile, removeFolder, move, metadata, setMetadata, getEntry, listing, fullPath, read, write, resize, fallocate, sync, close, inventory, mend, Fits, AskerFits, HandleFits, NewFits, SetFits, does, reasonOf, next}
 use Rattle.sequences.specs.Promises.{Keeps, Well, Fresh}
 use Rattle.sequences.proofs.Sequences.{keeps}
 use Rattle.sequences.proofs.Fresh.{fresh}
@@ -220,6 +221,12 @@ module _ (p : Pair) (y : Passed p) where
       read-keeps r e =
           subst (Stays (p .arena) (p .table)) (sym (ap takenNumber (e .0) ∙ taken-number (callRead (p .arena) (p .table) who h k (length out))))
           (by-none (read who h k (length out)) p (callRead (p .arena) (p .table) who h k (length out)) (held (read who h k (length out)) (Q, H, K, R)) refl)
+
+    pub path-keeps : (out now : List ℕ) → length out < 2 ^ 64 → (r : Taken) → Lays takenOf (callPath (p .arena) (p .table) who h (length out)) out now r → Stays (p .arena) (p .table) (takenNumber r)
+    unfolding does
+    path-keeps out now R r e =
+        subst (Stays (p .arena) (p .table)) (sym (ap takenNumber (e .0) ∙ taken-number (callPath (p .arena) (p .table) who h (length out))))
+        (by-none (fullPath who h (length out)) p (callPath (p .arena) (p .table) who h (length out)) (held (fullPath who h (length out)) (Q, H, R)) refl)
 
     pub write-keeps : (place : ℕ) → place < 2 ^ 64 → (src : List ℕ) → Bytes src → (b : List ℕ) (r : answered.Reply)
         → Returned (p .table) (callWrite (p .arena) (p .table) who h place src) (p .arena) b r → Stays b (r .table) (answerNumber (r .answer))

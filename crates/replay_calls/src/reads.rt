@@ -129,6 +129,18 @@ pub fn reach(command: &[u8], arena: &[u8], mem: &mut [u8], answer: &mut [u8]) ->
     say_handed(answer, h)
 }
 
+// ---- path
+
+pub fn path(command: &[u8], arena: &[u8], mem: &mut [u8], answer: &mut [u8]) -> u8
+    requires { ⌜ (length (now command) ≡ 8218) × (length (now answer) ≡ 8320) ⌝ }
+    requires { ⌜ Whole (now mem) ⌝ }
+{
+    let h = handle_at(command, 2);
+    let n = length_at(command, 14, 8192);
+    let t = calls_path::path_on(arena, mem, command[1], h, &mut answer[0..n]);
+    say_taken(answer, t)
+}
+
 // ---- set metadata
 
 pub fn set(command: &[u8], arena: &[u8], mem: &mut [u8]) -> u8

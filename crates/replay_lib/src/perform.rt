@@ -10,6 +10,7 @@ use replay_calls::mend;
 use replay_calls::reads::check;
 use replay_calls::reads::inventory;
 use replay_calls::reads::look;
+use replay_calls::reads::path;
 use replay_calls::reads::reach;
 use script::COMMAND;
 use script::args::lay;
@@ -34,6 +35,7 @@ fn do_call(command: &[u8], arena: &mut [u8], mem: &mut [u8], answer: &mut [u8]) 
         30 => check(&arena[..], mem, answer),
         38 => inventory(command, &arena[..], answer),
         39 => mend(arena, mem),
+        41 => path(command, &arena[..], mem, answer),
         _ => change(command, arena, mem),
     }
 }

@@ -58,7 +58,7 @@ fn put_known(text: &mut [u8], w: usize, k: usize) -> usize
         w,
         b"read.........write........resize.......walk.........\
           remove-file..remove-folderinventory....mend.........\
-          fallocate...........................................\
+          fallocate....path...................................\
           ....................................................\
           format.......open.........root.........find.........\
           create.......link......................move.........\
@@ -114,7 +114,7 @@ fn values_of(c: u64) -> usize
     match c {
         18 | 19 | 20 | 35 => 2,
         24 => 14,
-        27 | 32 | 38 => 1,
+        27 | 32 | 38 | 41 => 1,
         _ => 0,
     }
 }
@@ -193,7 +193,7 @@ fn put_shown(text: &mut [u8], w: usize, answer: &[u8]) -> usize
     ensures { λ r. ⌜ r ≤ w + 68 ⌝ }
 {
     match u64_at(answer, 8312) {
-        26 | 32 | 35 | 38 => put_output(text, w, answer),
+        26 | 32 | 35 | 38 | 41 => put_output(text, w, answer),
         27 => put_listed(text, w, answer),
         _ => w,
     }

@@ -129,6 +129,7 @@ pub fn size_of(rest: &[u8], limit: usize) -> usize
         35 => path_output(rest),
         38 => with_output(rest, 1),
         40 => ranged(rest),
+        41 => with_output(rest, 14),
         c => whole(rest, fixed(c)),
     }
 }

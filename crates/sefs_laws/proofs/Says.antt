@@ -37,6 +37,7 @@ use Rattle.sefs.specs.Meta.{ids, firstBit, isUsed, Allocated, loadMaps, loadMet
 use Rattle.sefs.specs.Nodes.{Opened, setRec, nodeFile, recAt, noRow, openIn, openAt, loadNode, getNode, newNode, storeRow, syncRow, freeNode, dropNode, release}
 use Rattle.sefs.specs.Slots.{isEnded, slotBytes, slotAt, lookTo, lookup, orNotFound, findSlot}
 use Rattle.sefs.specs.Folders.{putSlot, direntInit, direntAppend, direntRemove, direntNodeRemove, nlinksInc, nlinksDec, unlinkFolder}
+use Rattle.sefs.specs.Move.{recordBy, recordOn, dotsOf}
 use Rattle.sefs.specs.Contents.{hasContents, notTooBig, readBytes, resizeSteps, writeSteps}
 use Rattle.sefs.specs.Ask.{admitArena, admit, liveFolder, orExists}
 use mathlib.Core.Path.{refl, _≡_, sym, subst}
@@ -130,6 +131,19 @@ module _ (R : ℕ → Type 0) (stuck : R 19) where
   pub says-slot : (a : List ℕ) (r : DiskINode) (k : ℕ) → Says R (slotAt a r k)
   unfolding slotAt
   says-slot a r k = says-then (says-slot-bytes a r k) λ l. says-guard (isEnded (storedName (entryOf l .name))) 19 stuck says-done
+
+  -- a folder above another, whose id is in slot 1
+  pub says-record : (s : Fs) (id : ℕ) → Says R (s .meta) → Says R (recordOn s id)
+  unfolding recordOn
+  says-record s id h = says-then h λ m. says-guard (isUsed m id) 19 stuck (go (rowOf (s .table) id))
+    where
+      go : (f : Found) → Says R (recordBy s id f)
+      go (At i) = says-done
+      go Nothing = says-then (says-read _ _ _ _) λ l. says-done
+
+  pub says-dots : (s : Fs) (r : DiskINode) → Says R (dotsOf s r)
+  unfolding dotsOf
+  says-dots s r = says-guard (isFolder (r .kind)) 19 stuck (says-then (says-slot-bytes _ _ _) λ l. says-done)
 
   says-look : (a : List ℕ) (r : DiskINode) (name : List ℕ) (n : ℕ) → Says R (lookTo a r name n)
   unfolding lookTo

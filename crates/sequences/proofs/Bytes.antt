@@ -40,6 +40,7 @@ use Rattle.sefs.specs.Folders.{entry}
 use Rattle.sefs.specs.Ask.{start}
 use Rattle.sefs.specs.Create.{Given, createSteps}
 use Rattle.sefs.specs.Read.{callMetadata, callEntry, callListing}
+use Rattle.paths.specs.Path.{callPath}
 use Rattle.inventory.specs.Inventory.{callInventory}
 use Rattle.sefs.specs.Contents.{callRead}
 use Rattle.rules.specs.Image.{isNode, storedBytes, recBy, recOf}
@@ -57,7 +58,7 @@ use Rattle.image.proofs.Appends.{file-apart}
 use Rattle.image.proofs.Allocs.{taken-new}
 use Rattle.image.proofs.Makes.{Makes, new-node-law}
 use Rattle.sequences.specs.Pairs.{Pair, Passed}
-use Rattle.sequences.specs.Calls.{Call, root, find, walk, create, link, removeFile, removeFolder, move, metadata, setMetadata, getEntry, listing, read, write, resize, fallocate, sync, close, check, inventory, mend, NewFits, Fits, does, next}
+use Rattle.sequences.specs.Calls.{Call, root, find, walk, create, link, removeFile, removeFolder, move, metadata, setMetadata, getEntry, listing, fullPath, read, write, resize, fallocate, sync, close, check, inventory, mend, NewFits, Fits, does, next}
 use Rattle.sequences.specs.Promises.{Through, writes, resizes, fallocates}
 use Rattle.sequences.proofs.Passing.{allowed, spelled-any}
 use Rattle.sequences.proofs.Looks.{mend-stays}
@@ -350,6 +351,7 @@ module _ (p : Pair) (y : Passed p) where
     leaves (setMetadata w g mode uid gid at mt ct) x z = ok-bind (keeps-set I (intact-bears f) a t w g mode uid gid at mt ct (intact-start f)) λ x l. went l
     leaves (getEntry w g j room) x z = ok-bind (any (callEntry a t w g j room)) λ x _. went (intact-start f)
     leaves (listing w g m room) x z = ok-bind (any (callListing a t w g m room)) λ x _. went (intact-start f)
+    leaves (fullPath w g room) x z = ok-bind (any (callPath a t w g room)) λ x _. went (intact-start f)
     leaves (read w g place room) x z = ok-bind (any (callRead a t w g place room)) λ x _. went (intact-start f)
     leaves (write w g place bytes) x z =
         ok-bind (keeps-write C (calm-bears f) a t w g place bytes (λ i l. calm-fills f i (live-firm w g i l) (row-apart w g i l (λ q. z (writes (live-means t w g i .1 l) q)))) (calm-start f)) λ x l. went (l .0)

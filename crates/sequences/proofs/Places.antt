@@ -24,6 +24,7 @@ use Rattle.sefs.specs.Move.{callMove}
 use Rattle.sefs.specs.Read.{callMetadata, callSet, callEntry, callListing}
 use Rattle.sefs.specs.Contents.{callRead, callWrite, callResize}
 use Rattle.sefs.specs.Close.{callClose}
+use Rattle.paths.specs.Path.{callPath}
 use Rattle.ranges.specs.Ranges.{callFallocate}
 use Rattle.sefs_laws.proofs.Rows.{Any}
 use Rattle.sefs_laws.proofs.Handles.{Owns, handle-asks, handle-done, handle-not}
@@ -149,7 +150,7 @@ module _ (p : Pair) (v w : ℕ) (h : Handle) (i : ℕ) (live : liveRow (p .table
   move-refused g old name y Nothing e = rw (enter p y, handle-not (p .table) v g o e) refl
 
 names-refused : (p : Pair) (c : Call) (w : ℕ) (h : Handle) (i : ℕ) → Passed p → liveRow (p .table) w h ≡ At i → Owner (asker c) → asker c ≢ w → Names h c → reasonOf c p ≡ 4
-unfolding does callFind callWalk callCreate callLink callRemove callMove callMetadata callSet callEntry callListing callRead callWrite callResize callFallocate callClose
+unfolding does callFind callWalk callCreate callLink callRemove callMove callMetadata callSet callEntry callListing callPath callRead callWrite callResize callFallocate callClose
 names-refused p c w h i y l o d (Places.finds {v = v}) = rw (enter p y, his p v w h i l o d) refl
 names-refused p c w h i y l o d (Places.walks {v = v}) = rw (enter p y, his p v w h i l o d) refl
 names-refused p c w h i y l o d (Places.creates {v = v}) = rw (enter p y, his p v w h i l o d) refl
@@ -161,6 +162,7 @@ names-refused p c w h i y l o d (Places.asks {v = v}) = rw (enter p y, his p v w
 names-refused p c w h i y l o d (Places.sets {v = v}) = rw (enter p y, his p v w h i l o d) refl
 names-refused p c w h i y l o d (Places.entries {v = v}) = rw (enter p y, his p v w h i l o d) refl
 names-refused p c w h i y l o d (Places.lists {v = v}) = rw (enter p y, his p v w h i l o d) refl
+names-refused p c w h i y l o d (Places.paths {v = v}) = rw (enter p y, his p v w h i l o d) refl
 names-refused p c w h i y l o d (Places.reads {v = v}) = rw (enter p y, his p v w h i l o d) refl
 names-refused p c w h i y l o d (Places.writes {v = v}) = rw (enter p y, his p v w h i l o d) refl
 names-refused p c w h i y l o d (Places.resizes {v = v}) = rw (enter p y, his p v w h i l o d) refl

@@ -17,7 +17,7 @@ use Rattle.sefs.specs.Ask.{start}
 use Rattle.ranges.specs.declared.FallocateMode.{FallocateMode}
 use Rattle.walk.specs.Walk.{Spot, spot, walkIn}
 use Rattle.sequences.specs.Pairs.{Pair, pair, Passed}
-use Rattle.sequences.specs.Calls.{Call, root, find, walk, create, link, removeFile, removeFolder, move, metadata, setMetadata, getEntry, listing, read, write, resize, fallocate, close, Fits, asker, reasonOf, next}
+use Rattle.sequences.specs.Calls.{Call, root, find, walk, create, link, removeFile, removeFolder, move, metadata, setMetadata, getEntry, listing, fullPath, read, write, resize, fallocate, close, Fits, asker, reasonOf, next}
 use Rattle.sequences.specs.Promises.{Along, On, Safe}
 
 -- ---- "Whether a call that reaches that check meets TableFull depends on its owner's own live holds and the stamp supply alone."
@@ -81,6 +81,7 @@ pub data Names (h : Handle) : Call → Type 0 where
   sets : {v mode uid gid : ℕ} {at mt ct : Timespec} → Names h (setMetadata v h mode uid gid at mt ct)
   entries : {v k room : ℕ} → Names h (getEntry v h k room)
   lists : {v next room : ℕ} → Names h (listing v h next room)
+  paths : {v room : ℕ} → Names h (fullPath v h room)
   reads : {v place room : ℕ} → Names h (read v h place room)
   writes : {v place : ℕ} {bytes : List ℕ} → Names h (write v h place bytes)
   resizes : {v n : ℕ} → Names h (resize v h n)

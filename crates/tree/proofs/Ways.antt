@@ -92,21 +92,25 @@ module _ (v : Tree) {style : Spelling} (I : Tidy style v) where
       short : (j k : ℕ) → j < k → k ≤ n → up v i j ≡ up v i k → ⊥
       short j k x y e = before (j + (n - k)) (omega arith) (up-meet i j k (n - k) e ∙ ap (up v i) (let q : k + (n - k) ≡ n = omega arith in q) ∙ there)
 
-      apart : (j k : ℕ) → j < suc n → k < suc n → up v i j ≡ up v i k → j ≡ k
-      apart j k x y e =
+      -- no folder is met twice on the way
+      pub up-apart : (j k : ℕ) → j < suc n → k < suc n → up v i j ≡ up v i k → j ≡ k
+      up-apart j k x y e =
           ⊎-elim
           (λ z. absurd (short j k z (omega arith) e))
           (λ g. ⊎-elim (λ z. absurd (short k j z (omega arith) (sym e))) (λ h. let q : j ≡ k = omega arith in q) (lt-or-le k j))
           (lt-or-le j k)
 
       soon : n < v .ids
-      soon = pigeon (suc n) (v .ids) (up v i) (λ j x. I .below (up v i j) (folder-is v (up v i j) (lives-up i l j .folder))) apart
+      soon = pigeon (suc n) (v .ids) (up v i) (λ j x. I .below (up v i j) (folder-is v (up v i j) (lives-up i l j .folder))) up-apart
 
-    pub climbs-soon : (n : ℕ) × (n < v .ids) × (up v i n ≡ 2)
-    climbs-soon =
+    pub climbs-least : (n : ℕ) × (up v i n ≡ 2) × ((m : ℕ) → m < n → up v i m ≢ 2)
+    climbs-least =
         let p : ℕ → Bool = λ n. eqb (up v i n) 2 in
         let w = I .climbs i l in
         let g = lowest-at-most p (suc (w .0)) (w .0) (omega arith) (eq-eqb _ 2 (w .1)) in
         let n : ℕ = lowest p (suc (w .0)) in
         let e : p n ≡ true = lowest-hit p (suc (w .0)) (omega arith) in
-        (n, soon n (eqb-true _ 2 e) (λ m h. eqb-false _ 2 (lowest-first p (suc (w .0)) .before m h)), eqb-true _ 2 e)
+        (n, eqb-true _ 2 e, λ m h. eqb-false _ 2 (lowest-first p (suc (w .0)) .before m h))
+
+    pub climbs-soon : (n : ℕ) × (n < v .ids) × (up v i n ≡ 2)
+    climbs-soon = let w = climbs-least in (w .0, soon (w .0) (w .1) (w .2), w .1)

@@ -167,7 +167,7 @@ impl Replay {
     }
 
     fn command(&mut self, byte: u8, s: &mut Reader) -> Read<()> {
-        let who = if matches!(byte, 18..=27 | 29 | 32..=37 | 40) { s.u8()? } else { 0 };
+        let who = if matches!(byte, 18..=27 | 29 | 32..=37 | 40 | 41) { s.u8()? } else { 0 };
         match byte {
             1 => {
                 let length = s.length(ARENA_MOST)?;
@@ -317,6 +317,11 @@ impl Replay {
                 let (from, length) = (s.u64()?, s.u64()?);
                 let answer = self.by(who).fallocate_numbered(h, mode, flags, from, length);
                 self.line("fallocate", done(answer));
+            }
+            41 => {
+                let (h, room, mut out) = (s.handle()?, s.room()?, [238; OUT]);
+                let answer = said(self.by(who).path_into(h, &mut out[..room]), |n| n.to_string());
+                self.line("path", format!("{answer} o {}", sum(&out)));
             }
             _ => return Err(BadScript),
         }

@@ -133,6 +133,9 @@ pub fn sequence<'a>(seed: u64, calls: usize, beside: Option<&'a mut dyn Beside>)
         if s.plan.hurt && s.dice.once(60) {
             s.hurt();
         }
+        if s.lines.len() % 8 == 0 && s.beside.is_none() {
+            s.full_path();
+        }
     }
     s.call(Call::Sync);
     s.call(Call::Check);
@@ -535,6 +538,20 @@ impl Sequence<'_> {
             _ => self.path(from, 4, 6),
         };
         Call::Walk(h, path, self.dice.of(&[8192, 8192, 8192, 8192, 8192, 8192, 300, 40, 12, 4, 1, 0]))
+    }
+
+    /// The path of an open node, mostly asked by its owner. It takes nothing from the dice, so that a seed's sequence stays what it was.
+    fn full_path(&mut self) {
+        let (n, handles) = (self.lines.len() / 8, self.world.table.handles());
+        if handles.is_empty() {
+            return;
+        }
+        let (h, who) = (handles[n % handles.len()], self.who);
+        if n % 20 != 0 {
+            self.who = self.world.table.owner(h).unwrap();
+        }
+        self.call(Call::Path(h, [8192, 8192, 300, 40, 12, 8, 4, 2, 1, 0][n % 10]));
+        self.who = who;
     }
 
     /// The holds of symlinks that who asks has: all, or those that have no target yet.

@@ -48,15 +48,17 @@ pub enum Call {
     Mend,
     /// Mode, flags, start, length.
     Fallocate(Handle, u8, u8, u64, u64),
+    /// Length of the output.
+    Path(Handle, u16),
 }
 
-pub const KINDS: usize = 23;
+pub const KINDS: usize = 24;
 #[rustfmt::skip]
 pub const NAMES: [&str; KINDS] =
     ["format", "open", "root", "find", "create", "link", "move", "metadata", "set", "entry", "list", "sync", "close", "check",
-     "read", "write", "resize", "walk", "remove-file", "remove-folder", "inventory", "mend", "fallocate"];
+     "read", "write", "resize", "walk", "remove-file", "remove-folder", "inventory", "mend", "fallocate", "path"];
 /// The commands' bytes: from 32 on those that document 02 adds; 22 was unlink.
-const BYTES: [u8; KINDS] = [16, 17, 18, 19, 20, 21, 23, 24, 25, 26, 27, 28, 29, 30, 32, 33, 34, 35, 36, 37, 38, 39, 40];
+const BYTES: [u8; KINDS] = [16, 17, 18, 19, 20, 21, 23, 24, 25, 26, 27, 28, 29, 30, 32, 33, 34, 35, 36, 37, 38, 39, 40, 41];
 
 impl Call {
     /// Its place among the names.
@@ -85,6 +87,7 @@ impl Call {
             Call::Inventory(_) => 20,
             Call::Mend => 21,
             Call::Fallocate(..) => 22,
+            Call::Path(..) => 23,
         }
     }
 
@@ -106,7 +109,7 @@ impl Call {
             Call::Find(h, _) | Call::Create(h, ..) | Call::RemoveFile(h, _) | Call::RemoveFolder(h, _) => vec![*h],
             Call::Link(h, _, g) | Call::Move(h, _, g, _) => vec![*h, *g],
             Call::Metadata(h) | Call::Set(h, ..) | Call::Entry(h, ..) | Call::List(h, ..) | Call::Close(h) => vec![*h],
-            Call::Read(h, ..) | Call::Write(h, ..) | Call::Resize(h, _) | Call::Walk(h, ..) | Call::Fallocate(h, ..) => vec![*h],
+            Call::Read(h, ..) | Call::Write(h, ..) | Call::Resize(h, _) | Call::Walk(h, ..) | Call::Fallocate(h, ..) | Call::Path(h, _) => vec![*h],
             _ => vec![],
         }
     }
@@ -205,6 +208,10 @@ impl Call {
                 out.extend(room.to_le_bytes());
             }
             Call::Inventory(room) => out.extend(room.to_le_bytes()),
+            Call::Path(h, room) => {
+                put_handle(out, h);
+                out.extend(room.to_le_bytes());
+            }
             Call::Fallocate(h, mode, flags, from, length) => {
                 put_handle(out, h);
                 out.extend([*mode, *flags]);
@@ -317,6 +324,7 @@ impl Script<'_> {
             38 => Call::Inventory(self.room()?),
             39 => Call::Mend,
             40 => Call::Fallocate(self.handle()?, self.mode()?, self.bytes(1)?[0], self.u64()?, self.u64()?),
+            41 => Call::Path(self.handle()?, self.room()?),
             _ => return None,
         })
     }

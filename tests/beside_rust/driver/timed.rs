@@ -132,7 +132,7 @@ impl Image {
                 self.node(h).fallocate(&mode_of(*mode, *flags), *from as usize, *length as usize)
             }
             Call::Walk(h, path, _) => self.node(h).lookup_follow(text(path), MOST_LINKS).map(|node| self.hold(node)),
-            Call::Check | Call::Inventory(_) | Call::Mend => panic!("the Rust has no such call"),
+            Call::Check | Call::Inventory(_) | Call::Mend | Call::Path(..) => panic!("the Rust has no such call"),
         }
     }
 }

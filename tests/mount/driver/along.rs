@@ -151,7 +151,7 @@ impl<'a> Along<'a> {
             Call::Fallocate(h, mode, flags, from, length) => {
                 self.node(*h).fallocate(&mode_of(*mode, *flags), *from as usize, *length as usize).map(|_| Got::Done)
             }
-            Call::Format(..) | Call::Open | Call::Check | Call::Walk(..) | Call::Inventory(_) | Call::Mend => panic!("not a call of the traits"),
+            Call::Format(..) | Call::Open | Call::Check | Call::Walk(..) | Call::Inventory(_) | Call::Mend | Call::Path(..) => panic!("not a call of the traits"),
         }
     }
 

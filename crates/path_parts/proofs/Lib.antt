@@ -1,0 +1,2 @@
+pub mod Folders
+pub mod Namers

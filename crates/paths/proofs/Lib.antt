@@ -1,0 +1,4 @@
+pub mod Texts
+pub mod Paths
+pub mod Spans
+pub mod Turns

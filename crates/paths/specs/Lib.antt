@@ -1,0 +1,3 @@
+pub mod Path
+pub mod Spans
+pub mod Laws

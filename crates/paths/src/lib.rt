@@ -1,0 +1,1 @@
+// No code: the full path of a folder, and its laws.

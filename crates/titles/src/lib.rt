@@ -1,0 +1,1 @@
+// No code: what is promised of a folder's path on a pair that passed.
