@@ -1,4 +1,6 @@
 // The arena's blocks, of 512 bytes each: their check, the block writer, new blocks, and what a block is.
+#![tactic(auto)]
+
 ghost use Rattle.std.specs.Prelude.{◌≡◌, length};
 ghost use Rattle.base.specs.Decides.{same};
 ghost use Rattle.arena.specs.Blocks.{legal as legal_arena};

@@ -76,7 +76,7 @@ decides-every d p P h [] = record { right = λ t k l. absurd (omega arith); left
 decides-every d p P h (x ∷ l) =
     let r = decides-every d p P h l in
     record {
-      right = λ t k. let s = and_split (p x) (every p l) t in elim k [ zero ↦ λ lt. (h x).right s.0 | suc j ↦ λ lt. r.right s.1 j (omega arith) ];
+      right = λ t k. let s = and_split (p x) (every p l) t in elim k as (λ j. j < length (x ∷ l) → P (get_or (x ∷ l) j d)) [ zero ↦ λ lt. (h x).right s.0 | suc j ↦ λ lt. r.right s.1 j (omega arith) ];
       left = λ f. and-join (p x) (every p l) ((h x).left (f 0 (omega arith))) (r.left (λ k lt. f (suc k) (omega arith)));
     }
 

@@ -1,4 +1,6 @@
 // What every layer shares: an answer that may be missing, numbers made wider, and bytes copied and cleared.
+#![tactic(auto)]
+
 pub mod reasons;
 
 ghost use Rattle.std.specs.Prelude.{◌≡◌, ◌<◌, min, max, length, replicate};
@@ -6,7 +8,7 @@ ghost use Rattle.base.specs.Count.{bit};
 ghost use Rattle.base.specs.Search.{found_below};
 
 // What a search found.
-#[derive(Drop)]
+#[derive(Clone, Copy)]
 pub enum Found {
     At(usize),
     Nothing,

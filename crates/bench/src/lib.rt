@@ -1,4 +1,6 @@
 // What the timings of tests/bench call.
+#![tactic(auto)]
+
 ghost use Rattle.std.specs.Prelude.{◌≡◌, ◌≤◌};
 ghost use Rattle.base.specs.Count.{sum_to};
 ghost use Rattle.arena.specs.Blocks.{blk, blocks};

@@ -1,4 +1,6 @@
 // What a new node is born with, before it is named.
+#![tactic(auto)]
+
 ghost use Rattle.std.specs.Prelude.{◌<◌, ◌≤◌};
 ghost use Rattle.overlay.specs.View.{left};
 ghost use Rattle.sefs.specs.Create.{birth as born_of};

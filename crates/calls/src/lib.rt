@@ -1,5 +1,7 @@
 // What a call answers, and what it asks before its steps: the reasons that every call can give, and those about folders and names.
 // A question answers 0, or the number of the reason that refuses the call.
+#![tactic(auto)]
+
 pub mod led;
 
 ghost use Rattle.std.specs.Prelude.{◌≡◌, ◌<◌, length};
@@ -22,47 +24,47 @@ use table::{Handle, Table};
 use verdicts::is_type;
 
 // The answer of a call that gives nothing else.
-#[derive(Drop)]
+#[derive(Clone, Copy)]
 pub enum Answer {
     Done,
     Refused(u8),
 }
 
 // The answer of a call that makes a hold.
-#[derive(Drop)]
+#[derive(Clone, Copy)]
 pub enum Got {
     Held(Handle),
     Refused(u8),
 }
 
-#[derive(Drop)]
+#[derive(Clone, Copy)]
 pub enum Told {
     Tells(Metadata),
     Refused(u8),
 }
 
 // The slots that were written, or the reason.
-#[derive(Drop)]
+#[derive(Clone, Copy)]
 pub enum Listed {
     Slots(usize),
     Refused(u8),
 }
 
 // The bytes that were written, or the reason.
-#[derive(Drop)]
+#[derive(Clone, Copy)]
 pub enum Taken {
     Bytes(usize),
     Refused(u8),
 }
 
 // An answer, and the table afterwards: the one that the call was given, where it is refused.
-#[derive(Drop)]
+#[derive(Clone, Copy)]
 pub struct Reply {
     pub answer: Answer,
     pub table: Table,
 }
 
-#[derive(Drop)]
+#[derive(Clone, Copy)]
 pub struct HeldReply {
     pub answer: Got,
     pub table: Table,
@@ -109,7 +111,7 @@ pub fn settle(t: Table, mem: &[u8], reason: u8) -> Reply
 // ---- a hold that a call makes
 
 // The handle, where the reason is 0.
-#[derive(Drop)]
+#[derive(Clone, Copy)]
 pub struct Handed {
     pub reason: u8,
     pub handle: Handle,
@@ -270,7 +272,7 @@ pub fn long(x: u32) -> u64
 // ---- handles
 
 // The row of a handle, where the reason is 0.
-#[derive(Drop)]
+#[derive(Clone, Copy)]
 pub struct ByHandle {
     pub reason: u8,
     pub row: usize,
@@ -303,7 +305,7 @@ pub fn by_handle(mem: &[u8], who: u8, h: Handle) -> ByHandle
 }
 
 // The rows of two handles, where the reason is 0.
-#[derive(Drop)]
+#[derive(Clone, Copy)]
 pub struct ByTwo {
     pub reason: u8,
     pub row: usize,

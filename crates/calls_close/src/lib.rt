@@ -1,4 +1,6 @@
 // The call close: a row's last hold stores a dirty record; at links 0 the node is freed.
+#![tactic(auto)]
+
 ghost use Rattle.std.specs.Prelude.{◌≡◌, ◌<◌, true};
 ghost use Rattle.arena.specs.Blocks.{legal};
 ghost use Rattle.overlay.specs.View.{Empty};
@@ -19,7 +21,7 @@ use rows::is_stored;
 use table::{Handle, Table};
 
 // What is known before the first store, where the reason is 0: the handle's row, and whether its last hold was closed.
-#[derive(Drop)]
+#[derive(Clone, Copy)]
 pub struct Closing {
     pub reason: u8,
     pub row: usize,

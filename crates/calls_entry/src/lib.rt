@@ -1,4 +1,6 @@
 // The call get entry: a folder's slot, as it is stored. It changes no byte of the arena, and reads it by the chains of `sound`.
+#![tactic(auto)]
+
 ghost use Rattle.std.specs.Prelude.{◌≡◌, ◌≤◌, length};
 ghost use Rattle.base.specs.Out.{answer};
 ghost use Rattle.sefs.specs.Read.{call_entry, named_slot};

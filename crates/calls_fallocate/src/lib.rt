@@ -1,5 +1,7 @@
 // The call fallocate (order 13): a range of a file is made zero, taken out, put in, or allocated. It is decided by counting before any store, as write
 // is; then the bytes are moved and made zero on the arena itself, and length and size are set.
+#![tactic(auto)]
+
 ghost use Rattle.std.specs.Prelude.{◌≡◌, true, false, ◌&&◌, ◌+◌, ◌*◌, ◌-◌, ◌/◌, ◌≤◌, ◌<◌, min, length, eqb, leb};
 ghost use Rattle.base.specs.Out.{answer, done, bind};
 ghost use Rattle.base.specs.Reasons.{stuck, no_device_space};
@@ -131,7 +133,7 @@ fn looks(mode: FallocateMode, size: u64, from: u64, len: u64) -> bool
 }
 
 // What is known where the reason is 0: whether there is nothing to do; if not, the handle's row, and the head of its file.
-#[derive(Drop)]
+#[derive(Clone, Copy)]
 pub struct Ranging {
     pub reason: u8,
     pub idle: bool,

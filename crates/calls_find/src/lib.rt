@@ -1,4 +1,6 @@
 // The calls that open a node: root and find. They change no byte of the arena, and read it by the chains of `sound`.
+#![tactic(auto)]
+
 ghost use Rattle.std.specs.Prelude.{◌≡◌, ◌<◌};
 ghost use Rattle.base.specs.Out.{Went, answer};
 ghost use Rattle.sefs.specs.Open.{call_root, call_find};

@@ -1,4 +1,6 @@
 // The call format (000's SEFS::create). It decides on a view of the arena, and commits once nothing can refuse it any more.
+#![tactic(auto)]
+
 ghost use Rattle.std.specs.Prelude.{◌≡◌, true, List, ℕ, ◌<◌, ◌≤◌, length};
 ghost use Rattle.base.specs.Out.{Went};
 ghost use Rattle.table.specs.Table.{empty_table};

@@ -1,5 +1,7 @@
 // The call inventory (order 10): a line for each name of an arena that the checker passes with the empty table. One pass measures the text, and
 // where it fits a second one writes it.
+#![tactic(auto)]
+
 ghost use Rattle.std.specs.Prelude.{◌≡◌, length};
 ghost use Rattle.table.specs.Table.{empty_table};
 ghost use Rattle.rules.specs.Tests.{checked};

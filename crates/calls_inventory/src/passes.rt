@@ -17,7 +17,7 @@ use structs::DiskINode;
 
 // `at` bytes of the text are done, and the last line's path begins at `from`. Over: the text has ended, or (full) its next line does not fit.
 #[repr(C)]
-#[derive(Drop)]
+#[derive(Clone, Copy)]
 pub struct Progress {
     pub over: bool,
     pub full: bool,

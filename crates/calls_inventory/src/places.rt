@@ -24,7 +24,7 @@ const FOLDER: u32 = 2;
 
 // Before slot `slot` of folder `folder`, whose record is `rec` and whose path has `path` bytes.
 #[repr(C)]
-#[derive(Drop)]
+#[derive(Clone, Copy)]
 pub struct Place {
     pub folder: usize,
     pub slot: usize,

@@ -1,6 +1,8 @@
 // The listing: from a slot on by its number, and by a place that the caller lends, which the call moves on by the slots written; it tells the dots
 // where the place asks for them. It changes no byte
 // of the arena, and reads it by the chains of `sound`.
+#![tactic(auto)]
+
 ghost use Rattle.std.specs.Prelude.{◌≡◌, length};
 ghost use Rattle.sefs.specs.Read.{call_listing};
 ghost use Rattle.mem.specs.Mem.{table_in, Whole};
@@ -65,7 +67,7 @@ pub fn list_from(arena: &[u8], t: Table, who: u8, h: Handle, next: u64, out: &mu
 
 // Where a listing goes on: the folder's handle, the slot that comes next, and whether the dots are asked for.
 #[repr(C)]
-#[derive(Drop)]
+#[derive(Clone, Copy)]
 pub struct Place {
     pub handle: Handle,
     pub next: u64,
@@ -73,7 +75,7 @@ pub struct Place {
 }
 
 // What a listing answers, and the slot that comes next then.
-#[derive(Drop)]
+#[derive(Clone, Copy)]
 pub struct Moved {
     pub answer: Listed,
     pub next: u64,

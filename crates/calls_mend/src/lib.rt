@@ -1,5 +1,7 @@
 // The call mend (order 11): what a host that died has left is mended, where no hold is live. It is decided by counting before any store, and then
 // everything is stored on the arena itself. The table stays.
+#![tactic(auto)]
+
 ghost use Rattle.std.specs.Prelude.{◌≡◌, length};
 ghost use Rattle.mem.specs.Mem.{table_in, Whole};
 ghost use Rattle.calls.specs.Asked.{Blank};

@@ -1,4 +1,6 @@
 // The calls metadata and set metadata. They change no byte of the arena.
+#![tactic(auto)]
+
 ghost use Rattle.std.specs.Prelude.{◌≡◌};
 ghost use Rattle.base.specs.Out.{Went};
 ghost use Rattle.base.specs.Search.{pick};

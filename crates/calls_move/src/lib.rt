@@ -1,6 +1,8 @@
 // The call move: 5; the source 7, 8; 9, 10 for either name; the target 7, 8; where the new name exists 11, the same node, type rules; 11 where it
 // does not; 6 for a folder into itself or below; then the steps.
 // It asks and reads by the chains of `sound`, decides its steps on a view of the arena, and commits once nothing can refuse it any more.
+#![tactic(auto)]
+
 ghost use Rattle.std.specs.Prelude.{◌≡◌, List, ℕ, ◌<◌, ◌≤◌, length, eqb};
 ghost use Rattle.base.specs.Search.{pick};
 ghost use Rattle.structs.specs.Layout.{entry_of};
@@ -36,7 +38,7 @@ use structs::DiskINode;
 use table::{Handle, Table};
 
 // What deciding a move comes to. `Same`: both names are one node's, and nothing changes.
-#[derive(Drop)]
+#[derive(Clone, Copy)]
 pub enum Course {
     Made,
     Same,
@@ -55,7 +57,7 @@ fn as_course(reason: u8) -> Course
 // ---- before the first store: what is asked, and found by the chains of `sound`
 
 // The rows of the replaced and of the moved node, where the reason is 0.
-#[derive(Drop)]
+#[derive(Clone, Copy)]
 struct Pair {
     reason: u8,
     gone: usize,
@@ -96,7 +98,7 @@ fn known_two(moved: DiskINode, gone: DiskINode) -> u8
 
 // A move that is decided but for its steps, where the reason is 0. Its way is 0: both names are one node's, and nothing changes; 1: the new name is
 // free, and the slot at `place` is moved; 2: the moved node goes in the place of the one that is gone, which slot `place` of the target names.
-#[derive(Drop)]
+#[derive(Clone, Copy)]
 pub struct Plan {
     pub reason: u8,
     pub way: u8,

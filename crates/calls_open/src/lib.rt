@@ -1,4 +1,6 @@
 // The call open. It changes no byte of the arena, and reads it by the chains of `sound`.
+#![tactic(auto)]
+
 ghost use Rattle.std.specs.Prelude.{◌≡◌, length};
 ghost use Rattle.base.specs.Out.{Went};
 ghost use Rattle.table.specs.Table.{empty_table};

@@ -1,6 +1,8 @@
 // The call path (order 14): a folder's path from root, into a lent buffer. It changes no byte of the arena, and reads it by the chains of `sound`.
 // A path may be some 1,250 names deep, and a stack small: so a first pass, which does not call itself, decides what is refused and measures the
 // path, and notes every 32nd folder on the way up. The climb that calls itself then writes the names a span of at most 32 at a time, root's first.
+#![tactic(auto)]
+
 ghost use Rattle.std.specs.Prelude.{◌≡◌, ◌<◌, length};
 ghost use Rattle.base.specs.Out.{answer};
 ghost use Rattle.chains.specs.Led.{Led};
@@ -39,7 +41,7 @@ const SPAN: usize = 32;
 // ---- the first pass
 
 // Where the reason is 0: how many names the path has, and their bytes with a slash before each.
-#[derive(Drop)]
+#[derive(Clone, Copy)]
 struct Measured {
     reason: u8,
     folders: usize,

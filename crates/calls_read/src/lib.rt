@@ -1,4 +1,6 @@
 // The call read: the bytes below a node's size. It changes no byte of the arena, and reads it by the chains of `sound`.
+#![tactic(auto)]
+
 ghost use Rattle.std.specs.Prelude.{◌≡◌, ◌≤◌, length};
 ghost use Rattle.base.specs.Parts.{tab};
 ghost use Rattle.arena.specs.Fields.{file};

@@ -1,5 +1,7 @@
 // The calls remove-file and remove-folder: 5, 7, 8, 9 (`.`, `..`, empty), 10, 11, the one's 9 or the other's 7 and 13, then the steps. They are one
 // call but for what is asked of the node; `folder` says which.
+#![tactic(auto)]
+
 ghost use Rattle.std.specs.Prelude.{◌≡◌, true, ◌<◌, ◌≤◌, length};
 ghost use Rattle.arena.specs.Blocks.{legal};
 ghost use Rattle.overlay.specs.View.{left, Empty};

@@ -1,4 +1,6 @@
 // The call resize: the file's length and the node's size become n, and the row is dirty. No record is stored.
+#![tactic(auto)]
+
 ghost use Rattle.base.specs.Out.{Went};
 ghost use Rattle.sefs.specs.Contents.{call_resize};
 ghost use Rattle.mem.specs.Mem.{table_in, Whole};

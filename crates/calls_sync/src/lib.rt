@@ -1,6 +1,8 @@
 // The call sync: dirty rows are stored by rising id, as 000's map of open nodes is ordered. First the blocks are counted that the records
 // would need, without a store; once nothing can refuse the call any more, each record is stored and committed by itself, so that a
 // workspace for one record is enough.
+#![tactic(auto)]
+
 ghost use Rattle.std.specs.Prelude.{◌≡◌, true, List, ℕ, ◌+◌, ◌*◌, ◌<◌, ◌≤◌, length};
 ghost use Rattle.base.specs.Count.{bit};
 ghost use Rattle.base.specs.Out.{done as done_as};
@@ -31,7 +33,7 @@ use table::Table;
 // ---- whether all can be stored
 
 // What the records so far would leave: no block of the metadata file below `from` has to be made any more, and so many blocks are free.
-#[derive(Drop)]
+#[derive(Clone, Copy)]
 struct Room {
     reason: u8,
     from: usize,

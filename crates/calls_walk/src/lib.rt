@@ -1,5 +1,7 @@
 // The call walk (order 7): from a folder along a path, from text to text through symlinks. It changes no byte of the arena, and reads it by the
 // chains of `sound`.
+#![tactic(auto)]
+
 ghost use Rattle.std.specs.Prelude.{◌≡◌, false, ◌+◌, ◌*◌, ◌<◌, ◌≤◌, length, set};
 ghost use Rattle.base.specs.Out.{Went};
 ghost use Rattle.base.specs.Parts.{paste};
@@ -28,7 +30,7 @@ use walk_parts::{Going, Passed, along, enter, entry, land};
 // ---- a link's target
 
 // As many bytes, where the reason is 0.
-#[derive(Drop)]
+#[derive(Clone, Copy)]
 struct Target {
     reason: u8,
     size: usize,

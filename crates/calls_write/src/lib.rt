@@ -1,6 +1,8 @@
 // The call write: the bytes go into the node's file, and where their end is above the size, length and size become it. It is decided by
 // counting before any store: where each touched block is stands in a plan, and the absent ones are counted against the free ones. Then each
 // block is written once, on the arena itself.
+#![tactic(auto)]
+
 ghost use Rattle.std.specs.Prelude.{◌≡◌, true, List, ℕ, ◌+◌, ◌≤◌, length};
 ghost use Rattle.base.specs.Out.{done};
 ghost use Rattle.arena.specs.Fields.{file};

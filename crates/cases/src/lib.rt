@@ -1,4 +1,6 @@
 // A program's cases, for a gate that runs it once: files of its folder data/, each named by an argument.
+#![tactic(auto)]
+
 use libc::STDOUT_FILENO;
 
 // Argument i is printed, and the file that it names is opened: a descriptor, or one below 0 and the reason on standard error.

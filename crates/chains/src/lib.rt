@@ -1,5 +1,7 @@
 // Reading an arena that nothing has changed, by the chains that `sound` has built: no block is looked for among all blocks. A file is
 // `which` (0 the metadata file, 1 a node file) and a name of 16 bytes.
+#![tactic(auto)]
+
 pub mod slots;
 
 ghost use Rattle.std.specs.Prelude.{◌≡◌, ◌+◌, ◌<◌, ◌≤◌, ◌%◌, length};

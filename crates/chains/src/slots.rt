@@ -104,7 +104,7 @@ pub fn named_slot(
 
 // The place of a slot that was looked for, where the reason is 0. The slot is in the lent buffer.
 #[repr(C)]
-#[derive(Drop)]
+#[derive(Clone, Copy)]
 pub struct Looked {
     pub reason: u8,
     pub place: usize,

@@ -1,4 +1,6 @@
 // Format begins with a storage that is cleared: on the view every block is free.
+#![tactic(auto)]
+
 ghost use Rattle.std.specs.Prelude.{length, replicate};
 ghost use Rattle.overlay.specs.View.{Fine};
 ghost use Rattle.overlay.specs.Steps.{Changed};

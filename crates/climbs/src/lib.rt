@@ -1,5 +1,7 @@
 // What move asks of the nodes before its first store, by the chains of `sound`: type rules where the new name exists, and that a folder does not go
 // into itself or below. Nothing is opened or changed. A question answers 0, or the number of the reason that refuses the move.
+#![tactic(auto)]
+
 ghost use Rattle.std.specs.Prelude.{List, ℕ, ◌<◌, ◌≤◌};
 ghost use Rattle.base.specs.Out.{Out, Went, done};
 ghost use Rattle.structs.specs.declared.DiskINode.{DiskINode};
@@ -72,7 +74,7 @@ pub fn judge(arena: &[u8], first: &[u16], next: &[u16], mem: &[u8], c: usize, d:
 // ---- a folder does not go into itself or below
 
 // What slot 1 of a folder names, where the reason is 0.
-#[derive(Drop)]
+#[derive(Clone, Copy)]
 pub struct Dots {
     pub reason: u8,
     pub id: u32,

@@ -1,5 +1,7 @@
 // Judges arenas of 16 blocks, read one after another, with one byte changed: every byte, three changes of it, as the block then is and
 // with its check made right again. What it must print is made by tests/model/damage.py.
+#![tactic(auto)]
+
 ghost use Rattle.std.specs.Prelude.{◌≡◌, ◌<◌, ◌≤◌, length};
 
 use arena::put_check;

@@ -1,1 +1,2 @@
 // No code: what a host that dies leaves, and that the mender of order 11 brings it back.
+#![tactic(auto)]

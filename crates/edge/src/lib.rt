@@ -1,6 +1,8 @@
 // The calls as C functions (include/dzomrelig.h), but for those on what a node holds (`edge_contents`). A slice is its pointer and its length. Each returns 0, or document 01's number; a table
 // that is not 4,402 bytes, a file's name that is not 16, or words for a result that are not as many as it has: 255, and nothing is called.
 // The table's bytes are copied to the call's memory, and written back on success: no table by value is made.
+#![tactic(auto)]
+
 mod ends;
 
 ghost use Rattle.std.specs.Prelude.{◌≡◌, length};

@@ -1,4 +1,6 @@
 // The calls on what a node holds, as C functions: a file's own bytes, a folder's slots and its path. How they answer says crate `edge`.
+#![tactic(auto)]
+
 ghost use Rattle.std.specs.Prelude.{length};
 ghost use Rattle.base.specs.Parts.{paste};
 ghost use Rattle.table_bytes.specs.Layout.{table_of};

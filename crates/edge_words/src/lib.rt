@@ -1,4 +1,6 @@
 // What goes in and out at the C edge as plain numbers: sizes, the words of arguments and of results.
+#![tactic(auto)]
+
 pub mod args;
 pub mod results;
 

@@ -1,5 +1,7 @@
 // Byte files on a view of the arena (dev/mod.rs: File, Storage). A file is `which` (0 the metadata file, 1 a node file) and a name of 16 bytes.
 // A step answers 0, or the number of the reason that refuses it.
+#![tactic(auto)]
+
 pub mod read;
 pub mod store;
 

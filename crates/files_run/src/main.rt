@@ -1,6 +1,8 @@
 // File operations from a script, on arenas of 16 to 128 blocks: for each its answer, and a sum over all bytes of the arena. The script is
 // records of 12 bytes: what to do, which kind of file, a byte for its name, a byte for the data, a place and a size (each 32 bits, the lowest
 // byte first). tests/model/files_script.py makes it, and the lines that are expected.
+#![tactic(auto)]
+
 mod ops;
 
 ghost use Rattle.std.specs.Prelude.{◌≡◌, ◌+◌, ◌*◌, ◌<◌, ◌≤◌, length};

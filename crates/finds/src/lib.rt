@@ -1,5 +1,7 @@
 // What find asks and looks at, and what it hands out: whether the name may be looked for in the folder, the id in its slot, and a hold on the
 // node. A walk asks the same of each part.
+#![tactic(auto)]
+
 ghost use Rattle.std.specs.Prelude.{◌≡◌, ℕ, ◌<◌, length};
 ghost use Rattle.base.specs.Out.{Went, answer};
 ghost use Rattle.table.specs.Table.{add_hold};
@@ -54,7 +56,7 @@ pub fn find_folder(rec: DiskINode, name: &[u8]) -> u8
 }
 
 // The id in the slot with that name, where the reason is 0.
-#[derive(Drop)]
+#[derive(Clone, Copy)]
 pub struct Named {
     pub reason: u8,
     pub id: u32,

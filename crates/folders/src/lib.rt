@@ -1,4 +1,6 @@
 // Folders: slots written and removed, and link counts (000's INodeImpl). A folder is a row of the open nodes.
+#![tactic(auto)]
+
 pub mod slots;
 
 ghost use Rattle.std.specs.Prelude.{◌≡◌, ℕ, ◌<◌, ◌≤◌, List, [], ◌∷◌, length, eqb};

@@ -1,5 +1,7 @@
 // The check call: pass with three counts, or the lowest failing rule of document 01. It never refuses. The chains of `sound` lead to a
 // file's head and to its blocks, so that no rule searches all blocks.
+#![tactic(auto)]
+
 ghost use Rattle.std.specs.Prelude.{◌≡◌, true, ℕ, ◌≤◌, ◌<◌, length, get_or};
 ghost use Rattle.arena.specs.Blocks.{blocks, legal};
 ghost use Rattle.mem.specs.Mem.{table_in, Whole, memory_size};
@@ -17,7 +19,7 @@ use holds::well_formed;
 use mem::{MEMORY, put_table, super_at};
 use table::Table;
 
-#[derive(Drop)]
+#[derive(Clone, Copy)]
 pub enum Verdict {
     Pass { nodes: u32, unused: u32, free: u32 },
     Fail(u8),

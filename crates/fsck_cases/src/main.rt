@@ -1,4 +1,6 @@
 // What the checker's program prints, of each file that an argument names.
+#![tactic(auto)]
+
 fn judge(i: usize) {
     let fd = cases::open(i);
     if fd >= 0 {

@@ -1,5 +1,7 @@
 // Rule 8: each folder that has a place in the tree is named by the folder that its slot 1 names, and climbing by slot 1 reaches node 2. Each
 // but the root is named once, so the slots are gone through where they name a folder.
+#![tactic(auto)]
+
 ghost use Rattle.std.specs.Prelude.{◌≡◌, ◌&&◌, ◌<◌, length};
 ghost use Rattle.base.specs.Count.{all_to};
 ghost use Rattle.base.specs.Parts.{part};

@@ -1,4 +1,6 @@
 // How often each id is named by later slots, and rule 7: link counts.
+#![tactic(auto)]
+
 ghost use Rattle.std.specs.Prelude.{◌≡◌, true, not, ◌&&◌, ◌||◌, List, ℕ, ◌+◌, ◌<◌, eqb, length};
 ghost use Rattle.table.specs.declared.Table.{Table};
 ghost use Rattle.mem.specs.Mem.{table_in};

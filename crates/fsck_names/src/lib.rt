@@ -1,4 +1,6 @@
 // Rule 5: node types, file names distinct, one file each, no other node files; node 2 is a folder.
+#![tactic(auto)]
+
 ghost use Rattle.std.specs.Prelude.{◌≡◌, true, ◌+◌, ◌<◌, ◌≤◌, length, set};
 ghost use Rattle.base.specs.Count.{all_to};
 ghost use Rattle.arena.specs.Blocks.{blocks};

@@ -1,4 +1,6 @@
 // What the checker reads first: superblock, maps and records (rules 3 and 4); and a slot's name.
+#![tactic(auto)]
+
 ghost use Rattle.std.specs.Prelude.{◌≡◌, true, ◌||◌, List, ℕ, ◌*◌, ◌<◌, ◌≤◌, length};
 ghost use Rattle.base.specs.Count.{bit, all_to};
 ghost use Rattle.base.specs.Decides.{same};

@@ -1,4 +1,6 @@
 // What the checker's programs print of one input: an arena of at most 65,536 bytes, no node open; one line out.
+#![tactic(auto)]
+
 use fsck::Verdict;
 use libc::STDOUT_FILENO;
 

@@ -1,4 +1,6 @@
 // Rule 6: folders and their slots, and the sizes of other nodes.
+#![tactic(auto)]
+
 ghost use Rattle.std.specs.Prelude.{◌≡◌, true, ◌||◌, ◌+◌, ◌-◌, ◌<◌, eqb, ltb, leb, length, get_or, set};
 ghost use Rattle.base.specs.Count.{all_to};
 ghost use Rattle.base.specs.Decides.{same};

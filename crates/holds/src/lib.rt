@@ -1,5 +1,7 @@
 // The holds of the table in memory, and whether that table is well formed: on its bytes, since a table by value takes 4.9 KB of the stack
 // wherever it is passed.
+#![tactic(auto)]
+
 ghost use Rattle.std.specs.Prelude.{◌≡◌, ◌<◌};
 ghost use Rattle.base.specs.declared.Found.TheVariants.{At};
 ghost use Rattle.table.specs.Table.{hold_at, with_hold, hold_of, live_row, is_owner, own_holds, no_holds, can_hold, add_at, add_hold, close_hold};

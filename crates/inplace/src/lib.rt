@@ -1,5 +1,7 @@
 // Stores on the arena itself, for calls that have decided that nothing can refuse them any more. A block is a part lent from the arena's
 // middle: what of it changes is changed there, and its check is filled. A file is `which` and a name of 16 bytes.
+#![tactic(auto)]
+
 ghost use Rattle.std.specs.Prelude.{◌≡◌, ◌+◌, ◌-◌, ◌<◌, ◌≤◌, length, replicate, ltb};
 ghost use Rattle.base.specs.Parts.{paste};
 ghost use Rattle.base.specs.Search.{pick};

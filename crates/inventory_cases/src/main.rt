@@ -1,4 +1,6 @@
 // What the inventory's program prints, of each file that an argument names, on lines after its name.
+#![tactic(auto)]
+
 use libc::STDOUT_FILENO;
 
 fn judge(i: usize) {

@@ -1,4 +1,6 @@
 // The inventory's lines (order 10) as bytes of a lent output: numbers in decimal, names escaped; and how long each is, before a byte is written.
+#![tactic(auto)]
+
 ghost use Rattle.std.specs.Prelude.{◌≡◌, ◌++◌, ◌+◌, ◌≤◌, length};
 ghost use Rattle.base.specs.Parts.{part, paste};
 ghost use Rattle.inventory.specs.Text.{decimal, space};

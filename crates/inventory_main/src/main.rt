@@ -1,4 +1,6 @@
 // The inventory's program: the arena is standard input.
+#![tactic(auto)]
+
 use libc::STDIN_FILENO;
 
 fn main() {

@@ -1,4 +1,6 @@
 // What the inventory's programs print of one input: an arena of at most 65,536 bytes, no node open.
+#![tactic(auto)]
+
 ghost use Rattle.std.specs.Prelude.{◌≡◌, ◌≤◌, length};
 ghost use Rattle.base.specs.Parts.{paste};
 ghost use Rattle.table.specs.Table.{empty_table};

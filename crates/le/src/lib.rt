@@ -1,5 +1,7 @@
 // Little-endian numbers at any place of a slice, and signed numbers as their 64 bits.
 // Each width is two of the half width, so that one law over the width serves them all.
+#![tactic(auto)]
+
 ghost use Rattle.std.specs.Prelude.{◌≡◌, ◌+◌, ◌≤◌, ◌<◌, length};
 ghost use Rattle.le.specs.Le.{le_at, le_put};
 ghost use Rattle.le.specs.Signed.{signed, bits_of};

@@ -1,5 +1,7 @@
 // The lesson of the course: document 01's examples, run on the calls. Each scene is a function, and each line that it prints says what was
 // done and what came out.
+#![tactic(auto)]
+
 mod host;
 mod slots;
 mod support;

@@ -39,7 +39,7 @@ pub fn used(arena: &[u8]) -> u64
 }
 
 // A block of a file: its head, or its data with that number.
-#[derive(Drop)]
+#[derive(Clone, Copy)]
 enum Piece {
     Head,
     Data(u32),
@@ -145,7 +145,7 @@ pub fn fill_group(world: &mut [u8])
 // is the lowest that is free.
 
 // 000's stores of a create of a file in the root, where no group comes, in their order. The glyph is node 4.
-#[derive(Drop)]
+#[derive(Clone, Copy)]
 pub enum Store {
     NewFile,
     Slot,

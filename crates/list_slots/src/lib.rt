@@ -1,5 +1,7 @@
 // A folder's slots as a listing gives them, once the folder's record is known: from a slot on by its number, as many as there are and as the output
 // takes, and none before all are known to be readable.
+#![tactic(auto)]
+
 mod slots;
 
 ghost use Rattle.std.specs.Prelude.{◌≡◌, ◌+◌, ◌*◌, ◌-◌, ◌≤◌, length};

@@ -1,4 +1,6 @@
 // The free maps of up to four groups, 128 bytes each, joined. A set bit means a free block.
+#![tactic(auto)]
+
 ghost use Rattle.std.specs.Prelude.{◌≡◌, ◌+◌, ◌*◌, ◌/◌, ◌≤◌, ◌<◌, length};
 ghost use Rattle.base.specs.Search.{lowest, found_below};
 ghost use Rattle.maps.specs.Maps.{bit_of, put_bit, bit_at, with_bit, set_bits};

@@ -6,6 +6,8 @@
 //   4402  1 where superblock and maps could be read, else 0
 //   4403  the superblock, 16 bytes
 //   4419  the maps of up to four groups, 128 bytes each, up to 4931
+#![tactic(auto)]
+
 ghost use Rattle.std.specs.Prelude.{◌≡◌, true, ◌∷◌, ◌+◌, ◌*◌, ◌<◌, length, get_or, set, replicate, eqb};
 ghost use Rattle.base.specs.Count.{bit};
 ghost use Rattle.base.specs.Out.{done};

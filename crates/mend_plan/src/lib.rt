@@ -1,5 +1,7 @@
 // What the mender finds out before its first store (order 11), by the chains: what becomes of each id, where heads and the metadata file's blocks
 // are, and whether the blocks are enough.
+#![tactic(auto)]
+
 ghost use Rattle.std.specs.Prelude.{◌≡◌, true, false, List, ℕ, ◌+◌, ◌*◌, ◌-◌, ◌<◌, ◌≤◌, leb, length};
 ghost use Rattle.base.specs.Search.{pick};
 ghost use Rattle.structs.specs.Types.{is_folder};

@@ -1,5 +1,7 @@
 // The mender's stores (order 11), once nothing can refuse them, on the arena itself: files go first, then changed records by rising id, then
 // superblock and maps. It has the fate of each id and the heads of files in `work`, and where the metadata file's blocks are in `places`.
+#![tactic(auto)]
+
 ghost use Rattle.std.specs.Prelude.{◌≡◌, true, List, ℕ, ◌+◌, ◌*◌, ◌<◌, ◌≤◌, length};
 ghost use Rattle.base.specs.Out.{done, bind};
 ghost use Rattle.structs.specs.Layout.{record_of, record_bytes};

@@ -1,5 +1,7 @@
 // Whether an arena can be mended (order 11): the checker's rules 3 to 5, a folder's part of rule 6, how often folders are named, and rule 8 of those
 // that are.
+#![tactic(auto)]
+
 ghost use Rattle.std.specs.Prelude.{◌≡◌, true, length};
 ghost use Rattle.base.specs.Parts.{part};
 ghost use Rattle.table.specs.Table.{empty_table};

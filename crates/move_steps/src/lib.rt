@@ -1,4 +1,6 @@
 // The steps of move: slots first, then the replaced node, then a moved folder's slot 1, then the folders' records.
+#![tactic(auto)]
+
 ghost use Rattle.std.specs.Prelude.{◌≡◌, List, ℕ, ◌<◌, ◌≤◌, length};
 ghost use Rattle.base.specs.Out.{Went};
 ghost use Rattle.overlay.specs.View.{left};
@@ -19,7 +21,7 @@ use nodes::{get_node, release, sync_row};
 use steps::sync_two;
 
 // The node that is replaced: its row, and the target's slot that names it. Or there is none.
-#[derive(Drop)]
+#[derive(Clone, Copy)]
 pub enum Gone {
     Free,
     Node(usize, usize),

@@ -1,6 +1,8 @@
 // Nodes: opened, made, stored and dropped (000's SEFS and INodeImpl's Drop). A node in use has a row. The arena is only read: `work` has
 // the blocks that would change, `mem` the open nodes, the superblock and the free maps. A step answers 0, or the number of the reason
 // that refuses it.
+#![tactic(auto)]
+
 pub mod meta;
 
 ghost use Rattle.std.specs.Prelude.{◌≡◌, false, not, ◌&&◌, List, ℕ, ◌+◌, ◌*◌, ◌<◌, ◌≤◌, eqb, leb};
@@ -31,7 +33,7 @@ use table::Row;
 
 // The row of a node that was opened, where the reason is 0.
 #[repr(C)]
-#[derive(Drop)]
+#[derive(Clone, Copy)]
 pub struct Opened {
     pub reason: u8,
     pub row: usize,

@@ -17,7 +17,7 @@ use mem::{add_group, bit_at, first_bit, has_meta, map_bytes, put_bit, super_at, 
 
 // The id that was allocated, where the reason is 0.
 #[repr(C)]
-#[derive(Drop)]
+#[derive(Clone, Copy)]
 pub struct Allocated {
     pub reason: u8,
     pub id: u32,

@@ -1,6 +1,8 @@
 // What a call reads before its first store, by the chains of `sound`: superblock and free maps, a node that is opened (000's SEFS), and
 // a folder's record where nothing is opened.
 // A step answers 0, or the number of the reason that refuses it.
+#![tactic(auto)]
+
 pub mod meta;
 
 ghost use Rattle.std.specs.Prelude.{◌≡◌, false, ◌*◌, ◌<◌, leb};
@@ -93,7 +95,7 @@ pub fn get_node(arena: &[u8], first: &[u16], next: &[u16], mem: &mut [u8], id: u
 
 // The record that was read, where the reason is 0.
 #[repr(C)]
-#[derive(Drop)]
+#[derive(Clone, Copy)]
 pub struct Noted {
     pub reason: u8,
     pub rec: DiskINode,

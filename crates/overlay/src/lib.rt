@@ -1,4 +1,6 @@
 // The arena as it would be after the stores so far: the arena is only read, and changed blocks stand in a lent workspace until commit.
+#![tactic(auto)]
+
 ghost use Rattle.std.specs.Prelude.{◌≡◌, ◌+◌, ◌*◌, ◌-◌, ◌<◌, ◌≤◌, length};
 ghost use Rattle.arena.specs.Blocks.{blocks, put_blk};
 ghost use Rattle.arena.specs.Fields.{seal};

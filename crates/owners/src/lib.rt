@@ -1,6 +1,8 @@
 // The calls of an owner: nobody else writes its arena and its table, and a check of both has passed, or they were just formatted. Then reasons
 // 1, 2 and 3 can't come (`owned`, crates/linked), and nothing tests for them. The owner keeps the chains of all blocks beside the arena: a
 // call that changes the arena makes them again.
+#![tactic(auto)]
+
 ghost use Rattle.std.specs.Prelude.{length};
 ghost use Rattle.table_bytes.specs.Layout.{table_of, bytes_of_table};
 ghost use Rattle.sefs.specs.Close.{call_sync, call_close};

@@ -1,4 +1,6 @@
 // The calls of an owner on what a node holds: a file's own bytes, a folder's slots and its path. Who may make them, and what is kept beside the arena, says crate `owners_kept`.
+#![tactic(auto)]
+
 ghost use Rattle.std.specs.Prelude.{◌≡◌, length};
 ghost use Rattle.base.specs.Parts.{paste};
 ghost use Rattle.table_bytes.specs.Layout.{table_of};

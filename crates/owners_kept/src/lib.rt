@@ -1,5 +1,7 @@
 // What an owner keeps beside its arena: the chains of all blocks. Close and sync, on the table in memory: what they ask is read by the chains;
 // after their steps the chains are made again.
+#![tactic(auto)]
+
 ghost use Rattle.std.specs.Prelude.{◌≡◌, true, ◌<◌};
 ghost use Rattle.arena.specs.Blocks.{legal};
 ghost use Rattle.sefs.specs.Close.{close_steps, call_close, call_sync};

@@ -1,5 +1,7 @@
 // An owner's calls that make, move and remove names, on the table in memory. What they ask is read by the chains; after their steps the chains are
 // made again.
+#![tactic(auto)]
+
 ghost use Rattle.std.specs.Prelude.{◌≡◌, length};
 ghost use Rattle.table_bytes.specs.Layout.{table_of};
 ghost use Rattle.sefs.specs.Create.{call_create, call_link};

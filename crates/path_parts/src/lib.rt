@@ -1,4 +1,6 @@
 // One folder of a path (order 14): the folder above it, and its name there. Nothing is opened or changed; all is read by the chains of `sound`.
+#![tactic(auto)]
+
 ghost use Rattle.std.specs.Prelude.{◌≡◌, ◌+◌, ◌<◌, ◌≤◌, length};
 ghost use Rattle.base.specs.Out.{Went, done};
 ghost use Rattle.base.specs.Parts.{part};
@@ -49,7 +51,7 @@ fn folder_on(arena: &[u8], first: &[u16], next: &[u16], mem: &[u8], id: u32) -> 
 }
 
 // The folder above another, where the reason is 0.
-#[derive(Drop)]
+#[derive(Clone, Copy)]
 pub struct Parent {
     pub reason: u8,
     pub id: u32,
@@ -137,7 +139,7 @@ fn find_namer(
 }
 
 // The length of a name, where the reason is 0.
-#[derive(Drop)]
+#[derive(Clone, Copy)]
 pub struct Spelled {
     pub reason: u8,
     pub long: usize,
@@ -189,7 +191,7 @@ pub fn name_in(
 // ---- one turn of the way up
 
 // The folder above, and how long the name there is, where the reason is 0.
-#[derive(Drop)]
+#[derive(Clone, Copy)]
 pub struct Step {
     pub reason: u8,
     pub id: u32,

@@ -1,1 +1,2 @@
 // No code: the full path of a folder, and its laws.
+#![tactic(auto)]

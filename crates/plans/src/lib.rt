@@ -1,5 +1,7 @@
 // Where the blocks of a file are, found once by the chains: a plan, by which they are then read and written on the arena itself. A place is one
 // more than a block's number, or 0 where the block is not there. A file is `which` and a name of 16 bytes.
+#![tactic(auto)]
+
 ghost use Rattle.std.specs.Prelude.{◌≡◌, true, ◌+◌, ◌*◌, ◌/◌, ◌<◌, ◌≤◌, length};
 ghost use Rattle.base.specs.Out.{done};
 ghost use Rattle.base.specs.Parts.{tab};

@@ -1,5 +1,7 @@
 // Zeros and moved bytes in a node's file, on the arena itself, once nothing can refuse them (order 13). 000 goes in pieces of 128 bytes; here each block
 // is written once. Where the blocks are that are written stands in a plan, and where those are that are read in `source`: both as of the arena before.
+#![tactic(auto)]
+
 ghost use Rattle.std.specs.Prelude.{◌≡◌, true, ◌+◌, ◌*◌, ◌-◌, ◌/◌, ◌<◌, ◌≤◌, min, max, length, replicate, get_or, set};
 ghost use Rattle.base.specs.Out.{done, bind};
 ghost use Rattle.base.specs.Parts.{tab};

@@ -1,10 +1,12 @@
 // No call yet: order 13's modes and their numbers; what fallocate does in each of them, and its laws.
+#![tactic(auto)]
+
 ghost use Rattle.std.specs.Prelude.{◌≡◌};
 ghost use Rattle.ranges.specs.Modes.{mode_of};
 
 // Operation mode for fallocate (vfs.rs: FallocateMode). Of allocate's two flags keep size alone matters: true where it is given. A number that is no
 // mode can come at the C edge alone.
-#[derive(Drop)]
+#[derive(Clone, Copy)]
 pub enum FallocateMode {
     Allocate(bool),
     PunchHoleKeepSize,

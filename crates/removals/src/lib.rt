@@ -1,4 +1,6 @@
 // What a removal asks of folder, name and node, and what it picks before any store. `folder` says which of the two calls asks.
+#![tactic(auto)]
+
 ghost use Rattle.std.specs.Prelude.{◌≡◌, ◌<◌};
 ghost use Rattle.table.specs.Table.{row_at};
 ghost use Rattle.base.specs.Out.{answer};
@@ -76,7 +78,7 @@ fn ask_node(mem: &[u8], i: usize, folder: bool) -> u8
 }
 
 // What is found before the first store, where the reason is 0: the folder's row, the node's, and the place of the slot that names it.
-#[derive(Drop)]
+#[derive(Clone, Copy)]
 pub struct Picked {
     pub reason: u8,
     pub row: usize,

@@ -1,4 +1,6 @@
 // Runs a call script from standard input: scripts of at most 262,144 bytes, arenas of at most 65,536.
+#![tactic(auto)]
+
 ghost use Rattle.std.specs.Prelude.{◌≤◌, length};
 
 use libc::{STDIN_FILENO, STDOUT_FILENO};

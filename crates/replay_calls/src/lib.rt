@@ -1,5 +1,7 @@
 // The calls of a script, on the table in memory: those of `reads`, and here open and those that change the arena. Each takes its
 // arguments from the command, whose second byte is who asks, and answers a reason, with output and numbers beside it (`answers`).
+#![tactic(auto)]
+
 pub mod reads;
 
 ghost use Rattle.std.specs.Prelude.{◌≡◌, ◌+◌, ◌≤◌, length};

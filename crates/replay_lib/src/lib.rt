@@ -1,5 +1,7 @@
 // The call script (docs/REPLAY.md): a script, a lent arena and a lent text buffer; one line for each call.
 // What is kept between two runs stands in a lent desk (script/src/lib.rt).
+#![tactic(auto)]
+
 mod perform;
 
 ghost use Rattle.std.specs.Prelude.{◌≡◌, false, ◌+◌, ◌<◌, ◌≤◌, length, get_or};
@@ -18,7 +20,7 @@ pub const DESK: usize = 4419;
 pub const LINE: usize = 512;
 
 // How far a run has come in the script, and where its text ends.
-#[derive(Drop)]
+#[derive(Clone, Copy)]
 pub struct Step {
     pub at: usize,
     pub w: usize,

@@ -1,4 +1,6 @@
 // Of the rows of the open nodes: which comes next, by rising id, and whether one is to be stored.
+#![tactic(auto)]
+
 ghost use Rattle.std.specs.Prelude.{◌≡◌, not, ◌&&◌, ◌<◌, ltb};
 ghost use Rattle.base.specs.Search.{found_below};
 ghost use Rattle.table.specs.Table.{row_at, next_row};

@@ -7,6 +7,8 @@
 //   4402  the arena's length, u64
 //   4410  the place in the script, u64
 //   4418  1 once the script has ended
+#![tactic(auto)]
+
 pub mod args;
 pub mod desk;
 pub mod lines;

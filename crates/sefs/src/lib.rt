@@ -1,9 +1,11 @@
 // The answers of the calls.
+#![tactic(auto)]
+
 use structs::Timespec;
 
 // What metadata tells (vfs.rs: Metadata).
 #[repr(C)]
-#[derive(Drop)]
+#[derive(Clone, Copy)]
 pub struct Metadata {
     pub inode: u32,
     pub size: u64,

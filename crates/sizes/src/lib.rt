@@ -1,4 +1,6 @@
 // A node's file reached by its handle, and its length and size made another: what write, resize and fallocate share.
+#![tactic(auto)]
+
 ghost use Rattle.std.specs.Prelude.{◌≡◌, true, ◌+◌, ◌≤◌};
 ghost use Rattle.base.specs.Out.{Went, answer, done};
 ghost use Rattle.arena.specs.Fields.{file};
@@ -65,7 +67,7 @@ pub fn set_size(arena: &mut [u8], mem: &mut [u8], i: usize, k: usize, n: usize)
 // ---- before the first store
 
 // What is known where the reason is 0: the handle's row, and the head of its file.
-#[derive(Drop)]
+#[derive(Clone, Copy)]
 pub struct Sizing {
     pub reason: u8,
     pub row: usize,

@@ -1,5 +1,7 @@
 // Whether an arena is sound, in time that grows with its length: one pass joins each block to the chain of its hash and looks for its
 // key there, and one looks for the head of each data block.
+#![tactic(auto)]
+
 mod block;
 pub mod chain;
 

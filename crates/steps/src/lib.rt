@@ -1,4 +1,6 @@
 // What calls that change the arena share: steps that more than one of them takes, and (as definitions and laws) how they begin and end.
+#![tactic(auto)]
+
 ghost use Rattle.std.specs.Prelude.{◌<◌, ◌≤◌, length};
 ghost use Rattle.base.specs.Out.{Went};
 ghost use Rattle.overlay.specs.View.{left};

@@ -1,4 +1,6 @@
 // The structures of the metadata file and of folders, by value (structs.rs), each read and written field by field.
+#![tactic(auto)]
+
 ghost use Rattle.std.specs.Prelude.{◌≡◌, ◌+◌, ◌≤◌, length, take, drop};
 ghost use Rattle.base.specs.Parts.{part, paste};
 ghost use Rattle.structs.specs.Layout.{join, super_of, super_bytes, time_of, time_bytes, record_of, record_fields, record_bytes};
@@ -38,7 +40,7 @@ pub const DOTS: usize = 2;
 
 // Seconds and nanoseconds since 1970; both are negative before it.
 #[repr(C)]
-#[derive(Drop)]
+#[derive(Clone, Copy)]
 pub struct Timespec {
     pub sec: i64,
     pub nsec: i64,
@@ -46,7 +48,7 @@ pub struct Timespec {
 
 // The superblock, 16 bytes.
 #[repr(C)]
-#[derive(Drop)]
+#[derive(Clone, Copy)]
 pub struct SuperBlock {
     pub magic: u32,
     pub blocks: u32,
@@ -56,7 +58,7 @@ pub struct SuperBlock {
 
 // A node's record, 112 bytes. `kind` is 000's `type_`, `file` its `disk_filename`, `mac` its `inode_mac`.
 #[repr(C)]
-#[derive(Drop)]
+#[derive(Clone, Copy)]
 pub struct DiskINode {
     pub size: u64,
     pub kind: u32,
@@ -75,7 +77,7 @@ pub struct DiskINode {
 
 // A folder's slot, 264 bytes.
 #[repr(C)]
-#[derive(Drop)]
+#[derive(Clone, Copy)]
 pub struct DiskEntry {
     pub id: u32,
     pub name: [u8; 256],
@@ -83,7 +85,7 @@ pub struct DiskEntry {
 }
 
 // What a move onto an existing name may do, by both types. `IfEmpty`: the replaced folder must have no more than its first two slots.
-#[derive(Drop)]
+#[derive(Clone, Copy)]
 pub enum MoveVerdict {
     Allowed,
     NotDir,

@@ -1,4 +1,6 @@
 // The sum over bytes that scripts and their answers are compared by.
+#![tactic(auto)]
+
 ghost use Rattle.std.specs.Prelude.{◌≡◌, length};
 ghost use Rattle.sums.specs.Sum.{sum_of};
 

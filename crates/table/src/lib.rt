@@ -1,6 +1,8 @@
 // The table of open nodes, by value: 34 rows with a cached record, 32 holds on them, each with an owner, and the next stamp. Its rows and holds are found and
 // changed in a call's memory, on the table's bytes.
 // A refused call returns the table that it was given.
+#![tactic(auto)]
+
 ghost use Rattle.std.specs.Prelude.{◌≡◌};
 ghost use Rattle.table.specs.Zero.{zero_record, zero_row, bytes_zero, time_zero, numbers_zero, record_zero};
 ghost use Rattle.table.specs.Table.{empty_table};
@@ -18,7 +20,7 @@ pub const OWN_HOLDS: usize = 8;
 
 // A node's cached record. Id 0 is a free row.
 #[repr(C)]
-#[derive(Drop)]
+#[derive(Clone, Copy)]
 pub struct Row {
     pub id: u32,
     pub dirty: bool,
@@ -27,7 +29,7 @@ pub struct Row {
 
 // One opening of a row, and whose it is: an owner from 1 to 4. Stamp 0 is a free hold.
 #[repr(C)]
-#[derive(Drop)]
+#[derive(Clone, Copy)]
 pub struct Hold {
     pub row: u32,
     pub stamp: u64,
@@ -35,7 +37,7 @@ pub struct Hold {
 }
 
 #[repr(C)]
-#[derive(Drop)]
+#[derive(Clone, Copy)]
 pub struct Table {
     pub rows: [Row; 34],
     pub holds: [Hold; 32],
@@ -44,19 +46,19 @@ pub struct Table {
 
 // What a caller keeps of an opening: a hold's number, and the stamp that tells it from later holds of that number.
 #[repr(C)]
-#[derive(Drop)]
+#[derive(Clone, Copy)]
 pub struct Handle {
     pub hold: u32,
     pub stamp: u64,
 }
 
-#[derive(Drop)]
+#[derive(Clone, Copy)]
 pub struct Added {
     pub handle: Handle,
     pub table: Table,
 }
 
-#[derive(Drop)]
+#[derive(Clone, Copy)]
 pub struct Closed {
     pub last: bool,
     pub table: Table,

@@ -1,4 +1,6 @@
 // The bytes of a table of open nodes, 4,402 of them: what a call has of it in memory, and what a program keeps or compares.
+#![tactic(auto)]
+
 ghost use Rattle.std.specs.Prelude.{◌≡◌, [], ◌∷◌, ℕ, ◌+◌, ◌<◌, ◌≤◌, length, get_or};
 ghost use Rattle.base.specs.Parts.{part, paste};
 ghost use Rattle.table.specs.Zero.{zero_hold};

@@ -1,1 +1,2 @@
 // Theorems about the table of open nodes; no code.
+#![tactic(auto)]

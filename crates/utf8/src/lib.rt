@@ -1,4 +1,6 @@
 // UTF-8 by RFC 3629, and names: what a caller may ask for, what a slot holds, and whether the two are one.
+#![tactic(auto)]
+
 ghost use Rattle.std.specs.Prelude.{◌≡◌, ◌≤◌, length};
 ghost use Rattle.base.specs.Decides.{same};
 ghost use Rattle.utf8.specs.Names.{first_at, zero_at, name_verdict, early_reason, new_reason, is_dot, is_dots, is_special, stored_name, is_named, name_bytes};
@@ -11,7 +13,7 @@ pub const MAX_FNAME_LEN: usize = 255;
 pub const SLASH: u8 = 47;
 
 // Where a reader of UTF-8 stands.
-#[derive(Drop)]
+#[derive(Clone, Copy)]
 pub enum State {
     // Between two characters.
     Whole,
@@ -22,7 +24,7 @@ pub enum State {
 }
 
 // What a caller's name is: good, good but with a slash, or bad. One that is not bad may still be too long, which is looked at later.
-#[derive(Drop)]
+#[derive(Clone, Copy)]
 pub enum NameVerdict {
     Good { long: bool },
     Slashed { long: bool },
@@ -30,7 +32,7 @@ pub enum NameVerdict {
 }
 
 // What the name in a slot is: its length, or that it has no zero or is no UTF-8.
-#[derive(Drop)]
+#[derive(Clone, Copy)]
 pub enum StoredName {
     Ended(usize),
     Broken,

@@ -2,6 +2,8 @@
 // lowest and the highest byte that comes there; and the block's name, up to a zero. A place that a shorter sequence does not have has the
 // letter a, as the name around it. For each block comes a line: its name, how many sequences there are, how many of them are UTF-8 alone,
 // how many inside a longer name, and a check over all answers in their order. tests/utf8/expected.py makes the blocks and the lines.
+#![tactic(auto)]
+
 ghost use Rattle.std.specs.Prelude.{◌≡◌, ◌<◌, ◌≤◌, length};
 
 use libc::{STDIN_FILENO, STDOUT_FILENO};
@@ -12,7 +14,7 @@ const EDGES: [u8; 12] = [
     0x00, 0x7F, 0x80, 0x8F, 0x90, 0x9F, 0xA0, 0xBF, 0xC0, 0xC2, 0xF4, 0xFF,
 ];
 
-#[derive(Drop)]
+#[derive(Clone, Copy)]
 struct Tally {
     count: u64,
     alone: u64,

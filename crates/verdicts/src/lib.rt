@@ -1,4 +1,6 @@
 // Small decisions that need neither arena nor memory: of types, of a name, of a place.
+#![tactic(auto)]
+
 ghost use Rattle.std.specs.Prelude.{◌≡◌, ◌&&◌, ◌≤◌, eqb};
 ghost use Rattle.structs.specs.Types.{is_type, move_verdict_of};
 ghost use Rattle.utf8.specs.Names.{is_dots};

@@ -1,1 +1,2 @@
 // No code: the walk along a path, and its laws.
+#![tactic(auto)]

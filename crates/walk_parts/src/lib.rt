@@ -1,5 +1,7 @@
 // One text of a walk (order 7), the caller's path or a link's target: what a part of it leads to, along it to its end or to a link, and how it is
 // entered. It changes no byte of the arena, and reads it by the chains of `sound`.
+#![tactic(auto)]
+
 pub mod texts;
 
 ghost use Rattle.std.specs.Prelude.{◌≡◌, ◌+◌, ◌-◌, ◌<◌, ◌≤◌, length, leb};
@@ -68,7 +70,7 @@ fn look(arena: &[u8], first: &[u16], next: &[u16], mem: &[u8], id: u32) -> Noted
 }
 
 // Where the walk stands, where the reason is 0.
-#[derive(Drop)]
+#[derive(Clone, Copy)]
 pub struct Stand {
     pub reason: u8,
     pub id: u32,
@@ -143,7 +145,7 @@ fn part_in(
 // ---- along a text, to its end or to the first link
 
 // Where the reason is 0: the node at the end; or the folder in which a link was met, the link's record, and the place after its part.
-#[derive(Drop)]
+#[derive(Clone, Copy)]
 pub struct Passed {
     pub reason: u8,
     pub link: bool,
@@ -227,7 +229,7 @@ pub fn enter(
 
 // Between two texts. What is left of the one at hand is `from..to` of the path, or of the link buffer where a link was followed; `depth` rests
 // are remembered, `left` links may still be met, and `used` bytes of the buffer have targets. It is over with a reason, or at the last node.
-#[derive(Drop)]
+#[derive(Clone, Copy)]
 pub struct Going {
     pub over: bool,
     pub reason: u8,
