@@ -6,8 +6,9 @@ ghost use Rattle.std.specs.Prelude.{◌≡◌, ◌<◌, ◌≤◌, length};
 
 use arena::put_check;
 use base::{copy, wide};
-use libc::{STDIN_FILENO, STDOUT_FILENO};
 use sound::sound;
+use std::io;
+use std::io::Read;
 
 // The byte, and d, below 256.
 fn changed(b: u8, d: u32) -> u8
@@ -87,34 +88,37 @@ fn line(arena: &mut [u8], k: usize, mend: bool, out: &mut [u8])
     out[512] = b'\n';
 }
 
-fn print_line(arena: &mut [u8], k: usize, mend: bool)
+fn print_line(rt: &impl Print, arena: &mut [u8], k: usize, mend: bool) -> io::Result<()>
     requires { (length arena.old ≡ 8192) × (k < 16) }
 {
     let mut out = [0u8; 513];
     line(arena, k, mend, &mut out);
-    io::write_all(STDOUT_FILENO, &out);
+    rt.write_all(&out)
 }
 
-fn print_arena(arena: &mut [u8])
+fn print_arena(rt: &impl Print, arena: &mut [u8]) -> io::Result<()>
     requires { length arena.old ≡ 8192 }
 {
     let mut k: usize = 0;
     while k < 16 {
-        print_line(arena, k, false);
-        print_line(arena, k, true);
+        print_line(rt, arena, k, false)?;
+        print_line(rt, arena, k, true)?;
         k = k + 1;
     }
+    Ok(())
 }
 
-fn next_arena() {
+fn next_arena(rt: &impl Print, input: &mut impl Read) -> io::Result<()> {
     let mut arena = [0u8; 8192];
-    let got = io::read_full(STDIN_FILENO, &mut arena);
+    let got = cases::read_full(input, &mut arena)?;
     if got == 8192 {
-        print_arena(&mut arena);
+        print_arena(rt, &mut arena)?;
     }
+    Ok(())
 }
 
-fn main() {
-    next_arena();
-    next_arena();
+fn main(rt: HostRuntime) -> io::Result<()> {
+    let mut input = rt.reader();
+    next_arena(&rt, &mut input)?;
+    next_arena(&rt, &mut input)
 }

@@ -10,8 +10,8 @@ ghost use Rattle.arena.specs.Blocks.{blocks};
 
 use base::{clear, index, least};
 use le::u32_at;
-use libc::{STDIN_FILENO, STDOUT_FILENO};
 use ops::{CUT, MAKE, PUT};
+use std::io;
 use sums::sum;
 
 const ARENA: u8 = 1;
@@ -46,30 +46,30 @@ fn fill(buf: &mut [u8], first: u8, by: u8) {
 
 // ---- the lines
 
-fn show(label: &[u8], n: u64) {
-    io::write_all(STDOUT_FILENO, label);
-    io::print_decimal(STDOUT_FILENO, n);
+fn show(rt: &impl Print, label: &str, n: u64) -> io::Result<()> {
+    print!(rt; "{label}{n}")
 }
 
-fn end_line(arena: &[u8]) {
-    show(b" a ", sum(arena));
-    io::write_all(STDOUT_FILENO, b"\n");
+fn end_line(rt: &impl Print, arena: &[u8]) -> io::Result<()> {
+    show(rt, " a ", sum(arena))?;
+    rt.write_all(b"\n")
 }
 
 // ---- the operations
 
 // What a store answered, by its name.
-fn show_store(what: u8, n: u64) {
+fn show_store(rt: &impl Print, what: u8, n: u64) -> io::Result<()> {
     match what {
-        PUT => show(b"put ", n),
-        CUT => show(b"cut ", n),
-        MAKE => show(b"make ", n),
-        _ => show(b"drop ", n),
+        PUT => show(rt, "put ", n),
+        CUT => show(rt, "cut ", n),
+        MAKE => show(rt, "make ", n),
+        _ => show(rt, "drop ", n),
     }
 }
 
 // What is put goes up from the seed; what is cut ends at the place after pos and size.
 fn store(
+    rt: &impl Print,
     what: u8,
     arena: &mut [u8],
     work: &mut [u8],
@@ -78,7 +78,7 @@ fn store(
     seed: u8,
     pos: usize,
     size: usize,
-)
+) -> io::Result<()>
     requires arena_len { (length arena.old ≡ 512 * blocks arena.old) × (blocks arena.old ≤ 128) }
     requires work_len { (length work.old ≡ 9216) × (length name.now ≡ 16) }
     requires pos_bound { (pos ≤ 4294967295) × (size ≤ 4294967295) }
@@ -87,10 +87,18 @@ fn store(
     let mut buf = [0u8; 480];
     fill(&mut buf, seed, 37);
     let r = ops::store(what, arena, work, which, name, pos, &buf[..n], pos + size);
-    show_store(what, r as u64);
+    show_store(rt, what, r as u64)
 }
 
-fn read(arena: &[u8], work: &mut [u8], which: u8, name: &[u8], pos: usize, size: usize)
+fn read(
+    rt: &impl Print,
+    arena: &[u8],
+    work: &mut [u8],
+    which: u8,
+    name: &[u8],
+    pos: usize,
+    size: usize,
+) -> io::Result<()>
     requires arena_len { (length arena.now ≡ 512 * blocks arena.now) × (blocks arena.now ≤ 128) }
     requires work_len { (length work.old ≡ 9216) × (length name.now ≡ 16) }
 {
@@ -99,24 +107,24 @@ fn read(arena: &[u8], work: &mut [u8], which: u8, name: &[u8], pos: usize, size:
     fill(&mut buf, 238, 0);
     ops::start(work);
     let r = files::read::read(arena, &work[..], which, name, pos, &mut buf[..n]);
-    show(b"read ", r as u64);
-    show(b" o ", sum(&buf));
+    show(rt, "read ", r as u64)?;
+    show(rt, " o ", sum(&buf))
 }
 
-fn ask(arena: &[u8], work: &mut [u8], which: u8, name: &[u8])
+fn ask(rt: &impl Print, arena: &[u8], work: &mut [u8], which: u8, name: &[u8]) -> io::Result<()>
     requires arena_len { (length arena.now ≡ 512 * blocks arena.now) × (blocks arena.now ≤ 128) }
     requires work_len { (length work.old ≡ 9216) × (length name.now ≡ 16) }
 {
     ops::start(work);
     let n = files::read::file_length(arena, &work[..], which, name);
     if files::read::there(arena, &work[..], which, name) {
-        show(b"ask there ", n as u64);
-        return;
+        return show(rt, "ask there ", n as u64);
     }
-    show(b"ask missing ", n as u64);
+    show(rt, "ask missing ", n as u64)
 }
 
 fn act(
+    rt: &impl Print,
     what: u8,
     arena: &mut [u8],
     work: &mut [u8],
@@ -125,20 +133,18 @@ fn act(
     seed: u8,
     pos: usize,
     size: usize,
-)
+) -> io::Result<()>
     requires arena_len { (length arena.old ≡ 512 * blocks arena.old) × (blocks arena.old ≤ 128) }
     requires work_len { (length work.old ≡ 9216) × (length name.now ≡ 16) }
     requires pos_bound { (pos ≤ 4294967295) × (size ≤ 4294967295) }
 {
     if what < READ {
-        store(what, arena, work, which, name, seed, pos, size);
-        return;
+        return store(rt, what, arena, work, which, name, seed, pos, size);
     }
     if what == READ {
-        read(&arena[..], work, which, name, pos, size);
-        return;
+        return read(rt, &arena[..], work, which, name, pos, size);
     }
-    ask(&arena[..], work, which, name);
+    ask(rt, &arena[..], work, which, name)
 }
 
 // ---- the script
@@ -161,24 +167,24 @@ fn sized(rec: &[u8], was: usize) -> usize
     n
 }
 
-fn step(rec: &[u8], arena: &mut [u8], work: &mut [u8])
+fn step(rt: &impl Print, rec: &[u8], arena: &mut [u8], work: &mut [u8]) -> io::Result<()>
     requires arena_len { (length arena.old ≡ 512 * blocks arena.old) × (blocks arena.old ≤ 128) }
     requires work_len { (length work.old ≡ 9216) × (length rec.now ≡ 12) }
 {
     let what = rec[0];
     if what == ARENA {
         clear(arena);
-        return;
+        return Ok(());
     }
     let mut name = [0u8; 16];
     name_of(&mut name, rec[2]);
     let pos = index(u32_at(rec, 4));
     let size = index(u32_at(rec, 8));
-    act(what, arena, work, rec[1], &name, rec[3], pos, size);
-    end_line(&arena[..]);
+    act(rt, what, arena, work, rec[1], &name, rec[3], pos, size)?;
+    end_line(rt, &arena[..])
 }
 
-fn run(script: &[u8], space: &mut [u8], work: &mut [u8])
+fn run(rt: &impl Print, script: &[u8], space: &mut [u8], work: &mut [u8]) -> io::Result<()>
     requires { (length space.old ≡ 65536) × (length work.old ≡ 9216) }
 {
     let n = script.len() / 12;
@@ -189,15 +195,16 @@ fn run(script: &[u8], space: &mut [u8], work: &mut [u8])
         let rec = &script[s..s + 12];
         blocks = sized(rec, blocks);
         let e = 512 * blocks;
-        step(rec, &mut space[..e], work);
+        step(rt, rec, &mut space[..e], work)?;
         i = i + 1;
     }
+    Ok(())
 }
 
-fn main() {
-    let mut script = io::large_buffer();
-    let mut space = io::large_buffer();
+fn main(rt: HostRuntime) -> io::Result<()> {
+    let mut script = [0u8; 65536];
+    let mut space = [0u8; 65536];
     let mut work = [0u8; 9216];
-    let n = io::read_full(STDIN_FILENO, &mut script);
-    run(&script[..n], &mut space, &mut work);
+    let n = cases::read_full(&mut rt.reader(), &mut script)?;
+    run(&rt, &script[..n], &mut space, &mut work)
 }

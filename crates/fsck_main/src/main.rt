@@ -1,8 +1,8 @@
 // The checker's program: the arena is standard input.
 #![tactic(auto)]
 
-use libc::STDIN_FILENO;
+use std::io;
 
-fn main() {
-    fsck_report::report(STDIN_FILENO);
+fn main(rt: HostRuntime) -> io::Result<()> {
+    fsck_report::report(&rt, &mut rt.reader())
 }

@@ -2,36 +2,36 @@
 #![tactic(auto)]
 
 use fsck::Verdict;
-use libc::STDOUT_FILENO;
+use std::io;
+use std::io::Read;
 
-fn show(label: &[u8], n: u32) {
-    io::write_all(STDOUT_FILENO, label);
-    io::print_decimal(STDOUT_FILENO, n as u64);
+fn show(rt: &impl Print, label: &str, n: u32) -> io::Result<()> {
+    print!(rt; "{label}{n}")
 }
 
-fn tell(v: Verdict) {
+fn tell(rt: &impl Print, v: Verdict) -> io::Result<()> {
     match v {
         Verdict::Pass {
             nodes,
             unused,
             free,
         } => {
-            show(b"pass nodes ", nodes);
-            show(b" unused ", unused);
-            show(b" free ", free);
+            show(rt, "pass nodes ", nodes)?;
+            show(rt, " unused ", unused)?;
+            show(rt, " free ", free)?;
         }
-        Verdict::Fail(rule) => show(b"fail rule ", rule as u32),
+        Verdict::Fail(rule) => show(rt, "fail rule ", rule as u32)?,
     }
-    io::write_all(STDOUT_FILENO, b"\n");
+    rt.write_all(b"\n")
 }
 
-// The descriptor's bytes, to its end or one past the limit.
-pub fn report(fd: i32) {
+// The input's bytes, to its end or one past the limit.
+pub fn report(rt: &impl Print, input: &mut impl Read) -> io::Result<()> {
     let mut arena = [0u8; 65537];
-    let n = io::read_full(fd, &mut arena);
+    let n = cases::read_full(input, &mut arena)?;
     if n > 65536 {
-        tell(Verdict::Fail(1));
+        tell(rt, Verdict::Fail(1))
     } else {
-        tell(fsck::check(&arena[..n], table::empty()));
+        tell(rt, fsck::check(&arena[..n], table::empty()))
     }
 }

@@ -1,22 +1,22 @@
 // What the inventory's program prints, of each file that an argument names, on lines after its name.
 #![tactic(auto)]
 
-use libc::STDOUT_FILENO;
+use std::io;
+use std::rt::{Env, Files};
 
-fn judge(i: usize) {
-    let fd = cases::open(i);
-    io::write_all(STDOUT_FILENO, b"\n");
-    if fd >= 0 {
-        inventory_report::report(fd);
-        libc::close(fd);
+fn judge<R: Env + Files + Print + Eprint>(rt: &R, i: usize) -> io::Result<()> {
+    let file = cases::open(rt, i)?;
+    rt.write_all(b"\n")?;
+    if let Some(mut file) = file {
+        inventory_report::report(rt, &mut file)?;
     }
+    Ok(())
 }
 
-fn main() {
-    let n = os::arg_count();
-    let mut i = 1usize;
-    while i < n {
-        judge(i);
-        i += 1;
+fn main(rt: HostRuntime) -> io::Result<()> {
+    let n = cases::arg_count(&rt);
+    for i in 1..n {
+        judge(&rt, i)?;
     }
+    Ok(())
 }

@@ -11,7 +11,8 @@ use calls::Taken;
 use calls_inventory::inventory;
 use fsck::Verdict;
 use inventory_lines::numbers::put_number;
-use libc::STDOUT_FILENO;
+use std::io;
+use std::io::Read;
 
 const MOST: usize = 65536;
 
@@ -67,11 +68,11 @@ pub fn put_printed(arena: &[u8], out: &mut [u8]) -> usize
     }
 }
 
-// The descriptor's bytes, to its end or one past the limit.
-pub fn report(fd: i32) {
+// The input's bytes, to its end or one past the limit.
+pub fn report(rt: &impl Print, input: &mut impl Read) -> io::Result<()> {
     let mut arena = [0u8; 65537];
     let mut out = [0u8; MOST];
-    let n = io::read_full(fd, &mut arena);
+    let n = cases::read_full(input, &mut arena)?;
     let m = put_printed(&arena[..n], &mut out);
-    io::write_all(STDOUT_FILENO, &out[..m]);
+    rt.write_all(&out[..m])
 }

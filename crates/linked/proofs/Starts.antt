@@ -41,7 +41,7 @@ use Rattle.edge.proofs.dz_format.Reads as dz-format
 use Rattle.sequences.specs.Pairs.{pair}
 use Rattle.sequences.specs.Promises.{Fresh, Slashless, FreshSlashless}
 use Rattle.sequences.proofs.Fresh.{format-goes, fresh, fresh-slashless}
-use Rattle.linked.specs.Images.{◌&◌, Slice, Ready}
+use Rattle.linked.specs.Images.{◌&◌, Slice, ReadSlice, Ready}
 use Rattle.linked.specs.Linked.{OwnDoes, CheckSays, OpenDoes, FormatDid, FormatDoes, FreshImage, FormatFresh, CheckTrusts, ChainsOwn, OwnKeeps}
 use Rattle.linked.proofs.Functions.{owned, asked, own-does-calls}
 use Rattle.linked.proofs.Transport.{trusted-written, not_255, after}
@@ -53,7 +53,7 @@ sized-said k l o x = ⊎_elim (λ e. (e, sized-is k l o e)) (λ z. absurd (x (ap
 -- ---- a format, a check, the chains
 
 -- where the number is not 255, what format has left is by its own outcome
-pub format-sized : (κs : Lfts 3) (a a' t t' file : Slice) (sec nsec : ℤ) (n : ℕ) → dz-format.Learnt κs (a & t & sec & nsec & file & tt) n (a' & t' & sec & nsec & file & tt) → n ≢ 255
+pub format-sized : (κs : Lfts 3) (a a' t t' : Slice) (file : ReadSlice) (sec nsec : ℤ) (n : ℕ) → dz-format.Learnt κs (a & t & sec & nsec & file & tt) n (a' & t' & sec & nsec & file & tt) → n ≢ 255
     → (length file.now ≡ 16) × Answers (formatted (call_format a.now (time_of sec nsec) file.now)) left_of (a.now, t.now) (a'.now, t'.now) n
 format-sized κs a a' t t' file sec nsec n L z =
     let o : Out After = formatted (call_format a.now (time_of sec nsec) file.now) in

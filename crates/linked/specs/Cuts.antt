@@ -15,7 +15,7 @@ use Rattle.cuts.specs.Creates.{Birth, before_parent}
 use Rattle.cuts.specs.Premise.{NoneDirty, Creation, OfCuts}
 use Rattle.cuts.specs.Traces.{Phase, AtPhase}
 use Rattle.cuts.specs.Answers.{failing}
-use Rattle.linked.specs.Images.{◌&◌, Slice, Image, pair_of, Same, Places}
+use Rattle.linked.specs.Images.{◌&◌, Slice, ReadSlice, Image, pair_of, Same, Places}
 use Rattle.linked.specs.Tested.{Ran}
 use Rattle.linked.specs.Linked.{Functions}
 
@@ -32,12 +32,12 @@ module _ (R : Functions) (I : Image → Type 0) where
 
 -- `cut-opens`: open answers 0 to each cut, and leaves the bytes of the empty table
 unfoldable pub RunCutOpens : Type 0
-RunCutOpens = OfCuts (λ a c n b. (κs : Lfts 2) (s t t' : Slice) (r : ℕ) → s.now ≡ b → dz-open.Learnt κs (s & t & tt) r (s & t' & tt) → r ≢ 255
+RunCutOpens = OfCuts (λ a c n b. (κs : Lfts 2) (s : ReadSlice) (t t' : Slice) (r : ℕ) → s.now ≡ b → dz-open.Learnt κs (s & t & tt) r (s & t' & tt) → r ≢ 255
     → (r ≡ 0) × (t'.now ≡ bytes_of_table empty_table))
 
 -- `cut-fails`: with these the check answers the rule of the cut's phase
 unfoldable pub RunCutFails : Type 0
-RunCutFails = OfCuts (λ a c n b. (κs : Lfts 3) (s t out out' : Slice) (r : ℕ) → s.now ≡ b → t.now ≡ bytes_of_table empty_table
+RunCutFails = OfCuts (λ a c n b. (κs : Lfts 3) (s t : ReadSlice) (out out' : Slice) (r : ℕ) → s.now ≡ b → t.now ≡ bytes_of_table empty_table
     → dz-check.Learnt κs (s & t & out & tt) r (s & t & out' & tt) → r ≢ 255 → (f : Phase) → AtPhase c n f → r ≡ failing a c f)
 
 -- `mender-refuses`: and between two stores the mender answers 18, and no byte has changed

@@ -24,7 +24,7 @@ use Rattle.drawings.specs.Saved.{Elsewhere, ReadsAll, filled_to}
 use Rattle.drawings.specs.Rests.{Drawing, LeavesBe, Rested, Named}
 use Rattle.drawings.specs.Names.{LeavesName, LeavesBoth}
 use Rattle.drawings.specs.Ranges.{text_at, new_text}
-use Rattle.linked.specs.Images.{◌&◌, Slice, Image, pair_of, Places}
+use Rattle.linked.specs.Images.{◌&◌, Slice, ReadSlice, Image, pair_of, Places}
 use Rattle.linked.specs.Tested.{Ran}
 use Rattle.linked.specs.Linked.{Functions, Runs}
 
@@ -167,5 +167,5 @@ NumberRanges = (s u : Image) (x y : Places) (n w : ℕ) (h : Handle) (mode : Fal
 
 -- `old-open`: "so old projects open": where a check of the arena, with whatever table, answers 0, `dz_open` does
 unfoldable pub OldOpens : Type 0
-OldOpens = (κs : Lfts 3) (λs : Lfts 2) (a t out out' u u' : Slice) (n : ℕ) → dz-check.Learnt κs (a & t & out & tt) 0 (a & t & out' & tt)
+OldOpens = (κs : Lfts 3) (λs : Lfts 2) (a t : ReadSlice) (out out' u u' : Slice) (n : ℕ) → dz-check.Learnt κs (a & t & out & tt) 0 (a & t & out' & tt)
     → dz-open.Learnt λs (a & u & tt) n (a & u' & tt) → n ≢ 255 → n ≡ 0

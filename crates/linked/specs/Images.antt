@@ -1,6 +1,6 @@
 -- What a customer keeps and lends to the functions that it links, the pair that it is, and what it is that a function did a call.
 use Rattle.std.specs.Prelude.{◌≡◌, List, [], ◌∷◌, ℕ, ◌+◌, ◌/◌, eqb, length}
-use Rattle.std.specs.Borrow.{Bor}
+use Rattle.std.specs.Borrow.{Bor, MutBor}
 use Rattle.base.specs.Out.{done, refused}
 use Rattle.base.specs.Parts.{paste}
 use Rattle.base.specs.Search.{pick}
@@ -19,9 +19,12 @@ use Rattle.owners_kept.specs.Owned.{Chained}
 use Rattle.sequences.specs.Pairs.{Pair, pair, Passed}
 use Rattle.sequences.specs.Calls.{Call, root, find, walk, create, link, remove_file, remove_folder, move, metadata, set_metadata, get_entry, listing, full_path, read, write, resize, fallocate, sync, close, check, inventory, mend, does}
 
--- a slice as a contract sees it; `now` is what it holds
+-- a slice as a contract sees it: one that may be written, and one that is only read; `now` is what it holds
 abbrev pub Slice : Type 0
-Slice = Bor (List ℕ)
+Slice = MutBor (List ℕ)
+
+abbrev pub ReadSlice : Type 0
+ReadSlice = Bor (List ℕ)
 
 -- a function's arguments, one after another
 infixr 20 ◌&◌

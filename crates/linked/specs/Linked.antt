@@ -28,7 +28,7 @@ use Rattle.sequences.specs.Promises.{Along, Well, On, Safe, Spent, Slashless}
 use Rattle.sequences.specs.Places.{Makes, SameFor, Arrives, Names}
 use Rattle.sequences.specs.Reasons.{reasons_of, has}
 use Rattle.sequences.specs.Chains.{Finds}
-use Rattle.linked.specs.Images.{◌&◌, Slice, Image, image, pair_of, Same, Trusted, Passes, Ready, Places, handed, Did}
+use Rattle.linked.specs.Images.{◌&◌, Slice, ReadSlice, Image, image, pair_of, Same, Trusted, Passes, Ready, Places, handed, Did}
 use Rattle.linked.specs.Tested.{Ran}
 use Rattle.linked.specs.Owning.{Owns}
 
@@ -187,12 +187,12 @@ Numbers = (c : Call) (s u : Image) (x y : Places) (n : ℕ) → Ran c s x u y n 
 
 -- the check's number is its verdict
 unfoldable pub CheckSays : Type 0
-CheckSays = (κs : Lfts 3) (a t out out' : Slice) (n : ℕ) → dz-check.Learnt κs (a & t & out & tt) n (a & t & out' & tt) → n ≢ 255 → n ≡ checked a.now (table_of t.now)
+CheckSays = (κs : Lfts 3) (a t : ReadSlice) (out out' : Slice) (n : ℕ) → dz-check.Learnt κs (a & t & out & tt) n (a & t & out' & tt) → n ≢ 255 → n ≡ checked a.now (table_of t.now)
 
 -- open, which is no call of a sequence, answers as its definition, and leaves the bytes of the empty table where it answers 0, and where it does not
 -- those that were there
 unfoldable pub OpenDoes : Type 0
-OpenDoes = (κs : Lfts 2) (a t t' : Slice) (n : ℕ) → dz-open.Learnt κs (a & t & tt) n (a & t' & tt) → n ≢ 255
+OpenDoes = (κs : Lfts 2) (a : ReadSlice) (t t' : Slice) (n : ℕ) → dz-open.Learnt κs (a & t & tt) n (a & t' & tt) → n ≢ 255
     → (n ≡ answer (call_open a.now)) × (n ≡ 0 → t'.now ≡ bytes_of_table empty_table) × (n ≢ 0 → t'.now ≡ t.now)
 
 -- format, which is none either, on arena a and table t, with that time and file name, left a' and t' and returned n: it answers as its definition, 0 or 1;
@@ -205,7 +205,7 @@ pub record FormatDid (a t : List ℕ) (time : Timespec) (file a' t' : List ℕ) 
 
 -- so of whatever its contract allows, but for 255 (of the arguments, what their types give)
 unfoldable pub FormatDoes : Type 0
-FormatDoes = (κs : Lfts 3) (a a' t t' file : Slice) (sec nsec : ℤ) (n : ℕ) → Bytes a.now → TimeFits (time_of sec nsec) → Bytes file.now
+FormatDoes = (κs : Lfts 3) (a a' t t' : Slice) (file : ReadSlice) (sec nsec : ℤ) (n : ℕ) → Bytes a.now → TimeFits (time_of sec nsec) → Bytes file.now
     → dz-format.Learnt κs (a & t & sec & nsec & file & tt) n (a' & t' & sec & nsec & file & tt) → n ≢ 255
     → FormatDid a.now t.now (time_of sec nsec) file.now a'.now t'.now n
 
@@ -217,16 +217,16 @@ pub record FreshImage (a t : List ℕ) : Type 0 where
   pub slashless : Slashless (pair a (table_of t))
 
 unfoldable pub FormatFresh : Type 0
-FormatFresh = (κs : Lfts 3) (a a' t t' file : Slice) (sec nsec : ℤ) → Bytes a.now → TimeFits (time_of sec nsec) → Bytes file.now
+FormatFresh = (κs : Lfts 3) (a a' t t' : Slice) (file : ReadSlice) (sec nsec : ℤ) → Bytes a.now → TimeFits (time_of sec nsec) → Bytes file.now
     → dz-format.Learnt κs (a & t & sec & nsec & file & tt) 0 (a' & t' & sec & nsec & file & tt) → FreshImage a'.now t'.now
 
 -- or a check that answers 0
 unfoldable pub CheckTrusts : Type 0
-CheckTrusts = (κs : Lfts 3) (a t out out' : Slice) → Bytes a.now → Bytes t.now → dz-check.Learnt κs (a & t & out & tt) 0 (a & t & out' & tt) → Trusted a.now t.now
+CheckTrusts = (κs : Lfts 3) (a t : ReadSlice) (out out' : Slice) → Bytes a.now → Bytes t.now → dz-check.Learnt κs (a & t & out & tt) 0 (a & t & out' & tt) → Trusted a.now t.now
 
 -- and then chains that answer 0: what is kept is what each of an owner's functions requires
 unfoldable pub ChainsOwn : Type 0
-ChainsOwn = (κs : Lfts 2) (a k k' : Slice) (t : List ℕ) → Trusted a.now t → own-chains.Learnt κs (a & k & tt) 0 (a & k' & tt)
+ChainsOwn = (κs : Lfts 2) (a : ReadSlice) (k k' : Slice) (t : List ℕ) → Trusted a.now t → own-chains.Learnt κs (a & k & tt) 0 (a & k' & tt)
     → Ready (image a.now k'.now t) × Owned a.now k'.now t
 
 -- each of them keeps it

@@ -15,7 +15,7 @@ use Rattle.edge.proofs.dz_mend.Reads as dz-mend
 use Rattle.sequences.specs.Pairs.{pair}
 use Rattle.sequences.specs.Calls.{Call, mend}
 use Rattle.deaths.specs.Deaths.{Recovered, Lived}
-use Rattle.linked.specs.Images.{◌&◌, Slice, Image, pair_of, Same, Trusted, Places}
+use Rattle.linked.specs.Images.{◌&◌, Slice, ReadSlice, Image, pair_of, Same, Trusted, Places}
 use Rattle.linked.specs.Tested.{Ran}
 use Rattle.linked.specs.Linked.{Functions, Runs}
 
@@ -33,7 +33,7 @@ RunMends = (s u : Image) (x y : Places) → Bytes s.arena → Ran mend s x u y 0
 
 -- so arena and table pass together (of the arguments, what their types give): who kept chains makes them anew (`ChainsOwn`), and goes on as an owner
 unfoldable pub MendTrusts : Type 0
-MendTrusts = (κs : Lfts 2) (a a' t : Slice) → Bytes a.now → Bytes t.now → dz-mend.Learnt κs (a & t & tt) 0 (a' & t & tt) → Trusted a'.now t.now
+MendTrusts = (κs : Lfts 2) (a a' : Slice) (t : ReadSlice) → Bytes a.now → Bytes t.now → dz-mend.Learnt κs (a & t & tt) 0 (a' & t & tt) → Trusted a'.now t.now
 
 -- `mend-again`: a second run answers 0 too, and changes no byte
 unfoldable pub RunMendsAgain : Type 0
@@ -46,7 +46,7 @@ RunMendRefuses = (s u : Image) (x y : Places) (n : ℕ) → Ran mend s x u y n �
 -- ---- a host that dies. What it has is `Lived` after a format that answers 0, and any runs keep that
 
 unfoldable pub FormatLives : Type 0
-FormatLives = (κs : Lfts 3) (a a' t t' file : Slice) (sec nsec : ℤ) → Bytes a.now → TimeFits (time_of sec nsec) → Bytes file.now
+FormatLives = (κs : Lfts 3) (a a' t t' : Slice) (file : ReadSlice) (sec nsec : ℤ) → Bytes a.now → TimeFits (time_of sec nsec) → Bytes file.now
     → dz-format.Learnt κs (a & t & sec & nsec & file & tt) 0 (a' & t' & sec & nsec & file & tt) → Lived (pair a'.now (table_of t'.now))
 
 unfoldable pub RunsLive : Functions → (Image → Type 0) → Type 0

@@ -32,53 +32,53 @@ use Rattle.edge.proofs.dz_check.Reads as dz-check
 use Rattle.edge.proofs.dz_inventory.Reads as dz-inventory
 use Rattle.edge.proofs.dz_mend.Reads as dz-mend
 use Rattle.sequences.specs.Calls.{Call, root, find, walk, create, link, remove_file, remove_folder, move, metadata, set_metadata, get_entry, listing, full_path, read, write, resize, fallocate, sync, close, check, inventory, mend}
-use Rattle.linked.specs.Images.{◌&◌, Slice, Image, image, Places, places, in_words, nowhere, reason_in}
+use Rattle.linked.specs.Images.{◌&◌, Slice, ReadSlice, Image, image, Places, places, in_words, nowhere, reason_in}
 
 -- a primed slice is the slice at exit; k are the chains, that the function is not lent
 pub data Ran : Call → Image → Places → Image → Places → ℕ → Type 0 where
-  roots : (κs : Lfts 3) (a t t' out out' : Slice) (w n : ℕ) {k : List ℕ}
+  roots : (κs : Lfts 3) (a : ReadSlice) (t t' out out' : Slice) (w n : ℕ) {k : List ℕ}
       → dz-root.Learnt κs (a & t & w & out & tt) n (a & t' & w & out' & tt)
       → Ran (root w) (image a.now k t.now) (in_words out.now) (image a.now k t'.now) (in_words out'.now) n
-  finds : (κs : Lfts 4) (a t t' name out out' : Slice) (w hold stamp n : ℕ) {k : List ℕ}
+  finds : (κs : Lfts 4) (a : ReadSlice) (t t' : Slice) (name : ReadSlice) (out out' : Slice) (w hold stamp n : ℕ) {k : List ℕ}
       → dz-find.Learnt κs (a & t & w & hold & stamp & name & out & tt) n (a & t' & w & hold & stamp & name & out' & tt)
       → Ran (find w (handle_of hold stamp) name.now) (image a.now k t.now) (in_words out.now) (image a.now k t'.now) (in_words out'.now) n
-  walks : (κs : Lfts 5) (a t t' path links links' out out' : Slice) (w hold stamp n : ℕ) {k : List ℕ}
+  walks : (κs : Lfts 5) (a : ReadSlice) (t t' : Slice) (path : ReadSlice) (links links' out out' : Slice) (w hold stamp n : ℕ) {k : List ℕ}
       → dz-walk.Learnt κs (a & t & w & hold & stamp & path & links & out & tt) n (a & t' & w & hold & stamp & path & links' & out' & tt)
       → Ran (walk w (handle_of hold stamp) path.now (length links.now)) (image a.now k t.now) (places out.now [] links.now) (image a.now k t'.now) (places out'.now [] links'.now) n
-  creates : (κs : Lfts 5) (a a' t t' name file out out' : Slice) (w hold stamp kind mode n : ℕ) (sec nsec : ℤ) {k : List ℕ}
+  creates : (κs : Lfts 5) (a a' t t' : Slice) (name file : ReadSlice) (out out' : Slice) (w hold stamp kind mode n : ℕ) (sec nsec : ℤ) {k : List ℕ}
       → dz-create.Learnt κs (a & t & w & hold & stamp & name & kind & mode & sec & nsec & file & out & tt) n (a' & t' & w & hold & stamp & name & kind & mode & sec & nsec & file & out' & tt)
       → Ran (create w (handle_of hold stamp) name.now kind mode (time_of sec nsec) file.now) (image a.now k t.now) (in_words out.now) (image a'.now k t'.now) (in_words out'.now) n
-  links : (κs : Lfts 3) (a a' t t' name : Slice) (w hold stamp chold cstamp n : ℕ) {k : List ℕ}
+  links : (κs : Lfts 3) (a a' t t' : Slice) (name : ReadSlice) (w hold stamp chold cstamp n : ℕ) {k : List ℕ}
       → dz-link.Learnt κs (a & t & w & hold & stamp & name & chold & cstamp & tt) n (a' & t' & w & hold & stamp & name & chold & cstamp & tt)
       → Ran (link w (handle_of hold stamp) name.now (handle_of chold cstamp)) (image a.now k t.now) nowhere (image a'.now k t'.now) nowhere n
-  removes-file : (κs : Lfts 3) (a a' t t' name : Slice) (w hold stamp n : ℕ) {k : List ℕ}
+  removes-file : (κs : Lfts 3) (a a' t t' : Slice) (name : ReadSlice) (w hold stamp n : ℕ) {k : List ℕ}
       → dz-remove-file.Learnt κs (a & t & w & hold & stamp & name & tt) n (a' & t' & w & hold & stamp & name & tt)
       → Ran (remove_file w (handle_of hold stamp) name.now) (image a.now k t.now) nowhere (image a'.now k t'.now) nowhere n
-  removes-folder : (κs : Lfts 3) (a a' t t' name : Slice) (w hold stamp n : ℕ) {k : List ℕ}
+  removes-folder : (κs : Lfts 3) (a a' t t' : Slice) (name : ReadSlice) (w hold stamp n : ℕ) {k : List ℕ}
       → dz-remove-folder.Learnt κs (a & t & w & hold & stamp & name & tt) n (a' & t' & w & hold & stamp & name & tt)
       → Ran (remove_folder w (handle_of hold stamp) name.now) (image a.now k t.now) nowhere (image a'.now k t'.now) nowhere n
-  moves : (κs : Lfts 4) (a a' t t' old name : Slice) (w hold stamp thold tstamp n : ℕ) {k : List ℕ}
+  moves : (κs : Lfts 4) (a a' t t' : Slice) (old name : ReadSlice) (w hold stamp thold tstamp n : ℕ) {k : List ℕ}
       → dz-move.Learnt κs (a & t & w & hold & stamp & old & thold & tstamp & name & tt) n (a' & t' & w & hold & stamp & old & thold & tstamp & name & tt)
       → Ran (move w (handle_of hold stamp) old.now (handle_of thold tstamp) name.now) (image a.now k t.now) nowhere (image a'.now k t'.now) nowhere n
-  tells : (κs : Lfts 3) (a t out out' : Slice) (w hold stamp n : ℕ) {k : List ℕ}
+  tells : (κs : Lfts 3) (a t : ReadSlice) (out out' : Slice) (w hold stamp n : ℕ) {k : List ℕ}
       → dz-metadata.Learnt κs (a & t & w & hold & stamp & out & tt) n (a & t & w & hold & stamp & out' & tt)
       → Ran (metadata w (handle_of hold stamp)) (image a.now k t.now) (in_words out.now) (image a.now k t.now) (in_words out'.now) n
-  sets : (κs : Lfts 2) (a t t' : Slice) (w hold stamp mode uid gid n : ℕ) (asec ansec msec mnsec csec cnsec : ℤ) {k : List ℕ}
+  sets : (κs : Lfts 2) (a : ReadSlice) (t t' : Slice) (w hold stamp mode uid gid n : ℕ) (asec ansec msec mnsec csec cnsec : ℤ) {k : List ℕ}
       → dz-set-metadata.Learnt κs (a & t & w & hold & stamp & mode & uid & gid & asec & ansec & msec & mnsec & csec & cnsec & tt) n (a & t' & w & hold & stamp & mode & uid & gid & asec & ansec & msec & mnsec & csec & cnsec & tt)
       → Ran (set_metadata w (handle_of hold stamp) mode uid gid (time_of asec ansec) (time_of msec mnsec) (time_of csec cnsec)) (image a.now k t.now) nowhere (image a.now k t'.now) nowhere n
-  enters : (κs : Lfts 3) (a t out out' : Slice) (w hold stamp slot n : ℕ) {k : List ℕ}
+  enters : (κs : Lfts 3) (a t : ReadSlice) (out out' : Slice) (w hold stamp slot n : ℕ) {k : List ℕ}
       → dz-get-entry.Learnt κs (a & t & w & hold & stamp & slot & out & tt) n (a & t & w & hold & stamp & slot & out' & tt)
       → Ran (get_entry w (handle_of hold stamp) slot (length out.now)) (image a.now k t.now) (places [] out.now []) (image a.now k t.now) (places [] out'.now []) n
-  lists : (κs : Lfts 4) (a t next next' out out' : Slice) (w hold stamp dots n : ℕ) {k : List ℕ}
+  lists : (κs : Lfts 4) (a t : ReadSlice) (next next' out out' : Slice) (w hold stamp dots n : ℕ) {k : List ℕ}
       → dz-list.Learnt κs (a & t & w & hold & stamp & next & dots & out & tt) n (a & t & w & hold & stamp & next' & dots & out' & tt)
       → Ran (listing w (handle_of hold stamp) (start_in dots next.now) (length out.now)) (image a.now k t.now) (places next.now out.now []) (image a.now k t.now) (places next'.now out'.now []) n
-  paths : (κs : Lfts 4) (a t out out' count count' : Slice) (w hold stamp n : ℕ) {k : List ℕ}
+  paths : (κs : Lfts 4) (a t : ReadSlice) (out out' count count' : Slice) (w hold stamp n : ℕ) {k : List ℕ}
       → dz-path.Learnt κs (a & t & w & hold & stamp & out & count & tt) n (a & t & w & hold & stamp & out' & count' & tt)
       → Ran (full_path w (handle_of hold stamp) (length out.now)) (image a.now k t.now) (places count.now out.now []) (image a.now k t.now) (places count'.now out'.now []) n
-  reads : (κs : Lfts 4) (a t out out' count count' : Slice) (w hold stamp place n : ℕ) {k : List ℕ}
+  reads : (κs : Lfts 4) (a t : ReadSlice) (out out' count count' : Slice) (w hold stamp place n : ℕ) {k : List ℕ}
       → dz-read.Learnt κs (a & t & w & hold & stamp & place & out & count & tt) n (a & t & w & hold & stamp & place & out' & count' & tt)
       → Ran (read w (handle_of hold stamp) place (length out.now)) (image a.now k t.now) (places count.now out.now []) (image a.now k t.now) (places count'.now out'.now []) n
-  writes : (κs : Lfts 3) (a a' t t' src : Slice) (w hold stamp place n : ℕ) {k : List ℕ}
+  writes : (κs : Lfts 3) (a a' t t' : Slice) (src : ReadSlice) (w hold stamp place n : ℕ) {k : List ℕ}
       → dz-write.Learnt κs (a & t & w & hold & stamp & place & src & tt) n (a' & t' & w & hold & stamp & place & src & tt)
       → Ran (write w (handle_of hold stamp) place src.now) (image a.now k t.now) nowhere (image a'.now k t'.now) nowhere n
   resizes : (κs : Lfts 2) (a a' t t' : Slice) (w hold stamp size n : ℕ) {k : List ℕ}
@@ -93,13 +93,13 @@ pub data Ran : Call → Image → Places → Image → Places → ℕ → Type 0
   closes : (κs : Lfts 2) (a a' t t' : Slice) (w hold stamp n : ℕ) {k : List ℕ}
       → dz-close.Learnt κs (a & t & w & hold & stamp & tt) n (a' & t' & w & hold & stamp & tt)
       → Ran (close w (handle_of hold stamp)) (image a.now k t.now) nowhere (image a'.now k t'.now) nowhere n
-  checks : (κs : Lfts 3) (a t out out' : Slice) (n : ℕ) {k : List ℕ}
+  checks : (κs : Lfts 3) (a t : ReadSlice) (out out' : Slice) (n : ℕ) {k : List ℕ}
       → dz-check.Learnt κs (a & t & out & tt) n (a & t & out' & tt)
       → Ran check (image a.now k t.now) (in_words out.now) (image a.now k t.now) (in_words out'.now) (reason_in n)
   -- which is not lent the table
-  inventories : (κs : Lfts 3) (a out out' count count' : Slice) (n : ℕ) {k t : List ℕ}
+  inventories : (κs : Lfts 3) (a : ReadSlice) (out out' count count' : Slice) (n : ℕ) {k t : List ℕ}
       → dz-inventory.Learnt κs (a & out & count & tt) n (a & out' & count' & tt)
       → Ran (inventory (length out.now)) (image a.now k t) (places count.now out.now []) (image a.now k t) (places count'.now out'.now []) n
-  mends : (κs : Lfts 2) (a a' t : Slice) (n : ℕ) {k : List ℕ}
+  mends : (κs : Lfts 2) (a a' : Slice) (t : ReadSlice) (n : ℕ) {k : List ℕ}
       → dz-mend.Learnt κs (a & t & tt) n (a' & t & tt)
       → Ran mend (image a.now k t.now) nowhere (image a'.now k t.now) nowhere n

@@ -3,32 +3,38 @@
 
 ghost use Rattle.std.specs.Prelude.{◌≤◌, length};
 
-use libc::{STDIN_FILENO, STDOUT_FILENO};
+use std::io;
 
-fn play(script: &[u8], desk: &mut [u8], arena: &mut [u8], text: &mut [u8])
+fn play(
+    rt: &impl Print,
+    script: &[u8],
+    desk: &mut [u8],
+    arena: &mut [u8],
+    text: &mut [u8],
+) -> io::Result<()>
     requires { 512 ≤ length text.old }
 {
     replay_lib::begin(desk, arena);
     while !replay_lib::ended(&desk[..]) {
         let n = replay_lib::run(script, desk, arena, text);
-        io::write_all(STDOUT_FILENO, &text[..n]);
+        rt.write_all(&text[..n])?;
     }
+    Ok(())
 }
 
 // With buffers of its own.
-fn play_fresh(script: &[u8]) {
+fn play_fresh(rt: &impl Print, script: &[u8]) -> io::Result<()> {
     let mut desk = [0u8; 4419];
     let mut arena = [0u8; 65536];
     let mut text = [0u8; 4096];
-    play(script, &mut desk, &mut arena, &mut text);
+    play(rt, script, &mut desk, &mut arena, &mut text)
 }
 
-fn main() {
+fn main(rt: HostRuntime) -> io::Result<()> {
     let mut script = [0u8; 262145];
-    let n = io::read_full(STDIN_FILENO, &mut script);
+    let n = cases::read_full(&mut rt.reader(), &mut script)?;
     if n > 262144 {
-        io::write_all(STDOUT_FILENO, b"bad script\n");
-        return;
+        return rt.write_all(b"bad script\n");
     }
-    play_fresh(&script[..n]);
+    play_fresh(&rt, &script[..n])
 }

@@ -99,7 +99,7 @@ first_fail-some k (true ∷ l) n =
       omega (arith, r.1),
       record {
         inside = omega (arith, r.2.inside);
-        before = λ j. elim j [ zero ↦ λ lt. tt | suc m ↦ λ lt. r.2.before m (omega arith) ];
+        before = λ j. elim j as (λ (x : ℕ). x < suc r.0 → T (get_or {A = Bool} (true ∷ l) x false)) [ zero ↦ λ lt. tt | suc m ↦ λ lt. r.2.before m (omega arith) ];
         fails = r.2.fails;
       },
     )

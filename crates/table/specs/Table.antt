@@ -121,12 +121,12 @@ abbrev pub is_owner : ℕ → Bool
 is_owner w = ltb 0 w && ltb w 5
 
 -- the hold at i is live, and w's
-abbrev pub field_own : Table → ℕ → ℕ → Bool
-field_own t w i = not (eqb (hold_at t i).stamp 0) && eqb (hold_at t i).owner w
+abbrev pub own_at : Table → ℕ → ℕ → Bool
+own_at t w i = not (eqb (hold_at t i).stamp 0) && eqb (hold_at t i).owner w
 
 -- how many live holds w has
 unfoldable pub own_holds : Table → ℕ → ℕ
-own_holds t w = count_to (field_own t w) 32
+own_holds t w = count_to (own_at t w) 32
 
 -- "if any hold is live" (order 11): none is, whoever's
 unfoldable pub no_holds : Table → Bool

@@ -6,7 +6,7 @@
 
 ghost use Rattle.std.specs.Prelude.{◌≡◌, ◌<◌, ◌≤◌, length};
 
-use libc::{STDIN_FILENO, STDOUT_FILENO};
+use std::io;
 use utf8::{first_zero, valid};
 
 // Bytes on both sides of each border of what may come second, third or fourth: what comes where the lowest byte is above the highest.
@@ -111,44 +111,44 @@ fn judge_all(name: &mut [u8], block: &[u8], size: usize) -> Tally
 }
 
 // Up to its zero.
-fn show_name(name: &[u8]) {
+fn show_name(rt: &impl Print, name: &[u8]) -> io::Result<()> {
     let end = first_zero(name);
-    io::write_all(STDOUT_FILENO, &name[..end]);
+    rt.write_all(&name[..end])
 }
 
-fn show(n: u64) {
-    io::write_all(STDOUT_FILENO, b" ");
-    io::print_decimal(STDOUT_FILENO, n);
+fn show(rt: &impl Print, n: u64) -> io::Result<()> {
+    print!(rt; " {n}")
 }
 
-fn show_tally(t: Tally) {
-    show(t.count);
-    show(t.alone);
-    show(t.inside);
-    show(t.check);
-    io::write_all(STDOUT_FILENO, b"\n");
+fn show_tally(rt: &impl Print, t: Tally) -> io::Result<()> {
+    show(rt, t.count)?;
+    show(rt, t.alone)?;
+    show(rt, t.inside)?;
+    show(rt, t.check)?;
+    rt.write_all(b"\n")
 }
 
-fn run_block(block: &[u8])
+fn run_block(rt: &impl Print, block: &[u8]) -> io::Result<()>
     requires { length block.now ≡ 24 }
 {
     // e with an accent, an a, four places, the euro sign, a z
     let mut name: [u8; 11] = [0xC3, 0xA9, 0x61, 0, 0, 0, 0, 0xE2, 0x82, 0xAC, 0x7A];
     let t = judge_all(&mut name, block, (block[0] % 5) as usize);
-    show_name(&block[9..24]);
-    show_tally(t);
+    show_name(rt, &block[9..24])?;
+    show_tally(rt, t)
 }
 
-fn run(blocks: &[u8]) {
+fn run(rt: &impl Print, blocks: &[u8]) -> io::Result<()> {
     let mut at: usize = 0;
     while blocks.len() - at >= 24 {
-        run_block(&blocks[at..at + 24]);
+        run_block(rt, &blocks[at..at + 24])?;
         at = at + 24;
     }
+    Ok(())
 }
 
-fn main() {
+fn main(rt: HostRuntime) -> io::Result<()> {
     let mut blocks = [0u8; 1024];
-    let n = io::read_full(STDIN_FILENO, &mut blocks);
-    run(&blocks[..n]);
+    let n = cases::read_full(&mut rt.reader(), &mut blocks)?;
+    run(&rt, &blocks[..n])
 }
