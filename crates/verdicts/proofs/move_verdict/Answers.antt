@@ -12,10 +12,6 @@ entry : (c : After-index-k) → meant (get_or verdicts c.index-k.result 0) ≡ m
 entry c =
     ap (λ k. meant (get_or verdicts k 0)) c.index-k.ensures ∙ verdict-at c.args.moved c.args.replaced c.requires.le_moved c.requires.le_replaced
 
--- LOST
-array-read-v : tie.Need-array-read-v
-array-read-v c = search rules
-
 pub returns-in-0 : goal.returns-in-0
 returns-in-0 c = sym (ap meant c.in-0.is) ∙ entry (goal.at.returns-in-0 c).After-index-k
 
@@ -26,4 +22,4 @@ pub returns-in-2 : goal.returns-in-2
 returns-in-2 c = sym (ap meant c.in-2.is) ∙ entry (goal.at.returns-in-2 c).After-index-k
 
 pub returns-in_default : goal.returns-in_default
-returns-in_default c = meant-rest _ c.in_default.rest.0.0.1 c.in_default.rest.0.1 c.in_default.rest.1 ∙ entry (goal.at.returns-in_default c).After-index-k
+returns-in_default c = meant-rest (get_or verdicts c.index-k.result 0) (search rules) (search rules) (search rules) ∙ entry (goal.at.returns-in_default c).After-index-k
