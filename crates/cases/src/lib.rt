@@ -1,4 +1,4 @@
-// What a program is run on: its input, or a gate's cases, with which it is run once: files of its folder data/, each named by an argument.
+// What a program is run on: its input; or its cases, for a gate that runs it once: files of its folder data/, each named by an argument.
 #![tactic(auto)]
 
 ghost use Rattle.std.specs.Io.{ReadsAtMost};

@@ -1,4 +1,4 @@
--- The table: at each phase the traces that `tracesOf` lists are seen, and no others.
+-- The table: at each phase the traces that `traces_of` lists are seen, and no others.
 use mathlib.Core.Path.{◌≡◌, refl, sym, subst}
 use mathlib.Core.Bool.{Bool, true, false}
 use mathlib.Core.List.{List, [], ◌∷◌}

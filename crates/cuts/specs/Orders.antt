@@ -1,4 +1,4 @@
--- The list of stores is create's: `createSteps` does them, in this order and no others.
+-- The list of stores is create's: `create_steps` does them, in this order and no others.
 use Rattle.std.specs.Prelude.{◌≡◌, true, List, ◌∷◌, [], ℕ, suc, ◌≤◌}
 use Rattle.base.specs.Out.{done}
 use Rattle.structs.specs.Constants.{type_dir}
@@ -26,19 +26,19 @@ WholeCreate = (p : Pair) (c : Birth) (g : Given) → Creation p c g → after_st
 abbrev pub StoresLead : List Store → Fs → Fs → Type 0
 StoresLead l s x = after_stores l s.arena ≡ done x.arena
 
--- inside `direntInit`: after its first slot, `.`, the first of these stores is done
+-- inside `dirent_init`: after its first slot, `.`, the first of these stores is done
 abbrev pub DotFirst : Birth → Fs → ℕ → Type 0
 DotFirst c s row =
     (x : Fs) × (put_slot (set_rec s row (with_blocks (rec_at s row) 2)) row 0 (entry_bytes (entry c.id (46 ∷ []) type_dir)) ≡ done x)
     × (cut_after 1 (dot_stores c) s.arena ≡ done x.arena)
 
--- inside `syncMeta`: the superblock is put, then map by map; after it and k maps, the first 1 + k of these stores are done
+-- inside `sync_meta`: the superblock is put, then map by map; after it and k maps, the first 1 + k of these stores are done
 abbrev pub MapByMap : Birth → List ℕ → Type 0
 MapByMap c a =
     (x : List ℕ) × (put_file a meta_file 0 (super_bytes c.after.super) ≡ done x)
     × ((k : ℕ) → k ≤ c.after.super.groups → cut_after (suc k) (meta_stores c) a ≡ store_maps x c.after.maps k)
 
--- each step of `createSteps`, one after the other, does its own part of the list, in the list's order; each step's name is that of the state that it leaves
+-- each step of `create_steps`, one after the other, does its own part of the list, in the list's order; each step's name is that of the state that it leaves
 pub record Ordered (c : Birth) (i kind mode : ℕ) (time : Timespec) (uuid : List ℕ) (s : Fs) (g : Given) : Type 0 where
   pub taken : Allocated
   pub made : Opened

@@ -40,7 +40,7 @@ pub record Answers {A P : Type 0} (o : Out A) (leaves : A → P) (before after :
   pub number : n ≡ answer o
   pub places : after ≡ lent leaves before o
 
--- ---- what a call that is done leaves. (open and set metadata: `tableBytes`; metadata: `metadataWords`; get entry: `paste` over its output's start)
+-- ---- what a call that is done leaves. (open and set metadata: `bytes_of_table`; metadata: `metadata_words`; get entry: `paste` over its output's start)
 
 -- sync, close, link, the removals, move, write, resize, fallocate, format: arena and table
 abbrev pub left_of : After → List ℕ × List ℕ

@@ -23,12 +23,12 @@ Blocked m n i x = Recorded m n i (λ r. with_blocks r x)
 abbrev pub Linked : List ℕ → List ℕ → ℕ → ℕ → Type 0
 Linked m n i x = Recorded m n i (λ r. with_links r x)
 
--- the end of direntRemove: the file loses its last slot
+-- the end of dirent_remove: the file loses its last slot
 abbrev pub shortened : Fs → ℕ → Out Fs
 shortened s i = do
   a ← cut_file s.arena (node_file (rec_at s i)) (264 * ((rec_at s i).blocks - 1))
   done (set_rec (with_arena s a) i (with_blocks (rec_at s i) ((rec_at s i).blocks - 1)))
 
--- a step of direntNodeRemove: where node c is a folder, its own slots name it and folder i no more
+-- a step of dirent_node_remove: where node c is a folder, its own slots name it and folder i no more
 abbrev pub unlink_dots : Fs → ℕ → ℕ → Out Fs
 unlink_dots s i c = pick (is_folder (rec_at s c).kind) (unlink_folder s i c) (done s)

@@ -49,7 +49,7 @@ items-append : (v : Tree) (l m : List Visit) (X : List Item) → items_of v (l +
 items-append v [] m X = refl
 items-append v (x ∷ l) m X = ap (λ (t : List Item). item_of v x ∷ t) (items-append v l m X)
 
--- what comes after the contents of a folder with path `pathTo p n`: the next slots of the folder above, and what comes after those
+-- what comes after the contents of a folder with path `path_to p n`: the next slots of the folder above, and what comes after those
 after : (v : Tree) → Tidy slashless v → (f k : ℕ) (p n : List ℕ) (l : List Visit) (X : List Item) → ReachedBy v f p → 2 ≤ k → SlotOrder v f p k l → Outside p X
     → Outside (path_to p n) (items_of v l ++ X)
 after v I f k p n l X R h (end x) O = subst (λ (q : List ℕ). Outside q X) (sym (path-parts p n)) (outside-down p (escape n) X O)

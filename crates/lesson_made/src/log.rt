@@ -5,6 +5,7 @@ use lesson_lib::say::{part, stored, text};
 use lesson_world::lines::{answer, create_line, size};
 use lesson_world::world::{ANN, fallocate, fresh, read, write};
 use ranges::FallocateMode;
+use std::io;
 use structs::FILE;
 use table::Handle;
 use utf8::equal;
@@ -26,30 +27,37 @@ const STROKE: u64 = 4;
 // ---- what the log reads
 
 // A line up to the zeros that fill it.
-fn line(world: &[u8; 12594], log: Handle, place: u64, story: &[u8], k: u8) {
+fn line(
+    rt: &impl Print,
+    world: &[u8; 12594],
+    log: Handle,
+    place: u64,
+    story: &[u8],
+    k: u8,
+) -> io::Result<()> {
     let mut out = [0u8; 128];
     read(world, ANN, log, place, &mut out);
-    part(story, k);
+    part(rt, story, k)?;
     if equal(&out, &[0u8; 128]) {
-        text(b"zeros");
+        text(rt, b"zeros")
     } else {
-        stored(&out);
+        stored(rt, &out)
     }
 }
 
-fn three_lines(world: &[u8; 12594], log: Handle) {
+fn three_lines(rt: &impl Print, world: &[u8; 12594], log: Handle) -> io::Result<()> {
     let story: &[u8] = b"  It has % bytes: % | % | %";
-    size(world, ANN, log, story, 0);
-    line(world, log, FIRST, story, 1);
-    line(world, log, SECOND, story, 2);
-    line(world, log, THIRD, story, 3);
+    size(rt, world, ANN, log, story, 0)?;
+    line(rt, world, log, FIRST, story, 1)?;
+    line(rt, world, log, SECOND, story, 2)?;
+    line(rt, world, log, THIRD, story, 3)
 }
 
-fn four_lines(world: &[u8; 12594], log: Handle) {
+fn four_lines(rt: &impl Print, world: &[u8; 12594], log: Handle) -> io::Result<()> {
     let story: &[u8] = b" | %.\n";
-    three_lines(world, log);
-    line(world, log, FOURTH, story, 0);
-    part(story, 1);
+    three_lines(rt, world, log)?;
+    line(rt, world, log, FOURTH, story, 0)?;
+    part(rt, story, 1)
 }
 
 // Whether the log reads the same in both worlds, byte for byte. There is more room than it has bytes.
@@ -65,103 +73,134 @@ fn same_log(world: &[u8; 12594], kept: &[u8; 12594], log: Handle) -> bool {
 
 // A range goes in or out, and a line says so; what is the mode's word.
 fn range(
+    rt: &impl Print,
     world: &mut [u8; 12594],
     log: Handle,
     what: &[u8],
     mode: FallocateMode,
     from: u64,
     len: u64,
-) {
+) -> io::Result<()> {
     let story: &[u8] = b" % bytes at %: %";
-    text(what);
-    say::number(story, 0, len);
-    say::number(story, 1, from);
+    text(rt, what)?;
+    say::number(rt, story, 0, len)?;
+    say::number(rt, story, 1, from)?;
     let a = fallocate(world, ANN, log, mode, from, len);
-    answer(story, 2, a);
+    answer(rt, story, 2, a)
 }
 
-fn insert(world: &mut [u8; 12594], log: Handle, from: u64, len: u64) {
+fn insert(
+    rt: &impl Print,
+    world: &mut [u8; 12594],
+    log: Handle,
+    from: u64,
+    len: u64,
+) -> io::Result<()> {
     range(
+        rt,
         world,
         log,
         b"  insert",
         FallocateMode::InsertRange,
         from,
         len,
-    );
+    )
 }
 
-fn stroke(world: &mut [u8; 12594], log: Handle, place: u64, bytes: &[u8], story: &[u8], k: u8) {
+fn stroke(
+    rt: &impl Print,
+    world: &mut [u8; 12594],
+    log: Handle,
+    place: u64,
+    bytes: &[u8],
+    story: &[u8],
+    k: u8,
+) -> io::Result<()> {
     let a = write(world, ANN, log, place, bytes);
-    answer(story, k, a);
+    answer(rt, story, k, a)
 }
 
 // Zeros fill each line up to the next, and nothing the last.
-fn logged(world: &mut [u8; 12594], log: Handle) {
+fn logged(rt: &impl Print, world: &mut [u8; 12594], log: Handle) -> io::Result<()> {
     let story: &[u8] =
         b"  Ann logs three strokes, each where a line of 128 bytes begins: %, %, %.\n%.\n";
     let last = b"L5 2 L4 2 C3 7 2 7 1 2 L1 1 L2 1 L2 0 L0 0 Z";
-    stroke(world, log, FIRST, b"M0 0", story, 0);
-    stroke(world, log, SECOND, b"C1 9 4 9 5 0", story, 1);
-    stroke(world, log, THIRD, last, story, 2);
-    part(story, 3);
-    three_lines(world, log);
-    part(story, 4);
+    stroke(rt, world, log, FIRST, b"M0 0", story, 0)?;
+    stroke(rt, world, log, SECOND, b"C1 9 4 9 5 0", story, 1)?;
+    stroke(rt, world, log, THIRD, last, story, 2)?;
+    part(rt, story, 3)?;
+    three_lines(rt, world, log)?;
+    part(rt, story, 4)
 }
 
 // Room for the stroke and no more; and a whole line, but not where one begins. The world as it was is kept beside it.
-fn not_whole(world: &mut [u8; 12594], kept: &mut [u8; 12594], log: Handle) {
+fn not_whole(
+    rt: &impl Print,
+    world: &mut [u8; 12594],
+    kept: &mut [u8; 12594],
+    log: Handle,
+) -> io::Result<()> {
     let story: &[u8] = b"  A stroke is missing after the first, and room goes in by whole lines.\n\
         %.\n\
         %; image and table are byte for byte what they were.\n\
         %; image or table changed.\n";
     copy(kept, world);
-    part(story, 0);
-    insert(world, log, SECOND, STROKE);
-    part(story, 1);
-    insert(world, log, SECOND + STROKE, LINE);
-    say::whether(equal(kept, world), story, 2, 3);
+    part(rt, story, 0)?;
+    insert(rt, world, log, SECOND, STROKE)?;
+    part(rt, story, 1)?;
+    insert(rt, world, log, SECOND + STROKE, LINE)?;
+    say::whether(rt, equal(kept, world), story, 2, 3)
 }
 
-fn inserted(world: &mut [u8; 12594], log: Handle) {
+fn inserted(rt: &impl Print, world: &mut [u8; 12594], log: Handle) -> io::Result<()> {
     let story: &[u8] = b".\n\
         %  In 000 a line is lost here: the last 128 of the 172 bytes move, and for the first 44 it looks 84 bytes too low.\n  \
         So C1 9 4 9 5 0 stays where the zeros go, and the last line is there twice.\n  \
         Ann writes the stroke over the zeros: %.\n";
-    insert(world, log, SECOND, LINE);
-    part(story, 0);
-    four_lines(world, log);
-    stroke(world, log, SECOND, b"L0 2", story, 1);
-    part(story, 2);
-    four_lines(world, log);
+    insert(rt, world, log, SECOND, LINE)?;
+    part(rt, story, 0)?;
+    four_lines(rt, world, log)?;
+    stroke(rt, world, log, SECOND, b"L0 2", story, 1)?;
+    part(rt, story, 2)?;
+    four_lines(rt, world, log)
 }
 
 // Taken out again. The log as it was before is in the other world.
-fn collapsed(world: &mut [u8; 12594], kept: &[u8; 12594], log: Handle) {
+fn collapsed(
+    rt: &impl Print,
+    world: &mut [u8; 12594],
+    kept: &[u8; 12594],
+    log: Handle,
+) -> io::Result<()> {
     let story: &[u8] = b"  She takes it out again.\n\
         %.\n\
         %; every byte is what it was.\n\
         %; that is not what it was.\n";
-    part(story, 0);
+    part(rt, story, 0)?;
     range(
+        rt,
         world,
         log,
         b"  collapse",
         FallocateMode::CollapseRange,
         SECOND,
         LINE,
-    );
-    part(story, 1);
-    three_lines(world, log);
-    say::whether(same_log(world, kept, log), story, 2, 3);
+    )?;
+    part(rt, story, 1)?;
+    three_lines(rt, world, log)?;
+    say::whether(rt, same_log(world, kept, log), story, 2, 3)
 }
 
-pub fn log_edited(world: &mut [u8; 12594], kept: &mut [u8; 12594]) {
-    text(b"\nA line in the middle of the log\n");
+pub fn log_edited(
+    rt: &impl Print,
+    world: &mut [u8; 12594],
+    kept: &mut [u8; 12594],
+) -> io::Result<()> {
+    text(rt, b"\nA line in the middle of the log\n")?;
     let root = fresh(world);
-    let log = create_line(world, ANN, root, b"log", FILE, 2);
-    logged(world, log);
-    not_whole(world, kept, log);
-    inserted(world, log);
-    collapsed(world, kept, log);
+    let log = create_line(rt, world, ANN, root, b"log", FILE, 2)?;
+    logged(rt, world, log)?;
+    not_whole(rt, world, kept, log)?;
+    inserted(rt, world, log)?;
+    collapsed(rt, world, kept, log)
 }

@@ -181,7 +181,7 @@ module _ (R : Functions) (I : Image → Type 0) where
     pub halt : RunsHalt
 
 -- ---- on any bytes, passed or not: a tested function's number is the reason of the definition, which is one of the call's own list, or 255. So each
--- theorem about `reasonOf c p` (`refused-others`, `full-means`, `root-full` ..) is one about the number
+-- theorem about `reason_of c p` (`refused-others`, `full-means`, `root-full` ..) is one about the number
 unfoldable pub Numbers : Type 0
 Numbers = (c : Call) (s u : Image) (x y : Places) (n : ℕ) → Ran c s x u y n → n ≢ 255 → (n ≡ reason_of c (pair_of s)) × ((n ≡ 0) ⊎ T (has (reasons_of c) n))
 

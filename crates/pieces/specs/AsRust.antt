@@ -1,5 +1,5 @@
 -- Demand 2 and order 13: "Its backward copy .. reads the wrong place in its last step when the bytes to move exceed 128 and aren't a multiple of
--- 128 .. leave that case out of demand 2's comparison with the Rust". 000's own loop, to compare `copyUp` with, and nothing else.
+-- 128 .. leave that case out of demand 2's comparison with the Rust". 000's own loop, to compare `copy_up` with, and nothing else.
 use Rattle.std.specs.Prelude.{◌≡◌, List, ◌≢◌, ◌⊎◌, ℕ, zero, suc, ◌+◌, ◌*◌, ◌-◌, ◌%◌, ◌≤◌, ◌<◌, min, leb}
 use Rattle.base.specs.Out.{Out, done, refused, ensure, ◌>>=◌}
 use Rattle.base.specs.Reasons.{stuck}

@@ -14,7 +14,7 @@ use Rattle.le.specs.Le.{Bytes}
 use Rattle.arena.specs.Blocks.{blocks}
 use Rattle.arena.specs.Fields.{File}
 use Rattle.arena.specs.Places.{free_of, data_of}
-use Rattle.files.specs.Read.{there, length_of, present, byte_at}
+use Rattle.files.specs.Read.{length_of, present, byte_at}
 use Rattle.files.specs.Store.{longest, write_blk, lo, hi, touched, put_file}
 use Rattle.files.proofs.Puts.{put-none}
 use Rattle.files_laws.specs.Laws.{touches}

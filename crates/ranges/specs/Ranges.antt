@@ -42,7 +42,7 @@ fits_mode ZeroRangeKeepSize size from len = done tt
 -- "A mode that is none of the six can only come at the C edge: 6, in 6's place and first there"
 fits_mode Unknown size from len = refused invalid_param
 
--- ---- the steps. No record is stored and no time is set; `resizeSteps` sets length and size, and marks the row
+-- ---- the steps. No record is stored and no time is set; `resize_steps` sets length and size, and marks the row
 
 -- where the end is above size, length and size become the end; no block is made
 unfoldable pub grow_steps : Fs → ℕ → ℕ → Out Fs

@@ -37,7 +37,7 @@ says_plain : {R : ℕ → Type 0} → R 19 → R 21 → (r : DiskINode) → Says
 unfolding plain_file
 says_plain stuck none r = says_then (says-ensure (leb r.kind 4) 19 stuck) λ _. says-ensure (eqb r.kind type_file) 21 none
 
--- the reasons of `fitsMode`, where a mode has them
+-- the reasons of `fits_mode`, where a mode has them
 pub says-fits : {R : ℕ → Type 0} → R 6 → R 22 → (mode : FallocateMode) (size from len : ℕ) → Says R (fits_mode mode size from len)
 says-fits six big (Allocate keep) size from len = says-done
 says-fits six big PunchHoleKeepSize size from len = says-done

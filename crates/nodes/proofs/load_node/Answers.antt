@@ -1,0 +1,30 @@
+-- `nodes::load_node`: the record is read, then the definition's rest.
+use mathlib.Core.Path.{◌≡◌, ap, ◌∙◌}
+use Prim.Native.Nat.{◌*◌}
+use native.Mathlib.Omega.{arith}
+use lib.ListN.{replicate}
+use borrow.Author.Rules.{rules}
+use Rattle.base.proofs.Parts.{part-whole}
+use Rattle.structs.specs.Layout.{record_of}
+use Rattle.overlay.specs.View.{view}
+use Rattle.files.specs.Read.{read_file}
+use Rattle.sefs.specs.Meta.{meta_file}
+use Rattle.mem.specs.State.{fs_of}
+use Rattle.nodes.proofs.Common.{ok-refused, went-answer, read_ok}
+use Rattle.nodes.proofs.Nodes.{load-stop, load_is}
+use Rattle.nodes.proofs.load_node.Goals as goal
+
+pub returns-then-r-ne0 : goal.returns-then-r-ne0
+unfolding fs_of
+returns-then-r-ne0 c =
+    let l = c.read-r.new.out in
+    let g = went-answer (read_file (view c.args.arena.now c.args.work.now) meta_file (128 * c.args.id) 112) l (replicate 112 0) Unit c.read-r.result (λ n q. omega (arith, ok-refused (read_ok (view c.args.arena.now c.args.work.now) meta_file (128 * c.args.id) 112) n q)) (rw c.index.ensures at c.read-r.ensures.value) (rw c.index.ensures at c.read-r.ensures.out_after) tt in
+    load-stop (view c.args.arena.now c.args.work.now) c.args.mem.now c.args.id c.read-r.result l g _ _ c.if-r-ne0.true
+
+pub returns : goal.returns
+unfolding fs_of
+returns c =
+    let l = c.read-r.new.out in
+    let g = went-answer (read_file (view c.args.arena.now c.args.work.now) meta_file (128 * c.args.id) 112) l (replicate 112 0) Unit c.read-r.result (λ n q. omega (arith, ok-refused (read_ok (view c.args.arena.now c.args.work.now) meta_file (128 * c.args.id) 112) n q)) (rw c.index.ensures at c.read-r.ensures.value) (rw c.index.ensures at c.read-r.ensures.out_after) tt in
+    let e : c.disk_inode_at.result ≡ record_of l = c.disk_inode_at.ensures ∙ ap record_of (part-whole l 112 (search rules)) in
+    rw (load_is (view c.args.arena.now c.args.work.now) c.args.mem.now c.args.id c.read-r.result l g c.if-r-ne0.false, ← e) c.open_read.ensures
