@@ -1,6 +1,5 @@
 -- `fsck_slots::all_later`: the slots passed are as they must be, and their hashes are kept.
 use mathlib.Core.Path.{refl, sym, ◌∙◌}
-use mathlib.Core.Bool.{true}
 use native.Mathlib.Omega.{arith}
 use Rattle.base.proofs.Counts.{all_to-more, all_to-false}
 use Rattle.mem.specs.Mem.{table_in}

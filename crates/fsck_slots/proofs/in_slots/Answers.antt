@@ -1,6 +1,5 @@
 -- `fsck_slots::in_slots`: none of the slots passed has the name.
 use mathlib.Core.Path.{sym, ◌∙◌}
-use mathlib.Core.Bool.{false}
 use native.Mathlib.Omega.{arith}
 use Rattle.fsck_slots.specs.Slots.{bears}
 use Rattle.fsck_slots.proofs.Names.{hashed-less, found-one, found_none, none_more}

@@ -1,6 +1,5 @@
 -- `fsck_slots::sizes_ok`: id after id.
 use mathlib.Core.Path.{sym, ◌∙◌}
-use mathlib.Core.Bool.{true}
 use native.Mathlib.Omega.{arith}
 use Rattle.base.proofs.Counts.{all_to-more, all_to-false}
 use Rattle.mem.specs.Mem.{table_in}

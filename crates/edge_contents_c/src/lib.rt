@@ -1,0 +1,130 @@
+// Crate `edge_contents` as a static library for C (include/dzomrelig.h): a function of each name, which calls that one and promises the same.
+#![tactic(auto)]
+
+ghost use Rattle.std.specs.Prelude.{length};
+ghost use Rattle.base.specs.Parts.{paste};
+ghost use Rattle.table_bytes.specs.Layout.{table_of};
+ghost use Rattle.sefs.specs.Contents.{call_read, call_write, call_resize};
+ghost use Rattle.sefs.specs.Read.{call_entry, call_listing};
+ghost use Rattle.paths.specs.Path.{call_path};
+ghost use Rattle.ranges.specs.Modes.{mode_of};
+ghost use Rattle.ranges.specs.Ranges.{call_fallocate};
+ghost use Rattle.edge_words.specs.Words.{handle_of};
+ghost use Rattle.edge.specs.Edge.{sized, Answers, left_of, start_in, listed_in, read_in};
+
+// ---- bytes
+
+#[unsafe(no_mangle)]
+pub extern "C" fn dz_read(
+    arena: &[u8],
+    table: &[u8],
+    owner: u8,
+    hold: u32,
+    stamp: u64,
+    place: u64,
+    out: &mut [u8],
+    count: &mut [u64],
+) -> u32
+    ensures { Answers (sized 4402 table.now (sized 1 count.old (call_read arena.now (table_of table.now) owner (handle_of hold stamp) place (length out.old))))
+        (read_in out.old) (out.old, count.old) (out.new, count.new) result }
+{
+    edge_contents::dz_read(arena, table, owner, hold, stamp, place, out, count)
+}
+
+#[unsafe(no_mangle)]
+pub extern "C" fn dz_write(
+    arena: &mut [u8],
+    table: &mut [u8],
+    owner: u8,
+    hold: u32,
+    stamp: u64,
+    place: u64,
+    src: &[u8],
+) -> u32
+    ensures { Answers (sized 4402 table.old (call_write arena.old (table_of table.old) owner (handle_of hold stamp) place src.now)) left_of (arena.old, table.old) (arena.new, table.new) result }
+{
+    edge_contents::dz_write(arena, table, owner, hold, stamp, place, src)
+}
+
+#[unsafe(no_mangle)]
+pub extern "C" fn dz_resize(
+    arena: &mut [u8],
+    table: &mut [u8],
+    owner: u8,
+    hold: u32,
+    stamp: u64,
+    n: u64,
+) -> u32
+    ensures { Answers (sized 4402 table.old (call_resize arena.old (table_of table.old) owner (handle_of hold stamp) n)) left_of (arena.old, table.old) (arena.new, table.new) result }
+{
+    edge_contents::dz_resize(arena, table, owner, hold, stamp, n)
+}
+
+#[unsafe(no_mangle)]
+pub extern "C" fn dz_fallocate(
+    arena: &mut [u8],
+    table: &mut [u8],
+    owner: u8,
+    hold: u32,
+    stamp: u64,
+    mode: u8,
+    flags: u8,
+    from: u64,
+    len: u64,
+) -> u32
+    ensures { Answers (sized 4402 table.old (call_fallocate arena.old (table_of table.old) owner (handle_of hold stamp) (mode_of mode flags) from len)) left_of (arena.old, table.old) (arena.new, table.new) result }
+{
+    edge_contents::dz_fallocate(arena, table, owner, hold, stamp, mode, flags, from, len)
+}
+
+// ---- slots
+
+#[unsafe(no_mangle)]
+pub extern "C" fn dz_get_entry(
+    arena: &[u8],
+    table: &[u8],
+    owner: u8,
+    hold: u32,
+    stamp: u64,
+    slot: u64,
+    out: &mut [u8],
+) -> u32
+    ensures { Answers (sized 4402 table.now (call_entry arena.now (table_of table.now) owner (handle_of hold stamp) slot (length out.old))) (paste out.old 0) out.old out.new result }
+{
+    edge_contents::dz_get_entry(arena, table, owner, hold, stamp, slot, out)
+}
+
+#[unsafe(no_mangle)]
+pub extern "C" fn dz_list(
+    arena: &[u8],
+    table: &[u8],
+    owner: u8,
+    hold: u32,
+    stamp: u64,
+    next: &mut [u64],
+    dots: u8,
+    out: &mut [u8],
+) -> u32
+    ensures { Answers (sized 4402 table.now (sized 1 next.old (call_listing arena.now (table_of table.now) owner (handle_of hold stamp) (start_in dots next.old) (length out.old))))
+        (listed_in (start_in dots next.old) out.old) (next.old, out.old) (next.new, out.new) result }
+{
+    edge_contents::dz_list(arena, table, owner, hold, stamp, next, dots, out)
+}
+
+// ---- a folder's path
+
+#[unsafe(no_mangle)]
+pub extern "C" fn dz_path(
+    arena: &[u8],
+    table: &[u8],
+    owner: u8,
+    hold: u32,
+    stamp: u64,
+    out: &mut [u8],
+    count: &mut [u64],
+) -> u32
+    ensures { Answers (sized 4402 table.now (sized 1 count.old (call_path arena.now (table_of table.now) owner (handle_of hold stamp) (length out.old))))
+        (read_in out.old) (out.old, count.old) (out.new, count.new) result }
+{
+    edge_contents::dz_path(arena, table, owner, hold, stamp, out, count)
+}
