@@ -1,6 +1,6 @@
 //! Finds the libraries of the proved calls and hands them to the linker, or says in one line how to make them.
 //!
-//! On x86-64 they are the archives of `rt staticlib LIBRARY`, elsewhere the objects of `tests/native LIBRARY OBJECT`.
+//! They are the archives of `tests/native LIBRARY`, on another processor than x86-64 those that were made for it.
 //! DZOMRELIG_LIB, DZOMRELIG_EDGE_CONTENTS_LIB, DZOMRELIG_OWNERS_LIB and DZOMRELIG_CONTENTS_LIB name other files, archives or objects. Each is put into OUT_DIR as an
 //! archive, so that crates which depend on this one get it too.
 use std::path::{Path, PathBuf};
@@ -25,21 +25,19 @@ fn fail(why: &str) -> ! {
 fn library(name: &str, variable: &str) -> (PathBuf, String) {
     println!("cargo:rerun-if-env-changed={variable}");
     if let Some(named) = env::var_os(variable) {
-        return (
-            PathBuf::from(named),
-            format!("{variable} names the archive of `rt staticlib {name}` or the object of `tests/native {name} OBJECT`"),
-        );
+        return (PathBuf::from(named), format!("{variable} names the archive of `tests/native {name} ARCHIVE`"));
     }
     let top = Path::new(&env::var_os("CARGO_MANIFEST_DIR").unwrap_or_default()).join("..");
-    if env::var("CARGO_CFG_TARGET_ARCH").as_deref() == Ok("x86_64") {
+    let arch = env::var("CARGO_CFG_TARGET_ARCH").unwrap_or_default();
+    if arch == "x86_64" {
         (
             top.join(format!("target/staticlib/lib{name}.a")),
-            format!("make it by `rt staticlib {name}` at the repository's top, or name it in {variable}"),
+            format!("make it by `tests/native {name}` at the repository's top, or name it in {variable}"),
         )
     } else {
         (
             top.join(format!("target/native/{name}.o")),
-            format!("make it by `tests/native {name} target/native/{name}.o` at the repository's top, or name it in {variable}"),
+            format!("make it on x86-64 by `tests/native {name} target/native/{name}.o {arch}-unknown-linux-gnu` at the repository's top, or name it in {variable}"),
         )
     }
 }
