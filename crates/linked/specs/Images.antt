@@ -19,10 +19,11 @@ use Rattle.owners_kept.specs.Owned.{Chained}
 use Rattle.sequences.specs.Pairs.{Pair, pair, Passed}
 use Rattle.sequences.specs.Calls.{Call, root, find, walk, create, link, remove_file, remove_folder, move, metadata, set_metadata, get_entry, listing, full_path, read, write, resize, fallocate, sync, close, check, inventory, mend, does}
 
--- a slice as a contract sees it: one that may be written, and one that is only read; `now` is what it holds
+-- a slice that may be written, as a contract sees it; `now` is what it holds
 abbrev pub Slice : Type 0
 Slice = MutBor (List ℕ)
 
+-- one that is only read
 abbrev pub ReadSlice : Type 0
 ReadSlice = Bor (List ℕ)
 

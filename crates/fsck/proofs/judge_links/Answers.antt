@@ -41,7 +41,6 @@ tree_ok-requires c =
     let t = table_in c.args.mem.now in
     let w = c.args.work.now in
     let size = c.requires.loaded.1 in
-    let before = c.requires.1.1 in
     let h = c.count_names.new.counts in
     let half = c.count_names.ensures.size in
     let seven = sym c.rule7.ensures ∙ c.if-not-rule7.false in record {
@@ -51,10 +50,10 @@ tree_ok-requires c =
         low-size w h size half,
         (
           record {
-            rule3 = before.0.0;
-            rule4 = before.0.1;
-            rule5 = before.1.0;
-            folders = six-first a t before.1.1;
+            rule3 = c.requires.arena_value.0;
+            rule4 = c.requires.arena_value.1;
+            rule5 = c.requires.mem_value.0;
+            folders = six-first a t c.requires.mem_value.1;
             names = seven-named a t seven;
           },
           subst (λ (l : List ℕ). Counted a t l) (sym (low-low w h size half)) c.count_names.ensures,

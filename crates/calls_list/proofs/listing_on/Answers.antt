@@ -1,0 +1,25 @@
+-- `calls_list::listing_on`: arena and table, then the rest by the chains that were left.
+use mathlib.Core.Path.{sym, ap}
+use lib.ListN.{length}
+use Rattle.base.proofs.Outs.{went-has, went-not}
+use Rattle.sound.proofs.Chains.{length-firsts}
+use Rattle.mem.specs.Mem.{table_in}
+use Rattle.calls.specs.Answers.{listed_of, laid}
+use Rattle.calls.proofs.Asks.{blank}
+use Rattle.calls_list.proofs.Calls.{listing-refused}
+use Rattle.calls_list.proofs.listing_on.Goals as goal
+
+pub admit-r-requires : goal.admit-r-requires
+admit-r-requires c = (blank, c.requires)
+
+pub returns-then-r-ne0 : goal.returns-then-r-ne0
+returns-then-r-ne0 c =
+    let s = c.args in
+    let e = listing-refused s.arena.now (table_in s.mem.now) s.who s.h s.at (length s.out.now) (went-not c.admit-r.ensures c.if-r-ne0.true) in
+    (sym (ap listed_of e), sym (ap (laid s.out.now) e))
+
+pub slice_bounds-list_led-end : goal.slice_bounds-list_led-end
+slice_bounds-list_led-end c = sym (length-firsts c.admit-r.new.chains c.admit-r.auto.chains)
+
+pub list_led-requires : goal.list_led-requires
+list_led-requires c = went-has c.admit-r.ensures c.if-r-ne0.false
