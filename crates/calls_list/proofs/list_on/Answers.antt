@@ -4,7 +4,6 @@ use mathlib.Core.List.{List}
 use Prim.Native.Nat.{ℕ, ◌<◌, ◌^◌}
 use native.Mathlib.Omega.{arith}
 use lib.ListN.{length}
-use Rattle.base.proofs.Finds.{len_of}
 use Rattle.base.specs.Out.{Out}
 use Rattle.table.specs.contracts.Row as row
 use Rattle.table.specs.Table.{off_row, row_at}
@@ -17,12 +16,12 @@ use Rattle.calls_list.proofs.list_on.Goals as goal
 use Rattle.calls_list.proofs.list_on.Goals.{Start}
 
 rows-34 : (s : Start) → length s.args.t.rows ≡ 34
-rows-34 s = len_of _ s.args.t.rows 34 s.well_formed.1.0.1.1.0.1.0.1
+rows-34 s = s.well_formed.1.0.1.1.0.1.0.1
 
 -- a row's count of slots fits its type
 blocks-fit : (s : Start) (i : ℕ) → i < 34 → (row_at s.args.t i).rec.blocks < 2 ^ 32
 blocks-fit s i k =
-    let p = each_at row.the_field s.args.t.rows _ off_row i (omega (arith, rows-34 s)) s.well_formed.1.0.1.1.0.1.1 in
+    let p = each_at row.the_row s.args.t.rows _ off_row i (omega (arith, rows-34 s)) s.well_formed.1.0.1.1.0.1.1 in
     (row_fits (row_at s.args.t i) p.0 p.1).rec.blocks
 
 -- what is listed from a slot on
@@ -36,7 +35,7 @@ found s = told s (start_of s.args.dots s.args.next)
 pub overflow_add-result : goal.overflow_add-result
 overflow_add-result c =
     let from = c.start_of-from.result in
-    let m = listed-slots _ (told c.before.before.before.before.before.before.before.before.before.before.before from) _ c.list_from-l.ensures.0 c.in-Slots.is in
+    let m = listed-slots _ (told (goal.at.overflow_add-result c).Start from) _ c.list_from-l.ensures.0 c.in-Slots.is in
     let f = listing-left c.args.arena.now c.args.t c.args.who c.args.h from (length c.args.out.now) m.0 m.1 in
     omega (arith, m.2, f.2, blocks-fit (goal.at.overflow_add-result c).Start f.0 f.1)
 
@@ -44,11 +43,11 @@ pub returns-in-Slots : goal.returns-in-Slots
 returns-in-Slots c =
     let f = c.start_of-from.ensures in
     let E = c.list_from-l.ensures in
-    let e = ap (told c.before.before.before.before.before.before.before.before.before.before.before) f in
-    (slots-moved c.args.dots c.args.next _ _ (found c.before.before.before.before.before.before.before.before.before.before.before) _ f (E.0 ∙ ap listed_of e) c.in-Slots.is, E.1 ∙ ap (laid c.args.out.now) e)
+    let e = ap (told (goal.at.returns-in-Slots c).Start) f in
+    (slots-moved c.args.dots c.args.next _ _ (found (goal.at.returns-in-Slots c).Start) _ f (E.0 ∙ ap listed_of e) c.in-Slots.is, E.1 ∙ ap (laid c.args.out.now) e)
 
 pub returns-in-Refused : goal.returns-in-Refused
 returns-in-Refused c =
     let E = c.list_from-l.ensures in
-    let e = ap (told c.before.before.before.before.before.before.before.before.before.before.before) c.start_of-from.ensures in
-    (refused-moved c.args.dots c.args.next _ (found c.before.before.before.before.before.before.before.before.before.before.before) _ (E.0 ∙ ap listed_of e) c.in-Refused.is, E.1 ∙ ap (laid c.args.out.now) e)
+    let e = ap (told (goal.at.returns-in-Refused c).Start) c.start_of-from.ensures in
+    (refused-moved c.args.dots c.args.next _ (found (goal.at.returns-in-Refused c).Start) _ (E.0 ∙ ap listed_of e) c.in-Refused.is, E.1 ∙ ap (laid c.args.out.now) e)
