@@ -22,7 +22,7 @@ HEAD = re.compile(r"^(?:abbrev |unfoldable )?pub (?:(data|record) )?([^\s:]+)")
 
 def crates():
     with open(os.path.join(TOP, "crates.txt"), encoding="utf-8") as lines:
-        return [line.split(":")[0].strip() for line in lines if ":" in line and not line.startswith("#")]
+        return [line.split(":")[0].split()[0] for line in lines if ":" in line and not line.startswith("#")]
 
 
 def definitions(path):

@@ -1,0 +1,17 @@
+-- `edge::dz_sync`: 255 where a size is wrong; else the call on the table in memory, and how it ends.
+use mathlib.Core.Path.{sym, ◌∙◌}
+use Rattle.sefs.specs.Close.{call_sync}
+use Rattle.edge.proofs.Laws.{sized-is, sized-not, answers-not, by_end}
+use Rattle.edge.proofs.dz_sync.Goals as goal
+
+pub returns-then-table-ne-TABLE : goal.returns-then-table-ne-TABLE
+returns-then-table-ne-TABLE c =
+    answers-not (sized-not 4402 c.args.table.now _ c.if-table-ne-TABLE.true)
+
+pub sync_on-r-requires : goal.sync_on-r-requires
+sync_on-r-requires c =
+    c.begin.ensures.1
+
+pub returns : goal.returns
+returns c =
+    by_end (sized-is 4402 c.args.table.now _ c.if-table-ne-TABLE.false ∙ (λ x. call_sync c.args.arena.now (sym c.begin.ensures.0 x))) c.sync_on-r.ensures c.end_after.ensures

@@ -1,0 +1,17 @@
+-- `owners::dz_own_root`: 255 where the handle's words are not two; else the call by the chains, on the table in memory.
+use mathlib.Core.Path.{sym, ◌∙◌}
+use Rattle.sefs.specs.Open.{call_root}
+use Rattle.edge.proofs.Laws.{sized-is, sized-not, answers-not, by-held}
+use Rattle.owners_kept.proofs.Laws.{admitted}
+use Rattle.owners.proofs.dz_own_root.Goals as goal
+
+pub returns-then-out-ne-HANDLE_WORDS : goal.returns-then-out-ne-HANDLE_WORDS
+returns-then-out-ne-HANDLE_WORDS c = answers-not (sized-not 2 c.args.out.now _ c.if-out-ne-HANDLE_WORDS.true)
+
+pub root_led-h-requires : goal.root_led-h-requires
+root_led-h-requires c =
+    admitted c.requires c.begin.ensures.0 c.begin.ensures.1
+
+pub returns : goal.returns
+returns c =
+    by-held (sized-is 2 c.args.out.now _ c.if-out-ne-HANDLE_WORDS.false ∙ (λ x. call_root c.args.arena.now (sym c.begin.ensures.0 x) c.args.owner)) c.root_led-h.ensures c.end_held.ensures.value c.end_held.ensures.out_after
