@@ -14,6 +14,11 @@ import sys
 FRAMES = {"calls_path::write_names": 33}
 
 
+def signed(number):
+    """A number as the processor takes it: 128 bytes are taken by adding -128, and given back by subtracting it."""
+    return number - (1 << 64) if number >= 1 << 63 else number
+
+
 def functions(archive):
     """name -> (frame, names it calls)"""
     text = subprocess.run(["objdump", "-dr", "--no-show-raw-insn", archive], capture_output=True, text=True).stdout
@@ -31,10 +36,12 @@ def functions(archive):
         if re.search(r"\bpush[ql]?\b", line):
             found[name][0] += 8
         # a frame of many pages is taken page by page, in a loop up to %r11
-        taken = re.search(r"\bsubq?\s+\$(0x[0-9a-f]+|\d+),\s*%(rsp|r11)", line)
-        if taken and not in_loop:
-            found[name][0] += int(taken.group(1), 0)
-        in_loop = bool(taken) and taken.group(2) == "r11"
+        moved = re.search(r"\b(sub|add)q?\s+\$(-?0x[0-9a-f]+|-?\d+),\s*%(rsp|r11)", line)
+        by = signed(int(moved.group(2), 0)) if moved else 0
+        taken = by if moved and moved.group(1) == "sub" else -by if moved and moved.group(3) == "rsp" else 0
+        if taken > 0 and not in_loop:
+            found[name][0] += taken
+        in_loop = taken > 0 and moved.group(3) == "r11"
         # a relocation stands below its instruction
         placed = re.search(r"R_X86_64_(?:PLT32|PC32|GOTPCREL\w*)\s+([^\s+-]+)", line)
         if not placed:

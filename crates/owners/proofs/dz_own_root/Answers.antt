@@ -1,5 +1,6 @@
 -- `owners::dz_own_root`: 255 where the handle's words are not two; else the call by the chains, on the table in memory.
 use mathlib.Core.Path.{sym, ◌∙◌}
+use Rattle.sound.proofs.Chains.{length-firsts}
 use Rattle.sefs.specs.Open.{call_root}
 use Rattle.edge.proofs.Laws.{sized-is, sized-not, answers-not, by-held}
 use Rattle.owners_kept.proofs.Laws.{admitted}
@@ -7,6 +8,9 @@ use Rattle.owners.proofs.dz_own_root.Goals as goal
 
 pub returns-then-out-ne-HANDLE_WORDS : goal.returns-then-out-ne-HANDLE_WORDS
 returns-then-out-ne-HANDLE_WORDS c = answers-not (sized-not 2 c.args.out.now _ c.if-out-ne-HANDLE_WORDS.true)
+
+pub slice_bounds-root_led-end : goal.slice_bounds-root_led-end
+slice_bounds-root_led-end c = sym (length-firsts c.args.chains.now c.requires.chained.size)
 
 pub root_led-h-requires : goal.root_led-h-requires
 root_led-h-requires c =

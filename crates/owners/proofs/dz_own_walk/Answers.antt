@@ -1,6 +1,7 @@
 -- `owners::dz_own_walk`: 255 where the handle's words are not two; else the call by the chains, on the table in memory.
 use mathlib.Core.Path.{sym, ◌∙◌}
 use lib.ListN.{length}
+use Rattle.sound.proofs.Chains.{length-firsts}
 use Rattle.walk.specs.Walk.{call_walk}
 use Rattle.edge.proofs.Laws.{walk-sized, walk-not-sized, walks-not, by-walk}
 use Rattle.owners_kept.proofs.Laws.{admitted}
@@ -8,6 +9,9 @@ use Rattle.owners.proofs.dz_own_walk.Goals as goal
 
 pub returns-then-out-ne-HANDLE_WORDS : goal.returns-then-out-ne-HANDLE_WORDS
 returns-then-out-ne-HANDLE_WORDS c = walks-not (walk-not-sized 2 c.args.out.now _ c.if-out-ne-HANDLE_WORDS.true)
+
+pub slice_bounds-walk_led-end : goal.slice_bounds-walk_led-end
+slice_bounds-walk_led-end c = sym (length-firsts c.args.chains.now c.requires.chained.size)
 
 pub walk_led-h-requires : goal.walk_led-h-requires
 walk_led-h-requires c =

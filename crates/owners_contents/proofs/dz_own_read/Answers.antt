@@ -3,11 +3,15 @@ use mathlib.Core.Path.{sym, ◌∙◌}
 use lib.ListN.{length}
 use Rattle.sefs.specs.Contents.{call_read}
 use Rattle.edge.proofs.Laws.{sized-is, sized-not, answers-not, by-taken}
+use Rattle.sound.proofs.Chains.{length-firsts}
 use Rattle.owners_kept.proofs.Laws.{admitted}
 use Rattle.owners_contents.proofs.dz_own_read.Goals as goal
 
 pub returns-then-count-ne-LENGTH_WORDS : goal.returns-then-count-ne-LENGTH_WORDS
 returns-then-count-ne-LENGTH_WORDS c = answers-not (sized-not 1 c.args.count.now _ c.if-count-ne-LENGTH_WORDS.true)
+
+pub slice_bounds-read_led-end : goal.slice_bounds-read_led-end
+slice_bounds-read_led-end c = sym (length-firsts c.args.chains.now c.requires.chained.size)
 
 pub read_led-t-requires : goal.read_led-t-requires
 read_led-t-requires c = admitted c.requires c.begin.ensures.0 c.begin.ensures.1
