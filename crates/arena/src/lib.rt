@@ -7,7 +7,6 @@ ghost use Rattle.arena.specs.Blocks.{legal as legal_arena};
 ghost use Rattle.arena.specs.Fields.{check_of, seal, fresh, file, name_of, is_free, is_head, is_data};
 ghost use Rattle.arena.specs.Places.{free_count};
 
-use base::{byte, clear, copy, one};
 use le::{put_u32, u32_at, u64_at};
 
 // How long a block is, and how many of them an arena may have.
@@ -44,17 +43,12 @@ pub const CHECK_AT: usize = 508;
 pub const PAYLOAD: usize = 480;
 
 // Whether the length is 16 to 4,096 whole blocks.
+#[tactic(auto, unfolding(crate::specs::Blocks::legal))]
 pub fn legal(arena: &[u8]) -> bool
     ensures { result ≡ legal_arena arena.now }
 {
     let n = arena.len();
-    if n % 512 != 0 {
-        return false;
-    }
-    if n / 512 < 16 {
-        return false;
-    }
-    n / 512 <= 4096
+    n % BLOCK == 0 && n / BLOCK >= FEWEST_BLOCKS && n / BLOCK <= MOST_BLOCKS
 }
 
 // The sum over i from 0 to 507 of (i + 1) times byte i.
@@ -62,24 +56,21 @@ pub fn block_check(part: &[u8]) -> u32
     requires { length part.now ≡ 512 }
     ensures { result ≡ check_of part.now }
 {
-    let mut s: u32 = 0;
-    let mut w: u32 = 0;
-    let mut i: usize = 0;
-    while i < 508 {
-        w = w + 1;
-        s = s + w * (part[i] as u32);
-        i = i + 1;
+    let mut sum: u32 = 0;
+    for (i, byte) in part[..CHECK_AT].iter().enumerate() {
+        sum += (i as u32 + 1) * u32::from(*byte);
     }
-    s
+    sum
 }
 
 // Fills the check.
+#[tactic(auto, unfolding(crate::specs::Fields::seal))]
 pub fn put_check(part: &mut [u8])
     requires { length part.old ≡ 512 }
     ensures { part.new ≡ seal part.old }
 {
     let c = block_check(&part[..]);
-    put_u32(part, 508, c);
+    put_u32(part, CHECK_AT, c);
 }
 
 // The block writer: the part, lent from the arena's middle, becomes the block b with its check.
@@ -87,7 +78,7 @@ pub fn write_block(part: &mut [u8], b: &[u8])
     requires { (length part.old ≡ 512) × (length b.now ≡ 512) }
     ensures { part.new ≡ seal b.now }
 {
-    copy(part, b);
+    part.copy_from_slice(b);
     put_check(part);
 }
 
@@ -96,11 +87,11 @@ pub fn make_block(part: &mut [u8], tag: u8, which: u8, name: &[u8], number: u32)
     requires { (length part.old ≡ 512) × (length name.now ≡ 16) }
     ensures { part.new ≡ fresh tag (file which name.now) number }
 {
-    clear(part);
+    part.fill(0);
     part[0] = tag;
     part[1] = which;
-    copy(&mut part[4..20], name);
-    put_u32(part, 20, number);
+    part[NAME_AT..NUMBER_AT].copy_from_slice(name);
+    put_u32(part, NUMBER_AT, number);
 }
 
 // Whether the block bears that name.
@@ -108,59 +99,46 @@ fn same_name(part: &[u8], name: &[u8]) -> bool
     requires { (length part.now ≡ 512) × (length name.now ≡ 16) }
     ensures { result ≡ same (name_of part.now) name.now }
 {
-    if u64_at(part, 4) != u64_at(name, 0) {
-        return false;
-    }
-    u64_at(part, 12) == u64_at(name, 8)
+    u64_at(part, NAME_AT) == u64_at(name, 0) && u64_at(part, NAME_AT + 8) == u64_at(name, 8)
 }
 
+#[tactic(auto, unfolding(crate::specs::Fields::is_free))]
 pub fn is_free(part: &[u8]) -> bool
     requires { length part.now ≡ 512 }
     ensures { result ≡ is_free part.now }
 {
-    part[0] == 0
+    part[0] == FREE
 }
 
+#[tactic(auto, unfolding(crate::specs::Fields::is_head, crate::specs::Fields::same_file))]
 pub fn is_head(part: &[u8], which: u8, name: &[u8]) -> bool
     requires { (length part.now ≡ 512) × (length name.now ≡ 16) }
     ensures { result ≡ is_head (file which name.now) part.now }
 {
-    if part[0] != 1 {
-        return false;
-    }
-    if part[1] != which {
-        return false;
-    }
-    same_name(part, name)
+    part[0] == HEAD && part[1] == which && same_name(part, name)
 }
 
+#[tactic(auto, unfolding(crate::specs::Fields::is_data, crate::specs::Fields::same_file))]
 pub fn is_data(part: &[u8], which: u8, name: &[u8], number: u32) -> bool
     requires { (length part.now ≡ 512) × (length name.now ≡ 16) }
     ensures { result ≡ is_data (file which name.now) number part.now }
 {
-    if part[0] != 2 {
-        return false;
-    }
-    if u32_at(part, 20) != number {
-        return false;
-    }
-    if part[1] != which {
-        return false;
-    }
-    same_name(part, name)
+    part[0] == DATA
+        && u32_at(part, NUMBER_AT) == number
+        && part[1] == which
+        && same_name(part, name)
 }
 
 // How many blocks are free.
 pub fn free_count(arena: &[u8]) -> usize
     ensures { result ≡ free_count arena.now }
 {
-    let n = arena.len() / 512;
-    let mut c: usize = 0;
-    let mut k: usize = 0;
-    while k < n {
-        let o = 512 * k;
-        c = c + byte(one(is_free(&arena[o..o + 512])));
-        k = k + 1;
+    let mut count = 0;
+    for k in 0..arena.len() / BLOCK {
+        let at = BLOCK * k;
+        if is_free(&arena[at..at + BLOCK]) {
+            count += 1;
+        }
     }
-    c
+    count
 }

@@ -11,15 +11,15 @@ use lib.ListN.{length, length-map}
 use borrow.Author.Tests.{lt-ltb, le-ltb, ltb-true, ltb-false}
 use Rattle.base.specs.Count.{sum_to, count_to, bit}
 use Rattle.base.specs.Search.{lowest, found_below}
-use Rattle.base.specs.declared.Found.TheVariants.{At, Nothing}
+use Rattle.std.specs.Prelude.{Some, None}
 use Rattle.base.proofs.Counts.{sum_to-suc, sum_to-part, sum_to-join, sum_to-add, sum_to-cong, sum_to-one, count_to-more}
 use Rattle.base.proofs.Searches.{lowest-first, lowest-here, lowest-none, lowest-hit, lowest-at-most, lowest-cong, at-found, nothing-found, found_at, found_nothing, count_to-found}
 
 -- a loop that stops at k, and one that passed all: as an answer to match on
-pub search-hit : (p : ℕ → Bool) (n k : ℕ) → k < n → ((j : ℕ) → j < k → p j ≡ false) → p k ≡ true → At k ≡ found_below (lowest p n) n
+pub search-hit : (p : ℕ → Bool) (n k : ℕ) → k < n → ((j : ℕ) → j < k → p j ≡ false) → p k ≡ true → Some k ≡ found_below (lowest p n) n
 search-hit p n k l before hit = sym (found_at k n l) ∙ ap (λ (m : ℕ). found_below m n) (lowest-here p n k l before hit)
 
-pub search-none : (p : ℕ → Bool) (n : ℕ) → ((j : ℕ) → j < n → p j ≡ false) → Nothing ≡ found_below (lowest p n) n
+pub search-none : (p : ℕ → Bool) (n : ℕ) → ((j : ℕ) → j < n → p j ≡ false) → None ≡ found_below (lowest p n) n
 search-none p n before = sym (found_nothing n n (omega arith)) ∙ ap (λ (m : ℕ). found_below m n) (lowest-none p n before)
 
 -- the same, as a test that one has p
@@ -45,24 +45,24 @@ eq-cases i j = elim (ℕ_discrete i j) [ yes e ↦ inl e | no n ↦ inr n ]
 
 module _ (p : ℕ → Bool) (n : ℕ) where
   -- what is found is below the bound, and has p
-  pub search-at : (i : ℕ) → found_below (lowest p n) n ≡ At i → (i < n) × (p i ≡ true)
+  pub search-at : (i : ℕ) → found_below (lowest p n) n ≡ Some i → (i < n) × (p i ≡ true)
   search-at i e =
       let f = at-found (lowest p n) n i e in
       (f.1, subst (λ (j : ℕ). p j ≡ true) (sym f.0) (lowest-hit p n (omega arith)))
 
   -- where nothing is found, none has it
-  pub search-nothing : found_below (lowest p n) n ≡ Nothing → (j : ℕ) → j < n → p j ≡ false
+  pub search-nothing : found_below (lowest p n) n ≡ None → (j : ℕ) → j < n → p j ≡ false
   search-nothing e j l = (lowest-first p n).before j (omega (arith, nothing-found (lowest p n) n e))
 
   -- where one has it, one is found
-  pub search-finds : (j : ℕ) → j < n → p j ≡ true → found_below (lowest p n) n ≡ At (lowest p n)
+  pub search-finds : (j : ℕ) → j < n → p j ≡ true → found_below (lowest p n) n ≡ Some (lowest p n)
   search-finds j l e = found_at (lowest p n) n (omega (arith, lowest-at-most p n j l e))
 
   -- where i alone has it, i is found
-  pub search-one : (i : ℕ) → i < n → p i ≡ true → ((j : ℕ) → j < n → p j ≡ true → j ≡ i) → found_below (lowest p n) n ≡ At i
+  pub search-one : (i : ℕ) → i < n → p i ≡ true → ((j : ℕ) → j < n → p j ≡ true → j ≡ i) → found_below (lowest p n) n ≡ Some i
   search-one i l e one =
       let k : lowest p n < n = omega (arith, lowest-at-most p n i l e) in
-      search-finds i l e ∙ ap At (one (lowest p n) k (lowest-hit p n k))
+      search-finds i l e ∙ ap Some (one (lowest p n) k (lowest-hit p n k))
 
   -- the same as a test
   pub test-yes : (j : ℕ) → j < n → p j ≡ true → ltb (lowest p n) n ≡ true

@@ -1,6 +1,7 @@
 pub mod Bools
 pub mod Numbers
 pub mod Outs
+pub mod Tells
 pub mod Counts
 pub mod Searches
 pub mod Lists

@@ -10,7 +10,7 @@ use lib.Dec.{ltb}
 use borrow.Author.Tests.{lt-ltb, le-ltb, eq-eqb, ne_eqb}
 use Rattle.base.specs.Count.{count_to}
 use Rattle.base.specs.Search.{lowest, last, upd, found_below}
-use Rattle.base.specs.declared.Found.TheVariants.{At, Nothing}
+use Rattle.std.specs.Prelude.{Some, None}
 use Rattle.base.proofs.Numbers.{lt-or-le, below_suc}
 use Rattle.base.proofs.Counts.{count_to-none}
 
@@ -87,26 +87,26 @@ count_to-found p n l =
 
 -- ---- the answer to match on
 
-pub found_at : (k n : ℕ) → k < n → found_below k n ≡ At k
+pub found_at : (k n : ℕ) → k < n → found_below k n ≡ Some k
 unfolding found_below
 found_at k n l = rw (lt-ltb k n l)
 
-pub found_nothing : (k n : ℕ) → n ≤ k → found_below k n ≡ Nothing
+pub found_nothing : (k n : ℕ) → n ≤ k → found_below k n ≡ None
 unfolding found_below
 found_nothing k n l = rw (le-ltb k n l)
 
 -- what a match on it tells
-pub at-found : (k n i : ℕ) → found_below k n ≡ At i → (i ≡ k) × (i < n)
+pub at-found : (k n i : ℕ) → found_below k n ≡ Some i → (i ≡ k) × (i < n)
 at-found k n i e =
     ⊎_elim
-    (λ l. let f : At k ≡ At i = sym (found_at k n l) ∙ e in let q : k ≡ i = cc in (sym q, omega arith))
-    (λ g. let f : Nothing ≡ At i = sym (found_nothing k n g) ∙ e in absurd (let z : ◌≡◌ {A = ℕ} 0 1 = cc in omega arith))
+    (λ l. let f : Some k ≡ Some i = sym (found_at k n l) ∙ e in let q : k ≡ i = cc in (sym q, omega arith))
+    (λ g. let f : None ≡ Some i = sym (found_nothing k n g) ∙ e in absurd (let z : ◌≡◌ {A = ℕ} 0 1 = cc in omega arith))
     (lt-or-le k n)
 
-pub nothing-found : (k n : ℕ) → found_below k n ≡ Nothing → n ≤ k
+pub nothing-found : (k n : ℕ) → found_below k n ≡ None → n ≤ k
 nothing-found k n e =
     ⊎_elim
-    (λ l. let f : At k ≡ Nothing = sym (found_at k n l) ∙ e in absurd (let z : ◌≡◌ {A = ℕ} 0 1 = cc in omega arith))
+    (λ l. let f : Some k ≡ None = sym (found_at k n l) ∙ e in absurd (let z : ◌≡◌ {A = ℕ} 0 1 = cc in omega arith))
     (λ g. g)
     (lt-or-le k n)
 

@@ -4,3 +4,4 @@ pub mod Count
 pub mod Search
 pub mod Parts
 pub mod Decides
+pub mod Told

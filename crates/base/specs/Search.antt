@@ -1,7 +1,5 @@
 -- The one search: the lowest number below a bound that has a property, or the bound itself where none has it.
-use Rattle.std.specs.Prelude.{Bool, true, false, cond, ℕ, zero, suc, ltb, eqb}
-use Rattle.base.specs.declared.Found.{Found}
-use Rattle.base.specs.declared.Found.TheVariants.{At, Nothing}
+use Rattle.std.specs.Prelude.{Bool, true, false, cond, ℕ, zero, suc, ltb, eqb, Option, Some, None}
 
 unfoldable pub lowest : (ℕ → Bool) → ℕ → ℕ
 lowest p zero = 0
@@ -18,8 +16,8 @@ pick true a b = a
 pick false a b = b
 
 -- the search's answer, as the code matches on it
-unfoldable pub found_below : ℕ → ℕ → Found
-found_below k n = pick (ltb k n) (At k) Nothing
+unfoldable pub found_below : ℕ → ℕ → Option ℕ
+found_below k n = pick (ltb k n) (Some k) None
 
 -- a function changed at one place
 unfoldable pub upd : {A : Type 0} → (ℕ → A) → ℕ → A → ℕ → A

@@ -1,27 +1,19 @@
 // What every layer shares: an answer that may be missing, numbers made wider, and bytes copied and cleared.
 #![tactic(auto)]
 
-pub mod reasons;
+mod reasons;
 
 ghost use Rattle.std.specs.Prelude.{◌≡◌, ◌<◌, min, max, length, replicate};
 ghost use Rattle.base.specs.Count.{bit};
 ghost use Rattle.base.specs.Search.{found_below};
 
-// What a search found.
-#[derive(Clone, Copy)]
-pub enum Found {
-    At(usize),
-    Nothing,
-}
+pub use reasons::{Reason, code};
 
-// A search answers its bound where there is none: as an answer to match on.
-pub fn found_below(k: usize, bound: usize) -> Found
+// A search answers its bound where there is none.
+pub fn found_below(k: usize, bound: usize) -> Option<usize>
     ensures { result ≡ found_below k bound }
 {
-    if k < bound {
-        return Found::At(k);
-    }
-    Found::Nothing
+    if k < bound { Some(k) } else { None }
 }
 
 // A cast of a byte that was read asks that it fits; a cast of a parameter does not, and its bound is known here.
@@ -60,13 +52,13 @@ pub fn index16(x: u16) -> usize
 pub fn least(a: usize, b: usize) -> usize
     ensures { result ≡ min a b }
 {
-    if a < b { a } else { b }
+    a.min(b)
 }
 
 pub fn most(a: usize, b: usize) -> usize
     ensures { result ≡ max a b }
 {
-    if a < b { b } else { a }
+    a.max(b)
 }
 
 // All of dst becomes src.
@@ -74,22 +66,12 @@ pub fn copy(dst: &mut [u8], src: &[u8])
     requires { length dst.old ≡ length src.now }
     ensures { dst.new ≡ src.now }
 {
-    let n = dst.len();
-    let mut i: usize = 0;
-    while i < n {
-        dst[i] = src[i];
-        i = i + 1;
-    }
+    dst.copy_from_slice(src);
 }
 
 // All of dst becomes zero.
 pub fn clear(dst: &mut [u8])
     ensures { dst.new ≡ replicate (length dst.old) 0 }
 {
-    let n = dst.len();
-    let mut i: usize = 0;
-    while i < n {
-        dst[i] = 0;
-        i = i + 1;
-    }
+    dst.fill(0);
 }

@@ -1,73 +1,98 @@
-// The reasons of a refusal, by their numbers (specs/Reasons); 0 is done.
+// The reasons of a refusal, and their numbers (specs/Reasons).
+ghost use Rattle.std.specs.Prelude.{◌≡◌};
+ghost use Rattle.base.specs.Told.{number, code};
 
-// The arena's length is none of 16 to 4,096 whole blocks.
-pub const BAD_ARENA: u8 = 1;
+// Why a call is refused.
+#[derive(Clone, Copy, Debug, PartialEq, Eq)]
+pub enum Reason {
+    // The arena's length is none of 16 to 4,096 whole blocks.
+    BadArena = 1,
 
-// The arena is not sound.
-pub const DAMAGED: u8 = 2;
+    // The arena is not sound.
+    Damaged,
 
-// The table is not well formed.
-pub const BAD_TABLE: u8 = 3;
+    // The table is not well formed.
+    BadTable,
 
-// No live handle of who asks.
-pub const BAD_HANDLE: u8 = 4;
+    // No live handle of who asks.
+    BadHandle,
 
-// A name that is none.
-pub const BAD_NAME: u8 = 5;
+    // A name that is none.
+    BadName,
 
-// Something that the call does not take.
-pub const INVALID_PARAM: u8 = 6;
+    // Something that the call does not take.
+    InvalidParam,
 
-// No folder.
-pub const NOT_DIR: u8 = 7;
+    // No folder.
+    NotDir,
 
-// A folder without links.
-pub const DIR_REMOVED: u8 = 8;
+    // A folder without links.
+    DirRemoved,
 
-// A folder, or one of the dots.
-pub const IS_DIR: u8 = 9;
+    // A folder, or one of the dots.
+    IsDir,
 
-// A name of more than 255 bytes.
-pub const NAME_TOO_LONG: u8 = 10;
+    // A name of more than 255 bytes.
+    NameTooLong,
 
-// No such name.
-pub const ENTRY_NOT_FOUND: u8 = 11;
+    // No such name.
+    EntryNotFound,
 
-// The name is there already.
-pub const ENTRY_EXIST: u8 = 12;
+    // The name is there already.
+    EntryExist,
 
-// A folder with more than its dots.
-pub const DIR_NOT_EMPTY: u8 = 13;
+    // A folder with more than its dots.
+    DirNotEmpty,
 
-// The name for the new node's file is taken.
-pub const FILE_TAKEN: u8 = 14;
+    // The name for the new node's file is taken.
+    FileTaken,
 
-// One link more does not fit.
-pub const TOO_MANY_LINKS: u8 = 15;
+    // One link more does not fit.
+    TooManyLinks,
 
-// No hold, row or stamp is left.
-pub const TABLE_FULL: u8 = 16;
+    // No hold, row or stamp is left.
+    TableFull,
 
-// Not enough free blocks.
-pub const NO_DEVICE_SPACE: u8 = 17;
+    // Not enough free blocks.
+    NoDeviceSpace,
 
-// No image of this file system.
-pub const WRONG_FS: u8 = 18;
+    // No image of this file system.
+    WrongFs,
 
-// The image does not hold what its own numbers say.
-pub const STUCK: u8 = 19;
+    // The image does not hold what its own numbers say.
+    Stuck,
 
-// The output has no room.
-pub const OUT_FULL: u8 = 20;
+    // The output has no room.
+    OutFull,
 
-// (order 1) No node with contents of its own.
-pub const NOT_FILE: u8 = 21;
+    // (order 1) No node with contents of its own.
+    NotFile,
 
-// (order 1) Beyond what a file may have.
-pub const FILE_TOO_BIG: u8 = 22;
+    // (order 1) Beyond what a file may have.
+    FileTooBig,
 
-// (order 7) Too many links on the way.
-pub const SYM_LOOP: u8 = 23;
+    // (order 7) Too many links on the way.
+    SymLoop,
 
-// (order 11) A hold is live.
-pub const IN_USE: u8 = 24;
+    // (order 11) A hold is live.
+    InUse,
+}
+
+impl Reason {
+    // The number by which it is told.
+    pub fn number(self) -> u8
+        ensures { result ≡ number self }
+    {
+        self as u8
+    }
+}
+
+// An answer as C has it: 0, or the reason's number.
+pub fn code(r: Result<(), Reason>) -> u8
+    ensures { result ≡ code r }
+{
+    match r {
+        Ok(()) => 0,
+        Err(reason) => reason.number(),
+    }
+}

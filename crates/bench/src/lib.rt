@@ -24,13 +24,10 @@ pub extern "C" fn bench_check(arena: &[u8]) -> u64
     requires { blocks arena.now ≤ 4096 }
     ensures { result ≡ sum_to (λ k. check_of (blk arena.now k)) (blocks arena.now) }
 {
-    let n = arena.len() / 512;
-    let mut s: u64 = 0;
-    let mut k: usize = 0;
-    while k < n {
+    let mut sum: u64 = 0;
+    for k in 0..arena.len() / 512 {
         let o = 512 * k;
-        s = s + (block_check(&arena[o..o + 512]) as u64);
-        k = k + 1;
+        sum += u64::from(block_check(&arena[o..o + 512]));
     }
-    s
+    sum
 }

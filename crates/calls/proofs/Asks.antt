@@ -9,8 +9,7 @@ use lib.Dec.{eqb, ltb, leb}
 use Rattle.base.specs.Out.{Out, done, refused, bind, ensure, answer, Ok, went, said, Went, well, ill}
 use Rattle.base.specs.Reasons.{invalid_param}
 use Rattle.base.specs.Search.{pick, found_below}
-use Rattle.base.specs.declared.Found.{Found}
-use Rattle.base.specs.declared.Found.TheVariants.{At, Nothing}
+use Rattle.std.specs.Prelude.{Option, Some, None}
 use Rattle.base.proofs.Outs.{ok-bind, above_zero, went-is, went-has, went-not}
 use Rattle.base.proofs.Searches.{at-found}
 use Rattle.structs.specs.Types.{is_folder, is_type}
@@ -141,11 +140,11 @@ newly Bad = refl
 -- ---- handles
 
 -- the row of a live handle is a row
-pub live_below : (t : Table) (w : ℕ) (h : Handle) (i : ℕ) → live_row t w h ≡ At i → i < 34
+pub live_below : (t : Table) (w : ℕ) (h : Handle) (i : ℕ) → live_row t w h ≡ Some i → i < 34
 unfolding live_row
 live_below t w h i = go (is_own t w h)
   where
-    go : (b : Bool) → pick b (found_below (hold_at t h.hold).row 34) Nothing ≡ At i → i < 34
+    go : (b : Bool) → pick b (found_below (hold_at t h.hold).row 34) None ≡ Some i → i < 34
     go true e = (at-found _ 34 i e).1
     go false e = absurd (let z : ◌≡◌ {A = ℕ} 0 1 = cc in omega arith)
 
@@ -161,11 +160,11 @@ module _ (t : Table) (w : ℕ) (h : Handle) (i : ℕ) {r : ℕ} (a : r ≡ answe
   is_one : r ≡ 0 → an_owner w ≡ done tt
   is_one z = asked-done (an_owner w) (asks-owner w) r a z
 
-  pub handle-at : r ≡ 0 → live_row t w h ≡ At i → Went (by_handle t w h) i (i < 34) 0
+  pub handle-at : r ≡ 0 → live_row t w h ≡ Some i → Went (by_handle t w h) i (i < 34) 0
   unfolding by_handle
   handle-at z e = well (rw (is_one z, e)) (live_below t w h i e)
 
-  pub handle-not : r ≡ 0 → live_row t w h ≡ Nothing → Went (by_handle t w h) i (i < 34) 4
+  pub handle-not : r ≡ 0 → live_row t w h ≡ None → Went (by_handle t w h) i (i < 34) 4
   unfolding by_handle
   handle-not z e = ill {r = 4} (omega arith) (rw (is_one z, e))
 
@@ -173,9 +172,9 @@ pub handle-below : (t : Table) (w : ℕ) (h : Handle) (i : ℕ) → by_handle t 
 unfolding by_handle
 handle-below t w h i = go (is_owner w) (live_row t w h) refl
   where
-    go : (b : Bool) (f : Found) → live_row t w h ≡ f → bind (ensure b invalid_param) (λ _. or_bad_handle f) ≡ done i → i < 34
-    go true (At j) q e = live_below t w h i (q ∙ ap At (let z : j ≡ i = cc in z))
-    go true Nothing q e = absurd (let z : ◌≡◌ {A = ℕ} 0 1 = cc in omega arith)
+    go : (b : Bool) (f : Option ℕ) → live_row t w h ≡ f → bind (ensure b invalid_param) (λ _. or_bad_handle f) ≡ done i → i < 34
+    go true (Some j) q e = live_below t w h i (q ∙ ap Some (let z : j ≡ i = cc in z))
+    go true None q e = absurd (let z : ◌≡◌ {A = ℕ} 0 1 = cc in omega arith)
     go false f q e = absurd (let z : ◌≡◌ {A = ℕ} 0 1 = cc in omega arith)
 
 -- one handle after the other

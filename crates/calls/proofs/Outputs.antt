@@ -8,8 +8,11 @@ use Rattle.base.specs.Out.{Out, done, refused, bind, answer}
 use Rattle.base.specs.Parts.{paste}
 use Rattle.base.proofs.Lists.{length-paste}
 use Rattle.base.proofs.Outs.{above_zero}
-use Rattle.calls.specs.declared.Taken.TheVariants.{Refused}
-use Rattle.calls.specs.Answers.{taken_of, laid, Laid, lay, leave, Lays}
+use Rattle.std.specs.Prelude.{Result, Err}
+use Rattle.base.specs.Told.{number, code}
+use Rattle.base.specs.declared.reasons.Reason.{Reason}
+use Rattle.calls.specs.Answers.{out_of, answer_of, taken_of, laid, Laid, lay, leave, Lays}
+use Rattle.calls.proofs.Answers.{out-done, out-refused}
 use Rattle.calls.proofs.Asks.{Asks, asked-not, asked-done}
 
 -- what is at the output's start
@@ -26,9 +29,22 @@ pub laid_out : {o : Out (List ℕ)} {out now : List ℕ} {n r : ℕ} → Laid o 
 laid_out {out = out} (lay e l p) = p ∙ sym (ap (laid out) e)
 laid_out {out = out} (leave z e p) = p ∙ sym (ap (laid out) e)
 
+-- what a reason says
+pub laid-not : {o : Out (List ℕ)} {out now : List ℕ} {n r : ℕ} → Laid o out now n r → (r ≡ 0 → ⊥) → o ≡ refused r
+laid-not (lay e l p) z = absurd (z refl)
+laid-not (leave l e p) z = e
+
+-- the answer of a call that gives nothing but the output
+pub lays-answer : {o : Out (List ℕ)} {out now : List ℕ} {n : ℕ} (r : Result Unit Reason) → Laid o out now n (code r) → Lays answer_of o out now r
+lays-answer {o = o} {out = out} {now = now} {n = n} r g = (go (code r) refl g, laid_out g)
+  where
+    go : (k : ℕ) → code r ≡ k → Laid o out now n k → out_of r ≡ answer_of o
+    go k z (lay e l p) = out-done r z ∙ sym (ap answer_of e)
+    go k z (leave l e p) = out-refused r k z (λ y. omega arith) ∙ sym (ap answer_of e)
+
 -- a refusal lays nothing
-pub lays-not : {o : Out (List ℕ)} {r : ℕ} (out now : List ℕ) → o ≡ refused r → now ≡ out → Lays taken_of o out now (Refused r)
-lays-not out now e q = (sym (ap taken_of e), q ∙ sym (ap (laid out) e))
+pub lays-not : {o : Out (List ℕ)} (e : Reason) (out now : List ℕ) → o ≡ refused (number e) → now ≡ out → Lays taken_of o out now (Err e)
+lays-not e out now k q = (sym (ap taken_of k), q ∙ sym (ap (laid out) k))
 
 -- a question before it
 pub laid_stop : (q : Out Unit) (o : Out (List ℕ)) (out : List ℕ) (n r : ℕ) → r ≡ answer q → (r ≡ 0 → ⊥) → Laid (bind q (λ _. o)) out out n r

@@ -2,6 +2,8 @@
 #![tactic(auto)]
 
 ghost use Rattle.std.specs.Prelude.{◌≡◌, ◌<◌, true};
+ghost use Rattle.std.specs.Result.{result_unwrap_or};
+ghost use Rattle.base.specs.Told.{code};
 ghost use Rattle.arena.specs.Blocks.{legal};
 ghost use Rattle.overlay.specs.View.{Empty};
 ghost use Rattle.sefs.specs.Nodes.{drop_node};
@@ -10,7 +12,9 @@ ghost use Rattle.mem.specs.Mem.{table_in, Whole};
 ghost use Rattle.calls.specs.Asked.{Admitted};
 ghost use Rattle.steps.specs.Ends.{Rest, ending, Ended, Returned};
 ghost use Rattle.mem.specs.State.{fs_at};
+ghost use Rattle.calls_close.specs.Closings.{no_closing};
 
+use base::Reason;
 use calls::led::admit;
 use calls::{Reply, by_handle, settle};
 use holds::close_hold;
@@ -20,10 +24,9 @@ use nodes_read::meta::load_meta;
 use rows::is_stored;
 use table::{Handle, Table};
 
-// What is known before the first store, where the reason is 0: the handle's row, and whether its last hold was closed.
+// What is known before the first store: the handle's row, and whether its last hold was closed.
 #[derive(Clone, Copy)]
 pub struct Closing {
-    pub reason: u8,
     pub row: usize,
     pub last: bool,
 }
@@ -36,62 +39,41 @@ pub fn close_led(
     mem: &mut [u8],
     who: u8,
     h: Handle,
-) -> Closing
+) -> Result<Closing, Reason>
     requires { Admitted arena.now first.now next.now mem.old }
-    ensures { Rest (call_close arena.now (table_in mem.old) who h) (ending (close_steps (fs_at arena.now mem.new) result.last result.row)) ((legal arena.now ≡ true) × (Whole mem.new × (result.row < 34))) result.reason }
+    ensures { Rest (call_close arena.now (table_in mem.old) who h) (ending (close_steps (fs_at arena.now mem.new) (result_unwrap_or result no_closing).last (result_unwrap_or result no_closing).row)) ((legal arena.now ≡ true) × (Whole mem.new × ((result_unwrap_or result no_closing).row < 34))) (code result) }
 {
-    let b = by_handle(&mem[..], who, h);
-    if b.reason != 0 {
-        return Closing {
-            reason: b.reason,
-            row: 0,
-            last: false,
-        };
-    }
+    let row = by_handle(&mem[..], who, h)?;
     let last = close_hold(mem, h.hold);
     load_meta(arena, first, next, mem);
-    Closing {
-        reason: 0,
-        row: b.row,
-        last: last,
-    }
+    Ok(Closing { row, last })
 }
 
 // The frame of the chains is left before a workspace is made.
-fn close_asked(arena: &[u8], mem: &mut [u8], who: u8, h: Handle) -> Closing
+fn close_asked(arena: &[u8], mem: &mut [u8], who: u8, h: Handle) -> Result<Closing, Reason>
     requires { Whole mem.old }
-    ensures { Rest (call_close arena.now (table_in mem.old) who h) (ending (close_steps (fs_at arena.now mem.new) result.last result.row)) ((legal arena.now ≡ true) × (Whole mem.new × (result.row < 34))) result.reason }
+    ensures { Rest (call_close arena.now (table_in mem.old) who h) (ending (close_steps (fs_at arena.now mem.new) (result_unwrap_or result no_closing).last (result_unwrap_or result no_closing).row)) ((legal arena.now ≡ true) × (Whole mem.new × ((result_unwrap_or result no_closing).row < 34))) (code result) }
 {
     let mut chains = [0u16; 8192];
-    let r = admit(arena, &mut chains, &mem[..]);
-    if r != 0 {
-        return Closing {
-            reason: r,
-            row: 0,
-            last: false,
-        };
-    }
+    admit(arena, &mut chains, &mem[..])?;
     let c = &chains[..];
     close_led(arena, &c[..4096], &c[4096..8192], mem, who, h)
 }
 
 // The node of row i is dropped. The workspace has no block yet.
-fn drop_in(arena: &mut [u8], work: &mut [u8], mem: &mut [u8], i: usize) -> u8
+fn drop_in(arena: &mut [u8], work: &mut [u8], mem: &mut [u8], i: usize) -> Result<(), Reason>
     requires { Empty arena.old work.old 23 × (Whole mem.old × (i < 34)) }
-    ensures { Ended (ending (drop_node (fs_at arena.old mem.old) i)) arena.old arena.new (table_in mem.new) result }
+    ensures { Ended (ending (drop_node (fs_at arena.old mem.old) i)) arena.old arena.new (table_in mem.new) (code result) }
 {
-    let r = drop_node(&arena[..], work, mem, i);
-    if r != 0 {
-        return r;
-    }
+    drop_node(&arena[..], work, mem, i)?;
     overlay::commit(arena, &work[..]);
-    0
+    Ok(())
 }
 
 // Row i has no hold any more: the workspace is made for the node's end.
-fn close_last(arena: &mut [u8], mem: &mut [u8], i: usize) -> u8
+fn close_last(arena: &mut [u8], mem: &mut [u8], i: usize) -> Result<(), Reason>
     requires { (legal arena.old ≡ true) × (Whole mem.old × (i < 34)) }
-    ensures { Ended (ending (drop_node (fs_at arena.old mem.old) i)) arena.old arena.new (table_in mem.new) result }
+    ensures { Ended (ending (drop_node (fs_at arena.old mem.old) i)) arena.old arena.new (table_in mem.new) (code result) }
 {
     let mut work = [0u8; 11776];
     overlay::begin(&mut work);
@@ -99,37 +81,34 @@ fn close_last(arena: &mut [u8], mem: &mut [u8], i: usize) -> u8
 }
 
 // A row that is stored is cleared in memory, and no workspace is made for it.
-fn drop_row(arena: &mut [u8], mem: &mut [u8], i: usize) -> u8
+fn drop_row(arena: &mut [u8], mem: &mut [u8], i: usize) -> Result<(), Reason>
     requires { (legal arena.old ≡ true) × (Whole mem.old × (i < 34)) }
-    ensures { Ended (ending (drop_node (fs_at arena.old mem.old) i)) arena.old arena.new (table_in mem.new) result }
+    ensures { Ended (ending (drop_node (fs_at arena.old mem.old) i)) arena.old arena.new (table_in mem.new) (code result) }
 {
     if is_stored(&mem[..], i) {
         clear_row(mem, i);
-        return 0;
+        return Ok(());
     }
     close_last(arena, mem, i)
 }
 
 // A row that has another hold is left as it is.
-pub fn close_row(arena: &mut [u8], mem: &mut [u8], last: bool, i: usize) -> u8
+pub fn close_row(arena: &mut [u8], mem: &mut [u8], last: bool, i: usize) -> Result<(), Reason>
     requires { (legal arena.old ≡ true) × (Whole mem.old × (i < 34)) }
-    ensures { Ended (ending (close_steps (fs_at arena.old mem.old) last i)) arena.old arena.new (table_in mem.new) result }
+    ensures { Ended (ending (close_steps (fs_at arena.old mem.old) last i)) arena.old arena.new (table_in mem.new) (code result) }
 {
     if last {
         return drop_row(arena, mem, i);
     }
-    0
+    Ok(())
 }
 
 // The call on the table in memory.
-pub fn close_on(arena: &mut [u8], mem: &mut [u8], who: u8, h: Handle) -> u8
+pub fn close_on(arena: &mut [u8], mem: &mut [u8], who: u8, h: Handle) -> Result<(), Reason>
     requires { Whole mem.old }
-    ensures { Ended (call_close arena.old (table_in mem.old) who h) arena.old arena.new (table_in mem.new) result }
+    ensures { Ended (call_close arena.old (table_in mem.old) who h) arena.old arena.new (table_in mem.new) (code result) }
 {
-    let b = close_asked(&arena[..], mem, who, h);
-    if b.reason != 0 {
-        return b.reason;
-    }
+    let b = close_asked(&arena[..], mem, who, h)?;
     close_row(arena, mem, b.last, b.row)
 }
 

@@ -1,5 +1,5 @@
 -- How a call that makes a hold ends: from its steps' answer to what it returns.
-use mathlib.Core.Path.{◌≡◌, refl, sym, ◌∙◌, ap}
+use mathlib.Core.Path.{◌≡◌, refl, ◌∙◌, ap}
 use mathlib.Core.List.{List}
 use Prim.Native.Nat.{ℕ, ◌<◌}
 use native.Mathlib.Omega.{arith}
@@ -15,9 +15,13 @@ use Rattle.sefs.specs.Create.{Given}
 use Rattle.mem.specs.Mem.{table_in, Whole}
 use Rattle.mem.specs.State.{fs_of, Still}
 use Rattle.calls.specs.declared.HeldReply as answered
-use Rattle.calls.specs.declared.Handed.{Handed}
-use Rattle.calls.specs.Answers.{not_handed, given_of}
-use Rattle.calls.proofs.Answers.{given-held, given-refused}
+use Rattle.std.specs.Prelude.{Result}
+use Rattle.std.specs.Result.{result_unwrap_or}
+use Rattle.base.specs.Told.{code}
+use Rattle.base.specs.declared.reasons.Reason.{Reason}
+use Rattle.table.specs.declared.Handle.{Handle}
+use Rattle.calls.specs.Answers.{added_as, no_handle, said_held, given_of}
+use Rattle.calls.proofs.Answers.{given-is, said-held, said-not_held}
 use Rattle.calls_create.specs.Held.{holding, leaving, EndedOpen, opens, stays, EndedHeld, held, stopped, ReturnedHeld}
 
 -- what ends a chain ends its last step
@@ -53,14 +57,17 @@ pub held-is : {o p : Out Given} {a b : List ℕ} {x : Added} {n : ℕ} → o ≡
 held-is e g = rw e g
 
 -- a call that is refused before its steps
-pub held-refused : {o : Out Given} {a b : List ℕ} {x : Added} {n : ℕ} {r : Handed} → (n ≡ 0 → ⊥) → o ≡ refused n → b ≡ a → r ≡ not_handed n → EndedHeld o a b x r.reason
-held-refused z e k q = rw q (stopped (above_zero _ z) e k)
+pub held-refused : {o : Out Given} {a b : List ℕ} {x : Added} {n : ℕ} → (n ≡ 0 → ⊥) → o ≡ refused n → b ≡ a → EndedHeld o a b x n
+held-refused z e k = stopped (above_zero _ z) e k
 
--- what the call returns, by the number that its steps answered
-returned-ended : (t : Table) {o : Out Given} {a b : List ℕ} {x : Added} {n : ℕ} {r : answered.HeldReply} → EndedHeld o a b x n → r ≡ given_of t x n → ReturnedHeld t o a b r
-returned-ended t {x = x} (held e) q = record { answer = q ∙ sym (given-held t x 0 refl) ∙ rw e; arena = rw e }
-returned-ended t {x = x} (stopped {r = n} l e k) q = record { answer = q ∙ sym (given-refused t x n (λ z. omega arith)) ∙ rw e; arena = k ∙ rw e }
+-- what the call returns, by what its steps answered
+returned-ended : (t u : Table) {o : Out Given} {a b : List ℕ} (n : Result Handle Reason) {r : answered.HeldReply} → EndedHeld o a b (added_as (result_unwrap_or n no_handle) u) (code n) → r ≡ given_of t u n → ReturnedHeld t o a b r
+returned-ended t u {o = o} {a = a} {b = b} n {r = r} g q = go (code n) refl g
+  where
+    go : (k : ℕ) → code n ≡ k → EndedHeld o a b (added_as (result_unwrap_or n no_handle) u) k → ReturnedHeld t o a b r
+    go k z (held e) = record { answer = ap said_held q ∙ said-held t u n (result_unwrap_or n no_handle) (given-is n no_handle z) ∙ rw e; arena = rw e }
+    go k z (stopped l e f) = record { answer = ap said_held q ∙ said-not_held t u n k z (λ y. omega arith) ∙ rw e; arena = f ∙ rw e }
 
 -- the same, where the table that memory was given is known by another name
-pub returned-table : (f : Table → Out Given) (t : Table) {u v : Table} {a b : List ℕ} {x : Added} {n : ℕ} {r : answered.HeldReply} → u ≡ v → EndedHeld (f u) a b x n → r ≡ given_of t x n → ReturnedHeld t (f v) a b r
-returned-table f t q g e = rw (← q) (returned-ended t g e)
+pub returned-table : (f : Table → Out Given) (t : Table) {u v w : Table} {a b : List ℕ} (n : Result Handle Reason) {r : answered.HeldReply} → u ≡ v → EndedHeld (f u) a b (added_as (result_unwrap_or n no_handle) w) (code n) → r ≡ given_of t w n → ReturnedHeld t (f v) a b r
+returned-table f t {w = w} n q g e = rw (← q) (returned-ended t w n g e)

@@ -2,22 +2,24 @@
 use Rattle.std.specs.Prelude.{◌≡◌, List, ℕ, ◌<◌}
 use Rattle.base.specs.Out.{Out, done, refused, bind}
 use Rattle.table.specs.declared.Table.{Table}
+use Rattle.table.specs.declared.Handle.{Handle}
 use Rattle.table.specs.declared.Added.{Added}
 use Rattle.table.specs.Table.{add_hold}
 use Rattle.sefs.specs.Nodes.{Opened}
 use Rattle.sefs.specs.Create.{Given, given}
 use Rattle.mem.specs.Mem.{table_in, Whole}
 use Rattle.calls.specs.declared.HeldReply as answered
-use Rattle.calls.specs.Answers.{held_with, not_given}
+use Rattle.calls.specs.Answers.{said_held}
 
 -- "A refusal returns its number only; arena, table .. keep their bytes"
 abbrev pub arena_held : List ℕ → Out Given → List ℕ
 arena_held a (done x) = x.arena
 arena_held a (refused n) = a
 
-abbrev pub held_as : Table → Out Given → answered.HeldReply
-held_as t (done x) = held_with (record { table = x.table; handle = x.handle })
-held_as t (refused n) = not_given t n
+-- what the call says: the handle, and its table; or the reason, and the table that it was given
+abbrev pub held_as : Table → Out Given → Out Handle × Table
+held_as t (done x) = (done x.handle, x.table)
+held_as t (refused n) = (refused n, t)
 
 -- what is left once the steps are done: the hold of w's on the row that they opened
 abbrev pub holding : ℕ → Out Opened → Out Given
@@ -38,5 +40,5 @@ pub data EndedHeld (o : Out Given) (a b : List ℕ) (x : Added) : ℕ → Type 0
 
 -- the call, that its definition sends to o, returns r: t is the table that it was given, the arena was a and is b
 pub record ReturnedHeld (t : Table) (o : Out Given) (a b : List ℕ) (r : answered.HeldReply) : Type 0 where
-  pub answer : r ≡ held_as t o
+  pub answer : said_held r ≡ held_as t o
   pub arena : b ≡ arena_held a o

@@ -2,6 +2,8 @@
 #![tactic(auto)]
 
 ghost use Rattle.std.specs.Prelude.{List, ℕ, ◌<◌, ◌≤◌, length};
+ghost use Rattle.std.specs.Result.{result_unwrap_or};
+ghost use Rattle.base.specs.Told.{code};
 ghost use Rattle.base.specs.Out.{Went};
 ghost use Rattle.overlay.specs.View.{left, Empty};
 ghost use Rattle.table.specs.Table.{can_hold};
@@ -12,21 +14,20 @@ ghost use Rattle.mem.specs.Mem.{table_in, Whole};
 ghost use Rattle.calls.specs.Asked.{Admitted};
 ghost use Rattle.steps.specs.Ends.{Rest};
 ghost use Rattle.mem.specs.State.{fs_of, Ready, Still, Stepped, fs_at};
-ghost use Rattle.calls.specs.Answers.{added_as};
+ghost use Rattle.calls.specs.Answers.{added_as, no_handle};
 ghost use Rattle.calls_create.specs.Create.{create_ask, create_free, create_sync, create_rest, create_moves, create_work, Asked};
 ghost use Rattle.calls_create.specs.Held.{holding, EndedOpen, EndedHeld, ReturnedHeld};
 
+use base::Reason;
 use births::birth;
 use calls::led::admit;
-use calls::{
-    ByHandle, Handed, HeldReply, hand, live_folder, new_name, not_handed, not_long, settle_held,
-};
+use calls::{HeldReply, hand, live_folder, new_name, not_long, settle_held};
 use chains::exists;
 use folders::nlinks_inc;
 use holds::can_hold;
 use mem::{MEMORY, put_table, rec_at};
 use nodes::meta::sync_meta;
-use nodes::{Opened, new_node};
+use nodes::new_node;
 use steps::{append_named, no_slot, reach_read, sync_two};
 use structs::{DiskINode, Timespec};
 use table::{Handle, Table};
@@ -44,20 +45,14 @@ pub struct New {
 
 // ---- 5, 6, 7, 8, 10, 12, 14, 15, 16
 
-fn create_ask(rec: DiskINode, name: &[u8], kind: u32) -> u8
-    ensures { Went (create_ask rec name.now kind) tt (length name.now ≤ 255) result }
+fn create_ask(rec: DiskINode, name: &[u8], kind: u32) -> Result<(), Reason>
+    ensures { Went (create_ask rec name.now kind) tt (length name.now ≤ 255) (code result) }
 {
-    let r = new_name(name);
-    if r != 0 {
-        return r;
-    }
+    new_name(name)?;
     if !can_make(kind) {
-        return 6;
+        return Err(Reason::InvalidParam);
     }
-    let r = live_folder(rec);
-    if r != 0 {
-        return r;
-    }
+    live_folder(rec)?;
     not_long(name)
 }
 
@@ -71,24 +66,21 @@ fn create_free(
     kind: u32,
     file: [u8; 16],
     room: bool,
-) -> u8
+) -> Result<(), Reason>
     requires { Led arena.now first.now next.now }
-    ensures { Went (create_free arena.now rec name.now kind file room) tt Unit result }
+    ensures { Went (create_free arena.now rec name.now kind file room) tt Unit (code result) }
 {
-    let r = no_slot(arena, first, next, rec, name);
-    if r != 0 {
-        return r;
-    }
+    no_slot(arena, first, next, rec, name)?;
     if exists(arena, first, next, 1, &file) {
-        return 14;
+        return Err(Reason::FileTaken);
     }
     if (kind == 2) & (rec.nlinks == 65535) {
-        return 15;
+        return Err(Reason::TooManyLinks);
     }
     if !room {
-        return 16;
+        return Err(Reason::TableFull);
     }
-    0
+    Ok(())
 }
 
 // What is asked once the handle is known.
@@ -101,16 +93,13 @@ fn create_asks(
     i: usize,
     name: &[u8],
     new: New,
-) -> u8
+) -> Result<(), Reason>
     requires led { Led arena.now first.now next.now }
     requires whole { Whole mem.now × (i < 34) }
-    ensures { Rest (create_work (fs_at arena.now mem.now) i name.now new.kind new.mode new.time new.file (can_hold (table_in mem.now) who)) (create_moves (fs_at arena.now mem.now) i name.now new.kind new.mode new.time new.file) (length name.now ≤ 255) result }
+    ensures { Rest (create_work (fs_at arena.now mem.now) i name.now new.kind new.mode new.time new.file (can_hold (table_in mem.now) who)) (create_moves (fs_at arena.now mem.now) i name.now new.kind new.mode new.time new.file) (length name.now ≤ 255) (code result) }
 {
     let rec = rec_at(mem, i);
-    let r = create_ask(rec, name, new.kind);
-    if r != 0 {
-        return r;
-    }
+    create_ask(rec, name, new.kind)?;
     let file = new.file;
     let room = can_hold(mem, who);
     create_free(arena, first, next, rec, name, new.kind, file, room)
@@ -126,31 +115,29 @@ pub fn create_led(
     h: Handle,
     name: &[u8],
     new: New,
-) -> ByHandle
+) -> Result<usize, Reason>
     requires { Admitted arena.now first.now next.now mem.old }
-    ensures { Rest (call_create arena.now (table_in mem.old) who h name.now new.kind new.mode new.time new.file) (holding who (create_moves (fs_at arena.now mem.new) result.row name.now new.kind new.mode new.time new.file)) (Asked arena.now mem.new name.now result.row) result.reason }
+    ensures { Rest (call_create arena.now (table_in mem.old) who h name.now new.kind new.mode new.time new.file) (holding who (create_moves (fs_at arena.now mem.new) (result_unwrap_or result 0) name.now new.kind new.mode new.time new.file)) (Asked arena.now mem.new name.now (result_unwrap_or result 0)) (code result) }
 {
-    let b = reach_read(arena, first, next, mem, who, h);
-    if b.reason != 0 {
-        return b;
-    }
-    let r = create_asks(arena, first, next, &mem[..], who, b.row, name, new);
-    ByHandle {
-        reason: r,
-        row: b.row,
-    }
+    let row = reach_read(arena, first, next, mem, who, h)?;
+    create_asks(arena, first, next, &mem[..], who, row, name, new)?;
+    Ok(row)
 }
 
 // The frame of the chains is left before a workspace is made.
-fn create_asked(arena: &[u8], mem: &mut [u8], who: u8, h: Handle, name: &[u8], new: New) -> ByHandle
+fn create_asked(
+    arena: &[u8],
+    mem: &mut [u8],
+    who: u8,
+    h: Handle,
+    name: &[u8],
+    new: New,
+) -> Result<usize, Reason>
     requires { Whole mem.old }
-    ensures { Rest (call_create arena.now (table_in mem.old) who h name.now new.kind new.mode new.time new.file) (holding who (create_moves (fs_at arena.now mem.new) result.row name.now new.kind new.mode new.time new.file)) (Asked arena.now mem.new name.now result.row) result.reason }
+    ensures { Rest (call_create arena.now (table_in mem.old) who h name.now new.kind new.mode new.time new.file) (holding who (create_moves (fs_at arena.now mem.new) (result_unwrap_or result 0) name.now new.kind new.mode new.time new.file)) (Asked arena.now mem.new name.now (result_unwrap_or result 0)) (code result) }
 {
     let mut chains = [0u16; 8192];
-    let r = admit(arena, &mut chains, &mem[..]);
-    if r != 0 {
-        return ByHandle { reason: r, row: 0 };
-    }
+    admit(arena, &mut chains, &mem[..])?;
     let c = &chains[..];
     create_led(arena, &c[..4096], &c[4096..8192], mem, who, h, name, new)
 }
@@ -158,40 +145,37 @@ fn create_asked(arena: &[u8], mem: &mut [u8], who: u8, h: Handle, name: &[u8], n
 // ---- the steps
 
 // A new folder is named by its own `.` too, and its parent by its `..`.
-fn name_folder(mem: &mut [u8], i: usize, c: usize) -> u8
+fn name_folder(mem: &mut [u8], i: usize, c: usize) -> Result<(), Reason>
     requires { Whole mem.old × ((i < 34) × (c < 34)) }
-    ensures { (a w : List ℕ) → Went (name_folder (fs_of a w mem.old) i c) (fs_of a w mem.new) (Whole mem.new) result }
+    ensures { (a w : List ℕ) → Went (name_folder (fs_of a w mem.old) i c) (fs_of a w mem.new) (Whole mem.new) (code result) }
 {
-    let r = nlinks_inc(mem, c);
-    if r != 0 {
-        return r;
-    }
+    nlinks_inc(mem, c)?;
     nlinks_inc(mem, i)
 }
 
-fn name_node(mem: &mut [u8], i: usize, c: usize, kind: u32) -> u8
+fn name_node(mem: &mut [u8], i: usize, c: usize, kind: u32) -> Result<(), Reason>
     requires { Whole mem.old × ((i < 34) × (c < 34)) }
-    ensures { (a w : List ℕ) → Went (named (fs_of a w mem.old) i c kind) (fs_of a w mem.new) (Whole mem.new) result }
+    ensures { (a w : List ℕ) → Went (named (fs_of a w mem.old) i c kind) (fs_of a w mem.new) (Whole mem.new) (code result) }
 {
-    let r = nlinks_inc(mem, c);
-    if r != 0 {
-        return r;
-    }
+    nlinks_inc(mem, c)?;
     if kind == 2 {
         return name_folder(mem, i, c);
     }
-    0
+    Ok(())
 }
 
 // Superblock and maps, the node's record, the folder's record.
-fn create_sync(arena: &[u8], work: &mut [u8], mem: &mut [u8], i: usize, c: usize) -> u8
+fn create_sync(
+    arena: &[u8],
+    work: &mut [u8],
+    mem: &mut [u8],
+    i: usize,
+    c: usize,
+) -> Result<(), Reason>
     requires { Ready arena.now work.old mem.old × ((16 ≤ left work.old) × ((i < 34) × (c < 34))) }
-    ensures { Stepped (create_sync (fs_of arena.now work.old mem.old) i c) arena.now work.old work.new mem.new 16 result }
+    ensures { Stepped (create_sync (fs_of arena.now work.old mem.old) i c) arena.now work.old work.new mem.new 16 (code result) }
 {
-    let r = sync_meta(arena, work, &mem[..]);
-    if r != 0 {
-        return r;
-    }
+    sync_meta(arena, work, &mem[..])?;
     sync_two(arena, work, mem, i, c)
 }
 
@@ -204,22 +188,13 @@ fn create_rest(
     c: usize,
     name: &[u8],
     kind: u32,
-) -> u8
+) -> Result<(), Reason>
     requires { Ready arena.now work.old mem.old × ((25 ≤ left work.old) × ((i < 34) × ((c < 34) × (length name.now ≤ 255)))) }
-    ensures { Stepped (create_rest (fs_of arena.now work.old mem.old) i c name.now kind) arena.now work.old work.new mem.new 25 result }
+    ensures { Stepped (create_rest (fs_of arena.now work.old mem.old) i c name.now kind) arena.now work.old work.new mem.new 25 (code result) }
 {
-    let r = birth(arena, work, mem, i, c, kind);
-    if r != 0 {
-        return r;
-    }
-    let r = append_named(arena, work, mem, i, c, name, kind);
-    if r != 0 {
-        return r;
-    }
-    let r = name_node(mem, i, c, kind);
-    if r != 0 {
-        return r;
-    }
+    birth(arena, work, mem, i, c, kind)?;
+    append_named(arena, work, mem, i, c, name, kind)?;
+    name_node(mem, i, c, kind)?;
     create_sync(arena, work, mem, i, c)
 }
 
@@ -231,21 +206,15 @@ fn create_moves(
     i: usize,
     name: &[u8],
     new: New,
-) -> Opened
+) -> Result<usize, Reason>
     requires { Ready arena.now work.old mem.old × ((28 ≤ left work.old) × ((i < 34) × (length name.now ≤ 255))) }
-    ensures { Went (create_moves (fs_of arena.now work.old mem.old) i name.now new.kind new.mode new.time new.file) (opened_as (fs_of arena.now work.new mem.new) result.row) (Still arena.now work.old work.new mem.new 28 × (result.row < 34)) result.reason }
+    ensures { Went (create_moves (fs_of arena.now work.old mem.old) i name.now new.kind new.mode new.time new.file) (opened_as (fs_of arena.now work.new mem.new) (result_unwrap_or result 0)) (Still arena.now work.old work.new mem.new 28 × (result_unwrap_or result 0 < 34)) (code result) }
 {
     let time = new.time;
     let file = new.file;
-    let o = new_node(arena, work, mem, new.kind, new.mode, time, file);
-    if o.reason != 0 {
-        return o;
-    }
-    let r = create_rest(arena, work, mem, i, o.row, name, new.kind);
-    Opened {
-        reason: r,
-        row: o.row,
-    }
+    let row = new_node(arena, work, mem, new.kind, new.mode, time, file)?;
+    create_rest(arena, work, mem, i, row, name, new.kind)?;
+    Ok(row)
 }
 
 // The workspace has no block yet.
@@ -256,22 +225,25 @@ fn create_in(
     i: usize,
     name: &[u8],
     new: New,
-) -> Opened
+) -> Result<usize, Reason>
     requires { Empty arena.old work.old 38 × (Whole mem.old × ((i < 34) × (length name.now ≤ 255))) }
-    ensures { EndedOpen (create_moves (fs_at arena.old mem.old) i name.now new.kind new.mode new.time new.file) arena.old arena.new mem.new result.row result.reason }
+    ensures { EndedOpen (create_moves (fs_at arena.old mem.old) i name.now new.kind new.mode new.time new.file) arena.old arena.new mem.new (result_unwrap_or result 0) (code result) }
 {
-    let o = create_moves(&arena[..], work, mem, i, name, new);
-    if o.reason != 0 {
-        return o;
-    }
+    let row = create_moves(&arena[..], work, mem, i, name, new)?;
     overlay::commit(arena, &work[..]);
-    o
+    Ok(row)
 }
 
 // The workspace is made, and is gone once the steps are decided.
-fn create_begin(arena: &mut [u8], mem: &mut [u8], i: usize, name: &[u8], new: New) -> Opened
+fn create_begin(
+    arena: &mut [u8],
+    mem: &mut [u8],
+    i: usize,
+    name: &[u8],
+    new: New,
+) -> Result<usize, Reason>
     requires { Asked arena.old mem.old name.now i }
-    ensures { EndedOpen (create_moves (fs_at arena.old mem.old) i name.now new.kind new.mode new.time new.file) arena.old arena.new mem.new result.row result.reason }
+    ensures { EndedOpen (create_moves (fs_at arena.old mem.old) i name.now new.kind new.mode new.time new.file) arena.old arena.new mem.new (result_unwrap_or result 0) (code result) }
 {
     let mut work = [0u8; 19456];
     overlay::begin(&mut work);
@@ -286,12 +258,12 @@ pub fn create_rows(
     i: usize,
     name: &[u8],
     new: New,
-) -> Handed
+) -> Result<Handle, Reason>
     requires { Asked arena.old mem.old name.now i }
-    ensures { EndedHeld (holding who (create_moves (fs_at arena.old mem.old) i name.now new.kind new.mode new.time new.file)) arena.old arena.new (added_as result.handle (table_in mem.new)) result.reason }
+    ensures { EndedHeld (holding who (create_moves (fs_at arena.old mem.old) i name.now new.kind new.mode new.time new.file)) arena.old arena.new (added_as (result_unwrap_or result no_handle) (table_in mem.new)) (code result) }
 {
-    let o = create_begin(arena, mem, i, name, new);
-    hand(mem, who, o.reason, o.row)
+    let opened = create_begin(arena, mem, i, name, new);
+    hand(mem, who, opened)
 }
 
 // The call on the table in memory.
@@ -302,15 +274,12 @@ pub fn create_on(
     h: Handle,
     name: &[u8],
     new: New,
-) -> Handed
+) -> Result<Handle, Reason>
     requires { Whole mem.old }
-    ensures { EndedHeld (call_create arena.old (table_in mem.old) who h name.now new.kind new.mode new.time new.file) arena.old arena.new (added_as result.handle (table_in mem.new)) result.reason }
+    ensures { EndedHeld (call_create arena.old (table_in mem.old) who h name.now new.kind new.mode new.time new.file) arena.old arena.new (added_as (result_unwrap_or result no_handle) (table_in mem.new)) (code result) }
 {
-    let b = create_asked(&arena[..], mem, who, h, name, new);
-    if b.reason != 0 {
-        return not_handed(b.reason);
-    }
-    create_rows(arena, mem, who, b.row, name, new)
+    let row = create_asked(&arena[..], mem, who, h, name, new)?;
+    create_rows(arena, mem, who, row, name, new)
 }
 
 pub fn create(arena: &mut [u8], t: Table, who: u8, h: Handle, name: &[u8], new: New) -> HeldReply
@@ -318,6 +287,6 @@ pub fn create(arena: &mut [u8], t: Table, who: u8, h: Handle, name: &[u8], new: 
 {
     let mut mem = [0u8; MEMORY];
     put_table(&mut mem, t);
-    let o = create_on(arena, &mut mem, who, h, name, new);
-    settle_held(t, &mem, o)
+    let r = create_on(arena, &mut mem, who, h, name, new);
+    settle_held(t, &mem, r)
 }

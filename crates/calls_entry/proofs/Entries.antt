@@ -1,8 +1,8 @@
 -- Get entry: its questions, and from what the code answers to the answer.
-use mathlib.Core.Path.{◌≡◌, refl, sym, ◌∙◌, ap}
+use mathlib.Core.Path.{◌≡◌, refl, ◌∙◌, ap}
 use mathlib.Core.Bool.{Bool, true, false}
 use mathlib.Core.List.{List, ◌++◌}
-use Prim.Native.Nat.{ℕ, zero, suc, ◌<◌, ◌≤◌}
+use Prim.Native.Nat.{ℕ, ◌<◌, ◌≤◌}
 use native.Mathlib.Omega.{arith}
 use lib.ListN.{length, drop}
 use lib.Dec.{ltb, leb}
@@ -15,11 +15,10 @@ use Rattle.table.specs.declared.Handle.{Handle}
 use Rattle.table.specs.Table.{row_at}
 use Rattle.sefs.specs.Ask.{admit, by_handle}
 use Rattle.sefs.specs.Read.{readable, named_slot, call_entry}
-use Rattle.calls.specs.Answers.{answer_of, Laid, lay, leave}
-use Rattle.calls.specs.declared.Answer.TheVariants as answers
+use Rattle.calls.specs.Answers.{Laid, lay, leave}
 use Rattle.calls.proofs.Asks.{Asks, asks-ensure, asks-then, asks-readable, asked-done, answer-stop, call-stop, call_next}
 use Rattle.calls.proofs.Outputs.{paste-front}
-use Rattle.calls_entry.specs.Entry.{entry_ask, entry_in, answer_as}
+use Rattle.calls_entry.specs.Entry.{entry_ask, entry_in}
 
 pub asks-entry : (r : DiskINode) (k room : ℕ) → Asks (entry_ask r k room)
 unfolding entry_ask
@@ -44,14 +43,6 @@ module _ (r : DiskINode) (n : ℕ) (e : n ≡ answer (readable r)) where
   entry-room k room z f =
       let q = asked-done (readable r) (asks-readable r) n e z in
       rw (q, f)
-
-pub answer-as : (r : ℕ) → (r ≡ 0 → ⊥) → answers.Refused r ≡ answer_as r
-answer-as zero z = absurd (z refl)
-answer-as (suc r) z = refl
-
-pub laid-answer : {o : Out (List ℕ)} {out now : List ℕ} {n r : ℕ} → Laid o out now n r → answer_as r ≡ answer_of o
-laid-answer (lay e l p) = sym (ap answer_of e)
-laid-answer (leave {r = r} z e p) = sym (answer-as r (λ q. omega arith)) ∙ sym (ap answer_of e)
 
 -- the questions as one
 pub entry-split : (a : List ℕ) (r : DiskINode) (k room : ℕ) → entry_in a r k room ≡ bind (entry_ask r k room) (λ _. named_slot a r k)

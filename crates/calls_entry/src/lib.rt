@@ -2,36 +2,34 @@
 #![tactic(auto)]
 
 ghost use Rattle.std.specs.Prelude.{◌≡◌, ◌≤◌, length};
+ghost use Rattle.base.specs.Told.{code};
 ghost use Rattle.base.specs.Out.{answer};
 ghost use Rattle.sefs.specs.Read.{call_entry, named_slot};
 ghost use Rattle.chains.specs.Led.{Led};
 ghost use Rattle.mem.specs.Mem.{table_in, Whole};
 ghost use Rattle.calls.specs.Answers.{answer_of, Laid, Lays};
 ghost use Rattle.calls.specs.Asked.{Admitted};
-ghost use Rattle.calls_entry.specs.Entry.{entry_ask, entry_in, answer_as};
+ghost use Rattle.calls_entry.specs.Entry.{entry_ask, entry_in};
 
-use base::copy;
+use base::{Reason, copy};
 use calls::led::admit;
-use calls::{Answer, by_handle, long, readable};
+use calls::{by_handle, long, readable};
 use chains::slots::{end_of, named_slot};
 use mem::{MEMORY, put_table, rec_at};
 use structs::DiskINode;
 use table::{Handle, Table};
 
-fn entry_ask(rec: DiskINode, k: u64, room: usize) -> u8
-    ensures { result ≡ answer (entry_ask rec k room) }
+fn entry_ask(rec: DiskINode, k: u64, room: usize) -> Result<(), Reason>
+    ensures { code result ≡ answer (entry_ask rec k room) }
 {
-    let r = readable(rec);
-    if r != 0 {
-        return r;
-    }
+    readable(rec)?;
     if k >= long(rec.blocks) {
-        return 11;
+        return Err(Reason::EntryNotFound);
     }
     if room < 264 {
-        return 20;
+        return Err(Reason::OutFull);
     }
-    0
+    Ok(())
 }
 
 // Slot k goes to the output's start, once it is known to be readable.
@@ -43,18 +41,15 @@ fn write_entry(
     rec: DiskINode,
     k: usize,
     out: &mut [u8],
-) -> u8
+) -> Result<(), Reason>
     requires led { Led arena.now first.now next.now }
     requires slot_len { (length slot.old ≡ 264) × ((k ≤ 4294967295) × (264 ≤ length out.old)) }
-    ensures { Laid (named_slot arena.now rec k) out.old out.new 264 result }
+    ensures { Laid (named_slot arena.now rec k) out.old out.new 264 (code result) }
 {
     let end = end_of(arena, first, next, rec);
-    let stuck = named_slot(arena, first, next, rec, end, k, slot);
-    if stuck != 0 {
-        return stuck;
-    }
+    named_slot(arena, first, next, rec, end, k, slot)?;
     copy(&mut out[..264], &slot[..]);
-    0
+    Ok(())
 }
 
 fn read_entry(
@@ -64,23 +59,27 @@ fn read_entry(
     rec: DiskINode,
     k: usize,
     out: &mut [u8],
-) -> u8
+) -> Result<(), Reason>
     requires led { Led arena.now first.now next.now }
     requires k_bound { (k ≤ 4294967295) × (264 ≤ length out.old) }
-    ensures { Laid (named_slot arena.now rec k) out.old out.new 264 result }
+    ensures { Laid (named_slot arena.now rec k) out.old out.new 264 (code result) }
 {
     let mut slot = [0u8; 264];
     write_entry(arena, first, next, &mut slot, rec, k, out)
 }
 
-fn entry_in(arena: &[u8], first: &[u16], next: &[u16], rec: DiskINode, k: u64, out: &mut [u8]) -> u8
+fn entry_in(
+    arena: &[u8],
+    first: &[u16],
+    next: &[u16],
+    rec: DiskINode,
+    k: u64,
+    out: &mut [u8],
+) -> Result<(), Reason>
     requires { Led arena.now first.now next.now }
-    ensures { Laid (entry_in arena.now rec k (length out.old)) out.old out.new 264 result }
+    ensures { Laid (entry_in arena.now rec k (length out.old)) out.old out.new 264 (code result) }
 {
-    let r = entry_ask(rec, k, out.len());
-    if r != 0 {
-        return r;
-    }
+    entry_ask(rec, k, out.len())?;
     read_entry(arena, first, next, rec, k as usize, out)
 }
 
@@ -94,42 +93,41 @@ pub fn entry_led(
     h: Handle,
     k: u64,
     out: &mut [u8],
-) -> u8
+) -> Result<(), Reason>
     requires { Admitted arena.now first.now next.now mem.now }
-    ensures { Laid (call_entry arena.now (table_in mem.now) who h k (length out.old)) out.old out.new 264 result }
+    ensures { Laid (call_entry arena.now (table_in mem.now) who h k (length out.old)) out.old out.new 264 (code result) }
 {
-    let b = by_handle(mem, who, h);
-    if b.reason != 0 {
-        return b.reason;
-    }
-    let rec = rec_at(mem, b.row);
+    let row = by_handle(mem, who, h)?;
+    let rec = rec_at(mem, row);
     entry_in(arena, first, next, rec, k, out)
 }
 
-pub fn as_answer(reason: u8) -> Answer
-    ensures { result ≡ answer_as reason }
-{
-    if reason == 0 {
-        return Answer::Done;
-    }
-    Answer::Refused(reason)
-}
-
 // The call on the table in memory.
-pub fn entry_on(arena: &[u8], mem: &[u8], who: u8, h: Handle, k: u64, out: &mut [u8]) -> Answer
+pub fn entry_on(
+    arena: &[u8],
+    mem: &[u8],
+    who: u8,
+    h: Handle,
+    k: u64,
+    out: &mut [u8],
+) -> Result<(), Reason>
     requires { Whole mem.now }
     ensures { Lays answer_of (call_entry arena.now (table_in mem.now) who h k (length out.old)) out.old out.new result }
 {
     let mut chains = [0u16; 8192];
-    let r = admit(arena, &mut chains, mem);
-    if r != 0 {
-        return Answer::Refused(r);
-    }
+    admit(arena, &mut chains, mem)?;
     let c = &chains[..];
-    as_answer(entry_led(arena, &c[..4096], &c[4096..8192], mem, who, h, k, out))
+    entry_led(arena, &c[..4096], &c[4096..8192], mem, who, h, k, out)
 }
 
-pub fn get_entry(arena: &[u8], t: Table, who: u8, h: Handle, k: u64, out: &mut [u8]) -> Answer
+pub fn get_entry(
+    arena: &[u8],
+    t: Table,
+    who: u8,
+    h: Handle,
+    k: u64,
+    out: &mut [u8],
+) -> Result<(), Reason>
     ensures { Lays answer_of (call_entry arena.now t who h k (length out.old)) out.old out.new result }
 {
     let mut mem = [0u8; MEMORY];

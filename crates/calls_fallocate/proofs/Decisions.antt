@@ -54,9 +54,6 @@ decided-room {a} {f} {pos} {n} y l (cannot {r = r} some h) = ⊎_elim full (λ g
 pub decided-as : {a : List ℕ} {f : File} {p q x y : ℕ} {plan : List ℕ} {r : ℕ} → p ≡ x → q ≡ y → Decided a f p (q - p) plan r → Decided a f x (y - x) plan r
 decided-as e g D = rw (← e, ← g) D
 
-pub decided-zero : {a : List ℕ} {f : File} {pos n : ℕ} {plan : List ℕ} {r : ℕ} → r ≡ 0 → Decided a f pos n plan r → Decided a f pos n plan 0
-decided-zero z D = can (decided-can D z)
-
 -- the length that is found by the chains
 pub long-is : (a : List ℕ) (f : File) {v : ℕ} → there a f ≡ true → v ≡ end_of a f → v ≡ suc (length_of a f)
 long-is a f y e = e ∙ ap (λ (b : Bool). pick b (suc (length_of a f)) 0) y

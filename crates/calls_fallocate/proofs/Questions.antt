@@ -147,36 +147,36 @@ module _ (s : Fs) (i from len : ℕ) where
 
 -- an answer is one of three
 module _ {a : List ℕ} {t : Table} {who : ℕ} {h : Handle} {mode : FallocateMode} {from len : ℕ} {places source : List ℕ} (r : Ranging) where
-  pub ranged-off : (n : ℕ) → r.reason ≡ n → (n ≡ 0 → ⊥) → call_fallocate a t who h mode from len ≡ refused n → Ranged a t who h mode from len places source r
-  ranged-off n e z q = record {
-    refuses = λ _. q ∙ ap refused (sym e);
-    idles = λ x _. absurd (z (sym e ∙ x));
-    goes = λ x _. absurd (z (sym e ∙ x));
-    supplied = λ x _. absurd (z (sym e ∙ x));
+  pub ranged-off : (n : ℕ) → (n ≡ 0 → ⊥) → call_fallocate a t who h mode from len ≡ refused n → Ranged a t who h mode from len places source r n
+  ranged-off n z q = record {
+    refuses = λ _. q;
+    idles = λ x _. absurd (z x);
+    goes = λ x _. absurd (z x);
+    supplied = λ x _. absurd (z x);
   }
 
-  pub ranged-idle : (r.reason ≡ 0) × (r.idle ≡ true) → call_fallocate a t who h mode from len ≡ done (after (start a t)) → Ranged a t who h mode from len places source r
+  pub ranged-idle : r.idle ≡ true → call_fallocate a t who h mode from len ≡ done (after (start a t)) → Ranged a t who h mode from len places source r 0
   ranged-idle e q = record {
-    refuses = λ z. absurd (z e.0);
+    refuses = λ z. absurd (z refl);
     idles = λ _ _. q;
-    goes = λ _ x. absurd (true-false e.1 x);
-    supplied = λ _ x. absurd (true-false e.1 x);
+    goes = λ _ x. absurd (true-false e x);
+    supplied = λ _ x. absurd (true-false e x);
   }
 
-  pub ranged-on : {i k : ℕ} → (r.reason ≡ 0) × (r.idle ≡ false) × (r.row ≡ i) × (r.head ≡ k) → call_fallocate a t who h mode from len ≡ ending (mode_steps mode (start a t) i from len)
-      → Supplied a t i k mode from len places source → Ranged a t who h mode from len places source r
+  pub ranged-on : r.idle ≡ false → call_fallocate a t who h mode from len ≡ ending (mode_steps mode (start a t) r.row from len)
+      → Supplied a t r.row r.head mode from len places source → Ranged a t who h mode from len places source r 0
   ranged-on e q S = record {
-    refuses = λ z. absurd (z e.0);
-    idles = λ _ x. absurd (true-false x e.1);
-    goes = λ _ _. q ∙ ap (λ (j : ℕ). ending (mode_steps mode (start a t) j from len)) (sym e.2);
-    supplied = λ _ _. rw (e.2, e.3) S;
+    refuses = λ z. absurd (z refl);
+    idles = λ _ x. absurd (true-false x e);
+    goes = λ _ _. q;
+    supplied = λ _ _. S;
   }
 
 -- what its stores leave is what the call leaves
 pub ranged-ended : {a : List ℕ} {t : Table} {who : ℕ} {h : Handle} {mode : FallocateMode} {from len : ℕ} {places source : List ℕ} {r : Ranging} {b : List ℕ} {u : Table}
-    → Ranged a t who h mode from len places source r → r.reason ≡ 0 → r.idle ≡ false → Ended (ending (mode_steps mode (start a t) r.row from len)) a b u 0
+    → Ranged a t who h mode from len places source r 0 → r.idle ≡ false → Ended (ending (mode_steps mode (start a t) r.row from len)) a b u 0
     → Ended (call_fallocate a t who h mode from len) a b u 0
-ranged-ended R z x g = ended_is (R.goes z x) g
+ranged-ended R x g = ended_is (R.goes refl x) g
 
 -- all that is asked is answered: of row i, whose record is w
 pub record AskedOf (a : List ℕ) (t : Table) (who : ℕ) (h : Handle) (mode : FallocateMode) (from len i : ℕ) (w : DiskINode) : Type 0 where

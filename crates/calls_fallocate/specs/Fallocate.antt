@@ -73,9 +73,14 @@ pub record Supplied (a : List ℕ) (t : Table) (i k : ℕ) (mode : FallocateMode
   pub reached : Reached a t i k (from + len)
   pub supply : Provided mode a (node_file (row_at t i).rec) (row_at t i).rec.size from len places source
 
--- the code that asks what the call asks, and decides it, answers r: the call's reason; or that it does nothing; or where its stores go
-pub record Ranged (a : List ℕ) (t : Table) (who : ℕ) (h : Handle) (mode : FallocateMode) (from len : ℕ) (places source : List ℕ) (r : Ranging) : Type 0 where
-  pub refuses : (r.reason ≡ 0 → ⊥) → call_fallocate a t who h mode from len ≡ refused r.reason
-  pub idles : r.reason ≡ 0 → r.idle ≡ true → call_fallocate a t who h mode from len ≡ done (after (start a t))
-  pub goes : r.reason ≡ 0 → r.idle ≡ false → call_fallocate a t who h mode from len ≡ ending (mode_steps mode (start a t) r.row from len)
-  pub supplied : r.reason ≡ 0 → r.idle ≡ false → Supplied a t r.row r.head mode from len places source
+-- what stands for a ranging where none is given
+abbrev pub no_ranging : Ranging
+no_ranging = record { idle = true; row = 0; head = 0 }
+
+-- the code that asks what the call asks, and decides it, answers n: the call's reason; or where n is 0, r: that it does nothing; or where its
+-- stores go
+pub record Ranged (a : List ℕ) (t : Table) (who : ℕ) (h : Handle) (mode : FallocateMode) (from len : ℕ) (places source : List ℕ) (r : Ranging) (n : ℕ) : Type 0 where
+  pub refuses : (n ≡ 0 → ⊥) → call_fallocate a t who h mode from len ≡ refused n
+  pub idles : n ≡ 0 → r.idle ≡ true → call_fallocate a t who h mode from len ≡ done (after (start a t))
+  pub goes : n ≡ 0 → r.idle ≡ false → call_fallocate a t who h mode from len ≡ ending (mode_steps mode (start a t) r.row from len)
+  pub supplied : n ≡ 0 → r.idle ≡ false → Supplied a t r.row r.head mode from len places source

@@ -3,6 +3,8 @@
 #![tactic(auto)]
 
 ghost use Rattle.std.specs.Prelude.{◌≡◌, true, false, ◌&&◌, ◌+◌, ◌*◌, ◌-◌, ◌/◌, ◌≤◌, ◌<◌, min, length, eqb, leb};
+ghost use Rattle.std.specs.Result.{result_unwrap_or};
+ghost use Rattle.base.specs.Told.{code};
 ghost use Rattle.base.specs.Out.{answer, done, bind};
 ghost use Rattle.base.specs.Reasons.{stuck, no_device_space};
 ghost use Rattle.base.specs.Search.{pick};
@@ -24,9 +26,9 @@ ghost use Rattle.mem.specs.Mem.{table_in, Whole};
 ghost use Rattle.calls.specs.Asked.{Admitted};
 ghost use Rattle.steps.specs.Ends.{ending, Ended, Returned};
 ghost use Rattle.sizes.specs.Sizes.{Reached};
-ghost use Rattle.calls_fallocate.specs.Fallocate.{ask_range, Provided, Resolved, HeadKnown, Supplied, Ranged};
+ghost use Rattle.calls_fallocate.specs.Fallocate.{ask_range, Provided, Resolved, HeadKnown, Supplied, no_ranging, Ranged};
 
-use base::least;
+use base::{Reason, least};
 use calls::led::admit;
 use calls::{Reply, by_handle, settle};
 use chains::{head_at, length_of};
@@ -52,27 +54,19 @@ pub const SOURCE: usize = 4097;
 
 const FILE: u32 = 1;
 
-const INVALID_PARAM: u8 = 6;
-
-const NO_DEVICE_SPACE: u8 = 17;
-
-const STUCK: u8 = 19;
-
-const NOT_FILE: u8 = 21;
-
 // ---- the questions
 
 // 21 unless type 1; one above 4 sticks.
-fn plain_file(rec: DiskINode) -> u8
-    ensures { result ≡ answer (plain_file rec) }
+fn plain_file(rec: DiskINode) -> Result<(), Reason>
+    ensures { code result ≡ answer (plain_file rec) }
 {
     if rec.kind > 4 {
-        return STUCK;
+        return Err(Reason::Stuck);
     }
     if rec.kind != FILE {
-        return NOT_FILE;
+        return Err(Reason::NotFile);
     }
-    0
+    Ok(())
 }
 
 fn aligned(from: u64, len: u64) -> bool
@@ -82,37 +76,37 @@ fn aligned(from: u64, len: u64) -> bool
 }
 
 // 6 by start, end and alignment, and 22 for a grown size, in a file of that size.
-fn fits_collapse(size: u64, from: u64, len: u64) -> u8
+fn fits_collapse(size: u64, from: u64, len: u64) -> Result<(), Reason>
     requires { from + len ≤ 4294967295 }
-    ensures { result ≡ answer (fits_mode_of CollapseRange size from len) }
+    ensures { code result ≡ answer (fits_mode_of CollapseRange size from len) }
 {
     if (from + len < size) & aligned(from, len) {
-        return 0;
+        return Ok(());
     }
-    INVALID_PARAM
+    Err(Reason::InvalidParam)
 }
 
-fn fits_insert(size: u64, from: u64, len: u64) -> u8
-    ensures { result ≡ answer (fits_mode_of InsertRange size from len) }
+fn fits_insert(size: u64, from: u64, len: u64) -> Result<(), Reason>
+    ensures { code result ≡ answer (fits_mode_of InsertRange size from len) }
 {
     if (from < size) & aligned(from, len) {
         return not_too_big(size, len);
     }
-    INVALID_PARAM
+    Err(Reason::InvalidParam)
 }
 
-fn fits_mode(mode: FallocateMode, size: u64, from: u64, len: u64) -> u8
+fn fits_mode(mode: FallocateMode, size: u64, from: u64, len: u64) -> Result<(), Reason>
     requires { from + len ≤ 4294967295 }
-    ensures { result ≡ answer (fits_mode_of mode size from len) }
+    ensures { code result ≡ answer (fits_mode_of mode size from len) }
 {
     match mode {
-        FallocateMode::Allocate(_) => 0,
-        FallocateMode::PunchHoleKeepSize => 0,
-        FallocateMode::ZeroRange => 0,
-        FallocateMode::ZeroRangeKeepSize => 0,
+        FallocateMode::Allocate(_) => Ok(()),
+        FallocateMode::PunchHoleKeepSize => Ok(()),
+        FallocateMode::ZeroRange => Ok(()),
+        FallocateMode::ZeroRangeKeepSize => Ok(()),
         FallocateMode::CollapseRange => fits_collapse(size, from, len),
         FallocateMode::InsertRange => fits_insert(size, from, len),
-        FallocateMode::Unknown => INVALID_PARAM,
+        FallocateMode::Unknown => Err(Reason::InvalidParam),
     }
 }
 
@@ -132,49 +126,19 @@ fn looks(mode: FallocateMode, size: u64, from: u64, len: u64) -> bool
     }
 }
 
-// What is known where the reason is 0: whether there is nothing to do; if not, the handle's row, and the head of its file.
+// Whether there is nothing to do; if not, the handle's row, and the head of its file.
 #[derive(Clone, Copy)]
 pub struct Ranging {
-    pub reason: u8,
     pub idle: bool,
     pub row: usize,
     pub head: usize,
 }
 
-// A reason; or 0, and nothing to do.
-fn not_ranged(reason: u8) -> Ranging
-    ensures { (result.reason ≡ reason) × (result.idle ≡ true) }
+fn ask_record(rec: DiskINode, mode: FallocateMode, from: u64, len: u64) -> Result<(), Reason>
+    ensures { code result ≡ answer (ask_range rec mode from len) }
 {
-    Ranging {
-        reason: reason,
-        idle: true,
-        row: 0,
-        head: 0,
-    }
-}
-
-fn is_ranged(row: usize, head: usize) -> Ranging
-    ensures { (result.reason ≡ 0) × (result.idle ≡ false) × (result.row ≡ row) × (result.head ≡ head) }
-{
-    Ranging {
-        reason: 0,
-        idle: false,
-        row: row,
-        head: head,
-    }
-}
-
-fn ask_record(rec: DiskINode, mode: FallocateMode, from: u64, len: u64) -> u8
-    ensures { result ≡ answer (ask_range rec mode from len) }
-{
-    let r = plain_file(rec);
-    if r != 0 {
-        return r;
-    }
-    let e = not_too_big(from, len);
-    if e != 0 {
-        return e;
-    }
+    plain_file(rec)?;
+    not_too_big(from, len)?;
     fits_mode(mode, rec.size, from, len)
 }
 
@@ -199,10 +163,10 @@ fn decide_punch(
     from: u64,
     len: u64,
     plan: &mut [u16],
-) -> u8
+) -> Result<(), Reason>
     requires led { Led arena.now first.now next.now }
     requires plan_len { (length plan.old ≡ 4096) × ((from + len ≤ 4294967295) × (there arena.now (file 1 name.now) ≡ true)) }
-    ensures { Decided arena.now (file 1 name.now) (min from size) (min (from + len) size - min from size) plan.new result }
+    ensures { Decided arena.now (file 1 name.now) (min from size) (min (from + len) size - min from size) plan.new (code result) }
 {
     let low = below(size, from);
     let high = below(size, from + len);
@@ -219,18 +183,15 @@ fn decide_short(
     from: usize,
     len: usize,
     plan: &mut [u16],
-) -> u8
+) -> Result<(), Reason>
     requires led { Led arena.now first.now next.now }
     requires plan_len { (length plan.old ≡ 4096) × ((from + len ≤ 4294967295) × ((long ≤ 4294967295) × (there arena.now (file 1 name.now) ≡ true))) }
-    ensures { result ≡ pick (leb (lacking arena.now (file 1 name.now) from (128 * ((long - (from + len)) / 128))) (free_count arena.now)) stuck no_device_space }
+    ensures { code result ≡ pick (leb (lacking arena.now (file 1 name.now) from (128 * ((long - (from + len)) / 128))) (free_count arena.now)) stuck no_device_space }
 {
     let end = least(from + len, long);
     let whole = 128 * ((long - end) / 128);
-    let r = decide(arena, first, next, 1, name, from, whole, plan);
-    if r != 0 {
-        return r;
-    }
-    STUCK
+    decide(arena, first, next, 1, name, from, whole, plan)?;
+    Err(Reason::Stuck)
 }
 
 // m bytes from `at` on are written, and n bytes from `src` on are read, no more than those.
@@ -245,19 +206,16 @@ fn decide_copy(
     n: usize,
     plan: &mut [u16],
     source: &mut [u16],
-) -> u8
+) -> Result<(), Reason>
     requires led { Led arena.now first.now next.now }
     requires plan_len { ((length plan.old ≡ 4096) × (length source.old ≡ 4097)) × (there arena.now (file 1 name.now) ≡ true) }
     requires m_bound { (at + m ≤ 4294967295) × ((src + n ≤ 4294967295) × (n ≤ m)) }
-    ensures { Decided arena.now (file 1 name.now) at m plan.new result × (result ≡ 0 → Sourced arena.now (file 1 name.now) src n source.new) }
+    ensures { Decided arena.now (file 1 name.now) at m plan.new (code result) × (code result ≡ 0 → Sourced arena.now (file 1 name.now) src n source.new) }
 {
-    let r = decide(arena, first, next, 1, name, at, m, plan);
-    if r != 0 {
-        return r;
-    }
+    decide(arena, first, next, 1, name, at, m, plan)?;
     let k = touched(src, n);
     plan_blocks(arena, first, next, 1, name, src, k, source);
-    0
+    Ok(())
 }
 
 fn decide_collapse(
@@ -270,17 +228,17 @@ fn decide_collapse(
     len: usize,
     plan: &mut [u16],
     source: &mut [u16],
-) -> u8
+) -> Result<(), Reason>
     requires led { Led arena.now first.now next.now }
     requires plan_len { ((length plan.old ≡ 4096) × (length source.old ≡ 4097)) × (there arena.now (file 1 name.now) ≡ true) }
     requires len_bound { (from + len ≤ 4294967295) × (from + len < size) }
-    ensures { Resolved CollapseRange arena.now (file 1 name.now) size from len plan.new source.new result }
+    ensures { Resolved CollapseRange arena.now (file 1 name.now) size from len plan.new source.new (code result) }
 {
     if len == 0 {
         if size > LONGEST {
-            return NO_DEVICE_SPACE;
+            return Err(Reason::NoDeviceSpace);
         }
-        return 0;
+        return Ok(());
     }
     let long = length_of(arena, first, next, 1, name) - 1;
     if size > long as u64 {
@@ -301,18 +259,18 @@ fn decide_insert(
     len: usize,
     plan: &mut [u16],
     source: &mut [u16],
-) -> u8
+) -> Result<(), Reason>
     requires led { Led arena.now first.now next.now }
     requires plan_len { ((length plan.old ≡ 4096) × (length source.old ≡ 4097)) × (there arena.now (file 1 name.now) ≡ true) }
     requires len_bound { (size + len ≤ 4294967295) × (from < size) }
-    ensures { Resolved InsertRange arena.now (file 1 name.now) size from len plan.new source.new result }
+    ensures { Resolved InsertRange arena.now (file 1 name.now) size from len plan.new source.new (code result) }
 {
     if len == 0 {
-        return 0;
+        return Ok(());
     }
     let long = length_of(arena, first, next, 1, name) - 1;
     if (long as u64) < size {
-        return STUCK;
+        return Err(Reason::Stuck);
     }
     let n = size as usize - from;
     decide_copy(
@@ -339,18 +297,18 @@ fn decide_mode(
     len: u64,
     plan: &mut [u16],
     source: &mut [u16],
-) -> u8
+) -> Result<(), Reason>
     requires led { Led arena.now first.now next.now }
     requires plan_len { ((length plan.old ≡ 4096) × (length source.old ≡ 4097)) × (there arena.now (node_file rec) ≡ true) }
     requires len_bound { (from + len ≤ 4294967295) × ((fits_mode_of mode rec.size from len ≡ done tt) × (looks_at mode rec.size from len ≡ true)) }
-    ensures { Resolved mode arena.now (node_file rec) rec.size from len plan.new source.new result }
+    ensures { Resolved mode arena.now (node_file rec) rec.size from len plan.new source.new (code result) }
 {
     let name = rec.file;
     let size = rec.size;
     let at = from as usize;
     let n = len as usize;
     match mode {
-        FallocateMode::Allocate(_) => 0,
+        FallocateMode::Allocate(_) => Ok(()),
         FallocateMode::PunchHoleKeepSize => {
             decide_punch(arena, first, next, &name, size, from, len, plan)
         }
@@ -364,7 +322,7 @@ fn decide_mode(
         FallocateMode::InsertRange => {
             decide_insert(arena, first, next, &name, size, at, n, plan, source)
         }
-        FallocateMode::Unknown => INVALID_PARAM,
+        FallocateMode::Unknown => Err(Reason::InvalidParam),
     }
 }
 
@@ -381,33 +339,32 @@ pub fn fallocate_led(
     len: u64,
     plan: &mut [u16],
     source: &mut [u16],
-) -> Ranging
+) -> Result<Ranging, Reason>
     requires admitted { Admitted arena.now first.now next.now mem.now }
     requires plan_len { (length plan.old ≡ 4096) × (length source.old ≡ 4097) }
-    ensures { Ranged arena.now (table_in mem.now) who h mode from len plan.new source.new result }
+    ensures { Ranged arena.now (table_in mem.now) who h mode from len plan.new source.new (result_unwrap_or result no_ranging) (code result) }
 {
-    let b = by_handle(mem, who, h);
-    if b.reason != 0 {
-        return not_ranged(b.reason);
-    }
-    let rec = rec_at(mem, b.row);
-    let r = ask_record(rec, mode, from, len);
-    if r != 0 {
-        return not_ranged(r);
-    }
+    let row = by_handle(mem, who, h)?;
+    let rec = rec_at(mem, row);
+    ask_record(rec, mode, from, len)?;
     if !looks(mode, rec.size, from, len) {
-        return not_ranged(0);
+        return Ok(Ranging {
+            idle: true,
+            row: 0,
+            head: 0,
+        });
     }
     let name = rec.file;
     let c = head_at(arena, first, next, 1, &name);
     if c == 0 {
-        return not_ranged(STUCK);
+        return Err(Reason::Stuck);
     }
-    let d = decide_mode(arena, first, next, rec, mode, from, len, plan, source);
-    if d != 0 {
-        return not_ranged(d);
-    }
-    is_ranged(b.row, c - 1)
+    decide_mode(arena, first, next, rec, mode, from, len, plan, source)?;
+    Ok(Ranging {
+        idle: false,
+        row,
+        head: c - 1,
+    })
 }
 
 // ---- the stores, of the node of row i, whose file's head is block k
@@ -586,16 +543,13 @@ fn fallocate_asked(
     len: u64,
     plan: &mut [u16],
     source: &mut [u16],
-) -> Ranging
+) -> Result<Ranging, Reason>
     requires whole { Whole mem.now }
     requires plan_len { (length plan.old ≡ 4096) × (length source.old ≡ 4097) }
-    ensures { Ranged arena.now (table_in mem.now) who h mode from len plan.new source.new result }
+    ensures { Ranged arena.now (table_in mem.now) who h mode from len plan.new source.new (result_unwrap_or result no_ranging) (code result) }
 {
     let mut chains = [0u16; 8192];
-    let r = admit(arena, &mut chains, mem);
-    if r != 0 {
-        return not_ranged(r);
-    }
+    admit(arena, &mut chains, mem)?;
     let c = &chains[..];
     fallocate_led(
         arena,
@@ -622,16 +576,13 @@ fn fallocate_in(
     len: u64,
     plan: &mut [u16],
     source: &mut [u16],
-) -> u8
+) -> Result<(), Reason>
     requires { Whole mem.old × ((length plan.old ≡ 4096) × (length source.old ≡ 4097)) }
-    ensures { Ended (call_fallocate arena.old (table_in mem.old) who h mode from len) arena.old arena.new (table_in mem.new) result }
+    ensures { Ended (call_fallocate arena.old (table_in mem.old) who h mode from len) arena.old arena.new (table_in mem.new) (code result) }
 {
-    let s = fallocate_asked(&arena[..], &mem[..], who, h, mode, from, len, plan, source);
-    if s.reason != 0 {
-        return s.reason;
-    }
+    let s = fallocate_asked(&arena[..], &mem[..], who, h, mode, from, len, plan, source)?;
     if s.idle {
-        return 0;
+        return Ok(());
     }
     fallocate_row(
         arena,
@@ -644,7 +595,7 @@ fn fallocate_in(
         plan,
         &source[..],
     );
-    0
+    Ok(())
 }
 
 // The call on the table in memory.
@@ -656,9 +607,9 @@ pub fn fallocate_on(
     mode: FallocateMode,
     from: u64,
     len: u64,
-) -> u8
+) -> Result<(), Reason>
     requires { Whole mem.old }
-    ensures { Ended (call_fallocate arena.old (table_in mem.old) who h mode from len) arena.old arena.new (table_in mem.new) result }
+    ensures { Ended (call_fallocate arena.old (table_in mem.old) who h mode from len) arena.old arena.new (table_in mem.new) (code result) }
 {
     let mut plan = [0u16; PLAN];
     let mut source = [0u16; SOURCE];

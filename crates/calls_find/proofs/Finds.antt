@@ -2,24 +2,28 @@
 use mathlib.Core.Path.{◌≡◌, refl, sym, ◌∙◌, ap}
 use mathlib.Core.Bool.{true, false}
 use mathlib.Core.List.{List}
-use Prim.Native.Nat.{ℕ, ◌<◌}
+use Prim.Native.Nat.{ℕ}
 use native.Mathlib.Omega.{arith}
 use lib.Dec.{eqb}
-use Rattle.base.specs.Out.{Out, done, refused, bind, ensure, answer, Went, well, ill}
+use Rattle.std.specs.Prelude.{Result, Ok, Err}
+use Rattle.std.specs.Result.{result_unwrap_or}
+use Rattle.base.specs.Told.{number, code}
+use Rattle.base.specs.declared.reasons.Reason.{Reason}
+use Rattle.base.specs.Out.{Out, done, refused, bind, ensure, answer, Went, ill}
 use Rattle.base.proofs.Outs.{went-is, went-not, above_zero}
+use Rattle.base.proofs.Tells.{number-ne}
 use Rattle.structs.specs.declared.DiskINode.{DiskINode}
 use Rattle.utf8.specs.Names.{name_verdict, early_reason}
 use Rattle.table.specs.declared.Table.{Table}
 use Rattle.table.specs.declared.Handle.{Handle}
 use Rattle.table.specs.declared.Added.{Added}
 use Rattle.table.specs.Table.{row_at, can_hold}
-use Rattle.sefs.specs.Slots.{Slot, find_slot}
+use Rattle.sefs.specs.Slots.{find_slot}
 use Rattle.sefs.specs.Ask.{admit, an_owner, by_handle, good_name, not_long, known, folder, start}
 use Rattle.sefs.specs.Open.{call_root, call_find, hold_node}
-use Rattle.calls.specs.Answers.{got_of, held_table, given_of, not_handed}
+use Rattle.calls.specs.Answers.{got_of, held_table, said_held, added_as, no_handle, given_of}
 use Rattle.calls.specs.declared.HeldReply.{HeldReply}
-use Rattle.calls.specs.declared.Handed.{Handed}
-use Rattle.calls.proofs.Answers.{given-held, given-refused}
+use Rattle.calls.proofs.Answers.{said-held, said-not_held}
 use Rattle.calls.proofs.Asks.{Asks, asks-ensure, asks-then, asks-owner, asked-not, asked-done, call-stop, call_next, answer-stop, answer-next}
 use Rattle.finds.specs.Parts.{not_orphan, find_folder, find_id}
 use Rattle.finds.proofs.Asks.{asks-folder, found-is}
@@ -27,22 +31,20 @@ use Rattle.calls_find.specs.Finds.{Gives, give_node, give_named, find_ask, find_
 
 -- ---- answers
 
--- a refusal
-pub not-handed : {o : Out Added} {x : Added} {n : ℕ} {r : Handed} → 0 < n → o ≡ refused n → r ≡ not_handed n → Went o x Unit r.reason
-not-handed l e q = rw q (ill l e)
-
--- by a reason's number, and by the outcome
-given_is : (t : Table) {o : Out Added} {x : Added} {P : Type 0} {n : ℕ} {r : HeldReply} → Went o x P n → r ≡ given_of t x n → Gives t o r
-given_is t {x = x} (well e p) q =
-    let h = q ∙ sym (given-held t x 0 refl) in
-    (ap (λ (y : HeldReply). y.answer) h ∙ sym (ap got_of e), ap (λ (y : HeldReply). y.table) h ∙ sym (ap (held_table t) e))
-given_is t {x = x} (ill {r = n} l e) q =
-    let h = q ∙ sym (given-refused t x n (λ z. omega arith)) in
-    (ap (λ (y : HeldReply). y.answer) h ∙ sym (ap got_of e), ap (λ (y : HeldReply). y.table) h ∙ sym (ap (held_table t) e))
+-- by what the steps answered, and by the outcome
+given_is : (t : Table) {o : Out Added} {u : Table} {P : Type 0} (n : Result Handle Reason) {r : HeldReply} → Went o (added_as (result_unwrap_or n no_handle) u) P (code n) → r ≡ given_of t u n → Gives t o r
+given_is t {u = u} (Ok h) g q =
+    let e = went-is g refl in
+    let w = ap said_held q ∙ said-held t u (Ok h) h refl in
+    (ap (λ (p : Out Handle × Table). p.0) w ∙ sym (ap got_of e), ap (λ (p : Out Handle × Table). p.1) w ∙ sym (ap (held_table t) e))
+given_is t {u = u} (Err r) g q =
+    let e = went-not g (number-ne r) in
+    let w = ap said_held q ∙ said-not_held t u (Err r) (number r) refl (number-ne r) in
+    (ap (λ (p : Out Handle × Table). p.0) w ∙ sym (ap got_of e), ap (λ (p : Out Handle × Table). p.1) w ∙ sym (ap (held_table t) e))
 
 -- the same, where the table that memory was given is known by another name
-pub given-table : (f : Table → Out Added) (t : Table) {u v : Table} {x : Added} {P : Type 0} {n : ℕ} {r : HeldReply} → u ≡ v → Went (f u) x P n → r ≡ given_of t x n → Gives t (f v) r
-given-table f t q g e = rw (← q) (given_is t g e)
+pub given-table : (f : Table → Out Added) (t : Table) {x y u : Table} {P : Type 0} (n : Result Handle Reason) {r : HeldReply} → x ≡ y → Went (f x) (added_as (result_unwrap_or n no_handle) u) P (code n) → r ≡ given_of t u n → Gives t (f y) r
+given-table f t n q g e = rw (← q) (given_is t n g e)
 
 -- ---- 16, and then the opening
 

@@ -8,13 +8,13 @@ use Rattle.table.specs.declared.Added.{Added}
 use Rattle.table.specs.Table.{can_hold}
 use Rattle.sefs.specs.Ask.{start, good_name}
 use Rattle.sefs.specs.Open.{hold_node}
-use Rattle.calls.specs.Answers.{got_of, held_table}
+use Rattle.calls.specs.Answers.{out_of, got_of, held_table}
 use Rattle.calls.specs.declared.HeldReply.{HeldReply}
 use Rattle.finds.specs.Parts.{find_folder, find_id}
 
 -- a call that makes a hold answers what its outcome says, with the outcome's table
 abbrev pub Gives : Table → Out Added → HeldReply → Type 0
-Gives t o r = (r.answer ≡ got_of o) × (r.table ≡ held_table t o)
+Gives t o r = (out_of r.answer ≡ got_of o) × (r.table ≡ held_table t o)
 
 -- ---- 16, then the opening
 

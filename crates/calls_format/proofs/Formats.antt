@@ -5,6 +5,9 @@ use mathlib.Core.List.{List}
 use Prim.Native.Nat.{ℕ, ◌<◌}
 use native.Mathlib.Omega.{arith}
 use lib.ListN.{length, replicate}
+use Rattle.std.specs.Prelude.{Ok, Err}
+use Rattle.base.specs.Told.{number}
+use Rattle.base.specs.declared.reasons.Reason.{Reason}
 use Rattle.base.specs.Out.{Out, done, refused, bind, Went, ill}
 use Rattle.base.proofs.Outs.{went-is, went-has, went-not, went-stop, went-next, went-weaken, above_zero, bind_assoc}
 use Rattle.structs.specs.declared.Timespec.{Timespec}
@@ -148,9 +151,9 @@ module _ (a name : List ℕ) (time : Timespec) where
 
 -- ---- what is returned: t is the empty table
 
-module _ {t : Table} (k : t ≡ empty_table) {o : Out After} {a b : List ℕ} {n : ℕ} {r : answered.Reply} where
-  pub call-stuck : Ended o a b empty_table n → (n ≡ 0 → ⊥) → r ≡ refused_with t n → Returned empty_table o a b r
-  call-stuck g z q = returned-ended empty_table g (q ∙ ap (λ (x : Table). refused_with x n) k ∙ after-refused empty_table empty_table n z)
+module _ {t : Table} (k : t ≡ empty_table) {o : Out After} {a b : List ℕ} {r : answered.Reply} where
+  pub call-stuck : (e : Reason) → Ended o a b empty_table (number e) → r ≡ refused_with t e → Returned empty_table o a b r
+  call-stuck e g q = returned-ended empty_table (Err e) g (q ∙ ap (λ (x : Table). refused_with x e) k ∙ after-refused empty_table empty_table e)
 
-  pub call-went : Ended o a b empty_table n → n ≡ 0 → r ≡ done_with t → Returned empty_table o a b r
-  call-went g z q = returned-ended empty_table g (q ∙ ap done_with k ∙ after-done empty_table empty_table n z)
+  pub call-went : Ended o a b empty_table 0 → r ≡ done_with t → Returned empty_table o a b r
+  call-went g q = returned-ended empty_table (Ok tt) g (q ∙ ap done_with k ∙ after-done empty_table empty_table)

@@ -2,6 +2,7 @@
 #![tactic(auto)]
 
 ghost use Rattle.std.specs.Prelude.{◌≡◌, true, List, ℕ, ◌<◌, ◌≤◌, length};
+ghost use Rattle.base.specs.Told.{code};
 ghost use Rattle.base.specs.Out.{Went};
 ghost use Rattle.table.specs.Table.{empty_table};
 ghost use Rattle.arena.specs.Blocks.{legal};
@@ -13,6 +14,7 @@ ghost use Rattle.mem.specs.State.{fs_of, Ready, Stepped};
 ghost use Rattle.steps.specs.Ends.{Ended, Returned};
 ghost use Rattle.calls_format.specs.Format.{make_meta, name_twice, sync_both, fill_root, format_work, cleared, formatted, emptied};
 
+use base::Reason;
 use calls::{Reply, done, refused};
 use clears::clear_all;
 use files::store::{cut, make};
@@ -23,71 +25,56 @@ use nodes::{new_node, sync_row};
 use structs::Timespec;
 
 // The metadata file, as long as one group.
-fn make_meta(arena: &[u8], work: &mut [u8]) -> u8
+fn make_meta(arena: &[u8], work: &mut [u8]) -> Result<(), Reason>
     requires { Fine arena.now work.old × (3 ≤ left work.old) }
-    ensures { Did (make_meta (view arena.now work.old)) arena.now work.old work.new 3 result }
+    ensures { Did (make_meta (view arena.now work.old)) arena.now work.old work.new 3 (code result) }
 {
     let meta = [0u8; 16];
-    let r = make(arena, work, 0, &meta);
-    if r != 0 {
-        return r;
-    }
+    make(arena, work, 0, &meta)?;
     cut(arena, work, 0, &meta, 131072)
 }
 
 // A folder's own `.`, and the `..` that names it.
-fn name_twice(mem: &mut [u8], i: usize) -> u8
+fn name_twice(mem: &mut [u8], i: usize) -> Result<(), Reason>
     requires { Whole mem.old × (i < 34) }
-    ensures { (a w : List ℕ) → Went (name_twice (fs_of a w mem.old) i) (fs_of a w mem.new) (Whole mem.new) result }
+    ensures { (a w : List ℕ) → Went (name_twice (fs_of a w mem.old) i) (fs_of a w mem.new) (Whole mem.new) (code result) }
 {
-    let r = nlinks_inc(mem, i);
-    if r != 0 {
-        return r;
-    }
+    nlinks_inc(mem, i)?;
     nlinks_inc(mem, i)
 }
 
-fn sync_both(arena: &[u8], work: &mut [u8], mem: &mut [u8], i: usize) -> u8
+fn sync_both(arena: &[u8], work: &mut [u8], mem: &mut [u8], i: usize) -> Result<(), Reason>
     requires { Ready arena.now work.old mem.old × ((13 ≤ left work.old) × (i < 34)) }
-    ensures { Stepped (sync_both (fs_of arena.now work.old mem.old) i) arena.now work.old work.new mem.new 13 result }
+    ensures { Stepped (sync_both (fs_of arena.now work.old mem.old) i) arena.now work.old work.new mem.new 13 (code result) }
 {
-    let r = sync_meta(arena, work, &mem[..]);
-    if r != 0 {
-        return r;
-    }
+    sync_meta(arena, work, &mem[..])?;
     sync_row(arena, work, mem, i)
 }
 
 // The root is its own parent.
-fn fill_root(arena: &[u8], work: &mut [u8], mem: &mut [u8], i: usize) -> u8
+fn fill_root(arena: &[u8], work: &mut [u8], mem: &mut [u8], i: usize) -> Result<(), Reason>
     requires { Ready arena.now work.old mem.old × ((19 ≤ left work.old) × (i < 34)) }
-    ensures { Stepped (fill_root (fs_of arena.now work.old mem.old) i) arena.now work.old work.new mem.new 19 result }
+    ensures { Stepped (fill_root (fs_of arena.now work.old mem.old) i) arena.now work.old work.new mem.new 19 (code result) }
 {
     let id = id_at(&mem[..], i);
-    let r = dirent_init(arena, work, mem, i, id);
-    if r != 0 {
-        return r;
-    }
-    let r = name_twice(mem, i);
-    if r != 0 {
-        return r;
-    }
+    dirent_init(arena, work, mem, i, id)?;
+    name_twice(mem, i)?;
     sync_both(arena, work, mem, i)
 }
 
-fn format_work(arena: &[u8], work: &mut [u8], mem: &mut [u8], time: Timespec, file: [u8; 16]) -> u8
+fn format_work(
+    arena: &[u8],
+    work: &mut [u8],
+    mem: &mut [u8],
+    time: Timespec,
+    file: [u8; 16],
+) -> Result<(), Reason>
     requires { Ready arena.now work.old mem.old × (25 ≤ left work.old) }
-    ensures { Stepped (format_work (fs_of arena.now work.old mem.old) time file) arena.now work.old work.new mem.new 25 result }
+    ensures { Stepped (format_work (fs_of arena.now work.old mem.old) time file) arena.now work.old work.new mem.new 25 (code result) }
 {
-    let r = make_meta(arena, work);
-    if r != 0 {
-        return r;
-    }
-    let o = new_node(arena, work, mem, 2, 493, time, file);
-    if o.reason != 0 {
-        return o.reason;
-    }
-    fill_root(arena, work, mem, o.row)
+    make_meta(arena, work)?;
+    let row = new_node(arena, work, mem, 2, 493, time, file)?;
+    fill_root(arena, work, mem, row)
 }
 
 // The workspace has no block yet. The steps start from what memory has, on an arena of zeros.
@@ -97,23 +84,25 @@ fn format_in(
     mem: &mut [u8],
     time: Timespec,
     file: [u8; 16],
-) -> u8
+) -> Result<(), Reason>
     requires { Empty arena.old work.old 35 × Whole mem.old }
-    ensures { Ended (emptied (format_work (cleared arena.old mem.old) time file)) arena.old arena.new empty_table result }
+    ensures { Ended (emptied (format_work (cleared arena.old mem.old) time file)) arena.old arena.new empty_table (code result) }
 {
     clear_all(&arena[..], work);
-    let r = format_work(&arena[..], work, mem, time, file);
-    if r != 0 {
-        return r;
-    }
+    format_work(&arena[..], work, mem, time, file)?;
     overlay::commit(arena, &work[..]);
-    0
+    Ok(())
 }
 
 // The workspace is made.
-fn format_over(arena: &mut [u8], mem: &mut [u8], time: Timespec, file: [u8; 16]) -> u8
+fn format_over(
+    arena: &mut [u8],
+    mem: &mut [u8],
+    time: Timespec,
+    file: [u8; 16],
+) -> Result<(), Reason>
     requires { (legal arena.old ≡ true) × Whole mem.old }
-    ensures { Ended (emptied (format_work (cleared arena.old mem.old) time file)) arena.old arena.new empty_table result }
+    ensures { Ended (emptied (format_work (cleared arena.old mem.old) time file)) arena.old arena.new empty_table (code result) }
 {
     let mut work = [0u8; 17920];
     overlay::begin(&mut work);
@@ -121,9 +110,9 @@ fn format_over(arena: &mut [u8], mem: &mut [u8], time: Timespec, file: [u8; 16])
 }
 
 // Memory is made: no row in use, and one group of ids.
-fn format_fresh(arena: &mut [u8], time: Timespec, file: [u8; 16]) -> u8
+fn format_fresh(arena: &mut [u8], time: Timespec, file: [u8; 16]) -> Result<(), Reason>
     requires { legal arena.old ≡ true }
-    ensures { Ended (formatted (call_format arena.old time file)) arena.old arena.new empty_table result }
+    ensures { Ended (formatted (call_format arena.old time file)) arena.old arena.new empty_table (code result) }
 {
     let mut mem = [0u8; MEMORY];
     put_empty(&mut mem);
@@ -132,11 +121,11 @@ fn format_fresh(arena: &mut [u8], time: Timespec, file: [u8; 16]) -> u8
 }
 
 // The call but for the table that it leaves, the empty one.
-pub fn format_on(arena: &mut [u8], time: Timespec, file: [u8; 16]) -> u8
-    ensures { Ended (formatted (call_format arena.old time file)) arena.old arena.new empty_table result }
+pub fn format_on(arena: &mut [u8], time: Timespec, file: [u8; 16]) -> Result<(), Reason>
+    ensures { Ended (formatted (call_format arena.old time file)) arena.old arena.new empty_table (code result) }
 {
     if !arena::legal(&arena[..]) {
-        return 1;
+        return Err(Reason::BadArena);
     }
     format_fresh(arena, time, file)
 }
@@ -145,9 +134,8 @@ pub fn format(arena: &mut [u8], time: Timespec, file: [u8; 16]) -> Reply
     ensures { Returned empty_table (formatted (call_format arena.old time file)) arena.old arena.new result }
 {
     let t = table::empty();
-    let r = format_on(arena, time, file);
-    if r != 0 {
-        return refused(t, r);
+    match format_on(arena, time, file) {
+        Ok(()) => done(t),
+        Err(reason) => refused(t, reason),
     }
-    done(t)
 }

@@ -1,8 +1,8 @@
 -- Order 10, of the lent output: "Bytes after the text stay." And a refusal writes nothing.
-use Rattle.std.specs.Prelude.{◌≡◌, List, ℕ, ◌≤◌, ◌<◌, length, get_or}
+use Rattle.std.specs.Prelude.{◌≡◌, List, ℕ, ◌≤◌, ◌<◌, length, get_or, Result}
 use Rattle.base.specs.Out.{Out, done, refused}
 use Rattle.calls.specs.Answers.{taken_of, Lays}
-use Rattle.calls.specs.declared.Taken.{Taken}
+use Rattle.base.specs.declared.reasons.Reason.{Reason}
 use Rattle.inventory.specs.Inventory.{call_inventory}
 
 -- the text stands at the output's start, and the rest is as it was
@@ -19,4 +19,4 @@ pub record OutputAfter (out : List ℕ) (o : Out (List ℕ)) (now : List ℕ) : 
 
 -- of any result that the call's contract allows
 unfoldable pub Stays : Type 0
-Stays = (a out now : List ℕ) (r : Taken) → Lays taken_of (call_inventory a (length out)) out now r → OutputAfter out (call_inventory a (length out)) now
+Stays = (a out now : List ℕ) (r : Result ℕ Reason) → Lays taken_of (call_inventory a (length out)) out now r → OutputAfter out (call_inventory a (length out)) now

@@ -14,32 +14,39 @@ ghost use Rattle.inventory.specs.Inventory.{call_inventory};
 mod passes;
 mod places;
 
-use calls::Taken;
+use base::Reason;
 use calls::led::admit_arena;
 use fsck::{Verdict, check_led};
 use mem::{MEMORY, put_empty};
 use passes::pass;
 
-const WRONG_FS: u8 = 18;
-
-const OUT_FULL: u8 = 20;
-
 // Of an arena that passes.
-fn inventory_passed(arena: &[u8], first: &[u16], next: &[u16], out: &mut [u8]) -> Taken
+fn inventory_passed(
+    arena: &[u8],
+    first: &[u16],
+    next: &[u16],
+    out: &mut [u8],
+) -> Result<usize, Reason>
     requires led { Led arena.now first.now next.now }
     requires empty_table_value { checked arena.now empty_table ≡ 0 }
     ensures { Lays taken_of (call_inventory arena.now (length out.old)) out.old out.new result }
 {
     let measured = pass(arena, first, next, false, out);
     if measured.full {
-        return Taken::Refused(OUT_FULL);
+        return Err(Reason::OutFull);
     }
     pass(arena, first, next, true, out);
-    Taken::Bytes(measured.at)
+    Ok(measured.at)
 }
 
 // What follows the tests of the arena, by the chains that they left: rules 3 to 8 with the empty table, and then the text.
-fn inventory_led(arena: &[u8], first: &[u16], next: &[u16], mem: &mut [u8], out: &mut [u8]) -> Taken
+fn inventory_led(
+    arena: &[u8],
+    first: &[u16],
+    next: &[u16],
+    mem: &mut [u8],
+    out: &mut [u8],
+) -> Result<usize, Reason>
     requires led { Led arena.now first.now next.now }
     requires whole { Whole mem.old × (table_in mem.old ≡ empty_table) }
     ensures { Lays taken_of (call_inventory arena.now (length out.old)) out.old out.new result }
@@ -51,24 +58,26 @@ fn inventory_led(arena: &[u8], first: &[u16], next: &[u16], mem: &mut [u8], out:
             unused: _,
             free: _,
         } => inventory_passed(arena, first, next, out),
-        Verdict::Fail(_) => Taken::Refused(WRONG_FS),
+        Verdict::Fail(_) => Err(Reason::WrongFs),
     }
 }
 
-fn inventory_in(arena: &[u8], chains: &mut [u16], mem: &mut [u8], out: &mut [u8]) -> Taken
+fn inventory_in(
+    arena: &[u8],
+    chains: &mut [u16],
+    mem: &mut [u8],
+    out: &mut [u8],
+) -> Result<usize, Reason>
     requires blank { Blank chains.old }
     requires whole { Whole mem.old × (table_in mem.old ≡ empty_table) }
     ensures { Lays taken_of (call_inventory arena.now (length out.old)) out.old out.new result }
 {
-    let r = admit_arena(arena, chains);
-    if r != 0 {
-        return Taken::Refused(r);
-    }
+    admit_arena(arena, chains)?;
     let c = &chains[..];
     inventory_led(arena, &c[..4096], &c[4096..8192], mem, out)
 }
 
-pub fn inventory(arena: &[u8], out: &mut [u8]) -> Taken
+pub fn inventory(arena: &[u8], out: &mut [u8]) -> Result<usize, Reason>
     ensures { Lays taken_of (call_inventory arena.now (length out.old)) out.old out.new result }
 {
     let mut chains = [0u16; 8192];

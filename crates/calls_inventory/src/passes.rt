@@ -32,10 +32,10 @@ fn stopped(s: Progress, full: bool) -> Progress
     let place = s.place;
     Progress {
         over: true,
-        full: full,
+        full,
         at: s.at,
         from: s.from,
-        place: place,
+        place,
     }
 }
 
@@ -47,7 +47,7 @@ fn moved(s: Progress, place: Place) -> Progress
         full: false,
         at: s.at,
         from: s.from,
-        place: place,
+        place,
     }
 }
 
@@ -160,6 +160,7 @@ fn run(
     ensures { (o : List ℕ) → Midst arena.now write o out.old s → PassOver arena.now write o out.new result }
 {
     let mut now = s;
+    // A loop: a turn tells whether the pass is over.
     loop {
         now = turn(arena, first, next, write, now, slot, out);
         if now.over {
@@ -180,7 +181,7 @@ pub fn pass(arena: &[u8], first: &[u16], next: &[u16], write: bool, out: &mut [u
         full: false,
         at: 0,
         from: 0,
-        place: place,
+        place,
     };
     run(arena, first, next, write, s, &mut slot, out)
 }

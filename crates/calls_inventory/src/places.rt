@@ -42,7 +42,7 @@ pub fn at_root(arena: &[u8], first: &[u16], next: &[u16]) -> Place
         folder: ROOT,
         slot: 2,
         path: 0,
-        rec: rec,
+        rec,
     }
 }
 
@@ -64,7 +64,7 @@ pub fn past_line(p: Place, id: usize, node: DiskINode, longer: usize) -> Place
         folder: p.folder,
         slot: p.slot + 1,
         path: p.path,
-        rec: rec,
+        rec,
     }
 }
 
@@ -86,12 +86,10 @@ fn slot_of(arena: &[u8], first: &[u16], next: &[u16], rec: DiskINode, id: usize)
 {
     let n = index(rec.blocks);
     let file = rec.file;
-    let mut k: usize = 2;
-    while k < n {
+    for k in 2..n {
         if id_in(arena, first, next, &file, k) == id {
             return k;
         }
-        k = k + 1;
     }
     n
 }
@@ -113,6 +111,6 @@ pub fn go_up(arena: &[u8], first: &[u16], next: &[u16], p: Place, slot: &mut [u8
         folder: above,
         slot: k + 1,
         path: p.path - 1 - escaped_size(name_of(&slot[..])),
-        rec: rec,
+        rec,
     }
 }

@@ -22,13 +22,10 @@ use Rattle.sefs.specs.Nodes.{node_file}
 use Rattle.sefs.specs.Slots.{slot_bytes}
 use Rattle.sefs.specs.Read.{readable, list_slot, list_to, call_listing}
 use Rattle.calls.specs.Answers.{listed_of}
-use Rattle.calls.specs.declared.Listed.{Listed}
-use Rattle.calls.specs.declared.Listed.TheVariants as listeds
 use Rattle.calls.proofs.Asks.{handle-below}
 use Rattle.list_slots.proofs.Turns.{list-bytes}
-use Rattle.calls_list.specs.declared.Moved.{Moved}
 use Rattle.verdicts.specs.Starts.{start_of}
-use Rattle.calls_list.specs.Place.{moved_as}
+use Rattle.calls_list.specs.Place.{next_after}
 
 -- ---- the bytes of slots
 
@@ -75,15 +72,15 @@ listing-left a t who h next room l e =
     (i.0, handle-below t who h i.0 i.1, omega (arith, list_length a r next (min (r.blocks - next) (room / 264)) l s.2))
 
 -- slots that were written were listed
-pub listed-slots : (n : ℕ) (o : Out (List ℕ)) (r : Listed) → r ≡ listed_of o → r ≡ listeds.Slots n → (l : List ℕ) × (o ≡ done l) × (length l / 264 ≡ n)
-listed-slots n (done l) r p q = (l, refl, let e : length l / 264 ≡ n = cc in e)
-listed-slots n (refused m) r p q = absurd (let z : ◌≡◌ {A = ℕ} 0 1 = cc in omega arith)
+pub listed-slots : (n : ℕ) (o : Out (List ℕ)) → done n ≡ listed_of o → (l : List ℕ) × (o ≡ done l) × (length l / 264 ≡ n)
+listed-slots n (done l) q = (l, refl, let e : length l / 264 ≡ n = cc in e)
+listed-slots n (refused m) q = absurd (let z : ◌≡◌ {A = ℕ} 0 1 = cc in omega arith)
 
-pub slots-moved : (dots : Bool) (next from n : ℕ) (o : Out (List ℕ)) (r : Listed) → from ≡ start_of dots next → r ≡ listed_of o → r ≡ listeds.Slots n → ◌≡◌ {A = Moved} (record { answer = listeds.Slots n; next = from + n }) (moved_as dots next o)
-slots-moved dots next from n o r f p q =
-    let m = listed-slots n o r p q in
-    ap (λ (k : ℕ). record { answer = listeds.Slots k; next = from + k }) (sym m.2) ∙ ap (λ (k : ℕ). record { answer = listeds.Slots (length m.0 / 264); next = k + length m.0 / 264 }) f ∙ sym (ap (moved_as dots next) m.1)
+pub slots-moved : (dots : Bool) (next from n : ℕ) (o : Out (List ℕ)) → from ≡ start_of dots next → done n ≡ listed_of o → from + n ≡ next_after dots next o
+slots-moved dots next from n o f q =
+    let m = listed-slots n o q in
+    ap (λ (k : ℕ). from + k) (sym m.2) ∙ ap (λ (k : ℕ). k + length m.0 / 264) f ∙ sym (ap (next_after dots next) m.1)
 
-pub refused-moved : (dots : Bool) (next n : ℕ) (o : Out (List ℕ)) (r : Listed) → r ≡ listed_of o → r ≡ listeds.Refused n → ◌≡◌ {A = Moved} (record { answer = listeds.Refused n; next = next }) (moved_as dots next o)
-refused-moved dots next n (done l) r p q = absurd (let z : ◌≡◌ {A = ℕ} 0 1 = cc in omega arith)
-refused-moved dots next n (refused m) r p q = ap (λ (k : ℕ). record { answer = listeds.Refused k; next = next }) (let e : n ≡ m = cc in e)
+pub refused-moved : (dots : Bool) (next n : ℕ) (o : Out (List ℕ)) → refused n ≡ listed_of o → next ≡ next_after dots next o
+refused-moved dots next n (done l) q = absurd (let z : ◌≡◌ {A = ℕ} 0 1 = cc in omega arith)
+refused-moved dots next n (refused m) q = refl

@@ -1,10 +1,10 @@
 -- The listing by a place: "the call moves it on by the slots written", and a refusal leaves it.
-use Rattle.std.specs.Prelude.{◌≡◌, Bool, List, ℕ, ◌+◌, ◌/◌, length}
+use Rattle.std.specs.Prelude.{◌≡◌, Bool, List, ℕ, ◌+◌, ◌/◌, length, Result}
 use Rattle.base.specs.Out.{Out, done, refused}
+use Rattle.base.specs.declared.reasons.Reason.{Reason}
 use Rattle.table.specs.declared.Table.{Table}
 use Rattle.sefs.specs.Read.{call_listing}
 use Rattle.calls.specs.Answers.{listed_of, Lays}
-use Rattle.calls.specs.declared.Listed.{Listed}
 use Rattle.verdicts.specs.Starts.{start_of}
 use Rattle.calls_list.specs.declared.Place.{Place}
 use Rattle.calls_list.specs.declared.Moved.{Moved}
@@ -22,9 +22,9 @@ abbrev pub place_after : Place → Out (List ℕ) → Place
 place_after p o = record { handle = p.handle; next = next_after p.dots p.next o; dots = p.dots }
 
 -- the same by value: the answer, and the slot that comes next
-abbrev pub moved_as : Bool → ℕ → Out (List ℕ) → Moved
-moved_as dots next o = record { answer = listed_of o; next = next_after dots next o }
+abbrev pub Moves : Bool → ℕ → Out (List ℕ) → List ℕ → List ℕ → Moved → Type 0
+Moves dots next o out now r = (r.next ≡ next_after dots next o) × Lays listed_of o out now r.answer
 
 -- the listing from the place p: its answer r, and place and output afterwards
-abbrev pub ListsAt : List ℕ → Table → ℕ → Place → List ℕ → Place → List ℕ → Listed → Type 0
+abbrev pub ListsAt : List ℕ → Table → ℕ → Place → List ℕ → Place → List ℕ → Result ℕ Reason → Type 0
 ListsAt a t w p out q now r = (q ≡ place_after p (list_at a t w p (length out))) × Lays listed_of (list_at a t w p (length out)) out now r

@@ -9,10 +9,11 @@ ghost use Rattle.mem.specs.Mem.{table_in, Whole};
 ghost use Rattle.calls.specs.Answers.{listed_of, Lays};
 ghost use Rattle.calls.specs.Asked.{Admitted};
 ghost use Rattle.verdicts.specs.Starts.{start_of};
-ghost use Rattle.calls_list.specs.Place.{moved_as, ListsAt};
+ghost use Rattle.calls_list.specs.Place.{Moves, ListsAt};
 
+use base::Reason;
+use calls::by_handle;
 use calls::led::admit;
-use calls::{Listed, by_handle};
 use list_slots::list_in;
 use mem::{MEMORY, put_table, rec_at};
 use table::{Handle, Table};
@@ -28,34 +29,42 @@ pub fn list_led(
     h: Handle,
     at: u64,
     out: &mut [u8],
-) -> Listed
+) -> Result<usize, Reason>
     requires { Admitted arena.now first.now next.now mem.now }
     ensures { Lays listed_of (call_listing arena.now (table_in mem.now) who h at (length out.old)) out.old out.new result }
 {
-    let b = by_handle(mem, who, h);
-    if b.reason != 0 {
-        return Listed::Refused(b.reason);
-    }
-    let rec = rec_at(mem, b.row);
+    let row = by_handle(mem, who, h)?;
+    let rec = rec_at(mem, row);
     list_in(arena, first, next, rec, at, out)
 }
 
 // The call on the table in memory.
-pub fn listing_on(arena: &[u8], mem: &[u8], who: u8, h: Handle, at: u64, out: &mut [u8]) -> Listed
+pub fn listing_on(
+    arena: &[u8],
+    mem: &[u8],
+    who: u8,
+    h: Handle,
+    at: u64,
+    out: &mut [u8],
+) -> Result<usize, Reason>
     requires { Whole mem.now }
     ensures { Lays listed_of (call_listing arena.now (table_in mem.now) who h at (length out.old)) out.old out.new result }
 {
     let mut chains = [0u16; 8192];
-    let r = admit(arena, &mut chains, mem);
-    if r != 0 {
-        return Listed::Refused(r);
-    }
+    admit(arena, &mut chains, mem)?;
     let c = &chains[..];
     list_led(arena, &c[..4096], &c[4096..8192], mem, who, h, at, out)
 }
 
 // The slots from `next` on, as stored: as many as there are and as the output takes.
-pub fn list_from(arena: &[u8], t: Table, who: u8, h: Handle, next: u64, out: &mut [u8]) -> Listed
+pub fn list_from(
+    arena: &[u8],
+    t: Table,
+    who: u8,
+    h: Handle,
+    next: u64,
+    out: &mut [u8],
+) -> Result<usize, Reason>
     ensures { Lays listed_of (call_listing arena.now t who h next (length out.old)) out.old out.new result }
 {
     let mut mem = [0u8; MEMORY];
@@ -77,7 +86,7 @@ pub struct Place {
 // What a listing answers, and the slot that comes next then.
 #[derive(Clone, Copy)]
 pub struct Moved {
-    pub answer: Listed,
+    pub answer: Result<usize, Reason>,
     pub next: u64,
 }
 
@@ -91,24 +100,29 @@ pub fn list_on(
     next: u64,
     out: &mut [u8],
 ) -> Moved
-    ensures { Lays (moved_as dots next) (call_listing arena.now t who h (start_of dots next) (length out.old)) out.old out.new result }
+    ensures { Moves dots next (call_listing arena.now t who h (start_of dots next) (length out.old)) out.old out.new result }
 {
     let from = start_of(dots, next);
-    let l = list_from(arena, t, who, h, from, out);
-    match l {
-        Listed::Slots(n) => Moved {
-            answer: Listed::Slots(n),
+    match list_from(arena, t, who, h, from, out) {
+        Ok(n) => Moved {
+            answer: Ok(n),
             next: from + n as u64,
         },
-        Listed::Refused(r) => Moved {
-            answer: Listed::Refused(r),
-            next: next,
+        Err(reason) => Moved {
+            answer: Err(reason),
+            next,
         },
     }
 }
 
 // The slots from the place on, as stored; the dots where it asks for them. The place is taken apart, and only its next slot changes.
-pub fn list(arena: &[u8], t: Table, who: u8, place: &mut Place, out: &mut [u8]) -> Listed
+pub fn list(
+    arena: &[u8],
+    t: Table,
+    who: u8,
+    place: &mut Place,
+    out: &mut [u8],
+) -> Result<usize, Reason>
     ensures { ListsAt arena.now t who place.old out.old place.new out.new result }
 {
     let h = place.handle;

@@ -18,7 +18,11 @@ use Rattle.mending.specs.Room.{wanted, given_back}
 use Rattle.mending.proofs.Steps.{Done, Fails, meta-loaded, steps-law}
 use Rattle.mend_plan.specs.Plan.{Decided, can, unfit, full}
 use Rattle.mend_plan.proofs.Records.{can-mend}
-use Rattle.calls.specs.declared.Answer.TheVariants as answers
+use Rattle.std.specs.Prelude.{Result}
+use Rattle.base.specs.Told.{code}
+use Rattle.base.specs.declared.reasons.Reason.{Reason}
+use Rattle.calls.specs.Answers.{answer_of}
+use Rattle.calls.proofs.Answers.{out-done, out-refused}
 use Rattle.calls_mend.specs.Mends.{Mends, MendEnded, went, stopped, steps_on, Asked, clear, refuses}
 
 -- ---- what refuses
@@ -76,13 +80,11 @@ module _ {a : List ℕ} {t : Table} {P : Type 0} where
   asked-has (clear e m w p) z = p
   asked-has (refuses l e) z = absurd (omega arith)
 
--- ---- how the call ends, by the reason's number; memory has had the table t
+-- ---- how the call ends; memory has had the table t
 
-module _ {a b : List ℕ} {u t : Table} (q : u ≡ t) where
-  pub ended-not : {r : ℕ} → MendEnded (call_mend a u) a b r → (r ≡ 0 → ⊥) → Mends (call_mend a t) a b (answers.Refused r)
-  ended-not (went e) n = absurd (n refl)
-  ended-not (stopped l e k) n = let o = sym (ap (call_mend a) q) ∙ e in record { answer = rw o refl; arena = rw o k }
-
-  pub ended-done : {r : ℕ} → MendEnded (call_mend a u) a b r → r ≡ 0 → Mends (call_mend a t) a b answers.Done
-  ended-done (went e) z = let o = sym (ap (call_mend a) q) ∙ e in record { answer = rw o refl; arena = rw o refl }
-  ended-done (stopped l e k) z = absurd (omega arith)
+pub ended : {a b : List ℕ} {u t : Table} (q : u ≡ t) (r : Result Unit Reason) → MendEnded (call_mend a u) a b (code r) → Mends (call_mend a t) a b r
+ended {a} {b} {u} {t} q r g = go (code r) refl g
+  where
+    go : (k : ℕ) → code r ≡ k → MendEnded (call_mend a u) a b k → Mends (call_mend a t) a b r
+    go k z (went e) = let o = sym (ap (call_mend a) q) ∙ e in record { answer = out-done r z ∙ sym (ap answer_of o); arena = rw o refl }
+    go k z (stopped l e h) = let o = sym (ap (call_mend a) q) ∙ e in record { answer = out-refused r k z (λ y. omega arith) ∙ sym (ap answer_of o); arena = rw o h }

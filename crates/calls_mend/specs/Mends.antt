@@ -1,18 +1,18 @@
 -- What the mender answers and leaves, by the outcome that its definition gives: the arena was a and is b.
-use Rattle.std.specs.Prelude.{◌≡◌, true, List, ℕ, ◌+◌, ◌≤◌, ◌<◌}
+use Rattle.std.specs.Prelude.{◌≡◌, true, List, ℕ, ◌+◌, ◌≤◌, ◌<◌, Result}
 use Rattle.base.specs.Out.{Out, done, refused, bind, kept}
 use Rattle.table.specs.declared.Table.{Table}
 use Rattle.arena.specs.Places.{free_count}
 use Rattle.sefs.specs.Ask.{start}
-use Rattle.calls.specs.declared.Answer.{Answer}
-use Rattle.calls.specs.Answers.{answer_of}
+use Rattle.base.specs.declared.reasons.Reason.{Reason}
+use Rattle.calls.specs.Answers.{out_of, answer_of}
 use Rattle.mending.specs.Mendable.{mendable}
 use Rattle.mending.specs.Mend.{mend_steps, call_mend}
 use Rattle.mending.specs.Room.{wanted, given_back}
 
 -- "A refusal returns its number only; arena .. keep their bytes"
-pub record Mends (o : Out (List ℕ)) (a b : List ℕ) (r : Answer) : Type 0 where
-  pub answer : r ≡ answer_of o
+pub record Mends (o : Out (List ℕ)) (a b : List ℕ) (r : Result Unit Reason) : Type 0 where
+  pub answer : out_of r ≡ answer_of o
   pub arena : b ≡ kept a o
 
 -- the same by the reason's number

@@ -6,14 +6,16 @@ use Rattle.structs.specs.declared.Timespec.{Timespec}
 use Rattle.table.specs.declared.Table.{Table}
 use Rattle.table.specs.declared.Handle.{Handle}
 use Rattle.sefs.specs.Read.{call_metadata, call_set}
-use Rattle.calls.specs.Answers.{told_of, Replies}
+use Rattle.std.specs.Prelude.{Result}
+use Rattle.base.specs.declared.reasons.Reason.{Reason}
+use Rattle.sefs.specs.declared.Metadata.{Metadata}
+use Rattle.calls.specs.Answers.{out_of, Replies}
 use Rattle.calls.specs.declared.Reply.{Reply}
-use Rattle.calls.specs.declared.Told.{Told}
-use Rattle.calls.proofs.Answers.{replies-one}
+use Rattle.calls.proofs.Answers.{replies-one, out-one}
 
 module _ (a : List ℕ) (t : Table) (who : ℕ) (h : Handle) where
-  pub metadata-one : (r s : Told) → r ≡ told_of (call_metadata a t who h) → s ≡ told_of (call_metadata a t who h) → r ≡ s
-  metadata-one r s p q = p ∙ sym q
+  pub metadata-one : (r s : Result Metadata Reason) → out_of r ≡ call_metadata a t who h → out_of s ≡ call_metadata a t who h → r ≡ s
+  metadata-one r s p q = out-one r s (p ∙ sym q)
 
   pub set-metadata-one : (mode uid gid : ℕ) (atime mtime ctime : Timespec) (r s : Reply)
       → Replies t (call_set a t who h mode uid gid atime mtime ctime) r → Replies t (call_set a t who h mode uid gid atime mtime ctime) s → r ≡ s

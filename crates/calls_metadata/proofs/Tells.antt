@@ -5,6 +5,10 @@ use mathlib.Core.List.{List}
 use Prim.Native.Nat.{ℕ, ◌<◌}
 use native.Mathlib.Omega.{arith}
 use lib.Dec.{ltb, leb}
+use Rattle.std.specs.Prelude.{Result, Ok, Err}
+use Rattle.base.specs.Told.{code}
+use Rattle.base.specs.declared.reasons.Reason.{Reason}
+use Rattle.base.proofs.Tells.{number-ne}
 use Rattle.base.specs.Out.{Out, done, refused, bind, answer, Went, well, ill}
 use Rattle.base.proofs.Outs.{went-is, went-not}
 use Rattle.structs.specs.declared.DiskINode.{DiskINode}
@@ -77,6 +81,6 @@ above : {r : ℕ} → 0 < r → r ≡ 0 → ⊥
 above l z = omega arith
 
 -- what set metadata answers, by the table that memory has afterwards; v is the one that it had
-pub settled : (f : Table → Out Table) {v t u : Table} {n : ℕ} {x : Reply} → v ≡ t → Went (f v) u Unit n → x ≡ after_of t u n → Replies t (f t) x
-settled f {t = t} {u = u} {x = x} e (well q p) k = done-after t (f t) x u (sym (ap f e) ∙ q) (k ∙ sym (after-done t u 0 refl))
-settled f {t = t} {u = u} {x = x} e (ill {r = r} l q) k = refused-after t (f t) x r (sym (ap f e) ∙ q) (k ∙ sym (after-refused t u r (above l)))
+pub settled : (f : Table → Out Table) {v t u : Table} (n : Result Unit Reason) {x : Reply} → v ≡ t → Went (f v) u Unit (code n) → x ≡ after_of t u n → Replies t (f t) x
+settled f {t = t} {u = u} (Ok tt) {x = x} e g k = done-after t (f t) x u (sym (ap f e) ∙ went-is g refl) (k ∙ sym (after-done t u))
+settled f {t = t} {u = u} (Err r) {x = x} e g k = refused-after t (f t) x r (sym (ap f e) ∙ went-not g (number-ne r)) (k ∙ sym (after-refused t u r))

@@ -2,16 +2,18 @@
 #![tactic(auto)]
 
 ghost use Rattle.std.specs.Prelude.{◌≡◌};
+ghost use Rattle.base.specs.Told.{code};
 ghost use Rattle.base.specs.Out.{Went};
 ghost use Rattle.base.specs.Search.{pick};
 ghost use Rattle.structs.specs.Types.{is_folder};
 ghost use Rattle.sefs.specs.Read.{metadata_of, call_metadata, call_set};
 ghost use Rattle.sefs.specs.Read.{changed as changed_as};
 ghost use Rattle.mem.specs.Mem.{table_in, Whole};
-ghost use Rattle.calls.specs.Answers.{told_of, Replies};
+ghost use Rattle.calls.specs.Answers.{out_of, Replies};
 ghost use Rattle.calls_metadata.specs.Tell.{told, metadata_in, set_in};
 
-use calls::{Reply, Told, admitted, by_handle, known, long, settle};
+use base::Reason;
+use calls::{Reply, admitted, by_handle, known, long, settle};
 use mem::{MEMORY, put_table, rec_at, row_at, set_rec};
 use sefs::Metadata;
 use structs::{DiskINode, Timespec};
@@ -50,44 +52,35 @@ fn metadata_of(id: u32, rec: DiskINode) -> Metadata
     }
 }
 
-fn tell(id: u32, rec: DiskINode) -> Told
-    ensures { result ≡ told_of (told id rec) }
+fn tell(id: u32, rec: DiskINode) -> Result<Metadata, Reason>
+    ensures { out_of result ≡ told id rec }
 {
-    let r = known(rec);
-    if r != 0 {
-        return Told::Refused(r);
-    }
-    Told::Tells(metadata_of(id, rec))
+    known(rec)?;
+    Ok(metadata_of(id, rec))
 }
 
 // What follows the tests of arena and table, on the table in memory; so below, too.
-pub fn metadata_in(mem: &[u8], who: u8, h: Handle) -> Told
+pub fn metadata_in(mem: &[u8], who: u8, h: Handle) -> Result<Metadata, Reason>
     requires { Whole mem.now }
-    ensures { result ≡ told_of (metadata_in (table_in mem.now) who h) }
+    ensures { out_of result ≡ metadata_in (table_in mem.now) who h }
 {
-    let b = by_handle(mem, who, h);
-    if b.reason != 0 {
-        return Told::Refused(b.reason);
-    }
-    let row = row_at(mem, b.row);
+    let i = by_handle(mem, who, h)?;
+    let row = row_at(mem, i);
     let rec = row.rec;
     tell(row.id, rec)
 }
 
 // The call on the table in memory; so below, too.
-pub fn metadata_on(arena: &[u8], mem: &[u8], who: u8, h: Handle) -> Told
+pub fn metadata_on(arena: &[u8], mem: &[u8], who: u8, h: Handle) -> Result<Metadata, Reason>
     requires { Whole mem.now }
-    ensures { result ≡ told_of (call_metadata arena.now (table_in mem.now) who h) }
+    ensures { out_of result ≡ call_metadata arena.now (table_in mem.now) who h }
 {
-    let r = admitted(arena, mem);
-    if r != 0 {
-        return Told::Refused(r);
-    }
+    admitted(arena, mem)?;
     metadata_in(mem, who, h)
 }
 
-pub fn metadata(arena: &[u8], t: Table, who: u8, h: Handle) -> Told
-    ensures { result ≡ told_of (call_metadata arena.now t who h) }
+pub fn metadata(arena: &[u8], t: Table, who: u8, h: Handle) -> Result<Metadata, Reason>
+    ensures { out_of result ≡ call_metadata arena.now t who h }
 {
     let mut mem = [0u8; MEMORY];
     put_table(&mut mem, t);
@@ -136,21 +129,14 @@ pub fn set_in(
     atime: Timespec,
     mtime: Timespec,
     ctime: Timespec,
-) -> u8
+) -> Result<(), Reason>
     requires { Whole mem.old }
-    ensures { Went (set_in (table_in mem.old) who h mode uid gid atime mtime ctime) (table_in mem.new) Unit result }
+    ensures { Went (set_in (table_in mem.old) who h mode uid gid atime mtime ctime) (table_in mem.new) Unit (code result) }
 {
-    let b = by_handle(&mem[..], who, h);
-    if b.reason != 0 {
-        return b.reason;
-    }
-    let rec = rec_at(&mem[..], b.row);
-    set_rec(
-        mem,
-        b.row,
-        changed(rec, mode, uid, gid, atime, mtime, ctime),
-    );
-    0
+    let row = by_handle(&mem[..], who, h)?;
+    let rec = rec_at(&mem[..], row);
+    set_rec(mem, row, changed(rec, mode, uid, gid, atime, mtime, ctime));
+    Ok(())
 }
 
 pub fn set_on(
@@ -164,14 +150,11 @@ pub fn set_on(
     atime: Timespec,
     mtime: Timespec,
     ctime: Timespec,
-) -> u8
+) -> Result<(), Reason>
     requires { Whole mem.old }
-    ensures { Went (call_set arena.now (table_in mem.old) who h mode uid gid atime mtime ctime) (table_in mem.new) Unit result }
+    ensures { Went (call_set arena.now (table_in mem.old) who h mode uid gid atime mtime ctime) (table_in mem.new) Unit (code result) }
 {
-    let r = admitted(arena, &mem[..]);
-    if r != 0 {
-        return r;
-    }
+    admitted(arena, &mem[..])?;
     set_in(mem, who, h, mode, uid, gid, atime, mtime, ctime)
 }
 

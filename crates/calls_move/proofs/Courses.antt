@@ -1,44 +1,46 @@
 -- Courses: from the steps' answers, and to what the call returns.
-use mathlib.Core.Path.{◌≡◌, refl, ◌∙◌, subst}
+use mathlib.Core.Path.{◌≡◌, refl, sym, ap, ◌∙◌, subst}
 use mathlib.Core.List.{List}
-use Prim.Native.Nat.{ℕ}
+use Prim.Native.Nat.{ℕ, ◌<◌}
 use native.Mathlib.Omega.{arith}
-use borrow.Author.Tests.{eq-eqb, ne_eqb}
-use Rattle.base.specs.Out.{Out, refused}
-use Rattle.base.proofs.Outs.{above_zero}
+use Rattle.std.specs.Prelude.{Result, Ok, Err}
+use Rattle.base.specs.Out.{Out, done, refused}
+use Rattle.base.specs.Told.{code}
+use Rattle.base.specs.declared.reasons.Reason.{Reason}
+use Rattle.base.proofs.Tells.{number-pos, number-ne}
 use Rattle.table.specs.declared.Table.{Table}
 use Rattle.sefs.specs.Create.{After}
+use Rattle.calls.specs.Answers.{said}
 use Rattle.calls.specs.declared.Reply as answered
 use Rattle.steps.specs.Ends.{Ended, went, stopped, Returned}
 use Rattle.calls_move.specs.declared.Course.{Course}
-use Rattle.calls_move.specs.declared.Course.TheVariants.{Made, Refused}
 use Rattle.calls_move.specs.Courses.{course_of, course_as, EndedMove, moves, rests, denied}
-
-pub course-made : (n : ℕ) → n ≡ 0 → Made ≡ course_of n
-unfolding course_of
-course-made n z = rw (eq-eqb n 0 z)
-
-pub course-not : (n : ℕ) → (n ≡ 0 → ⊥) → Refused n ≡ course_of n
-unfolding course_of
-course-not n z = rw (ne_eqb n 0 z)
 
 -- ---- the end
 
 -- by what the steps answered
-pub moved-ended : {o e : Out After} {t : Table} {a b : List ℕ} {u : Table} {r : ℕ} {c : Course} → o ≡ e → Ended e a b u r → c ≡ course_of r → EndedMove o t a b u c
-moved-ended q (went e) k = rw (k, ← course-made 0 refl) (moves (q ∙ e))
-moved-ended q (stopped {r = r} l e h) k = rw (k, ← course-not r (λ z. omega arith)) (denied l (q ∙ e) h)
+module _ {o : Out After} {t : Table} {a b : List ℕ} {u : Table} where
+  course-made : (r : Result Unit Reason) → code r ≡ 0 → o ≡ done (record { arena = b; table = u }) → EndedMove o t a b u (course_of r)
+  course-made (Ok x) z e = moves e
+  course-made (Err x) z e = absurd (number-ne x z)
 
--- a move that is refused before its steps
-pub moved-refused : {o : Out After} {t : Table} {a b : List ℕ} {u : Table} {n : ℕ} → (n ≡ 0 → ⊥) → o ≡ refused n → b ≡ a → EndedMove o t a b u (Refused n)
-moved-refused z e k = denied (above_zero _ z) e k
+  course-not : (r : Result Unit Reason) (n : ℕ) → code r ≡ n → 0 < n → o ≡ refused n → b ≡ a → EndedMove o t a b u (course_of r)
+  course-not (Ok x) n z l e h = absurd (omega (arith, z))
+  course-not (Err x) n z l e h = denied (number-pos x) (e ∙ ap refused (sym z)) h
+
+  pub moved-ended : {e : Out After} {c : Result Course Reason} (r : Result Unit Reason) → o ≡ e → Ended e a b u (code r) → c ≡ course_of r → EndedMove o t a b u c
+  moved-ended {e = e} r q g k = rw k (go (code r) refl g)
+    where
+      go : (n : ℕ) → code r ≡ n → Ended e a b u n → EndedMove o t a b u (course_of r)
+      go n z (went f) = course-made r z (q ∙ f)
+      go n z (stopped l f h) = course-not r n z l (q ∙ f) h
 
 -- what the call returns
-returned-course : (t : Table) {o : Out After} {a b : List ℕ} {u : Table} {c : Course} {r : answered.Reply} → EndedMove o t a b u c → r ≡ course_as t u c → Returned t o a b r
-returned-course t (moves e) q = record { answer = q ∙ rw e; arena = rw e }
-returned-course t (rests e k) q = record { answer = q ∙ rw e; arena = k ∙ rw e }
-returned-course t (denied l e k) q = record { answer = q ∙ rw e; arena = k ∙ rw e }
+returned-course : (t : Table) {o : Out After} {a b : List ℕ} {u : Table} {c : Result Course Reason} {r : answered.Reply} → EndedMove o t a b u c → r ≡ course_as t u c → Returned t o a b r
+returned-course t (moves e) q = record { answer = ap said q ∙ rw e; arena = rw e }
+returned-course t (rests e k) q = record { answer = ap said q ∙ rw e; arena = k ∙ rw e }
+returned-course t (denied l e k) q = record { answer = ap said q ∙ rw e; arena = k ∙ rw e }
 
 -- the same, where the table that memory was given is known by another name
-pub returned-moved : (f : Table → Out After) {x t : Table} {a b : List ℕ} {u : Table} {c : Course} {r : answered.Reply} → x ≡ t → EndedMove (f x) x a b u c → r ≡ course_as t u c → Returned t (f t) a b r
+pub returned-moved : (f : Table → Out After) {x t : Table} {a b : List ℕ} {u : Table} {c : Result Course Reason} {r : answered.Reply} → x ≡ t → EndedMove (f x) x a b u c → r ≡ course_as t u c → Returned t (f t) a b r
 returned-moved f {t = t} {a = a} {b = b} {u = u} {c = c} e g q = returned-course t (subst (λ (z : Table). EndedMove (f z) z a b u c) e g) q

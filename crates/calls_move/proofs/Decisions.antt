@@ -14,7 +14,6 @@ use Rattle.le.specs.Le.{le_at}
 use Rattle.structs.specs.declared.DiskINode.{DiskINode}
 use Rattle.structs.specs.declared.DiskEntry.{DiskEntry}
 use Rattle.structs.specs.Layout.{entry_of}
-use Rattle.arena.specs.Blocks.{legal}
 use Rattle.table.specs.Table.{row_at}
 use Rattle.table.specs.declared.Table.{Table}
 use Rattle.table.specs.declared.Handle.{Handle}

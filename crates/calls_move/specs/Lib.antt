@@ -1,2 +1,3 @@
 pub mod Parts
+pub mod Plans
 pub mod Courses

@@ -4,6 +4,8 @@
 #![tactic(auto)]
 
 ghost use Rattle.std.specs.Prelude.{◌≡◌, List, ℕ, ◌<◌, ◌≤◌, length, eqb};
+ghost use Rattle.std.specs.Result.{result_unwrap_or};
+ghost use Rattle.base.specs.Told.{code};
 ghost use Rattle.base.specs.Search.{pick};
 ghost use Rattle.structs.specs.Layout.{entry_of};
 ghost use Rattle.structs.specs.declared.DiskEntry.{DiskEntry};
@@ -22,9 +24,10 @@ ghost use Rattle.move_steps.specs.declared.Gone.TheVariants.{Free};
 ghost use Rattle.climbs.specs.Types.{Typed};
 ghost use Rattle.move_steps.specs.Steps.{move_named, move_over};
 ghost use Rattle.calls_move.specs.Parts.{both, open_two, known_two, replace_known, replace_node, replace_named, move_found, good_two, plain_two, short_two, late_asks, move_asks, move_work, plan_steps, planned, Planned, Agreed};
-ghost use Rattle.calls_move.specs.Courses.{course_of, course_as, EndedMove};
+ghost use Rattle.calls_move.specs.Plans.{way_number, no_plan};
+ghost use Rattle.calls_move.specs.Courses.{course_as, EndedMove};
 
-use base::index;
+use base::{Reason, index};
 use calls::led::admit;
 use calls::{Reply, done, good_name, known, live_folder, new_name, not_long, not_special, refused};
 use chains::slots::{find_slot, lookup};
@@ -37,90 +40,59 @@ use steps::reach_two_read;
 use structs::DiskINode;
 use table::{Handle, Table};
 
-// What deciding a move comes to. `Same`: both names are one node's, and nothing changes.
+// What a move that is done comes to. `Same`: both names are one node's, and nothing changes.
 #[derive(Clone, Copy)]
 pub enum Course {
     Made,
     Same,
-    Refused(u8),
-}
-
-fn as_course(reason: u8) -> Course
-    ensures { result ≡ course_of reason }
-{
-    if reason == 0 {
-        return Course::Made;
-    }
-    Course::Refused(reason)
 }
 
 // ---- before the first store: what is asked, and found by the chains of `sound`
 
-// The rows of the replaced and of the moved node, where the reason is 0.
-#[derive(Clone, Copy)]
-struct Pair {
-    reason: u8,
-    gone: usize,
-    moved: usize,
-}
-
-fn open_two(arena: &[u8], first: &[u16], next: &[u16], mem: &mut [u8], new: u32, was: u32) -> Pair
+// The rows of the replaced and of the moved node.
+fn open_two(
+    arena: &[u8],
+    first: &[u16],
+    next: &[u16],
+    mem: &mut [u8],
+    new: u32,
+    was: u32,
+) -> Result<(usize, usize), Reason>
     requires led { Led arena.now first.now next.now }
     requires whole { Whole mem.old }
-    ensures { Went (open_two (fs_at arena.now mem.old) new was) (both (fs_at arena.now mem.new) result.gone result.moved) (Whole mem.new × ((result.gone < 34) × (result.moved < 34))) result.reason }
+    ensures { Went (open_two (fs_at arena.now mem.old) new was) (both (fs_at arena.now mem.new) (result_unwrap_or result (0, 0)).0 (result_unwrap_or result (0, 0)).1) (Whole mem.new × (((result_unwrap_or result (0, 0)).0 < 34) × ((result_unwrap_or result (0, 0)).1 < 34))) (code result) }
 {
-    let d = get_node(arena, first, next, mem, new);
-    if d.reason != 0 {
-        return Pair {
-            reason: d.reason,
-            gone: 0,
-            moved: 0,
-        };
-    }
-    let c = get_node(arena, first, next, mem, was);
-    Pair {
-        reason: c.reason,
-        gone: d.row,
-        moved: c.row,
-    }
+    let gone = get_node(arena, first, next, mem, new)?;
+    let moved = get_node(arena, first, next, mem, was)?;
+    Ok((gone, moved))
 }
 
 // 000 takes the metadata of both.
-fn known_two(moved: DiskINode, gone: DiskINode) -> u8
-    ensures { Went (known_two moved gone) tt (Typed moved × Typed gone) result }
+fn known_two(moved: DiskINode, gone: DiskINode) -> Result<(), Reason>
+    ensures { Went (known_two moved gone) tt (Typed moved × Typed gone) (code result) }
 {
-    let r = known(moved);
-    if r != 0 {
-        return r;
-    }
+    known(moved)?;
     known(gone)
 }
 
-// A move that is decided but for its steps, where the reason is 0. Its way is 0: both names are one node's, and nothing changes; 1: the new name is
-// free, and the slot at `place` is moved; 2: the moved node goes in the place of the one that is gone, which slot `place` of the target names.
+// How a move goes. `Same`: both names are one node's, and nothing changes. `Free`: the new name is free, and the slot at `place` is moved. `Onto`: the
+// moved node goes in the place of the one that is gone, which slot `place` of the target names.
+#[derive(Clone, Copy, Debug, PartialEq, Eq)]
+pub enum Way {
+    Same,
+    Free,
+    Onto,
+}
+
+// A move that is decided but for its steps.
 #[derive(Clone, Copy)]
 pub struct Plan {
-    pub reason: u8,
-    pub way: u8,
+    pub way: Way,
     pub row: usize,
     pub other: usize,
     pub place: usize,
     pub gone: usize,
     pub moved: usize,
-}
-
-fn refuse(reason: u8) -> Plan
-    ensures { result.reason ≡ reason }
-{
-    Plan {
-        reason: reason,
-        way: 0,
-        row: 0,
-        other: 0,
-        place: 0,
-        gone: 0,
-        moved: 0,
-    }
 }
 
 // Type rules; and a folder does not go into itself or below.
@@ -133,15 +105,12 @@ fn ask_onto(
     j: usize,
     c: usize,
     d: usize,
-) -> u8
+) -> Result<(), Reason>
     requires led { Led arena.now first.now next.now }
     requires whole { Whole mem.now × ((i < 34) × ((j < 34) × ((c < 34) × ((d < 34) × (Typed (row_at (table_in mem.now) c).rec × Typed (row_at (table_in mem.now) d).rec))))) }
-    ensures { (old name : List ℕ) (k : ℕ) → Rest (move_onto (fs_at arena.now mem.now) i j old name c d k) (ending (move_over (fs_at arena.now mem.now) i j old name c d k)) Unit result }
+    ensures { (old name : List ℕ) (k : ℕ) → Rest (move_onto (fs_at arena.now mem.now) i j old name c d k) (ending (move_over (fs_at arena.now mem.now) i j old name c d k)) Unit (code result) }
 {
-    let r = judge(arena, first, next, mem, c, d);
-    if r != 0 {
-        return r;
-    }
+    judge(arena, first, next, mem, c, d)?;
     not_below(arena, first, next, mem, i, j, c)
 }
 
@@ -157,29 +126,26 @@ fn ask_two(
     d: usize,
     new: u32,
     was: u32,
-) -> u8
+) -> Result<(), Reason>
     requires led { Led arena.now first.now next.now }
     requires whole { Whole mem.now × ((i < 34) × ((j < 34) × ((c < 34) × (d < 34)))) }
-    ensures { (z : Fs) (old name : List ℕ) (e : DiskEntry) (k : ℕ) → Rest (replace_known z (fs_at arena.now mem.now) i j old name k new was d c) (planned z (fs_at arena.now mem.now) (pick (eqb was new) 0 2) i j old name e k d c) Unit result }
+    ensures { (z : Fs) (old name : List ℕ) (e : DiskEntry) (k : ℕ) → Rest (replace_known z (fs_at arena.now mem.now) i j old name k new was d c) (planned z (fs_at arena.now mem.now) (pick (eqb was new) 0 2) i j old name e k d c) Unit (code result) }
 {
-    let r = known_two(rec_at(mem, c), rec_at(mem, d));
-    if r != 0 {
-        return r;
-    }
+    known_two(rec_at(mem, c), rec_at(mem, d))?;
     if was == new {
-        return 0;
+        return Ok(());
     }
     ask_onto(arena, first, next, mem, i, j, c, d)
 }
 
 // The way where the new name is node `new` and the old name node `was`.
-fn way_onto(was: u32, new: u32) -> u8
-    ensures { result ≡ pick (eqb was new) 0 2 }
+fn way_onto(was: u32, new: u32) -> Way
+    ensures { way_number result ≡ pick (eqb was new) 0 2 }
 {
     if was == new {
-        return 0;
+        return Way::Same;
     }
-    2
+    Way::Onto
 }
 
 // Slot k of the target names node `new`, and the old name is node `was`.
@@ -193,36 +159,21 @@ fn plan_node(
     k: usize,
     new: u32,
     was: u32,
-) -> Plan
+) -> Result<Plan, Reason>
     requires led { Led arena.now first.now next.now }
     requires whole { Whole mem.old × ((i < 34) × (j < 34)) }
-    ensures { (old name : List ℕ) (e : DiskEntry) → Rest (replace_node (fs_at arena.now mem.old) i j old name k new was) (planned (fs_at arena.now mem.old) (fs_at arena.now mem.new) result.way result.row result.other old name e result.place result.gone result.moved) (Planned mem.new result.row result.other result.gone result.moved) result.reason }
+    ensures { (old name : List ℕ) (e : DiskEntry) → Rest (replace_node (fs_at arena.now mem.old) i j old name k new was) (planned (fs_at arena.now mem.old) (fs_at arena.now mem.new) (way_number (result_unwrap_or result no_plan).way) (result_unwrap_or result no_plan).row (result_unwrap_or result no_plan).other old name e (result_unwrap_or result no_plan).place (result_unwrap_or result no_plan).gone (result_unwrap_or result no_plan).moved) (Planned mem.new (result_unwrap_or result no_plan).row (result_unwrap_or result no_plan).other (result_unwrap_or result no_plan).gone (result_unwrap_or result no_plan).moved) (code result) }
 {
-    let p = open_two(arena, first, next, mem, new, was);
-    if p.reason != 0 {
-        return refuse(p.reason);
-    }
-    let r = ask_two(
-        arena,
-        first,
-        next,
-        &mem[..],
-        i,
-        j,
-        p.moved,
-        p.gone,
-        new,
-        was,
-    );
-    Plan {
-        reason: r,
+    let (gone, moved) = open_two(arena, first, next, mem, new, was)?;
+    ask_two(arena, first, next, &mem[..], i, j, moved, gone, new, was)?;
+    Ok(Plan {
         way: way_onto(was, new),
         row: i,
         other: j,
         place: k,
-        gone: p.gone,
-        moved: p.moved,
-    }
+        gone,
+        moved,
+    })
 }
 
 // The old name is found first. `slot` is room for a slot; so below, too.
@@ -237,15 +188,12 @@ fn plan_named(
     old: &[u8],
     k: usize,
     new: u32,
-) -> Plan
+) -> Result<Plan, Reason>
     requires led { Led arena.now first.now next.now }
     requires whole { Whole mem.old × ((i < 34) × ((j < 34) × (length slot.old ≡ 264))) }
-    ensures { (name : List ℕ) (e : DiskEntry) → Rest (replace_named (fs_at arena.now mem.old) i j old.now name k new) (planned (fs_at arena.now mem.old) (fs_at arena.now mem.new) result.way result.row result.other old.now name e result.place result.gone result.moved) (Planned mem.new result.row result.other result.gone result.moved) result.reason }
+    ensures { (name : List ℕ) (e : DiskEntry) → Rest (replace_named (fs_at arena.now mem.old) i j old.now name k new) (planned (fs_at arena.now mem.old) (fs_at arena.now mem.new) (way_number (result_unwrap_or result no_plan).way) (result_unwrap_or result no_plan).row (result_unwrap_or result no_plan).other old.now name e (result_unwrap_or result no_plan).place (result_unwrap_or result no_plan).gone (result_unwrap_or result no_plan).moved) (Planned mem.new (result_unwrap_or result no_plan).row (result_unwrap_or result no_plan).other (result_unwrap_or result no_plan).gone (result_unwrap_or result no_plan).moved) (code result) }
 {
-    let p = find_slot(arena, first, next, rec_at(&mem[..], i), old, slot);
-    if p.reason != 0 {
-        return refuse(p.reason);
-    }
+    find_slot(arena, first, next, rec_at(&mem[..], i), old, slot)?;
     plan_node(arena, first, next, mem, i, j, k, new, u32_at(&slot[..], 0))
 }
 
@@ -259,26 +207,20 @@ fn open_moved(
     i: usize,
     j: usize,
     old: &[u8],
-) -> u8
+) -> Result<(), Reason>
     requires led { Led arena.now first.now next.now }
     requires whole { Whole mem.old × ((i < 34) × ((j < 34) × (length slot.old ≡ 264))) }
-    ensures { (name : List ℕ) → Rest (move_free (fs_at arena.now mem.old) i j old.now name) (ending (move_named (fs_at arena.now mem.new) i j old.now name Free)) (Whole mem.new) result }
+    ensures { (name : List ℕ) → Rest (move_free (fs_at arena.now mem.old) i j old.now name) (ending (move_named (fs_at arena.now mem.new) i j old.now name Free)) (Whole mem.new) (code result) }
 {
     if id_at(&mem[..], i) == id_at(&mem[..], j) {
-        return 0;
+        return Ok(());
     }
-    let p = find_slot(arena, first, next, rec_at(&mem[..], i), old, slot);
-    if p.reason != 0 {
-        return p.reason;
+    find_slot(arena, first, next, rec_at(&mem[..], i), old, slot)?;
+    let row = get_node(arena, first, next, mem, u32_at(&slot[..], 0))?;
+    if kind_at(&mem[..], row) > 4 {
+        return Err(Reason::Stuck);
     }
-    let o = get_node(arena, first, next, mem, u32_at(&slot[..], 0));
-    if o.reason != 0 {
-        return o.reason;
-    }
-    if kind_at(&mem[..], o.row) > 4 {
-        return 19;
-    }
-    not_below(arena, first, next, &mem[..], i, j, o.row)
+    not_below(arena, first, next, &mem[..], i, j, row)
 }
 
 // The moved slot, with its new name, goes to `slot`.
@@ -292,25 +234,21 @@ fn plan_slot(
     j: usize,
     old: &[u8],
     name: &[u8],
-) -> Plan
+) -> Result<Plan, Reason>
     requires led { Led arena.now first.now next.now }
     requires whole { Whole mem.now × ((i < 34) × ((j < 34) × ((length name.now ≤ 255) × (length slot.old ≡ 264)))) }
-    ensures { (z : Fs) → Rest (ending (move_named (fs_at arena.now mem.now) i j old.now name.now Free)) (planned z (fs_at arena.now mem.now) result.way result.row result.other old.now name.now (entry_of slot.new) result.place result.gone result.moved) (Planned mem.now result.row result.other result.gone result.moved) result.reason }
+    ensures { (z : Fs) → Rest (ending (move_named (fs_at arena.now mem.now) i j old.now name.now Free)) (planned z (fs_at arena.now mem.now) (way_number (result_unwrap_or result no_plan).way) (result_unwrap_or result no_plan).row (result_unwrap_or result no_plan).other old.now name.now (entry_of slot.new) (result_unwrap_or result no_plan).place (result_unwrap_or result no_plan).gone (result_unwrap_or result no_plan).moved) (Planned mem.now (result_unwrap_or result no_plan).row (result_unwrap_or result no_plan).other (result_unwrap_or result no_plan).gone (result_unwrap_or result no_plan).moved) (code result) }
 {
-    let p = find_slot(arena, first, next, rec_at(mem, i), old, slot);
-    if p.reason != 0 {
-        return refuse(p.reason);
-    }
+    let place = find_slot(arena, first, next, rec_at(mem, i), old, slot)?;
     rename(slot, name);
-    Plan {
-        reason: 0,
-        way: 1,
+    Ok(Plan {
+        way: Way::Free,
         row: i,
         other: j,
-        place: p.place,
+        place,
         gone: 0,
         moved: 0,
-    }
+    })
 }
 
 // The old name is looked for again by the record that its folder has once the moved node is open.
@@ -324,15 +262,12 @@ fn plan_free(
     j: usize,
     old: &[u8],
     name: &[u8],
-) -> Plan
+) -> Result<Plan, Reason>
     requires led { Led arena.now first.now next.now }
     requires whole { Whole mem.old × ((i < 34) × ((j < 34) × ((length name.now ≤ 255) × (length slot.old ≡ 264)))) }
-    ensures { Rest (move_free (fs_at arena.now mem.old) i j old.now name.now) (planned (fs_at arena.now mem.old) (fs_at arena.now mem.new) result.way result.row result.other old.now name.now (entry_of slot.new) result.place result.gone result.moved) (Planned mem.new result.row result.other result.gone result.moved) result.reason }
+    ensures { Rest (move_free (fs_at arena.now mem.old) i j old.now name.now) (planned (fs_at arena.now mem.old) (fs_at arena.now mem.new) (way_number (result_unwrap_or result no_plan).way) (result_unwrap_or result no_plan).row (result_unwrap_or result no_plan).other old.now name.now (entry_of slot.new) (result_unwrap_or result no_plan).place (result_unwrap_or result no_plan).gone (result_unwrap_or result no_plan).moved) (Planned mem.new (result_unwrap_or result no_plan).row (result_unwrap_or result no_plan).other (result_unwrap_or result no_plan).gone (result_unwrap_or result no_plan).moved) (code result) }
 {
-    let r = open_moved(arena, first, next, mem, slot, i, j, old);
-    if r != 0 {
-        return refuse(r);
-    }
+    open_moved(arena, first, next, mem, slot, i, j, old)?;
     plan_slot(arena, first, next, &mem[..], slot, i, j, old, name)
 }
 
@@ -346,78 +281,54 @@ fn plan_found(
     j: usize,
     old: &[u8],
     name: &[u8],
-) -> Plan
+) -> Result<Plan, Reason>
     requires led { Led arena.now first.now next.now }
     requires whole { Whole mem.old × ((i < 34) × ((j < 34) × ((length name.now ≤ 255) × (length slot.old ≡ 264)))) }
-    ensures { Rest (move_found (fs_at arena.now mem.old) i j old.now name.now) (planned (fs_at arena.now mem.old) (fs_at arena.now mem.new) result.way result.row result.other old.now name.now (entry_of slot.new) result.place result.gone result.moved) (Planned mem.new result.row result.other result.gone result.moved) result.reason }
+    ensures { Rest (move_found (fs_at arena.now mem.old) i j old.now name.now) (planned (fs_at arena.now mem.old) (fs_at arena.now mem.new) (way_number (result_unwrap_or result no_plan).way) (result_unwrap_or result no_plan).row (result_unwrap_or result no_plan).other old.now name.now (entry_of slot.new) (result_unwrap_or result no_plan).place (result_unwrap_or result no_plan).gone (result_unwrap_or result no_plan).moved) (Planned mem.new (result_unwrap_or result no_plan).row (result_unwrap_or result no_plan).other (result_unwrap_or result no_plan).gone (result_unwrap_or result no_plan).moved) (code result) }
 {
     let rec = rec_at(&mem[..], j);
-    let l = lookup(arena, first, next, rec, name, slot);
-    if l.reason != 0 {
-        return refuse(l.reason);
-    }
-    if l.place < index(rec.blocks) {
+    let place = lookup(arena, first, next, rec, name, slot)?;
+    if place < index(rec.blocks) {
         let new = u32_at(&slot[..], 0);
-        return plan_named(arena, first, next, mem, slot, i, j, old, l.place, new);
+        return plan_named(arena, first, next, mem, slot, i, j, old, place, new);
     }
     plan_free(arena, first, next, mem, slot, i, j, old, name)
 }
 
-fn good_names(old: &[u8], name: &[u8]) -> u8
-    ensures { Went (good_two old.now name.now) tt Unit result }
+fn good_names(old: &[u8], name: &[u8]) -> Result<(), Reason>
+    ensures { Went (good_two old.now name.now) tt Unit (code result) }
 {
-    let r = good_name(old);
-    if r != 0 {
-        return r;
-    }
+    good_name(old)?;
     new_name(name)
 }
 
-fn not_specials(old: &[u8], name: &[u8]) -> u8
-    ensures { Went (plain_two old.now name.now) tt Unit result }
+fn not_specials(old: &[u8], name: &[u8]) -> Result<(), Reason>
+    ensures { Went (plain_two old.now name.now) tt Unit (code result) }
 {
-    let r = not_special(old);
-    if r != 0 {
-        return r;
-    }
+    not_special(old)?;
     not_special(name)
 }
 
-fn not_longs(old: &[u8], name: &[u8]) -> u8
-    ensures { Went (short_two old.now name.now) tt (length name.now ≤ 255) result }
+fn not_longs(old: &[u8], name: &[u8]) -> Result<(), Reason>
+    ensures { Went (short_two old.now name.now) tt (length name.now ≤ 255) (code result) }
 {
-    let r = not_long(old);
-    if r != 0 {
-        return r;
-    }
+    not_long(old)?;
     not_long(name)
 }
 
-fn ask_late(target: DiskINode, old: &[u8], name: &[u8]) -> u8
-    ensures { Went (late_asks target old.now name.now) tt (length name.now ≤ 255) result }
+fn ask_late(target: DiskINode, old: &[u8], name: &[u8]) -> Result<(), Reason>
+    ensures { Went (late_asks target old.now name.now) tt (length name.now ≤ 255) (code result) }
 {
-    let r = not_specials(old, name);
-    if r != 0 {
-        return r;
-    }
-    let r = not_longs(old, name);
-    if r != 0 {
-        return r;
-    }
+    not_specials(old, name)?;
+    not_longs(old, name)?;
     live_folder(target)
 }
 
-fn move_ask(source: DiskINode, target: DiskINode, old: &[u8], name: &[u8]) -> u8
-    ensures { Went (move_asks source target old.now name.now) tt (length name.now ≤ 255) result }
+fn move_ask(source: DiskINode, target: DiskINode, old: &[u8], name: &[u8]) -> Result<(), Reason>
+    ensures { Went (move_asks source target old.now name.now) tt (length name.now ≤ 255) (code result) }
 {
-    let r = good_names(old, name);
-    if r != 0 {
-        return r;
-    }
-    let r = live_folder(source);
-    if r != 0 {
-        return r;
-    }
+    good_names(old, name)?;
+    live_folder(source)?;
     ask_late(target, old, name)
 }
 
@@ -432,15 +343,12 @@ fn plan_work(
     j: usize,
     old: &[u8],
     name: &[u8],
-) -> Plan
+) -> Result<Plan, Reason>
     requires led { Led arena.now first.now next.now }
     requires whole { Whole mem.old × ((i < 34) × ((j < 34) × (length slot.old ≡ 264))) }
-    ensures { Rest (move_work (fs_at arena.now mem.old) i j old.now name.now) (planned (fs_at arena.now mem.old) (fs_at arena.now mem.new) result.way result.row result.other old.now name.now (entry_of slot.new) result.place result.gone result.moved) ((length name.now ≤ 255) × (Planned mem.new result.row result.other result.gone result.moved × (length slot.new ≡ 264))) result.reason }
+    ensures { Rest (move_work (fs_at arena.now mem.old) i j old.now name.now) (planned (fs_at arena.now mem.old) (fs_at arena.now mem.new) (way_number (result_unwrap_or result no_plan).way) (result_unwrap_or result no_plan).row (result_unwrap_or result no_plan).other old.now name.now (entry_of slot.new) (result_unwrap_or result no_plan).place (result_unwrap_or result no_plan).gone (result_unwrap_or result no_plan).moved) ((length name.now ≤ 255) × (Planned mem.new (result_unwrap_or result no_plan).row (result_unwrap_or result no_plan).other (result_unwrap_or result no_plan).gone (result_unwrap_or result no_plan).moved × (length slot.new ≡ 264))) (code result) }
 {
-    let r = move_ask(rec_at(&mem[..], i), rec_at(&mem[..], j), old, name);
-    if r != 0 {
-        return refuse(r);
-    }
+    move_ask(rec_at(&mem[..], i), rec_at(&mem[..], j), old, name)?;
     plan_found(arena, first, next, mem, slot, i, j, old, name)
 }
 
@@ -456,16 +364,11 @@ pub fn plan_led(
     old: &[u8],
     target: Handle,
     name: &[u8],
-) -> Plan
+) -> Result<Plan, Reason>
     requires { Admitted arena.now first.now next.now mem.old × (length slot.old ≡ 264) }
-    ensures { Rest (call_move arena.now (table_in mem.old) who h old.now target name.now) (planned (start arena.now (table_in mem.old)) (fs_at arena.now mem.new) result.way result.row result.other old.now name.now (entry_of slot.new) result.place result.gone result.moved) (Agreed arena.now mem.new name.now slot.new result.row result.other result.gone result.moved) result.reason }
+    ensures { Rest (call_move arena.now (table_in mem.old) who h old.now target name.now) (planned (start arena.now (table_in mem.old)) (fs_at arena.now mem.new) (way_number (result_unwrap_or result no_plan).way) (result_unwrap_or result no_plan).row (result_unwrap_or result no_plan).other old.now name.now (entry_of slot.new) (result_unwrap_or result no_plan).place (result_unwrap_or result no_plan).gone (result_unwrap_or result no_plan).moved) (Agreed arena.now mem.new name.now slot.new (result_unwrap_or result no_plan).row (result_unwrap_or result no_plan).other (result_unwrap_or result no_plan).gone (result_unwrap_or result no_plan).moved) (code result) }
 {
-    let b = reach_two_read(arena, first, next, mem, who, h, target);
-    if b.reason != 0 {
-        return refuse(b.reason);
-    }
-    let i = b.row;
-    let j = b.other;
+    let (i, j) = reach_two_read(arena, first, next, mem, who, h, target)?;
     plan_work(arena, first, next, mem, slot, i, j, old, name)
 }
 
@@ -479,15 +382,12 @@ fn decide(
     old: &[u8],
     target: Handle,
     name: &[u8],
-) -> Plan
+) -> Result<Plan, Reason>
     requires { Whole mem.old × (length slot.old ≡ 264) }
-    ensures { Rest (call_move arena.now (table_in mem.old) who h old.now target name.now) (planned (start arena.now (table_in mem.old)) (fs_at arena.now mem.new) result.way result.row result.other old.now name.now (entry_of slot.new) result.place result.gone result.moved) (Agreed arena.now mem.new name.now slot.new result.row result.other result.gone result.moved) result.reason }
+    ensures { Rest (call_move arena.now (table_in mem.old) who h old.now target name.now) (planned (start arena.now (table_in mem.old)) (fs_at arena.now mem.new) (way_number (result_unwrap_or result no_plan).way) (result_unwrap_or result no_plan).row (result_unwrap_or result no_plan).other old.now name.now (entry_of slot.new) (result_unwrap_or result no_plan).place (result_unwrap_or result no_plan).gone (result_unwrap_or result no_plan).moved) (Agreed arena.now mem.new name.now slot.new (result_unwrap_or result no_plan).row (result_unwrap_or result no_plan).other (result_unwrap_or result no_plan).gone (result_unwrap_or result no_plan).moved) (code result) }
 {
     let mut chains = [0u16; 8192];
-    let r = admit(arena, &mut chains, &mem[..]);
-    if r != 0 {
-        return refuse(r);
-    }
+    admit(arena, &mut chains, &mem[..])?;
     let c = &chains[..];
     plan_led(
         arena,
@@ -505,7 +405,7 @@ fn decide(
 
 // ---- the steps
 
-// `slot` has the moved slot where the way is 1, and is room for slots then.
+// `slot` has the moved slot where the way is `Free`, and is room for slots then.
 fn move_planned(
     arena: &[u8],
     work: &mut [u8],
@@ -514,12 +414,12 @@ fn move_planned(
     p: Plan,
     old: &[u8],
     name: &[u8],
-) -> u8
+) -> Result<(), Reason>
     requires ready { Ready arena.now work.old mem.old × (61 ≤ left work.old) }
     requires agreed { Agreed arena.now mem.old name.now slot.old p.row p.other p.gone p.moved }
-    ensures { Stepped (plan_steps (fs_of arena.now work.old mem.old) p.way p.row p.other old.now name.now (entry_of slot.old) p.place p.gone p.moved) arena.now work.old work.new mem.new 61 result }
+    ensures { Stepped (plan_steps (fs_of arena.now work.old mem.old) (way_number p.way) p.row p.other old.now name.now (entry_of slot.old) p.place p.gone p.moved) arena.now work.old work.new mem.new 61 (code result) }
 {
-    if p.way == 1 {
+    if p.way == Way::Free {
         return move_slot(arena, work, mem, slot, p.row, p.other, p.place, Gone::Free);
     }
     move_onto(
@@ -536,16 +436,13 @@ fn move_in(
     p: Plan,
     old: &[u8],
     name: &[u8],
-) -> u8
+) -> Result<(), Reason>
     requires { Empty arena.old work.old 71 × Agreed arena.old mem.old name.now slot.old p.row p.other p.gone p.moved }
-    ensures { Ended (ending (plan_steps (fs_at arena.old mem.old) p.way p.row p.other old.now name.now (entry_of slot.old) p.place p.gone p.moved)) arena.old arena.new (table_in mem.new) result }
+    ensures { Ended (ending (plan_steps (fs_at arena.old mem.old) (way_number p.way) p.row p.other old.now name.now (entry_of slot.old) p.place p.gone p.moved)) arena.old arena.new (table_in mem.new) (code result) }
 {
-    let r = move_planned(&arena[..], work, mem, slot, p, old, name);
-    if r != 0 {
-        return r;
-    }
+    move_planned(&arena[..], work, mem, slot, p, old, name)?;
     overlay::commit(arena, &work[..]);
-    0
+    Ok(())
 }
 
 // The workspace is made.
@@ -556,9 +453,9 @@ pub fn move_rows(
     p: Plan,
     old: &[u8],
     name: &[u8],
-) -> u8
+) -> Result<(), Reason>
     requires { Agreed arena.old mem.old name.now slot.old p.row p.other p.gone p.moved }
-    ensures { Ended (ending (plan_steps (fs_at arena.old mem.old) p.way p.row p.other old.now name.now (entry_of slot.old) p.place p.gone p.moved)) arena.old arena.new (table_in mem.new) result }
+    ensures { Ended (ending (plan_steps (fs_at arena.old mem.old) (way_number p.way) p.row p.other old.now name.now (entry_of slot.old) p.place p.gone p.moved)) arena.old arena.new (table_in mem.new) (code result) }
 {
     let mut work = [0u8; 36352];
     overlay::begin(&mut work);
@@ -575,18 +472,16 @@ fn move_with(
     old: &[u8],
     target: Handle,
     name: &[u8],
-) -> Course
+) -> Result<Course, Reason>
     requires { Whole mem.old × (length slot.old ≡ 264) }
     ensures { EndedMove (call_move arena.old (table_in mem.old) who h old.now target name.now) (table_in mem.old) arena.old arena.new (table_in mem.new) result }
 {
-    let p = decide(&arena[..], mem, slot, who, h, old, target, name);
-    if p.reason != 0 {
-        return Course::Refused(p.reason);
+    let p = decide(&arena[..], mem, slot, who, h, old, target, name)?;
+    if p.way == Way::Same {
+        return Ok(Course::Same);
     }
-    if p.way == 0 {
-        return Course::Same;
-    }
-    as_course(move_rows(arena, mem, slot, p, old, name))
+    move_rows(arena, mem, slot, p, old, name)?;
+    Ok(Course::Made)
 }
 
 // The call on the table in memory.
@@ -598,7 +493,7 @@ pub fn move_on(
     old: &[u8],
     target: Handle,
     name: &[u8],
-) -> Course
+) -> Result<Course, Reason>
     requires { Whole mem.old }
     ensures { EndedMove (call_move arena.old (table_in mem.old) who h old.now target name.now) (table_in mem.old) arena.old arena.new (table_in mem.new) result }
 {
@@ -607,14 +502,14 @@ pub fn move_on(
 }
 
 // What the call answers: the table as memory has it where the node was moved, else the one that the call was given.
-fn settle_course(t: Table, mem: &[u8], c: Course) -> Reply
+fn settle_course(t: Table, mem: &[u8], r: Result<Course, Reason>) -> Reply
     requires { length mem.now ≡ memory_size }
-    ensures { result ≡ course_as t (table_in mem.now) c }
+    ensures { result ≡ course_as t (table_in mem.now) r }
 {
-    match c {
-        Course::Made => done(table_at(mem)),
-        Course::Same => done(t),
-        Course::Refused(r) => refused(t, r),
+    match r {
+        Ok(Course::Made) => done(table_at(mem)),
+        Ok(Course::Same) => done(t),
+        Err(reason) => refused(t, reason),
     }
 }
 
@@ -631,6 +526,6 @@ pub fn move_(
 {
     let mut mem = [0u8; MEMORY];
     put_table(&mut mem, t);
-    let c = move_on(arena, &mut mem, who, h, old, target, name);
-    settle_course(t, &mem, c)
+    let r = move_on(arena, &mut mem, who, h, old, target, name);
+    settle_course(t, &mem, r)
 }

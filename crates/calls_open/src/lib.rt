@@ -2,6 +2,7 @@
 #![tactic(auto)]
 
 ghost use Rattle.std.specs.Prelude.{◌≡◌, length};
+ghost use Rattle.base.specs.Told.{code};
 ghost use Rattle.base.specs.Out.{Went};
 ghost use Rattle.table.specs.Table.{empty_table};
 ghost use Rattle.sefs.specs.Open.{call_open};
@@ -11,7 +12,7 @@ ghost use Rattle.calls.specs.Asked.{Blank};
 ghost use Rattle.calls_open.specs.Opens.{is_sefs, open_read};
 ghost use Rattle.mem.specs.Mem.{memory_size};
 
-use base::index;
+use base::{Reason, index};
 use calls::led::admit_arena;
 use calls::{Reply, done, refused};
 use mem::MEMORY;
@@ -25,37 +26,31 @@ fn is_sefs(b: SuperBlock) -> bool
 }
 
 // The superblock is read before 18, the maps after.
-fn open_read(arena: &[u8], first: &[u16], next: &[u16], mem: &mut [u8]) -> u8
+fn open_read(arena: &[u8], first: &[u16], next: &[u16], mem: &mut [u8]) -> Result<(), Reason>
     requires led { Led arena.now first.now next.now }
     requires mem_len { length mem.old ≡ memory_size }
-    ensures { Went (open_read arena.now) empty_table Unit result }
+    ensures { Went (open_read arena.now) empty_table Unit (code result) }
 {
-    let r = load_super(arena, first, next, mem);
-    if r != 0 {
-        return r;
-    }
+    load_super(arena, first, next, mem)?;
     let b = super_block_at(&mem[..], 4403);
     if !is_sefs(b) {
-        return 18;
+        return Err(Reason::WrongFs);
     }
     load_maps(arena, first, next, mem, index(b.groups))
 }
 
 // With the places where the chains, and superblock and maps, go.
-fn open_led(arena: &[u8], chains: &mut [u16], mem: &mut [u8]) -> u8
+fn open_led(arena: &[u8], chains: &mut [u16], mem: &mut [u8]) -> Result<(), Reason>
     requires { Blank chains.old × (length mem.old ≡ memory_size) }
-    ensures { Went (call_open arena.now) empty_table Unit result }
+    ensures { Went (call_open arena.now) empty_table Unit (code result) }
 {
-    let r = admit_arena(arena, chains);
-    if r != 0 {
-        return r;
-    }
+    admit_arena(arena, chains)?;
     let c = &chains[..];
     open_read(arena, &c[..4096], &c[4096..8192], mem)
 }
 
-pub fn open_on(arena: &[u8]) -> u8
-    ensures { Went (call_open arena.now) empty_table Unit result }
+pub fn open_on(arena: &[u8]) -> Result<(), Reason>
+    ensures { Went (call_open arena.now) empty_table Unit (code result) }
 {
     let mut chains = [0u16; 8192];
     let mut mem = [0u8; MEMORY];
@@ -66,9 +61,8 @@ pub fn open(arena: &[u8]) -> Reply
     ensures { Replies empty_table (call_open arena.now) result }
 {
     let t = table::empty();
-    let r = open_on(arena);
-    if r != 0 {
-        return refused(t, r);
+    match open_on(arena) {
+        Ok(()) => done(t),
+        Err(reason) => refused(t, reason),
     }
-    done(t)
 }

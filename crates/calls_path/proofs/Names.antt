@@ -5,7 +5,11 @@ use mathlib.Core.Logic.{◌≢◌}
 use Prim.Native.Nat.{ℕ, suc, ◌+◌, ◌-◌, ◌≤◌}
 use native.Mathlib.Omega.{arith}
 use lib.ListN.{length, take, drop, set, take-append-drop, length-append}
+use Rattle.std.specs.Prelude.{Result, Ok, Err, IsOk}
 use Rattle.base.specs.Out.{Out, done, kept, Went, well, ill}
+use Rattle.base.specs.Told.{code}
+use Rattle.base.specs.declared.reasons.Reason.{Reason}
+use Rattle.base.proofs.Tells.{number-ne}
 use Rattle.base.specs.Parts.{part, back, paste}
 use Rattle.base.proofs.Lists.{length_part, length-paste, paste-paste, set-paste}
 use Rattle.base.proofs.Outs.{bind-is-done, went-is, went-has}
@@ -26,6 +30,11 @@ same-done x y p q = ap (kept x) (sym p ∙ q)
 pub went-zero : {A : Type 0} {o : Out A} {v w : A} {P : Type 0} {r : ℕ} → Went o v P r → o ≡ done w → r ≡ 0
 went-zero (well e p) q = refl
 went-zero (ill l e) q = absurd (let z : ◌≡◌ {A = ℕ} 0 1 = cc in omega arith)
+
+-- and then its result has a value
+pub ok-zero : {A : Type 0} (r : Result A Reason) → code r ≡ 0 → IsOk r
+ok-zero (Ok x) z = refl
+ok-zero (Err e) z = absurd (number-ne e z)
 
 -- ---- bytes
 
@@ -60,7 +69,7 @@ module _ (a : List ℕ) (r : DiskINode) (x : ℕ) {at : ℕ} {out : List ℕ} (F
   one-was = bind-is-done (name_in a r x) (λ p. done (p ∷ [])) F.names F.is
 
   module _ (slot : List ℕ) (n : ℕ) {k : ℕ} (z : length slot ≡ 264) (W : Went (name_in a r x) (part slot 4 (4 + n)) (n ≤ 255) k) where
-    found : k ≡ 0
+    pub found : k ≡ 0
     found = went-zero W one-was.1
 
     pub name-short : n ≤ 255
@@ -111,10 +120,11 @@ module _ (s : Fs) (steps x : ℕ) (r : DiskINode) (at : ℕ) (out : List ℕ) (F
     some : last_to s (suc (steps - 1)) x r ≡ done F.names
     some = ap (λ (i : ℕ). last_to s i x r) (let q : suc (steps - 1) ≡ steps = omega arith in q) ∙ F.is
 
+    pub goes-up : k ≡ 0
+    goes-up = went-zero W (last_up s (steps - 1) x r F.names some).1
+
     turn : Last s (steps - 1) x u F.names
-    turn =
-        let U = last_up s (steps - 1) x r F.names some in
-        last-was s (steps - 1) x r F.names some u (went-is W (went-zero W U.1))
+    turn = last-was s (steps - 1) x r F.names some u (went-is W goes-up)
 
     bytes : length (slashed F.names) ≡ length (slashed turn.above) + length (slashed (turn.name ∷ []))
     bytes = ap (λ (l : List (List ℕ)). length (slashed l)) turn.is ∙ length-names turn.above (turn.name ∷ [])

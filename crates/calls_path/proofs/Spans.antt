@@ -39,12 +39,18 @@ module _ {s : Fs} {x : ℕ} {r : DiskINode} {m : List ℕ} {k steps at : ℕ} {o
 
   -- from one that is noted: its record is that of its id
   module _ (z : k ≢ 0) {rec : DiskINode} {P : Type 0} {n : ℕ} (W : Went (record_on s (get_or m k 0)) rec P n) where
+    looked : record_on s (get_or m k 0) ≡ done F.from.rec
+    looked =
+        ap (record_on s) (F.noted (omega arith))
+        ∙ folder-record s F.from.id F.from.rec (up-looked s (32 * k - 1) x r F.from (ap (λ (i : ℕ). up_by s i x r) (let q : suc (32 * k - 1) ≡ 32 * k = omega arith in q) ∙ F.up))
+
+    pub noted-there : n ≡ 0
+    noted-there = went-zero W looked
+
     noted-is : F.from ≡ spot (get_or m k 0) rec
     noted-is =
-        let f = folder-record s F.from.id F.from.rec (up-looked s (32 * k - 1) x r F.from (ap (λ (i : ℕ). up_by s i x r) (let q : suc (32 * k - 1) ≡ 32 * k = omega arith in q) ∙ F.up)) in
         let g = F.noted (omega arith) in
-        let e : record_on s (get_or m k 0) ≡ done F.from.rec = ap (record_on s) g ∙ f in
-        let q : F.from.rec ≡ rec = same-done F.from.rec rec e (went-is W (went-zero W e)) in
+        let q : F.from.rec ≡ rec = same-done F.from.rec rec looked (went-is W noted-there) in
         λ i. spot (sym g i) (q i)
 
     pub noted-fits : NamesFit (last_to s steps (get_or m k 0) rec) at out

@@ -11,6 +11,7 @@ use Rattle.sefs.specs.Read.{readable}
 use Rattle.walk.specs.Walk.{Spot, spot}
 use Rattle.paths.specs.Path.{name_in, most_folders, names_to, slashed, path_of}
 use Rattle.paths.specs.Spans.{up_by, last_to}
+use Rattle.calls_path.specs.declared.Measured.{Measured}
 
 -- ---- the call, once the handle's row is known
 
@@ -47,6 +48,10 @@ pub record Counted (s : Fs) (x : ℕ) (r : DiskINode) (m : List ℕ) (folders by
   pub size : length (slashed names) ≡ bytes
   pub room : length m ≡ 128
   pub marks : Marks s x r m folders
+
+-- what stands for a measure where none is given
+abbrev pub no_measure : Measured
+no_measure = record { folders = 0; bytes = 0 }
 
 -- the first pass says what the climb will say: the reason, or 0
 pub record Measures (s : Fs) (x : ℕ) (r : DiskINode) (m : List ℕ) (folders bytes reason : ℕ) : Type 0 where

@@ -4,6 +4,8 @@
 #![tactic(auto)]
 
 ghost use Rattle.std.specs.Prelude.{◌≡◌, ◌<◌, length};
+ghost use Rattle.std.specs.Result.{result_unwrap_or};
+ghost use Rattle.base.specs.Told.{code};
 ghost use Rattle.base.specs.Out.{answer};
 ghost use Rattle.chains.specs.Led.{Led};
 ghost use Rattle.mem.specs.Mem.{table_in, Whole};
@@ -12,11 +14,11 @@ ghost use Rattle.calls.specs.Answers.{taken_of, Lays};
 ghost use Rattle.calls.specs.Asked.{Admitted};
 ghost use Rattle.paths.specs.Path.{call_path};
 ghost use Rattle.paths.specs.Spans.{last_to};
-ghost use Rattle.calls_path.specs.Path.{path_ask, path_in, root_path, marked, Measures, MeasuredAt, one_name, NamesFit, NamesWritten, SpanFits, SpanWritten, PathFits, PathWritten};
+ghost use Rattle.calls_path.specs.Path.{path_ask, path_in, root_path, marked, no_measure, Measures, MeasuredAt, one_name, NamesFit, NamesWritten, SpanFits, SpanWritten, PathFits, PathWritten};
 
-use base::copy;
+use base::{Reason, copy};
 use calls::led::admit;
-use calls::{Taken, by_handle, not_removed, readable};
+use calls::{by_handle, not_removed, readable};
 use mem::{MEMORY, id_at, put_table, rec_at};
 use nodes_read::meta::load_meta;
 use nodes_read::record_on;
@@ -24,10 +26,6 @@ use path_parts::{above, name_in, step_up};
 use structs::DiskINode;
 use table::{Handle, Table};
 use utf8::SLASH;
-
-const STUCK: u8 = 19;
-
-const OUT_FULL: u8 = 20;
 
 // The node of the root folder.
 const ROOT: u32 = 2;
@@ -40,10 +38,9 @@ const SPAN: usize = 32;
 
 // ---- the first pass
 
-// Where the reason is 0: how many names the path has, and their bytes with a slash before each.
+// How many names the path has, and their bytes with a slash before each.
 #[derive(Clone, Copy)]
 struct Measured {
-    reason: u8,
     folders: usize,
     bytes: usize,
 }
@@ -60,21 +57,13 @@ fn mark(marks: &mut [u32], n: usize, id: u32)
 }
 
 // Where no more folders may be climbed from.
-fn measured_end(at: u32, folders: usize, bytes: usize) -> Measured
-    ensures { MeasuredAt at folders bytes result.folders result.bytes result.reason }
+fn measured_end(at: u32, folders: usize, bytes: usize) -> Result<Measured, Reason>
+    ensures { MeasuredAt at folders bytes (result_unwrap_or result no_measure).folders (result_unwrap_or result no_measure).bytes (code result) }
 {
     if at == ROOT {
-        return Measured {
-            reason: 0,
-            folders: folders,
-            bytes: bytes,
-        };
+        return Ok(Measured { folders, bytes });
     }
-    Measured {
-        reason: STUCK,
-        folders: 0,
-        bytes: 0,
-    }
+    Err(Reason::Stuck)
 }
 
 fn measure(
@@ -85,34 +74,25 @@ fn measure(
     id: u32,
     rec: DiskINode,
     marks: &mut [u32],
-) -> Measured
+) -> Result<Measured, Reason>
     requires led { Led arena.now first.now next.now }
     requires whole { Whole mem.now × (length marks.old ≡ 128) }
-    ensures { Measures (fs_at arena.now mem.now) id rec marks.new result.folders result.bytes result.reason }
+    ensures { Measures (fs_at arena.now mem.now) id rec marks.new (result_unwrap_or result no_measure).folders (result_unwrap_or result no_measure).bytes (code result) }
 {
     let mut at = id;
     let mut dir = rec;
     let mut bytes: usize = 0;
-    let mut n: usize = 0;
-    while n < MOST_FOLDERS {
+    for n in 0..MOST_FOLDERS {
         if at == ROOT {
             return measured_end(at, n, bytes);
         }
         mark(marks, n, at);
-        let up = step_up(arena, first, next, mem, at, dir);
-        if up.reason != 0 {
-            return Measured {
-                reason: up.reason,
-                folders: 0,
-                bytes: 0,
-            };
-        }
-        bytes = bytes + (1 + up.long);
+        let up = step_up(arena, first, next, mem, at, dir)?;
+        bytes += 1 + up.long;
         at = up.id;
         dir = up.rec;
-        n = n + 1;
     }
-    measured_end(at, n, bytes)
+    measured_end(at, MOST_FOLDERS, bytes)
 }
 
 // ---- the names of a span
@@ -132,8 +112,7 @@ fn write_name(
     requires slot_len { (length slot.old ≡ 264) × NamesFit (one_name arena.now rec x) at out.old }
     ensures { NamesWritten (one_name arena.now rec x) at out.old out.new result }
 {
-    let name = name_in(arena, first, next, rec, x, slot);
-    let n = name.long;
+    let n = name_in(arena, first, next, rec, x, slot).unwrap();
     let end = at + 1 + n;
     out[at] = SLASH;
     copy(&mut out[at + 1..end], &slot[4..4 + n]);
@@ -162,8 +141,7 @@ fn write_names(
     if steps == 0 {
         return at;
     }
-    let up = above(arena, first, next, mem, rec);
-    let dir = up.rec;
+    let up = above(arena, first, next, mem, rec).unwrap();
     let end = write_names(
         arena,
         first,
@@ -171,12 +149,12 @@ fn write_names(
         mem,
         slot,
         up.id,
-        dir,
+        up.rec,
         steps - 1,
         at,
         out,
     );
-    write_name(arena, first, next, slot, dir, x, end, out)
+    write_name(arena, first, next, slot, up.rec, x, end, out)
 }
 
 // ---- span by span
@@ -205,8 +183,8 @@ fn write_span(
         return write_names(arena, first, next, mem, slot, x, rec, steps, at, out);
     }
     let id = marks[k];
-    let n = record_on(arena, first, next, mem, id);
-    write_names(arena, first, next, mem, slot, id, n.rec, steps, at, out)
+    let top = record_on(arena, first, next, mem, id).unwrap();
+    write_names(arena, first, next, mem, slot, id, top, steps, at, out)
 }
 
 // All names, root's span first: those of the `below` folders nearest to the one that was asked for are still to be written.
@@ -229,6 +207,7 @@ fn write_path(
 {
     let mut below = folders;
     let mut at: usize = 0;
+    // A while: each span ends where the one that was written last begins.
     while below > 0 {
         let k = (below - 1) / SPAN;
         let start = SPAN * k;
@@ -253,14 +232,14 @@ fn write_path(
 // ---- the call
 
 // Root gives one slash.
-fn write_root(out: &mut [u8]) -> Taken
+fn write_root(out: &mut [u8]) -> Result<usize, Reason>
     ensures { Lays taken_of (root_path (length out.old)) out.old out.new result }
 {
     if out.len() == 0 {
-        return Taken::Refused(OUT_FULL);
+        return Err(Reason::OutFull);
     }
     out[0] = SLASH;
-    Taken::Bytes(1)
+    Ok(1)
 }
 
 // Of folder x, whose record is rec.
@@ -272,37 +251,31 @@ fn path_in(
     x: u32,
     rec: DiskINode,
     out: &mut [u8],
-) -> Taken
+) -> Result<usize, Reason>
     requires led { Led arena.now first.now next.now }
     requires whole { Whole mem.now }
     ensures { Lays taken_of (path_in (fs_at arena.now mem.now) x rec (length out.old)) out.old out.new result }
 {
     let mut marks = [0u32; 128];
-    let m = measure(arena, first, next, mem, x, rec, &mut marks);
-    if m.reason != 0 {
-        return Taken::Refused(m.reason);
-    }
+    let m = measure(arena, first, next, mem, x, rec, &mut marks)?;
     if m.folders == 0 {
         return write_root(out);
     }
     if m.bytes > out.len() {
-        return Taken::Refused(OUT_FULL);
+        return Err(Reason::OutFull);
     }
     let mut slot = [0u8; 264];
     write_path(
         arena, first, next, mem, &mut slot, x, rec, &marks, m.folders, out,
     );
-    Taken::Bytes(m.bytes)
+    Ok(m.bytes)
 }
 
 // 19 for a type that there is not, 7, 8.
-fn path_ask(rec: DiskINode) -> u8
-    ensures { result ≡ answer (path_ask rec) }
+fn path_ask(rec: DiskINode) -> Result<(), Reason>
+    ensures { code result ≡ answer (path_ask rec) }
 {
-    let r = readable(rec);
-    if r != 0 {
-        return r;
-    }
+    readable(rec)?;
     not_removed(rec)
 }
 
@@ -315,42 +288,38 @@ pub fn path_led(
     who: u8,
     h: Handle,
     out: &mut [u8],
-) -> Taken
+) -> Result<usize, Reason>
     requires { Admitted arena.now first.now next.now mem.old }
     ensures lays { Lays taken_of (call_path arena.now (table_in mem.old) who h (length out.old)) out.old out.new result }
     ensures mem_unchanged { (table_in mem.new ≡ table_in mem.old) × Whole mem.new }
 {
-    let b = by_handle(&mem[..], who, h);
-    if b.reason != 0 {
-        return Taken::Refused(b.reason);
-    }
-    let row = b.row;
+    let row = by_handle(&mem[..], who, h)?;
     let rec = rec_at(&mem[..], row);
-    let r = path_ask(rec);
-    if r != 0 {
-        return Taken::Refused(r);
-    }
+    path_ask(rec)?;
     let x = id_at(&mem[..], row);
     load_meta(arena, first, next, mem);
     path_in(arena, first, next, &mem[..], x, rec, out)
 }
 
 // The call on the table in memory.
-pub fn path_on(arena: &[u8], mem: &mut [u8], who: u8, h: Handle, out: &mut [u8]) -> Taken
+pub fn path_on(
+    arena: &[u8],
+    mem: &mut [u8],
+    who: u8,
+    h: Handle,
+    out: &mut [u8],
+) -> Result<usize, Reason>
     requires { Whole mem.old }
     ensures lays { Lays taken_of (call_path arena.now (table_in mem.old) who h (length out.old)) out.old out.new result }
     ensures mem_unchanged { (table_in mem.new ≡ table_in mem.old) × Whole mem.new }
 {
     let mut chains = [0u16; 8192];
-    let r = admit(arena, &mut chains, &mem[..]);
-    if r != 0 {
-        return Taken::Refused(r);
-    }
+    admit(arena, &mut chains, &mem[..])?;
     let c = &chains[..];
     path_led(arena, &c[..4096], &c[4096..8192], mem, who, h, out)
 }
 
-pub fn path(arena: &[u8], t: Table, who: u8, h: Handle, out: &mut [u8]) -> Taken
+pub fn path(arena: &[u8], t: Table, who: u8, h: Handle, out: &mut [u8]) -> Result<usize, Reason>
     ensures { Lays taken_of (call_path arena.now t who h (length out.old)) out.old out.new result }
 {
     let mut mem = [0u8; MEMORY];

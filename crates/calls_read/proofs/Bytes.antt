@@ -2,7 +2,7 @@
 use mathlib.Core.Path.{◌≡◌, refl, sym, ◌∙◌, ap, subst}
 use mathlib.Core.Bool.{true, false}
 use mathlib.Core.List.{List, ◌++◌}
-use Prim.Native.Nat.{ℕ, zero, suc, ◌+◌, ◌-◌, ◌≤◌, ◌<◌, min}
+use Prim.Native.Nat.{ℕ, suc, ◌+◌, ◌-◌, ◌≤◌, ◌<◌, min}
 use native.Mathlib.Nat.{zero-add, add-zero}
 use native.Mathlib.Omega.{arith}
 use lib.ListN.{length, drop, replicate}
@@ -24,12 +24,12 @@ use Rattle.sefs.specs.Ask.{admit, by_handle}
 use Rattle.sefs.specs.Contents.{has_contents, read_count, read_bytes, call_read}
 use Rattle.chains.specs.Led.{end_of}
 use Rattle.chains.proofs.Ends.{end-there}
-use Rattle.calls.specs.Answers.{taken_of, laid, Laid, lay, leave, Lays}
-use Rattle.calls.specs.declared.Taken.{Taken}
-use Rattle.calls.specs.declared.Taken.TheVariants as takens
+use Rattle.calls.specs.Answers.{taken_of, Laid, lay, leave, Lays}
+use Rattle.std.specs.Prelude.{Result}
+use Rattle.base.specs.declared.reasons.Reason.{Reason}
 use Rattle.calls.proofs.Asks.{asks-contents, asked-not, asked-done, call-stop, call_next}
-use Rattle.calls.proofs.Outputs.{paste-front, laid_out, lays-not}
-use Rattle.calls_read.specs.Read.{read_in, taken_as}
+use Rattle.calls.proofs.Outputs.{paste-front}
+use Rattle.calls_read.specs.Read.{read_in}
 
 -- ---- the bytes of a file
 
@@ -78,40 +78,32 @@ module _ (a : List ℕ) (f : File) (e : ℕ) (is : e ≡ end_of a f) (place n : 
 
 -- ---- the answer
 
-pub taken_as_lem : (r n : ℕ) → (r ≡ 0 → ⊥) → takens.Refused r ≡ taken_as r n
-taken_as_lem zero n z = absurd (z refl)
-taken_as_lem (suc r) n z = refl
-
-laid-taken : {o : Out (List ℕ)} {out now : List ℕ} {n r : ℕ} → Laid o out now n r → taken_as r n ≡ taken_of o
-laid-taken (lay {l = l} e q p) = ap (λ (x : ℕ). takens.Bytes x) (sym q) ∙ sym (ap taken_of e)
-laid-taken {n = n} (leave {r = r} z e p) = sym (taken_as_lem r n (λ q. omega arith)) ∙ sym (ap taken_of e)
+pub laid-taken : {o : Out (List ℕ)} {out now : List ℕ} {n : ℕ} → Laid o out now n 0 → ◌≡◌ {A = Out ℕ} (done n) (taken_of o)
+laid-taken (lay {l = l} e q p) = ap done (sym q) ∙ sym (ap taken_of e)
+laid-taken (leave z e p) = absurd (omega arith)
 
 -- what is asked of the type, and then the bytes
 module _ (a : List ℕ) (w : DiskINode) (place room r : ℕ) (e : r ≡ answer (has_contents w)) where
-  pub read-in-stop : (out : List ℕ) → (r ≡ 0 → ⊥) → Lays taken_of (read_in a w place room) out out (takens.Refused r)
+  pub read-in-stop : (r ≡ 0 → ⊥) → read_in a w place room ≡ refused r
   unfolding read_in
-  read-in-stop out z = lays-not {o = read_in a w place room} out out (rw (asked-not (has_contents w) r e z)) refl
+  read-in-stop z = rw (asked-not (has_contents w) r e z)
 
-  pub read-in-next : (out now : List ℕ) {s : ℕ} (n : ℕ) → r ≡ 0 → n ≡ read_count w.size place room → Laid (read_bytes a (node_file w) place n) out now n s
-      → Lays taken_of (read_in a w place room) out now (taken_as s n)
+  pub read-in-next : (n : ℕ) → r ≡ 0 → n ≡ read_count w.size place room → read_bytes a (node_file w) place n ≡ read_in a w place room
   unfolding read_in
-  read-in-next out now n z q L =
-      let o : read_bytes a (node_file w) place n ≡ read_in a w place room =
-      sym (rw (asked-done (has_contents w) (asks-contents w) r e z, q)) in
-      (laid-taken L ∙ ap taken_of o, laid_out L ∙ ap (laid out) o)
+  read-in-next n z q = sym (rw (asked-done (has_contents w) (asks-contents w) r e z, q))
 
 -- ---- the call
 
 module _ {P : Type 0} (a : List ℕ) (t : Table) (who : ℕ) (h : Handle) (k : admit a t ≡ done tt) (place room row r : ℕ) (g : Went (by_handle t who h) row P r) where
-  pub read-refused : (out : List ℕ) → (r ≡ 0 → ⊥) → Lays taken_of (call_read a t who h place room) out out (takens.Refused r)
+  pub read-refused : (r ≡ 0 → ⊥) → call_read a t who h place room ≡ refused r
   unfolding call_read read_in
-  read-refused out z = lays-not out out (call-stop a t who h k (λ i. read_in a (row_at t i).rec place room) row r g z) refl
+  read-refused z = call-stop a t who h k (λ i. read_in a (row_at t i).rec place room) row r g z
 
-  pub read_goes : (out now : List ℕ) (w : DiskINode) {s : Taken} → r ≡ 0 → w ≡ (row_at t row).rec → Lays taken_of (read_in a w place room) out now s → Lays taken_of (call_read a t who h place room) out now s
+  pub read_goes : (out now : List ℕ) (w : DiskINode) (s : Result ℕ Reason) → r ≡ 0 → w ≡ (row_at t row).rec → Lays taken_of (read_in a w place room) out now s → Lays taken_of (call_read a t who h place room) out now s
   unfolding call_read read_in
-  read_goes out now w z e L = rw (call_next a t who h k (λ i. read_in a (row_at t i).rec place room) row r g z, ← e) L
+  read_goes out now w s z e L = rw (call_next a t who h k (λ i. read_in a (row_at t i).rec place room) row r g z, ← e) L
 
 -- arena or table are refused
-pub read-unadmitted : (a : List ℕ) (t : Table) (who : ℕ) (h : Handle) (place room : ℕ) {r : ℕ} (out : List ℕ) → admit a t ≡ refused r → Lays taken_of (call_read a t who h place room) out out (takens.Refused r)
+pub read-unadmitted : (a : List ℕ) (t : Table) (who : ℕ) (h : Handle) (place room : ℕ) {r : ℕ} → admit a t ≡ refused r → call_read a t who h place room ≡ refused r
 unfolding call_read
-read-unadmitted a t who h place room out e = lays-not {o = call_read a t who h place room} out out (rw e) refl
+read-unadmitted a t who h place room e = rw e

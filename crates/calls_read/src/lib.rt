@@ -2,6 +2,7 @@
 #![tactic(auto)]
 
 ghost use Rattle.std.specs.Prelude.{◌≡◌, ◌≤◌, length};
+ghost use Rattle.base.specs.Told.{code};
 ghost use Rattle.base.specs.Parts.{tab};
 ghost use Rattle.arena.specs.Fields.{file};
 ghost use Rattle.files.specs.Read.{length_of, byte_at};
@@ -11,11 +12,11 @@ ghost use Rattle.chains.specs.Led.{Led};
 ghost use Rattle.mem.specs.Mem.{table_in, Whole};
 ghost use Rattle.calls.specs.Answers.{taken_of, Laid, Lays};
 ghost use Rattle.calls.specs.Asked.{Admitted};
-ghost use Rattle.calls_read.specs.Read.{read_in, taken_as};
+ghost use Rattle.calls_read.specs.Read.{read_in};
 
-use base::{clear, least};
+use base::{Reason, clear, least};
 use calls::led::admit;
-use calls::{Taken, by_handle, has_contents};
+use calls::{by_handle, has_contents};
 use chains::{length_of, read_run};
 use mem::{MEMORY, put_table, rec_at};
 use structs::DiskINode;
@@ -57,7 +58,7 @@ fn fill(
     clear(&mut out[m..]);
 }
 
-// The n bytes from `place` on go to the output's start. 19 where the file is missing.
+// The n bytes from `place` on go to the output's start. Stuck where the file is missing.
 pub fn read_bytes(
     arena: &[u8],
     first: &[u16],
@@ -66,27 +67,18 @@ pub fn read_bytes(
     place: usize,
     n: usize,
     out: &mut [u8],
-) -> u8
+) -> Result<(), Reason>
     requires led { Led arena.now first.now next.now }
     requires n_in_bounds { n ≤ length out.old }
-    ensures { Laid (read_bytes arena.now (node_file rec) place n) out.old out.new n result }
+    ensures { Laid (read_bytes arena.now (node_file rec) place n) out.old out.new n (code result) }
 {
     let file = rec.file;
     let end = length_of(arena, first, next, 1, &file);
     if end == 0 {
-        return 19;
+        return Err(Reason::Stuck);
     }
     fill(arena, first, next, &file, end - 1, place, &mut out[..n]);
-    0
-}
-
-fn as_taken(reason: u8, n: usize) -> Taken
-    ensures { result ≡ taken_as reason n }
-{
-    if reason == 0 {
-        return Taken::Bytes(n);
-    }
-    Taken::Refused(reason)
+    Ok(())
 }
 
 fn read_in(
@@ -96,17 +88,14 @@ fn read_in(
     rec: DiskINode,
     place: u64,
     out: &mut [u8],
-) -> Taken
+) -> Result<usize, Reason>
     requires { Led arena.now first.now next.now }
     ensures { Lays taken_of (read_in arena.now rec place (length out.old)) out.old out.new result }
 {
-    let r = has_contents(rec);
-    if r != 0 {
-        return Taken::Refused(r);
-    }
+    has_contents(rec)?;
     let n = count(rec.size, place, out.len());
-    let r = read_bytes(arena, first, next, rec, place as usize, n, out);
-    as_taken(r, n)
+    read_bytes(arena, first, next, rec, place as usize, n, out)?;
+    Ok(n)
 }
 
 // What follows the tests of arena and table, by the chains that they left.
@@ -119,33 +108,41 @@ pub fn read_led(
     h: Handle,
     place: u64,
     out: &mut [u8],
-) -> Taken
+) -> Result<usize, Reason>
     requires { Admitted arena.now first.now next.now mem.now }
     ensures { Lays taken_of (call_read arena.now (table_in mem.now) who h place (length out.old)) out.old out.new result }
 {
-    let b = by_handle(mem, who, h);
-    if b.reason != 0 {
-        return Taken::Refused(b.reason);
-    }
-    let rec = rec_at(mem, b.row);
+    let row = by_handle(mem, who, h)?;
+    let rec = rec_at(mem, row);
     read_in(arena, first, next, rec, place, out)
 }
 
 // The call on the table in memory.
-pub fn read_on(arena: &[u8], mem: &[u8], who: u8, h: Handle, place: u64, out: &mut [u8]) -> Taken
+pub fn read_on(
+    arena: &[u8],
+    mem: &[u8],
+    who: u8,
+    h: Handle,
+    place: u64,
+    out: &mut [u8],
+) -> Result<usize, Reason>
     requires { Whole mem.now }
     ensures { Lays taken_of (call_read arena.now (table_in mem.now) who h place (length out.old)) out.old out.new result }
 {
     let mut chains = [0u16; 8192];
-    let r = admit(arena, &mut chains, mem);
-    if r != 0 {
-        return Taken::Refused(r);
-    }
+    admit(arena, &mut chains, mem)?;
     let c = &chains[..];
     read_led(arena, &c[..4096], &c[4096..8192], mem, who, h, place, out)
 }
 
-pub fn read(arena: &[u8], t: Table, who: u8, h: Handle, place: u64, out: &mut [u8]) -> Taken
+pub fn read(
+    arena: &[u8],
+    t: Table,
+    who: u8,
+    h: Handle,
+    place: u64,
+    out: &mut [u8],
+) -> Result<usize, Reason>
     ensures { Lays taken_of (call_read arena.now t who h place (length out.old)) out.old out.new result }
 {
     let mut mem = [0u8; MEMORY];

@@ -3,6 +3,8 @@
 #![tactic(auto)]
 
 ghost use Rattle.std.specs.Prelude.{◌≡◌, true, ◌<◌, ◌≤◌, length};
+ghost use Rattle.std.specs.Result.{result_unwrap_or};
+ghost use Rattle.base.specs.Told.{code};
 ghost use Rattle.arena.specs.Blocks.{legal};
 ghost use Rattle.overlay.specs.View.{left, Empty};
 ghost use Rattle.sefs.specs.Remove.{call_remove, call_remove_file, call_remove_folder};
@@ -11,9 +13,11 @@ ghost use Rattle.mem.specs.Mem.{table_in, Whole};
 ghost use Rattle.mem.specs.State.{fs_of, Ready, Stepped, fs_at};
 ghost use Rattle.calls.specs.Asked.{Admitted};
 ghost use Rattle.steps.specs.Ends.{Rest, ending, Ended, Returned};
+ghost use Rattle.removals.specs.Picks.{no_picked};
 ghost use Rattle.removals.specs.Removals.{remove_node};
 ghost use Rattle.calls_remove.specs.Steps.{remove_name, remove_from};
 
+use base::Reason;
 use calls::led::admit;
 use calls::{Reply, settle};
 use chains::slots::find_slot;
@@ -33,31 +37,14 @@ fn pick_name(
     i: usize,
     name: &[u8],
     folder: bool,
-) -> Picked
+) -> Result<Picked, Reason>
     requires led { Led arena.now first.now next.now }
     requires whole { Whole mem.old × (i < 34) }
-    ensures { Rest (remove_name folder (fs_at arena.now mem.old) i name.now) (remove_node (fs_at arena.now mem.new) result.row result.node result.place) (Whole mem.new × ((result.row < 34) × (result.node < 34))) result.reason }
+    ensures { Rest (remove_name folder (fs_at arena.now mem.old) i name.now) (remove_node (fs_at arena.now mem.new) (result_unwrap_or result no_picked).row (result_unwrap_or result no_picked).node (result_unwrap_or result no_picked).place) (Whole mem.new × (((result_unwrap_or result no_picked).row < 34) × ((result_unwrap_or result no_picked).node < 34))) (code result) }
 {
     let mut slot = [0u8; 264];
-    let p = find_slot(arena, first, next, rec_at(&mem[..], i), name, &mut slot);
-    if p.reason != 0 {
-        return Picked {
-            reason: p.reason,
-            row: 0,
-            node: 0,
-            place: 0,
-        };
-    }
-    pick_id(
-        arena,
-        first,
-        next,
-        mem,
-        i,
-        u32_at(&slot, 0),
-        p.place,
-        folder,
-    )
+    let place = find_slot(arena, first, next, rec_at(&mem[..], i), name, &mut slot)?;
+    pick_id(arena, first, next, mem, i, u32_at(&slot, 0), place, folder)
 }
 
 fn pick_in(
@@ -68,20 +55,12 @@ fn pick_in(
     i: usize,
     name: &[u8],
     folder: bool,
-) -> Picked
+) -> Result<Picked, Reason>
     requires led { Led arena.now first.now next.now }
     requires whole { Whole mem.old × (i < 34) }
-    ensures { Rest (remove_from folder (fs_at arena.now mem.old) i name.now) (remove_node (fs_at arena.now mem.new) result.row result.node result.place) (Whole mem.new × ((result.row < 34) × (result.node < 34))) result.reason }
+    ensures { Rest (remove_from folder (fs_at arena.now mem.old) i name.now) (remove_node (fs_at arena.now mem.new) (result_unwrap_or result no_picked).row (result_unwrap_or result no_picked).node (result_unwrap_or result no_picked).place) (Whole mem.new × (((result_unwrap_or result no_picked).row < 34) × ((result_unwrap_or result no_picked).node < 34))) (code result) }
 {
-    let r = remove_ask(rec_at(&mem[..], i), name);
-    if r != 0 {
-        return Picked {
-            reason: r,
-            row: 0,
-            node: 0,
-            place: 0,
-        };
-    }
+    remove_ask(rec_at(&mem[..], i), name)?;
     pick_name(arena, first, next, mem, i, name, folder)
 }
 
@@ -95,37 +74,28 @@ pub fn pick_led(
     h: Handle,
     name: &[u8],
     folder: bool,
-) -> Picked
+) -> Result<Picked, Reason>
     requires { Admitted arena.now first.now next.now mem.old }
-    ensures { Rest (call_remove folder arena.now (table_in mem.old) who h name.now) (ending (remove_node (fs_at arena.now mem.new) result.row result.node result.place)) ((legal arena.now ≡ true) × (Whole mem.new × ((result.row < 34) × (result.node < 34)))) result.reason }
+    ensures { Rest (call_remove folder arena.now (table_in mem.old) who h name.now) (ending (remove_node (fs_at arena.now mem.new) (result_unwrap_or result no_picked).row (result_unwrap_or result no_picked).node (result_unwrap_or result no_picked).place)) ((legal arena.now ≡ true) × (Whole mem.new × (((result_unwrap_or result no_picked).row < 34) × ((result_unwrap_or result no_picked).node < 34)))) (code result) }
 {
-    let b = reach_read(arena, first, next, mem, who, h);
-    if b.reason != 0 {
-        return Picked {
-            reason: b.reason,
-            row: 0,
-            node: 0,
-            place: 0,
-        };
-    }
-    pick_in(arena, first, next, mem, b.row, name, folder)
+    let row = reach_read(arena, first, next, mem, who, h)?;
+    pick_in(arena, first, next, mem, row, name, folder)
 }
 
 // The frame of the chains is left before a workspace is made.
-fn pick_asked(arena: &[u8], mem: &mut [u8], who: u8, h: Handle, name: &[u8], folder: bool) -> Picked
+fn pick_asked(
+    arena: &[u8],
+    mem: &mut [u8],
+    who: u8,
+    h: Handle,
+    name: &[u8],
+    folder: bool,
+) -> Result<Picked, Reason>
     requires { Whole mem.old }
-    ensures { Rest (call_remove folder arena.now (table_in mem.old) who h name.now) (ending (remove_node (fs_at arena.now mem.new) result.row result.node result.place)) ((legal arena.now ≡ true) × (Whole mem.new × ((result.row < 34) × (result.node < 34)))) result.reason }
+    ensures { Rest (call_remove folder arena.now (table_in mem.old) who h name.now) (ending (remove_node (fs_at arena.now mem.new) (result_unwrap_or result no_picked).row (result_unwrap_or result no_picked).node (result_unwrap_or result no_picked).place)) ((legal arena.now ≡ true) × (Whole mem.new × (((result_unwrap_or result no_picked).row < 34) × ((result_unwrap_or result no_picked).node < 34)))) (code result) }
 {
     let mut chains = [0u16; 8192];
-    let r = admit(arena, &mut chains, &mem[..]);
-    if r != 0 {
-        return Picked {
-            reason: r,
-            row: 0,
-            node: 0,
-            place: 0,
-        };
-    }
+    admit(arena, &mut chains, &mem[..])?;
     let c = &chains[..];
     pick_led(arena, &c[..4096], &c[4096..8192], mem, who, h, name, folder)
 }
@@ -141,14 +111,11 @@ fn remove_node(
     i: usize,
     c: usize,
     k: usize,
-) -> u8
+) -> Result<(), Reason>
     requires { Ready arena.now work.old mem.old × ((21 ≤ left work.old) × ((i < 34) × ((c < 34) × (length slot.old ≡ 264)))) }
-    ensures { Stepped (remove_node (fs_of arena.now work.old mem.old) i c k) arena.now work.old work.new mem.new 21 result }
+    ensures { Stepped (remove_node (fs_of arena.now work.old mem.old) i c k) arena.now work.old work.new mem.new 21 (code result) }
 {
-    let r = dirent_node_remove(arena, work, mem, slot, i, c, k);
-    if r != 0 {
-        return r;
-    }
+    dirent_node_remove(arena, work, mem, slot, i, c, k)?;
     sync_row(arena, work, mem, i)
 }
 
@@ -161,22 +128,19 @@ fn remove_in(
     i: usize,
     c: usize,
     k: usize,
-) -> u8
+) -> Result<(), Reason>
     requires { Empty arena.old work.old 31 × (Whole mem.old × ((i < 34) × ((c < 34) × (length slot.old ≡ 264)))) }
-    ensures { Ended (ending (remove_node (fs_at arena.old mem.old) i c k)) arena.old arena.new (table_in mem.new) result }
+    ensures { Ended (ending (remove_node (fs_at arena.old mem.old) i c k)) arena.old arena.new (table_in mem.new) (code result) }
 {
-    let n = remove_node(&arena[..], work, mem, slot, i, c, k);
-    if n != 0 {
-        return n;
-    }
+    remove_node(&arena[..], work, mem, slot, i, c, k)?;
     overlay::commit(arena, &work[..]);
-    0
+    Ok(())
 }
 
 // The workspace is made, and the only room for a slot.
-pub fn remove(arena: &mut [u8], mem: &mut [u8], i: usize, c: usize, k: usize) -> u8
+pub fn remove(arena: &mut [u8], mem: &mut [u8], i: usize, c: usize, k: usize) -> Result<(), Reason>
     requires { (legal arena.old ≡ true) × (Whole mem.old × ((i < 34) × (c < 34))) }
-    ensures { Ended (ending (remove_node (fs_at arena.old mem.old) i c k)) arena.old arena.new (table_in mem.new) result }
+    ensures { Ended (ending (remove_node (fs_at arena.old mem.old) i c k)) arena.old arena.new (table_in mem.new) (code result) }
 {
     let mut work = [0u8; 15872];
     let mut slot = [0u8; 264];
@@ -192,14 +156,11 @@ pub fn remove_on(
     h: Handle,
     name: &[u8],
     folder: bool,
-) -> u8
+) -> Result<(), Reason>
     requires { Whole mem.old }
-    ensures { Ended (call_remove folder arena.old (table_in mem.old) who h name.now) arena.old arena.new (table_in mem.new) result }
+    ensures { Ended (call_remove folder arena.old (table_in mem.old) who h name.now) arena.old arena.new (table_in mem.new) (code result) }
 {
-    let p = pick_asked(&arena[..], mem, who, h, name, folder);
-    if p.reason != 0 {
-        return p.reason;
-    }
+    let p = pick_asked(&arena[..], mem, who, h, name, folder)?;
     remove(arena, mem, p.row, p.node, p.place)
 }
 

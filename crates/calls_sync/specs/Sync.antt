@@ -9,6 +9,7 @@ use Rattle.sefs.specs.State.{Fs}
 use Rattle.sefs.specs.Meta.{meta_file}
 use Rattle.mem.specs.Mem.{Whole}
 use Rattle.mem.specs.State.{fs_at}
+use Rattle.calls_sync.specs.declared.Room.{Room}
 
 -- whether o can be done is answered with r: 0, and then P holds of what it leaves; or its reason
 pub data Judged {A : Type 0} (o : Out A) (P : A → Type 0) : ℕ → Type 0 where
@@ -44,3 +45,7 @@ pub record Left (a n : List ℕ) (low from free : ℕ) (s : Fs) : Type 0 where
   pub is : s ≡ fs_at arena n
   pub whole : Whole n
   pub counted : Counted a arena low from free
+
+-- what stands for the room where none is given
+abbrev pub no_room : Room
+no_room = record { from = 0; free = 0 }

@@ -4,6 +4,8 @@
 #![tactic(auto)]
 
 ghost use Rattle.std.specs.Prelude.{◌≡◌, true, List, ℕ, ◌+◌, ◌*◌, ◌<◌, ◌≤◌, length};
+ghost use Rattle.std.specs.Result.{result_unwrap_or};
+ghost use Rattle.base.specs.Told.{code};
 ghost use Rattle.base.specs.Count.{bit};
 ghost use Rattle.base.specs.Out.{done as done_as};
 ghost use Rattle.arena.specs.Blocks.{legal};
@@ -16,10 +18,10 @@ ghost use Rattle.sefs.specs.Close.{sync_from, call_sync};
 ghost use Rattle.mem.specs.Mem.{table_in, Whole};
 ghost use Rattle.calls.specs.Asked.{Admitted};
 ghost use Rattle.steps.specs.Ends.{Rest, ending, Ended, Returned};
-ghost use Rattle.calls_sync.specs.Sync.{Judged, Does, is_lacking, needed, Counted, Left};
+ghost use Rattle.calls_sync.specs.Sync.{Judged, Does, is_lacking, needed, Counted, Left, no_room};
 ghost use Rattle.mem.specs.State.{fs_at};
 
-use base::{copy, index};
+use base::{Reason, copy, index};
 use calls::led::admit;
 use calls::{Reply, settle};
 use files::find_data;
@@ -35,7 +37,6 @@ use table::Table;
 // What the records so far would leave: no block of the metadata file below `from` has to be made any more, and so many blocks are free.
 #[derive(Clone, Copy)]
 struct Room {
-    reason: u8,
     from: usize,
     free: usize,
 }
@@ -70,39 +71,32 @@ fn needs<'a>(arena: &'a [u8], work: &'a [u8], from: usize, pos: usize) -> usize
 }
 
 // Whether the record of that id can be stored after the others.
-fn room_for<'a>(arena: &'a [u8], work: &'a [u8], id: u32, from: usize, free: usize) -> Room
+fn room_for<'a>(
+    arena: &'a [u8],
+    work: &'a [u8],
+    id: u32,
+    from: usize,
+    free: usize,
+) -> Result<Room, Reason>
     requires { Empty arena.now work.now 10 }
-    ensures { (d src : List ℕ) (low : ℕ) → Counted arena.now d low from free → low < id → length src ≡ 112 → Judged (put_file d meta_file (128 * id) src) (λ e. Counted arena.now e id result.from result.free) result.reason }
+    ensures { (d src : List ℕ) (low : ℕ) → Counted arena.now d low from free → low < id → length src ≡ 112 → Judged (put_file d meta_file (128 * id) src) (λ e. Counted arena.now e id (result_unwrap_or result no_room).from (result_unwrap_or result no_room).free) (code result) }
 {
     let meta = [0u8; 16];
     if !there(arena, work, 0, &meta) {
-        return Room {
-            reason: 19,
-            from: 0,
-            free: 0,
-        };
+        return Err(Reason::Stuck);
     }
     let pos = 128 * index(id);
     if pos + 112 > 4294967295 {
-        return Room {
-            reason: 17,
-            from: 0,
-            free: 0,
-        };
+        return Err(Reason::NoDeviceSpace);
     }
     let n = needs(arena, work, from, pos);
     if n > free {
-        return Room {
-            reason: 17,
-            from: 0,
-            free: 0,
-        };
+        return Err(Reason::NoDeviceSpace);
     }
-    Room {
-        reason: 0,
+    Ok(Room {
         from: (pos + 111) / 480 + 1,
         free: free - n,
-    }
+    })
 }
 
 // Row i's turn. Memory is what it would be afterwards.
@@ -113,52 +107,43 @@ fn try_row<'a>(
     i: usize,
     from: usize,
     free: usize,
-) -> Room
+) -> Result<Room, Reason>
     requires { Empty arena.now work.now 10 × (Whole mem.old × (i < 34)) }
-    ensures { (d : List ℕ) (low : ℕ) → Counted arena.now d low from free → low < (row_at (table_in mem.old) i).id → Judged (sync_row (fs_at d mem.old) i) (Left arena.now mem.new (row_at (table_in mem.old) i).id result.from result.free) result.reason }
+    ensures { (d : List ℕ) (low : ℕ) → Counted arena.now d low from free → low < (row_at (table_in mem.old) i).id → Judged (sync_row (fs_at d mem.old) i) (Left arena.now mem.new (row_at (table_in mem.old) i).id (result_unwrap_or result no_room).from (result_unwrap_or result no_room).free) (code result) }
 {
     if !dirty_at(&mem[..], i) {
-        return Room {
-            reason: 0,
-            from: from,
-            free: free,
-        };
+        return Ok(Room { from, free });
     }
     let r = room_for(arena, work, id_at(&mem[..], i), from, free);
     put_dirty(mem, i, false);
     r
 }
 
-// Every row's turn, by rising id. `more`: how many rows there still can be with an id above `low`.
-fn try_rows<'a>(arena: &'a [u8], work: &'a [u8], mem: &mut [u8]) -> u8
+// Every row's turn, by rising id: each is one row less with an id above `low`, so that 34 turns are enough.
+fn try_rows<'a>(arena: &'a [u8], work: &'a [u8], mem: &mut [u8]) -> Result<(), Reason>
     requires { Empty arena.now work.now 10 × Whole mem.old }
-    ensures { Judged (sync_from (fs_at arena.now mem.old) 0 34) (λ _. Unit) result }
+    ensures { Judged (sync_from (fs_at arena.now mem.old) 0 34) (λ _. Unit) (code result) }
 {
     let mut from: usize = 0;
     let mut free = arena::free_count(arena);
     let mut low: u32 = 0;
-    let mut more: usize = 34;
-    while 0 < more {
+    for _ in 0..34usize {
         let i = next_row(&mem[..], low);
         if i >= 34 {
-            return 0;
+            return Ok(());
         }
         low = id_at(&mem[..], i);
-        let k = try_row(arena, work, mem, i, from, free);
-        if k.reason != 0 {
-            return k.reason;
-        }
-        from = k.from;
-        free = k.free;
-        more = more - 1;
+        let room = try_row(arena, work, mem, i, from, free)?;
+        from = room.from;
+        free = room.free;
     }
-    0
+    Ok(())
 }
 
-// 0 where every dirty row can be stored, else the reason that refuses the call. The counting marks rows, so it has a memory of its own.
-fn decide(arena: &[u8], mem: &[u8]) -> u8
+// Whether every dirty row can be stored, or the reason that refuses the call. The counting marks rows, so it has a memory of its own.
+fn decide(arena: &[u8], mem: &[u8]) -> Result<(), Reason>
     requires { (legal arena.now ≡ true) × Whole mem.now }
-    ensures { Judged (sync_from (fs_at arena.now mem.now) 0 34) (λ _. Unit) result }
+    ensures { Judged (sync_from (fs_at arena.now mem.now) 0 34) (λ _. Unit) (code result) }
 {
     let mut own = [0u8; MEMORY];
     let mut work = [0u8; 5120];
@@ -177,7 +162,7 @@ fn store_one(arena: &mut [u8], mem: &mut [u8], i: usize)
 {
     let mut work = [0u8; 6656];
     overlay::begin(&mut work);
-    sync_row(&arena[..], &mut work, mem, i);
+    let _ = sync_row(&arena[..], &mut work, mem, i);
     overlay::commit(arena, &work);
 }
 
@@ -188,29 +173,24 @@ fn store_rows(arena: &mut [u8], mem: &mut [u8])
     ensures { sync_from (fs_at arena.old mem.old) 0 34 ≡ done_as (fs_at arena.new mem.new) }
 {
     let mut low: u32 = 0;
-    let mut more: usize = 34;
-    while 0 < more {
+    for _ in 0..34usize {
         let i = next_row(&mem[..], low);
         if i >= 34 {
             return;
         }
         low = id_at(&mem[..], i);
         store_one(arena, mem, i);
-        more = more - 1;
     }
 }
 
 // Once the arena and the table are admitted.
-pub fn sync_in(arena: &mut [u8], mem: &mut [u8]) -> u8
+pub fn sync_in(arena: &mut [u8], mem: &mut [u8]) -> Result<(), Reason>
     requires { (legal arena.old ≡ true) × Whole mem.old }
-    ensures { Ended (ending (sync_from (fs_at arena.old mem.old) 0 34)) arena.old arena.new (table_in mem.new) result }
+    ensures { Ended (ending (sync_from (fs_at arena.old mem.old) 0 34)) arena.old arena.new (table_in mem.new) (code result) }
 {
-    let r = decide(&arena[..], &mem[..]);
-    if r != 0 {
-        return r;
-    }
+    decide(&arena[..], &mem[..])?;
     store_rows(arena, mem);
-    0
+    Ok(())
 }
 
 // ---- 1, 2, 3, and superblock and maps
@@ -224,29 +204,23 @@ pub fn sync_led(arena: &[u8], first: &[u16], next: &[u16], mem: &mut [u8])
 }
 
 // The frame of the chains is left before a workspace is made.
-fn sync_asked(arena: &[u8], mem: &mut [u8]) -> u8
+fn sync_asked(arena: &[u8], mem: &mut [u8]) -> Result<(), Reason>
     requires { Whole mem.old }
-    ensures { Rest (call_sync arena.now (table_in mem.old)) (ending (sync_from (fs_at arena.now mem.new) 0 34)) ((legal arena.now ≡ true) × Whole mem.new) result }
+    ensures { Rest (call_sync arena.now (table_in mem.old)) (ending (sync_from (fs_at arena.now mem.new) 0 34)) ((legal arena.now ≡ true) × Whole mem.new) (code result) }
 {
     let mut chains = [0u16; 8192];
-    let r = admit(arena, &mut chains, &mem[..]);
-    if r != 0 {
-        return r;
-    }
+    admit(arena, &mut chains, &mem[..])?;
     let c = &chains[..];
     sync_led(arena, &c[..4096], &c[4096..8192], mem);
-    0
+    Ok(())
 }
 
 // The call on the table in memory.
-pub fn sync_on(arena: &mut [u8], mem: &mut [u8]) -> u8
+pub fn sync_on(arena: &mut [u8], mem: &mut [u8]) -> Result<(), Reason>
     requires { Whole mem.old }
-    ensures { Ended (call_sync arena.old (table_in mem.old)) arena.old arena.new (table_in mem.new) result }
+    ensures { Ended (call_sync arena.old (table_in mem.old)) arena.old arena.new (table_in mem.new) (code result) }
 {
-    let r = sync_asked(&arena[..], mem);
-    if r != 0 {
-        return r;
-    }
+    sync_asked(&arena[..], mem)?;
     sync_in(arena, mem)
 }
 

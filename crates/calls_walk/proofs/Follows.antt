@@ -2,7 +2,7 @@
 use mathlib.Core.Path.{◌≡◌, refl, sym, ◌∙◌, ap, ap₂, subst}
 use mathlib.Core.Bool.{Bool, true, false}
 use mathlib.Core.List.{List, ◌++◌}
-use mathlib.Core.Logic.{⊎_elim, ◌⊎◌}
+use mathlib.Core.Logic.{⊎_elim}
 use Prim.Native.Nat.{ℕ, zero, suc, ◌+◌, ◌-◌, ◌*◌, ◌<◌, ◌≤◌}
 use native.Mathlib.Nat.{eq-or-lt_of_le, le_of_suc-le-suc}
 use native.Mathlib.Numerals.{add-one}
@@ -16,7 +16,11 @@ use Rattle.base.specs.Parts.{part, back, paste}
 use Rattle.base.specs.Search.{pick}
 use Rattle.base.proofs.Bools.{bool_cases}
 use Rattle.base.proofs.Lists.{length_part, length-paste, part-paste}
+use Rattle.base.specs.Told.{number, code}
+use Rattle.base.specs.declared.reasons.Reason.{Reason}
+use Rattle.base.specs.declared.reasons.Reason.TheVariants as reasons
 use Rattle.base.proofs.Outs.{above_zero}
+use Rattle.base.proofs.Tells.{number-ne, number-pos}
 use Rattle.structs.specs.declared.DiskINode.{DiskINode}
 use Rattle.sefs.specs.State.{Fs}
 use Rattle.sefs.specs.Nodes.{node_file}
@@ -86,9 +90,9 @@ module _ (s : Fs) (path links m : List ℕ) (g : Going) (p : Passed) (S : Stands
   meets = along-join s at (cut text) rests ∙ ap (more s rests) M.way
 
   -- the ninth link
-  pub follow-loop : g.left ≡ 0 → Turned s path links links m m g (stop g 23)
+  pub follow-loop : g.left ≡ 0 → Turned s path links links m m g (stop g reasons.SymLoop)
   follow-loop z =
-      stopped s path links m g 23 m refl (λ y. omega (arith, y)) M.going S.read
+      stopped s path links m g reasons.SymLoop m refl M.going S.read
       (ap (λ (k : ℕ). walk_on s (length links) k b at (cut text ++ rests)) z ∙ walk_loop s (length links) b at (cut text ++ rests) meets ∙ ap (λ (k : ℕ). walked b k (refused 23)) (sym z))
 
   module _ (n : g.left ≡ 0 → ⊥) (h : Going) where
@@ -111,10 +115,10 @@ module _ (s : Fs) (path links m : List ℕ) (g : Going) (p : Passed) (S : Stands
     room-is : {x : Out (List ℕ)} → target_of s.arena p.node (length links - g.used) ≡ x → target_of s.arena p.node (length links - length b) ≡ x
     room-is e = ap (λ (i : ℕ). target_of s.arena p.node (length links - i)) b-size ∙ e
 
-    follow-unread : {q : ℕ} → 0 < q → target_of s.arena p.node (length links - g.used) ≡ refused q → Turned s path links links m o g (stop g q)
-    follow-unread {q = q} l e =
-        stopped s path links m g q o marks-size (λ y. omega (arith, l, y)) M.going S.read
-        (ap (λ (i : ℕ). walk_on s (length links) i b at (cut text ++ rests)) one_more_lem ∙ walk-unread s (length links) b at (cut text ++ rests) meets k (room-is e) ∙ ap (λ (i : ℕ). walked b i (refused q)) (sym one_more_lem))
+    follow-unread : {r : Reason} → target_of s.arena p.node (length links - g.used) ≡ refused (number r) → Turned s path links links m o g (stop g r)
+    follow-unread {r = r} e =
+        stopped s path links m g r o marks-size M.going S.read
+        (ap (λ (i : ℕ). walk_on s (length links) i b at (cut text ++ rests)) one_more_lem ∙ walk-unread s (length links) b at (cut text ++ rests) meets k (room-is e) ∙ ap (λ (i : ℕ). walked b i (refused (number r))) (sym one_more_lem))
 
     module _ (l : List ℕ) (t : target_of s.arena p.node (length links - g.used) ≡ done l) (u : g.used + length l ≤ length links)
         (E : Entered h (enter s folder l) k (g.used + length l) (g.depth + 1) (g.used + bit (from_root l)) (g.used + length l)) where
@@ -136,7 +140,7 @@ module _ (s : Fs) (path links m : List ℕ) (g : Going) (p : Passed) (S : Stands
           let q = E.ends e in
           outcome-over s path now o h h e
           ∙ ap (λ (x : List ℕ). walked x h.left (end_of h)) read_is
-          ∙ ap₂ (λ (i : ℕ) (x : Out Spot). walked (b ++ l) i x) E.left (rw (ne_eqb h.reason 0 (λ z. omega (arith, q.1, z))))
+          ∙ ap₂ (λ (i : ℕ) (x : Out Spot). walked (b ++ l) i x) E.left (rw (ne_eqb (code h.ended) 0 (λ z. omega (arith, q.1, z))))
           ∙ sym (walk-bad s (length links) b at (cut text ++ rests) meets k (room-is t) q.0)
           ∙ sym started
 
@@ -214,7 +218,7 @@ module _ (s : Fs) (path links m : List ℕ) (g : Going) (p : Passed) (S : Stands
           }
 
     pub follow-turns : (now : List ℕ) → Followed s links now g p h → Turned s path links now m (marked m g.depth (g.from + p.place) g.to) g h
-    follow-turns now (unread l e q w) = rw (q, w) (follow-unread l e)
+    follow-turns now (unread l e q w) = rw (q, w) (follow-unread e)
     follow-turns now (read {l = l} t u q E) = rw q (follow-read l t u E)
 
 -- ---- a target is read
@@ -231,6 +235,11 @@ module _ (a : List ℕ) (r : DiskINode) (room : ℕ) where
   pub target-read : {out now : List ℕ} {n q : ℕ} → r.size ≤ room → n ≡ r.size → Laid (read_bytes a (node_file r) 0 n) out now n q → Laid (target_of a r room) out now n q
   target-read h e g = rw (target_is h, ← e) g
 
+-- nothing was laid
+pub laid-not : {o : Out (List ℕ)} {out now : List ℕ} {n q : ℕ} (m : ℕ) → (q ≡ 0 → ⊥) → Laid o out now n q → Laid o out now m q
+laid-not m z (lay e y w) = absurd (z refl)
+laid-not m z (leave y e w) = leave y e w
+
 -- ---- what the code does at a link: `out` is what the part of the buffer from the targets on comes back as
 
 module _ (s : Fs) (links : List ℕ) (g : Going) (p : Passed) (u : g.used ≤ length links) (out : List ℕ) {n q : ℕ}
@@ -238,12 +247,12 @@ module _ (s : Fs) (links : List ℕ) (g : Going) (p : Passed) (u : g.used ≤ le
   room-left : {x : Out (List ℕ)} → target_of s.arena p.node (length (part links g.used (length links))) ≡ x → target_of s.arena p.node (length links - g.used) ≡ x
   room-left e = ap (target_of s.arena p.node) (sym (length_part links g.used (length links) u (omega arith))) ∙ e
 
-  pub not-read : {h : Going} → (q ≡ 0 → ⊥) → h ≡ stop g q → Followed s links (back links g.used (length links) out) g p h
-  not-read z f = by L z f
+  pub not-read : (r : Reason) {h : Going} → q ≡ number r → h ≡ stop g r → Followed s links (back links g.used (length links) out) g p h
+  not-read r z f = by L z f
     where
-      by : {h : Going} {n q : ℕ} → Laid (target_of s.arena p.node (length (part links g.used (length links)))) (part links g.used (length links)) out n q → (q ≡ 0 → ⊥) → h ≡ stop g q → Followed s links (back links g.used (length links) out) g p h
-      by (lay e y w) z f = absurd (z refl)
-      by (leave y e w) z f = unread y (room-left e) (ap (back links g.used (length links)) w ∙ back-own links g.used u) f
+      by : {h : Going} {n q : ℕ} → Laid (target_of s.arena p.node (length (part links g.used (length links)))) (part links g.used (length links)) out n q → q ≡ number r → h ≡ stop g r → Followed s links (back links g.used (length links) out) g p h
+      by (lay e y w) z f = absurd (number-ne r (sym z))
+      by (leave y e w) z f = unread (number-pos r) (room-left (e ∙ ap refused z)) (ap (back links g.used (length links)) w ∙ back-own links g.used u) f
 
   abbrev later : List ℕ
   later = back links g.used (length links) out

@@ -2,18 +2,22 @@
 use mathlib.Core.Path.{◌≡◌, refl, sym, ◌∙◌, ap, ap₂, subst}
 use mathlib.Core.Bool.{true, false}
 use mathlib.Core.List.{List, [], ◌++◌, append-nil}
-use mathlib.Core.Logic.{⊎_elim, ◌⊎◌}
+use mathlib.Core.Logic.{⊎_elim}
 use Prim.Native.Nat.{ℕ, ◌+◌, ◌-◌, ◌≤◌}
 use native.Mathlib.Omega.{arith}
 use lib.ListN.{length, take, drop, take-append-drop}
 use lib.Seq.{drop-drop}
-use borrow.Author.Tests.{eq-eqb, ne_eqb}
+use borrow.Author.Tests.{ne_eqb}
 use Rattle.base.specs.Count.{bit}
 use Rattle.base.specs.Out.{Out, done, refused, bind, Went}
 use Rattle.base.specs.Parts.{part, paste}
+use Rattle.std.specs.Prelude.{Result, Ok, Err}
+use Rattle.base.specs.Told.{number, code}
+use Rattle.base.specs.declared.reasons.Reason.{Reason}
 use Rattle.base.proofs.Bools.{bool_cases}
 use Rattle.base.proofs.Finds.{eq-cases}
 use Rattle.base.proofs.Outs.{went-is, went-not}
+use Rattle.base.proofs.Tells.{number-ne}
 use Rattle.structs.specs.declared.DiskINode.{DiskINode}
 use Rattle.table.specs.declared.Table.{Table}
 use Rattle.table.specs.declared.Handle.{Handle}
@@ -40,27 +44,27 @@ use Rattle.calls_walk.proofs.Turns.{outcome-over, outcome-going, turn-stop, turn
 -- ---- a turn, by the way along the text l
 
 module _ (s : Fs) (path links m : List ℕ) (g : Going) (S : Stands path links m g) (e : g.over ≡ false)
-    (l : List ℕ) (q : l ≡ left_of path (read_of links g) g.depth g.from g.to) (p : Passed) (w : along s (spot g.id g.rec) (cut l) ≡ way_of l p) where
-  way-is : along s (spot g.id g.rec) (cut (left_of path (read_of links g) g.depth g.from g.to)) ≡ way_of (left_of path (read_of links g) g.depth g.from g.to) p
-  way-is = subst (λ (x : List ℕ). along s (spot g.id g.rec) (cut x) ≡ way_of x p) q w
+    (l : List ℕ) (q : l ≡ left_of path (read_of links g) g.depth g.from g.to) where
+  way-is : (x : Result Passed Reason) → along s (spot g.id g.rec) (cut l) ≡ way_of l x → along s (spot g.id g.rec) (cut (left_of path (read_of links g) g.depth g.from g.to)) ≡ way_of (left_of path (read_of links g) g.depth g.from g.to) x
+  way-is x w = subst (λ (y : List ℕ). along s (spot g.id g.rec) (cut y) ≡ way_of y x) q w
 
-  pub turn-refused : {h : Going} → (p.reason ≡ 0 → ⊥) → h ≡ stop g p.reason → Turned s path links links m m g h
+  pub turn-refused : (r : Reason) → along s (spot g.id g.rec) (cut l) ≡ way_of l (Err r) → {h : Going} → h ≡ stop g r → Turned s path links links m m g h
   unfolding way_of
-  turn-refused z f = rw f (turn-stop s path links m g e S p.reason z (way-is ∙ rw (ne_eqb p.reason 0 z)))
+  turn-refused r w f = rw f (turn-stop s path links m g e S r (way-is (Err r) w))
 
-  module _ (z : p.reason ≡ 0) where
+  module _ (p : Passed) (w : along s (spot g.id g.rec) (cut l) ≡ way_of l (Ok p)) where
     pub turn-meets : p.link ≡ true → p.place ≤ length l → Meets s path links g p
     unfolding way_of
     turn-meets t h =
         record {
           going = e;
-          way = way-is ∙ rw (eq-eqb p.reason 0 z, t);
+          way = way-is (Ok p) w ∙ rw t;
           place = omega (arith, h, ap length q, left-size path (read_of links g) g.depth g.from g.to S.order S.inside);
         }
 
     ends_there : p.link ≡ false → along s (spot g.id g.rec) (cut (left_of path (read_of links g) g.depth g.from g.to)) ≡ done (ended (spot p.id p.rec))
     unfolding way_of
-    ends_there t = way-is ∙ rw (eq-eqb p.reason 0 z, t)
+    ends_there t = way-is (Ok p) w ∙ rw t
 
     pub turn-resumes : {h : Going} → p.link ≡ false → (g.depth ≡ 0 → h ≡ arrive g p) × ((g.depth ≡ 0 → ⊥) → h ≡ go_back m g p) → Turned s path links links m m g h
     turn-resumes t f =
@@ -141,8 +145,8 @@ module _ (s : Fs) (at : Spot) (path links m : List ℕ) (z : length m ≡ 16) (g
   bad-path e =
       let q = E.ends e in
       outcome-over s path links m g g e
-      ∙ ap₂ (λ (x : List ℕ) (y : Out Spot). walked x g.left y) none_read (rw (ne_eqb g.reason 0 (λ y. omega (arith, q.1, y))))
-      ∙ ap (λ (k : ℕ). walked [] k (refused g.reason)) E.left
+      ∙ ap₂ (λ (x : List ℕ) (y : Out Spot). walked x g.left y) none_read (rw (ne_eqb (code g.ended) 0 (λ y. omega (arith, q.1, y))))
+      ∙ ap (λ (k : ℕ). walked [] k (refused (code g.ended))) E.left
       ∙ sym (ap (λ (y : Out Spot). or_stop [] 8 y (λ to. walk_on s (length links) 8 [] to (parts_of path))) q.0)
 
   good-path : g.over ≡ false → outcome s path links m g ≡ walk_in s at path (length links)
@@ -194,11 +198,11 @@ module _ (a : List ℕ) (t : Table) (w : ℕ) (h : Handle) (path links : List �
       unfolding hold_end give_node
       end_is = ap (λ (x : Walked Added). x.end) (walks-call z) ∙ ap (λ (o : Out Spot). bind o (λ x. give_node a t w x.id)) W.end
 
-      pub call-not : (f.reason ≡ 0 → ⊥) → (call_walk a t w h path (length links)).end ≡ refused f.reason
-      call-not o = end_is ∙ rw (ne_eqb f.reason 0 o)
+      pub call-not : (e : Reason) → f.ended ≡ Err e → (call_walk a t w h path (length links)).end ≡ refused (number e)
+      call-not e o = end_is ∙ rw (o, ne_eqb (number e) 0 (number-ne e))
 
-      pub call-give : f.reason ≡ 0 → (call_walk a t w h path (length links)).end ≡ give_node a t w f.id
-      call-give o = end_is ∙ rw (eq-eqb f.reason 0 o)
+      pub call-give : f.ended ≡ Ok tt → (call_walk a t w h path (length links)).end ≡ give_node a t w f.id
+      call-give o = end_is ∙ rw o
 
 -- the state at the call's start, and the folder of the handle, as memory has them
 pub from-memory : (a m t : List ℕ) (row id : ℕ) (rec : DiskINode) (path : List ℕ) (room : ℕ) → table_in m ≡ table_in t → meta_in m ≡ load_meta a → id ≡ (row_at (table_in m) row).id → rec ≡ (row_at (table_in m) row).rec

@@ -8,7 +8,10 @@ use lib.ListN.{length, get_or}
 use borrow.Author.Tests.{ne_eqb}
 use Rattle.base.specs.Out.{done, refused}
 use Rattle.base.proofs.Bools.{true-false}
+use Rattle.base.specs.Told.{number}
+use Rattle.base.specs.declared.reasons.Reason.{Reason}
 use Rattle.base.proofs.Outs.{above_zero}
+use Rattle.base.proofs.Tells.{number-ne}
 use Rattle.sefs.specs.State.{Fs}
 use Rattle.walk.specs.Walk.{cut, spot, ended, along, walked, walk_on}
 use Rattle.walk.proofs.Walks.{along-none, more, along-join, walk-stop, walk_end, walk-resume}
@@ -38,14 +41,14 @@ module _ (s : Fs) (path links m : List ℕ) (g : Going) where
   outcome-going e = rw e
 
   -- it is over with a reason
-  stop-out : (n : ℕ) (o : List ℕ) → (n ≡ 0 → ⊥) → outcome s path links o (stop g n) ≡ walked b g.left (refused n)
+  stop-out : (r : Reason) (o : List ℕ) → outcome s path links o (stop g r) ≡ walked b g.left (refused (number r))
   unfolding outcome
-  stop-out n o z = rw (ne_eqb n 0 z)
+  stop-out r o = rw (ne_eqb (number r) 0 (number-ne r))
 
-  pub stopped : (n : ℕ) (o : List ℕ) → length o ≡ length m → (n ≡ 0 → ⊥) → g.over ≡ false → g.used ≤ length links → walk_on s (length links) g.left b (spot g.id g.rec) (cut text ++ rests) ≡ walked b g.left (refused n) → Turned s path links links m o g (stop g n)
-  stopped n o y z e u q =
+  pub stopped : (r : Reason) (o : List ℕ) → length o ≡ length m → g.over ≡ false → g.used ≤ length links → walk_on s (length links) g.left b (spot g.id g.rec) (cut text ++ rests) ≡ walked b g.left (refused (number r)) → Turned s path links links m o g (stop g r)
+  stopped r o y e u q =
       record {
-        same = stop-out n o z ∙ sym q ∙ sym (outcome-going e);
+        same = stop-out r o ∙ sym q ∙ sym (outcome-going e);
         grows = omega arith;
         used = u;
         size = refl;
@@ -57,8 +60,8 @@ module _ (s : Fs) (path links m : List ℕ) (g : Going) where
 
   module _ (e : g.over ≡ false) (S : Stands path links m g) where
     -- a part was refused
-    pub turn-stop : (n : ℕ) → (n ≡ 0 → ⊥) → along s (spot g.id g.rec) (cut text) ≡ refused n → Turned s path links links m m g (stop g n)
-    turn-stop n z q = stopped n m refl z e S.read (walk-stop s (length links) g.left b (spot g.id g.rec) (cut text ++ rests) (along-join s (spot g.id g.rec) (cut text) rests ∙ ap (more s rests) q))
+    pub turn-stop : (r : Reason) → along s (spot g.id g.rec) (cut text) ≡ refused (number r) → Turned s path links links m m g (stop g r)
+    turn-stop r q = stopped r m refl e S.read (walk-stop s (length links) g.left b (spot g.id g.rec) (cut text ++ rests) (along-join s (spot g.id g.rec) (cut text) rests ∙ ap (more s rests) q))
 
     module _ (p : Passed) (q : along s (spot g.id g.rec) (cut text) ≡ done (ended (spot p.id p.rec))) where
       goes_on : outcome s path links m g ≡ walk_on s (length links) g.left b (spot p.id p.rec) rests

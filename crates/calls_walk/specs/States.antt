@@ -1,9 +1,11 @@
 -- Where a walk is between two texts, as the code has it.
-use Rattle.std.specs.Prelude.{true, false, ◌≡◌, List, [], ◌++◌, ℕ, zero, suc, ◌+◌, ◌-◌, ◌*◌, ◌<◌, ◌≤◌, length, get_or, take, drop, eqb}
+use Rattle.std.specs.Prelude.{true, false, ◌≡◌, List, [], ◌++◌, ℕ, zero, suc, ◌+◌, ◌-◌, ◌*◌, ◌<◌, ◌≤◌, length, get_or, take, drop, eqb, Ok, Err}
 use Rattle.base.specs.Count.{bit}
 use Rattle.base.specs.Out.{Out, done, refused}
 use Rattle.base.specs.Parts.{paste}
 use Rattle.base.specs.Search.{pick}
+use Rattle.base.specs.Told.{number, code}
+use Rattle.base.specs.declared.reasons.Reason.{Reason}
 use Rattle.sefs.specs.State.{Fs}
 use Rattle.walk.specs.Walk.{from_root, cut, Spot, spot, met, along, target_of, enter, Walked, walked, walk_on}
 use Rattle.walk_parts.specs.Texts.{left_of, bound_of}
@@ -25,7 +27,7 @@ abbrev pub parts_left : List ℕ → List ℕ → List ℕ → Going → List (L
 parts_left path b m g = cut (left_of path b g.depth g.from g.to) ++ rests_of path b m g.depth
 
 abbrev pub end_of : Going → Out Spot
-end_of g = pick (eqb g.reason 0) (done (spot g.id g.rec)) (refused g.reason)
+end_of g = pick (eqb (code g.ended) 0) (done (spot g.id g.rec)) (refused (code g.ended))
 
 -- how the walk will end, from here on; it has ended where it is over
 unfoldable pub outcome : Fs → List ℕ → List ℕ → List ℕ → Going → Walked Spot
@@ -61,10 +63,10 @@ pub record Turned (s : Fs) (path links now m n : List ℕ) (g h : Going) : Type 
 
 -- ---- the states that the code makes
 
-abbrev pub stop : Going → ℕ → Going
-stop g n = record {
+abbrev pub stop : Going → Reason → Going
+stop g e = record {
   over = true;
-  reason = n;
+  ended = Err e;
   id = g.id;
   rec = g.rec;
   left = g.left;
@@ -78,7 +80,7 @@ stop g n = record {
 abbrev pub arrive : Going → Passed → Going
 arrive g p = record {
   over = true;
-  reason = 0;
+  ended = Ok tt;
   id = p.id;
   rec = p.rec;
   left = g.left;
@@ -92,7 +94,7 @@ arrive g p = record {
 abbrev pub go_back : List ℕ → Going → Passed → Going
 go_back m g p = record {
   over = false;
-  reason = 0;
+  ended = Ok tt;
   id = p.id;
   rec = p.rec;
   left = g.left;
@@ -110,7 +112,7 @@ pub record Meets (s : Fs) (path links : List ℕ) (g : Going) (p : Passed) : Typ
 
 -- a link was followed, or not: the buffer was `links` and is `now`
 pub data Followed (s : Fs) (links now : List ℕ) (g : Going) (p : Passed) (h : Going) : Type 0 where
-  unread : {n : ℕ} → 0 < n → target_of s.arena p.node (length links - g.used) ≡ refused n → now ≡ links → h ≡ stop g n → Followed s links now g p h
+  unread : {e : Reason} → 0 < number e → target_of s.arena p.node (length links - g.used) ≡ refused (number e) → now ≡ links → h ≡ stop g e → Followed s links now g p h
   read : {l : List ℕ} → target_of s.arena p.node (length links - g.used) ≡ done l → g.used + length l ≤ length links → now ≡ paste links g.used l → Entered h (enter s (spot p.id p.rec) l) (g.left - 1) (g.used + length l) (g.depth + 1) (g.used + bit (from_root l)) (g.used + length l) → Followed s links now g p h
 
 -- the whole walk: it ended as o says, and the buffer, which was `was` and is `now`, has the targets

@@ -3,6 +3,8 @@
 #![tactic(auto)]
 
 ghost use Rattle.std.specs.Prelude.{◌≡◌, false, ◌+◌, ◌*◌, ◌<◌, ◌≤◌, length, set};
+ghost use Rattle.std.specs.Result.{result_unwrap_or};
+ghost use Rattle.base.specs.Told.{code};
 ghost use Rattle.base.specs.Out.{Went};
 ghost use Rattle.base.specs.Parts.{paste};
 ghost use Rattle.sefs.specs.Ask.{start};
@@ -10,14 +12,15 @@ ghost use Rattle.table.specs.Table.{row_at};
 ghost use Rattle.chains.specs.Led.{Led};
 ghost use Rattle.mem.specs.Mem.{table_in, Whole};
 ghost use Rattle.mem.specs.State.{fs_at};
-ghost use Rattle.calls.specs.Answers.{Laid, added_as};
+ghost use Rattle.calls.specs.Answers.{Laid, added_as, no_handle};
 ghost use Rattle.calls.specs.Asked.{Admitted};
 ghost use Rattle.calls_find.specs.Finds.{Gives};
 ghost use Rattle.walk.specs.Walk.{spot, target_of, walk_in, call_walk};
 ghost use Rattle.calls_walk.specs.States.{outcome, Stands, Turned, stop, arrive, go_back, Followed, Meets, Walks};
 
+use base::Reason;
 use calls::led::admit;
-use calls::{Handed, HeldReply, by_handle, not_handed, settle_held};
+use calls::{HeldReply, by_handle, settle_held};
 use calls_find::give_node;
 use calls_read::read_bytes;
 use mem::{MEMORY, id_at, put_table, rec_at};
@@ -29,39 +32,36 @@ use walk_parts::{Going, Passed, along, enter, entry, land};
 
 // ---- a link's target
 
-// As many bytes, where the reason is 0.
-#[derive(Clone, Copy)]
-struct Target {
-    reason: u8,
-    size: usize,
-}
-
-fn read_target(arena: &[u8], first: &[u16], next: &[u16], rec: DiskINode, out: &mut [u8]) -> Target
+// As many bytes.
+fn read_target(
+    arena: &[u8],
+    first: &[u16],
+    next: &[u16],
+    rec: DiskINode,
+    out: &mut [u8],
+) -> Result<usize, Reason>
     requires { Led arena.now first.now next.now }
-    ensures { Laid (target_of arena.now rec (length out.old)) out.old out.new result.size result.reason × (result.size ≤ length out.old) }
+    ensures { Laid (target_of arena.now rec (length out.old)) out.old out.new (result_unwrap_or result 0) (code result) × (result_unwrap_or result 0 ≤ length out.old) }
 {
     if rec.size > (out.len() as u64) {
-        return Target {
-            reason: 20,
-            size: 0,
-        };
+        return Err(Reason::OutFull);
     }
     let n = rec.size as usize;
-    let r = read_bytes(arena, first, next, rec, 0, n, out);
-    Target { reason: r, size: n }
+    read_bytes(arena, first, next, rec, 0, n, out)?;
+    Ok(n)
 }
 
 // ---- the walk
 
-fn stopped(g: Going, reason: u8) -> Going
+fn stopped(g: Going, reason: Reason) -> Going
     ensures { result ≡ stop g reason }
 {
     let rec = g.rec;
     Going {
         over: true,
-        reason: reason,
+        ended: Err(reason),
         id: g.id,
-        rec: rec,
+        rec,
         left: g.left,
         used: g.used,
         depth: g.depth,
@@ -89,9 +89,9 @@ fn resume(marks: &[usize], g: Going, p: Passed) -> Going
     if g.depth == 0 {
         return Going {
             over: true,
-            reason: 0,
+            ended: Ok(()),
             id: p.id,
-            rec: rec,
+            rec,
             left: g.left,
             used: g.used,
             depth: g.depth,
@@ -103,9 +103,9 @@ fn resume(marks: &[usize], g: Going, p: Passed) -> Going
     let k = 2 * d;
     Going {
         over: false,
-        reason: 0,
+        ended: Ok(()),
         id: p.id,
-        rec: rec,
+        rec,
         left: g.left,
         used: g.used,
         depth: d,
@@ -129,11 +129,11 @@ fn follow_link(
     ensures { Followed (fs_at arena.now mem.now) links.old links.new g p result }
 {
     let used = g.used;
-    let t = read_target(arena, first, next, p.node, &mut links[used..]);
-    if t.reason != 0 {
-        return stopped(g, t.reason);
-    }
-    let end = used + t.size;
+    let size = match read_target(arena, first, next, p.node, &mut links[used..]) {
+        Ok(size) => size,
+        Err(reason) => return stopped(g, reason),
+    };
+    let end = used + size;
     land(arena, first, next, mem, &links[used..end], g, p)
 }
 
@@ -153,7 +153,7 @@ fn follow(
     ensures { Turned (fs_at arena.now mem.now) path.now links.old links.new marks.old marks.new g result }
 {
     if g.left == 0 {
-        return stopped(g, 23);
+        return stopped(g, Reason::SymLoop);
     }
     remember(marks, g.depth, g.from + p.place, g.to);
     follow_link(arena, first, next, mem, links, g, p)
@@ -176,10 +176,10 @@ fn turn(
 {
     let used = g.used;
     let text = rest(path, &links[..used], g.depth, g.from, g.to);
-    let p = along(arena, first, next, mem, g.id, g.rec, text);
-    if p.reason != 0 {
-        return stopped(g, p.reason);
-    }
+    let p = match along(arena, first, next, mem, g.id, g.rec, text) {
+        Ok(p) => p,
+        Err(reason) => return stopped(g, reason),
+    };
     if p.link {
         return follow(arena, first, next, mem, path, links, marks, g, p);
     }
@@ -202,6 +202,7 @@ fn run(
     ensures { Walks (outcome (fs_at arena.now mem.now) path.now links.old marks.old g) links.old links.new result }
 {
     let mut at = g;
+    // A while: a turn says whether the walk is over; nothing counts the turns.
     while !at.over {
         at = turn(arena, first, next, mem, path, links, marks, at);
     }
@@ -259,19 +260,14 @@ pub fn walk_led(
     h: Handle,
     path: &[u8],
     links: &mut [u8],
-) -> Handed
+) -> Result<Handle, Reason>
     requires { Admitted arena.now first.now next.now mem.old }
-    ensures went { Went (call_walk arena.now (table_in mem.old) who h path.now (length links.old)).end (added_as result.handle (table_in mem.new)) Unit result.reason }
+    ensures went { Went (call_walk arena.now (table_in mem.old) who h path.now (length links.old)).end (added_as (result_unwrap_or result no_handle) (table_in mem.new)) Unit (code result) }
     ensures links_after { links.new ≡ paste links.old 0 (call_walk arena.now (table_in mem.old) who h path.now (length links.old)).links }
 {
-    let b = by_handle(&mem[..], who, h);
-    if b.reason != 0 {
-        return not_handed(b.reason);
-    }
-    let g = walk_row(arena, first, next, mem, b.row, path, links);
-    if g.reason != 0 {
-        return not_handed(g.reason);
-    }
+    let row = by_handle(&mem[..], who, h)?;
+    let g = walk_row(arena, first, next, mem, row, path, links);
+    g.ended?;
     give_node(arena, first, next, mem, who, g.id)
 }
 
@@ -283,16 +279,13 @@ pub fn walk_on(
     h: Handle,
     path: &[u8],
     links: &mut [u8],
-) -> Handed
+) -> Result<Handle, Reason>
     requires { Whole mem.old }
-    ensures went { Went (call_walk arena.now (table_in mem.old) who h path.now (length links.old)).end (added_as result.handle (table_in mem.new)) Unit result.reason }
+    ensures went { Went (call_walk arena.now (table_in mem.old) who h path.now (length links.old)).end (added_as (result_unwrap_or result no_handle) (table_in mem.new)) Unit (code result) }
     ensures links_after { links.new ≡ paste links.old 0 (call_walk arena.now (table_in mem.old) who h path.now (length links.old)).links }
 {
     let mut chains = [0u16; 8192];
-    let r = admit(arena, &mut chains, &mem[..]);
-    if r != 0 {
-        return not_handed(r);
-    }
+    admit(arena, &mut chains, &mem[..])?;
     let c = &chains[..];
     walk_led(arena, &c[..4096], &c[4096..8192], mem, who, h, path, links)
 }

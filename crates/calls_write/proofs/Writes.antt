@@ -39,10 +39,6 @@ write-is a t who h place src = end-split a t who h (place + length src) (λ i. e
 
 -- ---- before any store
 
--- an answer by its number
-pub rest-reason : {A : Type 0} {o e : Out A} {P : Type 0} {m n : ℕ} → m ≡ n → Rest o e P n → Rest o e P m
-rest-reason q g = rw q g
-
 module _ (a : List ℕ) (t : Table) (who : ℕ) (h : Handle) (place n : ℕ) where
   -- arena or table are refused
   pub write-unadmitted : {r : ℕ} → admit a t ≡ refused r → (r ≡ 0 → ⊥) → (e : Out After) (P : Type 0) (src : List ℕ) → Rest (call_write a t who h place src) e P r

@@ -4,6 +4,8 @@
 #![tactic(auto)]
 
 ghost use Rattle.std.specs.Prelude.{◌≡◌, true, List, ℕ, ◌+◌, ◌≤◌, length};
+ghost use Rattle.std.specs.Result.{result_unwrap_or};
+ghost use Rattle.base.specs.Told.{code};
 ghost use Rattle.base.specs.Out.{done};
 ghost use Rattle.arena.specs.Fields.{file};
 ghost use Rattle.arena.specs.Places.{head_of};
@@ -16,16 +18,16 @@ ghost use Rattle.sefs.specs.Contents.{write_steps, call_write};
 ghost use Rattle.mem.specs.Mem.{table_in, Whole};
 ghost use Rattle.calls.specs.Asked.{Admitted};
 ghost use Rattle.steps.specs.Ends.{Rest, ending, Ended, Returned};
-ghost use Rattle.sizes.specs.Sizes.{Reached};
+ghost use Rattle.sizes.specs.Sizes.{no_sizing, Reached};
 ghost use Rattle.plans.specs.Plan.{Planned};
 
-use base::index16;
+use base::{Reason, index16};
 use calls::led::admit;
 use calls::{Reply, settle};
 use inplace::raise;
 use mem::{MEMORY, put_table, rec_at};
 use plans::{decide, put_block, touched};
-use sizes::{Sizing, not_sized, reach_file, set_size};
+use sizes::{Sizing, reach_file, set_size};
 use table::{Handle, Table};
 
 // ---- before any store
@@ -41,22 +43,16 @@ pub fn write_led(
     place: u64,
     n: usize,
     plan: &mut [u16],
-) -> Sizing
+) -> Result<Sizing, Reason>
     requires admitted { Admitted arena.now first.now next.now mem.now }
     requires plan_len { length plan.old ≡ 4096 }
-    ensures { (src : List ℕ) → length src ≡ n → Rest (call_write arena.now (table_in mem.now) who h place src) (ending (write_steps (start arena.now (table_in mem.now)) result.row place src)) (Reached arena.now (table_in mem.now) result.row result.head (place + n) × Planned arena.now (node_file (row_at (table_in mem.now) result.row).rec) place n plan.new) result.reason }
+    ensures { (src : List ℕ) → length src ≡ n → Rest (call_write arena.now (table_in mem.now) who h place src) (ending (write_steps (start arena.now (table_in mem.now)) (result_unwrap_or result no_sizing).row place src)) (Reached arena.now (table_in mem.now) (result_unwrap_or result no_sizing).row (result_unwrap_or result no_sizing).head (place + n) × Planned arena.now (node_file (row_at (table_in mem.now) (result_unwrap_or result no_sizing).row).rec) place n plan.new) (code result) }
 {
-    let s = reach_file(arena, first, next, mem, who, h, place, n as u64);
-    if s.reason != 0 {
-        return s;
-    }
+    let s = reach_file(arena, first, next, mem, who, h, place, n as u64)?;
     let rec = rec_at(mem, s.row);
     let name = rec.file;
-    let r = decide(arena, first, next, 1, &name, place as usize, n, plan);
-    if r != 0 {
-        return not_sized(r);
-    }
-    s
+    decide(arena, first, next, 1, &name, place as usize, n, plan)?;
+    Ok(s)
 }
 
 // ---- the stores
@@ -71,10 +67,8 @@ fn put_blocks(arena: &mut [u8], k: usize, name: &[u8; 16], pos: usize, src: &[u8
     raise(arena, k, (pos + src.len()) as u32);
     let q = pos / 480;
     let mut from: usize = 0;
-    let mut i: usize = 0;
-    while i < n {
+    for i in 0..n {
         from = put_block(arena, 1, name, pos, src, q + i, index16(plan[i]), from);
-        i = i + 1;
     }
 }
 
@@ -112,15 +106,12 @@ fn write_asked(
     place: u64,
     n: usize,
     plan: &mut [u16],
-) -> Sizing
+) -> Result<Sizing, Reason>
     requires { Whole mem.now × (length plan.old ≡ 4096) }
-    ensures { (src : List ℕ) → length src ≡ n → Rest (call_write arena.now (table_in mem.now) who h place src) (ending (write_steps (start arena.now (table_in mem.now)) result.row place src)) (Reached arena.now (table_in mem.now) result.row result.head (place + n) × Planned arena.now (node_file (row_at (table_in mem.now) result.row).rec) place n plan.new) result.reason }
+    ensures { (src : List ℕ) → length src ≡ n → Rest (call_write arena.now (table_in mem.now) who h place src) (ending (write_steps (start arena.now (table_in mem.now)) (result_unwrap_or result no_sizing).row place src)) (Reached arena.now (table_in mem.now) (result_unwrap_or result no_sizing).row (result_unwrap_or result no_sizing).head (place + n) × Planned arena.now (node_file (row_at (table_in mem.now) (result_unwrap_or result no_sizing).row).rec) place n plan.new) (code result) }
 {
     let mut chains = [0u16; 8192];
-    let r = admit(arena, &mut chains, mem);
-    if r != 0 {
-        return not_sized(r);
-    }
+    admit(arena, &mut chains, mem)?;
     let c = &chains[..];
     write_led(
         arena,
@@ -143,22 +134,26 @@ fn write_in(
     place: u64,
     src: &[u8],
     plan: &mut [u16],
-) -> u8
+) -> Result<(), Reason>
     requires { Whole mem.old × (length plan.old ≡ 4096) }
-    ensures { Ended (call_write arena.old (table_in mem.old) who h place src.now) arena.old arena.new (table_in mem.new) result }
+    ensures { Ended (call_write arena.old (table_in mem.old) who h place src.now) arena.old arena.new (table_in mem.new) (code result) }
 {
-    let s = write_asked(&arena[..], &mem[..], who, h, place, src.len(), plan);
-    if s.reason != 0 {
-        return s.reason;
-    }
+    let s = write_asked(&arena[..], &mem[..], who, h, place, src.len(), plan)?;
     write_row(arena, mem, s.row, s.head, place as usize, src, &plan[..]);
-    0
+    Ok(())
 }
 
 // The call on the table in memory.
-pub fn write_on(arena: &mut [u8], mem: &mut [u8], who: u8, h: Handle, place: u64, src: &[u8]) -> u8
+pub fn write_on(
+    arena: &mut [u8],
+    mem: &mut [u8],
+    who: u8,
+    h: Handle,
+    place: u64,
+    src: &[u8],
+) -> Result<(), Reason>
     requires { Whole mem.old }
-    ensures { Ended (call_write arena.old (table_in mem.old) who h place src.now) arena.old arena.new (table_in mem.new) result }
+    ensures { Ended (call_write arena.old (table_in mem.old) who h place src.now) arena.old arena.new (table_in mem.new) (code result) }
 {
     let mut plan = [0u16; 4096];
     write_in(arena, mem, who, h, place, src, &mut plan)

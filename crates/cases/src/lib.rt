@@ -13,6 +13,7 @@ pub fn read_full(input: &mut impl Read, buf: &mut [u8]) -> io::Result<usize>
     ensures { ReadsAtMost result buf.new }
 {
     let mut done = 0;
+    // A while: how far a turn goes is what the read says, not a counter.
     while done < buf.len() {
         let n = input.read(&mut buf[done..])?;
         if n == 0 {
@@ -35,18 +36,13 @@ pub fn arg_count(rt: &impl Env) -> usize {
 
 // The reason as C words it, without the number that std writes behind it.
 fn reason(text: &str) -> &str {
-    match text.split_once(" (os error ") {
-        Some((words, _)) => words,
-        None => text,
-    }
+    text.split_once(" (os error ")
+        .map_or(text, |(words, _)| words)
 }
 
 // std names files by text, so other bytes are an error.
 fn text_of(bytes: &[u8]) -> io::Result<&str> {
-    match std::str::from_utf8(bytes) {
-        Ok(text) => Ok(text),
-        Err(_) => Err(io::Error::from(ErrorKind::InvalidData)),
-    }
+    std::str::from_utf8(bytes).map_err(|_| io::Error::from(ErrorKind::InvalidData))
 }
 
 // A line on standard error: what failed, and why.

@@ -5,13 +5,14 @@
 pub mod slots;
 
 ghost use Rattle.std.specs.Prelude.{◌≡◌, ◌+◌, ◌<◌, ◌≤◌, ◌%◌, length};
+ghost use Rattle.base.specs.Told.{code};
 ghost use Rattle.base.specs.Out.{Went};
 ghost use Rattle.base.specs.Parts.{tab};
 ghost use Rattle.arena.specs.Fields.{file};
 ghost use Rattle.files.specs.Read.{there, byte_at, read_file};
 ghost use Rattle.chains.specs.Led.{Led, end_of, head_at, block_at};
 
-use base::{clear, copy, index, least};
+use base::{Reason, clear, copy, index, least};
 use le::u32_at;
 use sound::chain::find;
 
@@ -118,19 +119,19 @@ pub fn read_below(
     end: usize,
     pos: usize,
     out: &mut [u8],
-) -> u8
+) -> Result<(), Reason>
     requires led { Led arena.now first.now next.now }
     requires end_value { (end ≡ end_of arena.now (file which name.now)) × (end ≤ 4294967296) }
-    ensures { Went (read_file arena.now (file which name.now) pos (length out.old)) out.new (length out.new ≡ length out.old) result }
+    ensures { Went (read_file arena.now (file which name.now) pos (length out.old)) out.new (length out.new ≡ length out.old) (code result) }
 {
     if end <= pos {
-        return 19;
+        return Err(Reason::Stuck);
     }
     if end - pos <= out.len() {
-        return 19;
+        return Err(Reason::Stuck);
     }
     read_run(arena, first, next, which, name, pos, out);
-    0
+    Ok(())
 }
 
 pub fn read(
@@ -141,9 +142,9 @@ pub fn read(
     name: &[u8; 16],
     pos: usize,
     out: &mut [u8],
-) -> u8
+) -> Result<(), Reason>
     requires { Led arena.now first.now next.now }
-    ensures { Went (read_file arena.now (file which name.now) pos (length out.old)) out.new (length out.new ≡ length out.old) result }
+    ensures { Went (read_file arena.now (file which name.now) pos (length out.old)) out.new (length out.new ≡ length out.old) (code result) }
 {
     let end = length_of(arena, first, next, which, name);
     read_below(arena, first, next, which, name, end, pos, out)

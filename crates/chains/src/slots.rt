@@ -1,6 +1,8 @@
 // A folder's slots, read (000's read_direntry and the lookups). A slot's 264 bytes go to a buffer that the caller lends. `end` is the end of
 // the folder's file: one more than its length, or 0.
 ghost use Rattle.std.specs.Prelude.{◌≡◌, ◌*◌, ◌<◌, ◌≤◌, length};
+ghost use Rattle.std.specs.Result.{result_unwrap_or};
+ghost use Rattle.base.specs.Told.{code};
 ghost use Rattle.base.specs.Out.{Went, done};
 ghost use Rattle.base.specs.Parts.{tab};
 ghost use Rattle.structs.specs.Layout.{entry_of};
@@ -12,7 +14,7 @@ ghost use Rattle.sefs.specs.Read.{named_slot};
 ghost use Rattle.chains.specs.Led.{Led, end_of};
 
 use crate::{length_of, read_below, read_run};
-use base::index;
+use base::{Reason, index};
 use le::u32_at;
 use structs::DiskINode;
 use utf8::{StoredName, is_named, stored_name};
@@ -51,20 +53,17 @@ pub fn slot_bytes(
     end: usize,
     k: usize,
     slot: &mut [u8],
-) -> u8
+) -> Result<(), Reason>
     requires led { Led arena.now first.now next.now }
     requires end_value { (end ≡ end_of arena.now (node_file rec)) × ((end ≤ 4294967296) × ((k ≤ 4294967295) × (length slot.old ≡ 264))) }
-    ensures { Went (slot_bytes arena.now rec k) slot.new (length slot.new ≡ 264) result }
+    ensures { Went (slot_bytes arena.now rec k) slot.new (length slot.new ≡ 264) (code result) }
 {
     let file = rec.file;
-    let r = read_below(arena, first, next, 1, &file, end, 264 * k, slot);
-    if r != 0 {
-        return r;
-    }
+    read_below(arena, first, next, 1, &file, end, 264 * k, slot)?;
     if u32_at(&slot[..], 260) > 4 {
-        return 19;
+        return Err(Reason::Stuck);
     }
-    0
+    Ok(())
 }
 
 // Whether a name is ended and is UTF-8.
@@ -87,27 +86,16 @@ pub fn named_slot(
     end: usize,
     k: usize,
     slot: &mut [u8],
-) -> u8
+) -> Result<(), Reason>
     requires led { Led arena.now first.now next.now }
     requires end_value { (end ≡ end_of arena.now (node_file rec)) × ((end ≤ 4294967296) × ((k ≤ 4294967295) × (length slot.old ≡ 264))) }
-    ensures { Went (named_slot arena.now rec k) slot.new (length slot.new ≡ 264) result }
+    ensures { Went (named_slot arena.now rec k) slot.new (length slot.new ≡ 264) (code result) }
 {
-    let r = slot_bytes(arena, first, next, rec, end, k, slot);
-    if r != 0 {
-        return r;
-    }
+    slot_bytes(arena, first, next, rec, end, k, slot)?;
     if is_ended(&slot[4..260]) {
-        return 0;
+        return Ok(());
     }
-    19
-}
-
-// The place of a slot that was looked for, where the reason is 0. The slot is in the lent buffer.
-#[repr(C)]
-#[derive(Clone, Copy)]
-pub struct Looked {
-    pub reason: u8,
-    pub place: usize,
+    Err(Reason::Stuck)
 }
 
 // The first slot with that name, or the count of slots where there is none; the empty name means `.`. Slots after it are not read.
@@ -118,34 +106,20 @@ pub fn lookup(
     rec: DiskINode,
     name: &[u8],
     slot: &mut [u8],
-) -> Looked
+) -> Result<usize, Reason>
     requires led { Led arena.now first.now next.now }
     requires slot_len { length slot.old ≡ 264 }
-    ensures { Went (look_to arena.now rec name.now rec.blocks) result.place ((result.place < rec.blocks → slot_at arena.now rec result.place ≡ done (entry_of slot.new)) × (result.place ≤ rec.blocks)) result.reason }
+    ensures { Went (look_to arena.now rec name.now rec.blocks) (result_unwrap_or result 0) ((result_unwrap_or result 0 < rec.blocks → slot_at arena.now rec (result_unwrap_or result 0) ≡ done (entry_of slot.new)) × (result_unwrap_or result 0 ≤ rec.blocks)) (code result) }
 {
     let end = end_of(arena, first, next, rec);
     let n = index(rec.blocks);
-    let mut k: usize = 0;
-    while k < n {
-        let r = named_slot(arena, first, next, rec, end, k, slot);
-        if r != 0 {
-            return Looked {
-                reason: r,
-                place: 0,
-            };
-        }
+    for k in 0..n {
+        named_slot(arena, first, next, rec, end, k, slot)?;
         if is_named(&slot[4..260], name) {
-            return Looked {
-                reason: 0,
-                place: k,
-            };
+            return Ok(k);
         }
-        k = k + 1;
     }
-    Looked {
-        reason: 0,
-        place: n,
-    }
+    Ok(n)
 }
 
 // The first slot with that name; 11 where there is none.
@@ -156,20 +130,14 @@ pub fn find_slot(
     rec: DiskINode,
     name: &[u8],
     slot: &mut [u8],
-) -> Looked
+) -> Result<usize, Reason>
     requires led { Led arena.now first.now next.now }
     requires slot_len { length slot.old ≡ 264 }
-    ensures { Went (find_slot arena.now rec name.now) (record { place = result.place; entry = entry_of slot.new }) (result.place < rec.blocks) result.reason }
+    ensures { Went (find_slot arena.now rec name.now) (record { place = (result_unwrap_or result 0); entry = entry_of slot.new }) (result_unwrap_or result 0 < rec.blocks) (code result) }
 {
-    let l = lookup(arena, first, next, rec, name, slot);
-    if l.reason != 0 {
-        return l;
+    let place = lookup(arena, first, next, rec, name, slot)?;
+    if place < index(rec.blocks) {
+        return Ok(place);
     }
-    if l.place < index(rec.blocks) {
-        return l;
-    }
-    Looked {
-        reason: 11,
-        place: 0,
-    }
+    Err(Reason::EntryNotFound)
 }

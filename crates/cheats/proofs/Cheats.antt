@@ -13,13 +13,11 @@ use Rattle.table.specs.declared.Table.{Table}
 use Rattle.sefs.specs.Create as sefs
 use Rattle.sefs.specs.Create.{call_create}
 use Rattle.sefs.specs.Open.{call_find}
-use Rattle.calls.specs.Answers.{got_of}
-use Rattle.calls.specs.declared.Reply.{Reply}
-use Rattle.calls.specs.declared.Answer.{Answer}
-use Rattle.calls.specs.declared.Answer.TheVariants as answers
+use Rattle.std.specs.Prelude.{Result, Ok, Err}
+use Rattle.base.specs.Told.{number}
+use Rattle.base.specs.declared.reasons.Reason.{Reason}
+use Rattle.calls.specs.Answers.{out_of, got_of}
 use Rattle.calls.specs.declared.HeldReply.{HeldReply}
-use Rattle.calls.specs.declared.Got.{Got}
-use Rattle.calls.specs.declared.Got.TheVariants as gots
 use Rattle.steps.specs.Ends.{after_as}
 use Rattle.calls_create.specs.Held.{ReturnedHeld, held_as, arena_held}
 use Rattle.fsck.specs.declared.Verdict.{Verdict}
@@ -33,19 +31,19 @@ use Rattle.cheats.proofs.Counts.{empty-fails, fresh-verdict, a-verdict}
 -- ---- what create's contract says where the definition is done, and where it is refused
 
 module _ {t : Table} {o : Out sefs.Given} {a b : List ℕ} {r : HeldReply} (c : ReturnedHeld t o a b r) where
-  held-answer : (g : sefs.Given) → o ≡ done g → r.answer ≡ gots.Held g.handle
-  held-answer g e = ap (λ (x : HeldReply). x.answer) (c.answer ∙ ap (held_as t) e)
+  held-answer : (g : sefs.Given) → o ≡ done g → out_of r.answer ≡ done g.handle
+  held-answer g e = ap (λ (x : Out Handle × Table). x.0) (c.answer ∙ ap (held_as t) e)
 
   held-table : (g : sefs.Given) → o ≡ done g → r.table ≡ g.table
-  held-table g e = ap (λ (x : HeldReply). x.table) (c.answer ∙ ap (held_as t) e)
+  held-table g e = ap (λ (x : Out Handle × Table). x.1) (c.answer ∙ ap (held_as t) e)
 
   held-arena : (g : sefs.Given) → o ≡ done g → b ≡ g.arena
   held-arena g e = c.arena ∙ ap (arena_held a) e
 
-  held-refused : (n : ℕ) → o ≡ refused n → r.answer ≡ gots.Refused n
-  held-refused n e = ap (λ (x : HeldReply). x.answer) (c.answer ∙ ap (held_as t) e)
+  held-refused : (n : ℕ) → o ≡ refused n → out_of r.answer ≡ refused n
+  held-refused n e = ap (λ (x : Out Handle × Table). x.0) (c.answer ∙ ap (held_as t) e)
 
-not-both : (x : Got) (h : Handle) (n : ℕ) → x ≡ gots.Held h → x ≡ gots.Refused n → ⊥
+not-both : (x : Result Handle Reason) (h : Handle) (n : ℕ) → out_of x ≡ done h → out_of x ≡ refused n → ⊥
 not-both x h n p q = let z : ◌≡◌ {A = ℕ} 0 1 = cc in omega arith
 
 -- ---- what stores nothing is caught at the input x by byte k, which is another one afterwards, by the contract
@@ -59,12 +57,12 @@ stores-caught before after Holds x k other port h = (x, λ c. other (port x) c (
 
 pub create-refuses : CreateRefuses
 unfolding CreateRefuses Broken CreateHolds create_a
-create-refuses port h = (create_a, λ c. not-both (port create_a).given.answer (handle 1 2) (h create_a).0 (held-answer c _ a-done) (h create_a).1)
+create-refuses port h = (create_a, λ c. not-both (port create_a).given.answer (handle 1 2) (number (h create_a).0) (held-answer c _ a-done) (ap out_of (h create_a).1))
 
 pub create-constant : CreateConstant
 unfolding CreateConstant Broken CreateHolds create_a create_empty
-create-constant port (gots.Held k) h = (create_empty, λ c. not-both (port create_empty).given.answer k 12 (h create_empty) (held-refused c 12 empty-refused))
-create-constant port (gots.Refused n) h = (create_a, λ c. not-both (port create_a).given.answer (handle 1 2) n (held-answer c _ a-done) (h create_a))
+create-constant port (Ok k) h = (create_empty, λ c. not-both (port create_empty).given.answer k 12 (ap out_of (h create_empty)) (held-refused c 12 empty-refused))
+create-constant port (Err e) h = (create_a, λ c. not-both (port create_a).given.answer (handle 1 2) (number e) (held-answer c _ a-done) (ap out_of (h create_a)))
 
 -- block 5 comes into use
 pub create-stores : CreateStoresNothing
@@ -73,19 +71,19 @@ create-stores = stores-caught (λ x. x.arena) (λ y. y.arena) CreateHolds create
 
 -- ---- remove-file
 
-not_done : (x : Answer) (n : ℕ) → x ≡ answers.Done → x ≡ answers.Refused n → ⊥
+not_done : (x : Result Unit Reason) (n : ℕ) → out_of x ≡ done tt → out_of x ≡ refused n → ⊥
 not_done x n p q = let z : ◌≡◌ {A = ℕ} 0 1 = cc in omega arith
 
 pub remove-refuses : RemoveRefuses
 unfolding RemoveRefuses Broken RemoveHolds remove_a
-remove-refuses port h = (remove_a, λ c. not_done (port remove_a).after.answer (h remove_a).0 (ap (λ (x : Reply). x.answer) c.answer ∙ gone-answer) (h remove_a).1)
+remove-refuses port h = (remove_a, λ c. not_done (port remove_a).after.answer (number (h remove_a).0) (ap (λ (x : Out Unit × Table). x.0) c.answer ∙ gone-answer) (ap out_of (h remove_a).1))
 
 pub remove-constant : RemoveConstant
 unfolding RemoveConstant Broken RemoveHolds remove_a remove_empty
-remove-constant port answers.Done h =
-    (remove_empty, λ c. not_done (port remove_empty).after.answer 9 (h remove_empty) (ap (λ (x : Reply). x.answer) (c.answer ∙ ap (after_as c_world.table) remove-empty)))
-remove-constant port (answers.Refused n) h =
-    (remove_a, λ c. not_done (port remove_a).after.answer n (ap (λ (x : Reply). x.answer) c.answer ∙ gone-answer) (h remove_a))
+remove-constant port (Ok tt) h =
+    (remove_empty, λ c. not_done (port remove_empty).after.answer 9 (ap out_of (h remove_empty)) (ap (λ (x : Out Unit × Table). x.0) (c.answer ∙ ap (after_as c_world.table) remove-empty)))
+remove-constant port (Err e) h =
+    (remove_a, λ c. not_done (port remove_a).after.answer (number e) (ap (λ (x : Out Unit × Table). x.0) c.answer ∙ gone-answer) (ap out_of (h remove_a)))
 
 -- the folder's length falls
 pub remove-stores : RemoveStoresNothing
@@ -124,15 +122,15 @@ sync-stores = stores-caught (λ x. x.arena) (λ y. y.arena) SyncHolds sync_x 245
 pub find-refuses : FindRefuses
 unfolding FindRefuses FindBroken FindHolds
 find-refuses port h =
-    let x : (n : ℕ) × ((port a_world.arena a_world.table editor (handle 0 1) (97 ∷ [])).answer ≡ gots.Refused n) = h a_world.arena a_world.table editor (handle 0 1) (97 ∷ []) in
-    (a_world.arena, a_world.table, editor, handle 0 1, 97 ∷ [], λ c. not-both (port a_world.arena a_world.table editor (handle 0 1) (97 ∷ [])).answer (handle 2 3) x.0 (c.0 ∙ find-after) x.1)
+    let x : (e : Reason) × ((port a_world.arena a_world.table editor (handle 0 1) (97 ∷ [])).answer ≡ Err e) = h a_world.arena a_world.table editor (handle 0 1) (97 ∷ []) in
+    (a_world.arena, a_world.table, editor, handle 0 1, 97 ∷ [], λ c. not-both (port a_world.arena a_world.table editor (handle 0 1) (97 ∷ [])).answer (handle 2 3) (number x.0) (c.0 ∙ find-after) (ap out_of x.1))
 
 pub find-constant : FindConstant
 unfolding FindConstant FindBroken FindHolds
-find-constant port (gots.Held k) h =
-    (fresh_arena, root_table, editor, handle 0 1, 97 ∷ [], λ c. not-both (port fresh_arena root_table editor (handle 0 1) (97 ∷ [])).answer k 11 (h fresh_arena root_table editor (handle 0 1) (97 ∷ [])) (c.0 ∙ find-before))
-find-constant port (gots.Refused n) h =
-    (a_world.arena, a_world.table, editor, handle 0 1, 97 ∷ [], λ c. not-both (port a_world.arena a_world.table editor (handle 0 1) (97 ∷ [])).answer (handle 2 3) n (c.0 ∙ find-after) (h a_world.arena a_world.table editor (handle 0 1) (97 ∷ [])))
+find-constant port (Ok k) h =
+    (fresh_arena, root_table, editor, handle 0 1, 97 ∷ [], λ c. not-both (port fresh_arena root_table editor (handle 0 1) (97 ∷ [])).answer k 11 (ap out_of (h fresh_arena root_table editor (handle 0 1) (97 ∷ []))) (c.0 ∙ find-before))
+find-constant port (Err e) h =
+    (a_world.arena, a_world.table, editor, handle 0 1, 97 ∷ [], λ c. not-both (port a_world.arena a_world.table editor (handle 0 1) (97 ∷ [])).answer (handle 2 3) (number e) (c.0 ∙ find-after) (ap out_of (h a_world.arena a_world.table editor (handle 0 1) (97 ∷ []))))
 
 -- ---- a sequence
 

@@ -13,8 +13,6 @@ use Rattle.sefs.specs.Move.{call_move}
 use Rattle.sefs.specs.Contents.{call_write, call_resize}
 use Rattle.sefs.specs.Close.{call_sync}
 use Rattle.calls.specs.Answers.{got_of}
-use Rattle.calls.specs.declared.Answer.TheVariants as answers
-use Rattle.calls.specs.declared.Got.TheVariants as gots
 use Rattle.steps.specs.Ends.{after_as, arena_after}
 use Rattle.course_states.specs.Worlds.{epoch, uuid, editor, made}
 use Rattle.course_states.proofs.Calls.{create_near, find_call_near, find-call-near, remove_call_near, remove-call-near, resize_near, resize-near, link_near, link_near_lem, move_near, move-near, sync_near, sync-near}
@@ -98,14 +96,14 @@ before-near : find_call_near fresh_arena root_table editor (handle 0 1) (97 ∷ 
 unfolding computed find_call_near root_table fresh_arena
 before-near = refl
 
-pub find-before : got_of (call_find fresh_arena root_table editor (handle 0 1) (97 ∷ [])) ≡ gots.Refused 11
+pub find-before : got_of (call_find fresh_arena root_table editor (handle 0 1) (97 ∷ [])) ≡ refused 11
 find-before = ap got_of (find-call-near fresh_arena root_table editor (handle 0 1) (97 ∷ []) fresh-admitted ∙ before-near)
 
-after-near : got_of (find_call_near a_world.arena a_world.table editor (handle 0 1) (97 ∷ [])) ≡ gots.Held (handle 2 3)
+after-near : got_of (find_call_near a_world.arena a_world.table editor (handle 0 1) (97 ∷ [])) ≡ done (handle 2 3)
 unfolding computed find_call_near a_meta a_arena a_world
 after-near = refl
 
-pub find-after : got_of (call_find a_world.arena a_world.table editor (handle 0 1) (97 ∷ [])) ≡ gots.Held (handle 2 3)
+pub find-after : got_of (call_find a_world.arena a_world.table editor (handle 0 1) (97 ∷ [])) ≡ done (handle 2 3)
 find-after = ap got_of (find-call-near a_world.arena a_world.table editor (handle 0 1) (97 ∷ []) a-admitted) ∙ after-near
 
 -- ---- remove-file: `a`, with `a`, `b` and `c` there, and the empty name
@@ -116,11 +114,11 @@ remove_a = record { arena = c_world.arena; table = c_world.table; who = editor; 
 unfoldable pub remove_empty : RemoveInput
 remove_empty = record { arena = c_world.arena; table = c_world.table; who = editor; handle = handle 0 1; name = [] }
 
-gone-answer-near : (after_as c_world.table (remove_call_near false c_world.arena c_world.table editor (handle 0 1) (97 ∷ []))).answer ≡ answers.Done
+gone-answer-near : (after_as c_world.table (remove_call_near false c_world.arena c_world.table editor (handle 0 1) (97 ∷ []))).0 ≡ done tt
 unfolding computed remove_call_near c_slots c_meta c_arena c_world
 gone-answer-near = refl
 
-pub gone-answer : (after_as c_world.table (call_remove_file c_world.arena c_world.table editor (handle 0 1) (97 ∷ []))).answer ≡ answers.Done
+pub gone-answer : (after_as c_world.table (call_remove_file c_world.arena c_world.table editor (handle 0 1) (97 ∷ []))).0 ≡ done tt
 gone-answer = rw (remove-call-near false c_world.arena c_world.table editor (handle 0 1) (97 ∷ []) c-admitted) gone-answer-near
 
 -- byte 20 of the root's head, in block 1: the lowest byte of the folder's length, 1320 and then 1056

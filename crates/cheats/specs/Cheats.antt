@@ -1,7 +1,9 @@
 -- "To be rejected: a port that always refuses, gives one constant answer, stores nothing, or performs only the first call of a sequence; a
 -- checker that passes or fails everything, or reports invented node and block counts". A statement for each: whatever function does so,
 -- there is an input at which the contract of the public call does not hold. The contracts are those that the code's `ensures` cite.
-use Rattle.std.specs.Prelude.{◌≡◌, List, ℕ}
+use Rattle.std.specs.Prelude.{◌≡◌, List, ℕ, Err}
+use Rattle.std.specs.Prelude as std
+use Rattle.base.specs.declared.reasons.Reason.{Reason}
 use Rattle.structs.specs.declared.Timespec.{Timespec}
 use Rattle.table.specs.declared.Handle.{Handle}
 use Rattle.table.specs.declared.Table.{Table}
@@ -12,11 +14,7 @@ use Rattle.sefs.specs.Move.{call_move}
 use Rattle.sefs.specs.Contents.{call_write, call_resize}
 use Rattle.sefs.specs.Close.{call_sync}
 use Rattle.calls.specs.declared.Reply.{Reply}
-use Rattle.calls.specs.declared.Answer.{Answer}
-use Rattle.calls.specs.declared.Answer.TheVariants as answers
 use Rattle.calls.specs.declared.HeldReply.{HeldReply}
-use Rattle.calls.specs.declared.Got.{Got}
-use Rattle.calls.specs.declared.Got.TheVariants as gots
 use Rattle.steps.specs.Ends.{Returned}
 use Rattle.calls_create.specs.Held.{ReturnedHeld}
 use Rattle.calls_find.specs.Finds.{Gives}
@@ -67,11 +65,11 @@ CreateHolds x y =
 
 -- a create that always refuses
 unfoldable pub CreateRefuses : Type 0
-CreateRefuses = (port : CreateInput → CreateResult) → ((x : CreateInput) → (n : ℕ) × ((port x).given.answer ≡ gots.Refused n)) → Broken CreateHolds port
+CreateRefuses = (port : CreateInput → CreateResult) → ((x : CreateInput) → (e : Reason) × ((port x).given.answer ≡ Err e)) → Broken CreateHolds port
 
 -- a create with one constant answer
 unfoldable pub CreateConstant : Type 0
-CreateConstant = (port : CreateInput → CreateResult) (r : Got) → ((x : CreateInput) → (port x).given.answer ≡ r) → Broken CreateHolds port
+CreateConstant = (port : CreateInput → CreateResult) (r : std.Result Handle Reason) → ((x : CreateInput) → (port x).given.answer ≡ r) → Broken CreateHolds port
 
 -- a create that stores nothing
 unfoldable pub CreateStoresNothing : Type 0
@@ -93,11 +91,11 @@ RemoveHolds x y = Returned x.table (call_remove_file x.arena x.table x.who x.han
 
 -- a remove-file that always refuses
 unfoldable pub RemoveRefuses : Type 0
-RemoveRefuses = (port : RemoveInput → Result) → ((x : RemoveInput) → (n : ℕ) × ((port x).after.answer ≡ answers.Refused n)) → Broken RemoveHolds port
+RemoveRefuses = (port : RemoveInput → Result) → ((x : RemoveInput) → (e : Reason) × ((port x).after.answer ≡ Err e)) → Broken RemoveHolds port
 
 -- a remove-file with one constant answer
 unfoldable pub RemoveConstant : Type 0
-RemoveConstant = (port : RemoveInput → Result) (r : Answer) → ((x : RemoveInput) → (port x).after.answer ≡ r) → Broken RemoveHolds port
+RemoveConstant = (port : RemoveInput → Result) (r : std.Result Unit Reason) → ((x : RemoveInput) → (port x).after.answer ≡ r) → Broken RemoveHolds port
 
 -- a remove-file that stores nothing
 unfoldable pub RemoveStoresNothing : Type 0
@@ -208,12 +206,12 @@ FindBroken port = (a : List ℕ) × (t : Table) × (w : ℕ) × (h : Handle) × 
 -- a find that always refuses
 unfoldable pub FindRefuses : Type 0
 FindRefuses = (port : List ℕ → Table → ℕ → Handle → List ℕ → HeldReply)
-    → ((a : List ℕ) (t : Table) (w : ℕ) (h : Handle) (name : List ℕ) → (n : ℕ) × ((port a t w h name).answer ≡ gots.Refused n))
+    → ((a : List ℕ) (t : Table) (w : ℕ) (h : Handle) (name : List ℕ) → (e : Reason) × ((port a t w h name).answer ≡ Err e))
     → FindBroken port
 
 -- a find with one constant answer
 unfoldable pub FindConstant : Type 0
-FindConstant = (port : List ℕ → Table → ℕ → Handle → List ℕ → HeldReply) (r : Got)
+FindConstant = (port : List ℕ → Table → ℕ → Handle → List ℕ → HeldReply) (r : std.Result Handle Reason)
     → ((a : List ℕ) (t : Table) (w : ℕ) (h : Handle) (name : List ℕ) → (port a t w h name).answer ≡ r)
     → FindBroken port
 

@@ -9,10 +9,7 @@ pub fn clear_all(arena: &[u8], work: &mut [u8])
     requires { Fine arena.now work.old }
     ensures { Changed arena.now work.old work.new (replicate (length arena.now) 0) 0 }
 {
-    let n = arena.len() / 512;
-    let mut k: usize = 0;
-    while k < n {
+    for k in 0..arena.len() / 512 {
         overlay::free(work, k);
-        k = k + 1;
     }
 }

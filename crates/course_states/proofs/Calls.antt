@@ -10,8 +10,7 @@ use lib.Dec.{eqb, ltb, leb}
 use Rattle.base.specs.Out.{Out, done, bind, guard, ensure, ◌>>=◌}
 use Rattle.base.specs.Reasons.{stuck, table_full, invalid_param, file_taken, too_many_links, dir_removed, is_dir}
 use Rattle.base.specs.Search.{pick}
-use Rattle.base.specs.declared.Found.{Found}
-use Rattle.base.specs.declared.Found.TheVariants.{At, Nothing}
+use Rattle.std.specs.Prelude.{Option, Some, None}
 use Rattle.structs.specs.Layout.{record_of}
 use Rattle.structs.specs.Types.{is_folder}
 use Rattle.structs.specs.declared.Timespec.{Timespec}
@@ -59,14 +58,14 @@ load-near s id =
     (λ l. guard (leb (record_of l).kind 4) stuck (guard (there s.arena (node_file (record_of l))) stuck
     (open_in s id (record_of l) false (free_row s.table))))
 
-unfoldable pub open_near : Fs → ℕ → Found → Out Opened
-open_near s id (At i) = open_at s id (At i)
-open_near s id Nothing = load_near s id
+unfoldable pub open_near : Fs → ℕ → Option ℕ → Out Opened
+open_near s id (Some i) = open_at s id (Some i)
+open_near s id None = load_near s id
 
-open-near : (s : Fs) (id : ℕ) (f : Found) → open_at s id f ≡ open_near s id f
+open-near : (s : Fs) (id : ℕ) (f : Option ℕ) → open_at s id f ≡ open_near s id f
 unfolding open_near
-open-near s id (At i) = λ j. open_at s id (At i)
-open-near s id Nothing = load-near s id
+open-near s id (Some i) = λ j. open_at s id (Some i)
+open-near s id None = load-near s id
 
 unfoldable pub get_near : Fs → ℕ → Out Opened
 get_near s id = do
@@ -309,14 +308,14 @@ move-free-near s i j old name =
     (λ c. bind (type_in_range (rec_at c.state c.row))
     (λ _. bind (not_below c.state i j c.row) (λ _. move-steps-near c.state i j old name none z)))))
 
-unfoldable pub move_to_near : Fs → ℕ → ℕ → List ℕ → List ℕ → Found → Out After
-move_to_near s i j old name (At k) = move_to s i j old name (At k)
-move_to_near s i j old name Nothing = move_free_near s i j old name
+unfoldable pub move_to_near : Fs → ℕ → ℕ → List ℕ → List ℕ → Option ℕ → Out After
+move_to_near s i j old name (Some k) = move_to s i j old name (Some k)
+move_to_near s i j old name None = move_free_near s i j old name
 
-move-to-near : (s : Fs) (i j : ℕ) (old name : List ℕ) (f : Found) → move_to s i j old name f ≡ move_to_near s i j old name f
+move-to-near : (s : Fs) (i j : ℕ) (old name : List ℕ) (f : Option ℕ) → move_to s i j old name f ≡ move_to_near s i j old name f
 unfolding move_to_near
-move-to-near s i j old name (At k) = λ z. move_to s i j old name (At k)
-move-to-near s i j old name Nothing = move-free-near s i j old name
+move-to-near s i j old name (Some k) = λ z. move_to s i j old name (Some k)
+move-to-near s i j old name None = move-free-near s i j old name
 
 unfoldable pub move_near : List ℕ → Table → ℕ → Handle → List ℕ → Handle → List ℕ → Out After
 move_near a t w h old target name = do

@@ -14,7 +14,7 @@ use Rattle.base.specs.Count.{sum_to, all_to}
 use Rattle.base.specs.Parts.{part, tab}
 use Rattle.base.specs.Reasons.{stuck}
 use Rattle.base.specs.Search.{pick, found_below}
-use Rattle.base.specs.declared.Found.{Found}
+use Rattle.std.specs.Prelude.{Option}
 use Rattle.base.proofs.Counts.{sum_to-suc, sum_to-cong, sum_to-zero}
 use Rattle.base.proofs.Lists.{tab-cong}
 use Rattle.base.proofs.Sames.{decided-yes, decided-no}
@@ -141,7 +141,7 @@ look-to-near a r name (suc n) =
     λ j. bind (look-to-near a r name n j)
     (λ k. pick (ltb k n) (done k) (bind (slot-near a r n j) (λ e. done (pick (is_named e.name name) n (suc n)))))
 
-unfoldable pub look_near : List ℕ → DiskINode → List ℕ → Out Found
+unfoldable pub look_near : List ℕ → DiskINode → List ℕ → Out (Option ℕ)
 look_near a r name = do
   k ← look_to_near a r name r.blocks
   done (found_below k r.blocks)

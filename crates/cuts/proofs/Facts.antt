@@ -11,7 +11,7 @@ use borrow.Author.Tests.{eqb-false, ltb-true, le-ltb}
 use Rattle.base.specs.Out.{done, Ok}
 use Rattle.base.specs.Search.{pick, lowest}
 use Rattle.maps.specs.Maps.{bit_at}
-use Rattle.base.specs.declared.Found.TheVariants.{Nothing}
+use Rattle.std.specs.Prelude.{None}
 use Rattle.base.proofs.Bools.{and_parts, true-T, true-false}
 use Rattle.base.proofs.Finds.{test-no}
 use Rattle.base.proofs.Lists.{length_part}
@@ -71,7 +71,7 @@ pub record Known (a : List ℕ) (c : Birth) : Type 0 where
   pub short : length c.name ≤ 255
   pub name-bytes : Bytes c.name
   pub absent : there a (node_file c.child) ≡ false
-  pub free : lookup a c.parent c.name ≡ done Nothing
+  pub free : lookup a c.parent c.name ≡ done None
   pub fits : RecordFits c.parent
   pub dir : is_folder c.parent.kind ≡ true
   pub alive : 0 < c.parent.nlinks
@@ -171,7 +171,7 @@ known p c g B =
       short = (decides-leb (length c.name) 255).right (true-T (leb (length c.name) 255) X.short);
       name-bytes = B.fits.2;
       absent = X.absent;
-      free = subst (λ (j : ℕ). lookup a (row_at t j).rec c.name ≡ done Nothing) e X.free;
+      free = subst (λ (j : ℕ). lookup a (row_at t j).rec c.name ≡ done None) e X.free;
       fits = R;
       dir = dir;
       alive = ltb-true 0 parent.nlinks (subst (λ (j : ℕ). ltb 0 (row_at t j).rec.nlinks ≡ true) e X.alive);

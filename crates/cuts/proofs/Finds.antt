@@ -9,7 +9,7 @@ use lib.Dec.{ltb}
 use borrow.Author.Tests.{lt-ltb, le-ltb, ltb-true}
 use Rattle.base.specs.Out.{Out, done, refused, bind}
 use Rattle.base.specs.Search.{pick, found_below}
-use Rattle.base.specs.declared.Found.TheVariants.{At, Nothing}
+use Rattle.std.specs.Prelude.{Some, None}
 use Rattle.base.proofs.Bools.{and_parts}
 use Rattle.base.proofs.Finds.{eq-cases}
 use Rattle.base.proofs.Numbers.{lt-or-le}
@@ -52,7 +52,7 @@ module _ (x y : List ℕ) (r s : DiskINode) (name : List ℕ) (h : Alike x y r s
       go (refused m) = refl
       go (done k) = at (ltb k n) refl
         where
-          at : (b : Bool) → ltb k n ≡ b → bind (bind (next k) (λ k. done (found_below k (suc n)))) (slot_of x r) ≡ slot_of y s (pick (ltb k n) (At k) Nothing)
+          at : (b : Bool) → ltb k n ≡ b → bind (bind (next k) (λ k. done (found_below k (suc n)))) (slot_of x r) ≡ slot_of y s (pick (ltb k n) (Some k) None)
           at true t = let l = ltb-true k n t in rw (t, lt-ltb k (suc n) (omega arith), slot_same x y r s k (h k l))
           at false t = rw (t, f, d, le-ltb (suc n) (suc n) (omega arith))
 

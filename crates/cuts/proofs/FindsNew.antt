@@ -9,7 +9,7 @@ use lib.Dec.{ltb}
 use borrow.Author.Tests.{lt-ltb, le-ltb, ltb-false}
 use Rattle.base.specs.Out.{done, bind}
 use Rattle.base.specs.Search.{pick, found_below}
-use Rattle.base.specs.declared.Found.TheVariants.{At, Nothing}
+use Rattle.std.specs.Prelude.{Some, None}
 use Rattle.base.proofs.Bools.{and_both}
 use Rattle.base.proofs.Outs.{bind-is-done}
 use Rattle.base.proofs.Sames.{decided-yes}
@@ -61,15 +61,15 @@ look-most x r name (suc n) k e =
         either false q = omega arith
 
 -- and where nothing was found, at its end
-look-end : (x : List ℕ) (r : DiskINode) (name : List ℕ) → lookup x r name ≡ done Nothing → look_to x r name r.blocks ≡ done r.blocks
+look-end : (x : List ℕ) (r : DiskINode) (name : List ℕ) → lookup x r name ≡ done None → look_to x r name r.blocks ≡ done r.blocks
 unfolding lookup found_below
 look-end x r name e =
-    let v = bind-is-done (look_to x r name r.blocks) _ Nothing e in
+    let v = bind-is-done (look_to x r name r.blocks) _ None e in
     let z : r.blocks ≤ v.0 = past v.0 (ltb v.0 r.blocks) refl (done-is v.2) in
     let m = look-most x r name r.blocks v.0 v.1 in
     v.1 ∙ ap (λ (k : ℕ). done k) (let q : v.0 ≡ r.blocks = omega arith in q)
   where
-    past : (k : ℕ) (b : Bool) → ltb k r.blocks ≡ b → pick b (At k) Nothing ≡ Nothing → r.blocks ≤ k
+    past : (k : ℕ) (b : Bool) → ltb k r.blocks ≡ b → pick b (Some k) None ≡ None → r.blocks ≤ k
     past k true t f = absurd (let q : ◌≡◌ {A = ℕ} 0 1 = cc in omega arith)
     past k false t f = ltb-false k r.blocks t
 

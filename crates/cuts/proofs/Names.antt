@@ -7,7 +7,7 @@ use native.Mathlib.Omega.{arith}
 use Rattle.base.specs.Out.{Out, done, refused, bind}
 use Rattle.base.specs.Reasons.{entry_not_found}
 use Rattle.base.specs.Search.{pick}
-use Rattle.base.specs.declared.Found.{Found}
+use Rattle.std.specs.Prelude.{Option}
 use Rattle.base.proofs.Lists.{tab-cong}
 use Rattle.structs.specs.Fits.{RecordFits}
 use Rattle.structs.specs.Layout.{record_of}
@@ -95,7 +95,7 @@ module _ (p : Pair) (c : Birth) (g : Given) (B : Creation p c g) where
     unfolding find_slot
     gone l =
         ap (λ (r : DiskINode). find_slot b r c.name) (rec-b l)
-        ∙ ap (λ (o : Out Found). bind o (λ f. bind (or_not_found f) (λ k. bind (slot_at b c.parent k) (λ e. done (record { place = k; entry = e })))))
+        ∙ ap (λ (o : Out (Option ℕ)). bind o (λ f. bind (or_not_found f) (λ k. bind (slot_at b c.parent k) (λ e. done (record { place = k; entry = e })))))
         (lookup-same b a c.parent c.parent c.name refl (alike c.parent refl) ∙ K.free)
 
 pub absent : Absent

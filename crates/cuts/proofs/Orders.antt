@@ -9,8 +9,7 @@ use lib.ListN.{length, get_or}
 use borrow.Author.Tests.{lt-ltb, le-ltb, ltb-false, not-true}
 use Rattle.base.specs.Out.{Out, done, bind, guard, ensure}
 use Rattle.base.specs.Search.{pick}
-use Rattle.base.specs.declared.Found.{Found}
-use Rattle.base.specs.declared.Found.TheVariants.{At, Nothing}
+use Rattle.std.specs.Prelude.{Option, Some, None}
 use Rattle.base.proofs.Bools.{true-false}
 use Rattle.base.proofs.Outs.{bind-is-done}
 use Rattle.structs.specs.Layout.{super_bytes, entry_bytes}
@@ -125,7 +124,7 @@ alloc_step s m o n q h r =
 
 record Newly (n : Allocated) (r : DiskINode) (p : Opened) : Type 0 where
   by : after_stores (make (node_file r) ∷ []) n.state.arena ≡ done p.state.arena
-  free : free_row n.state.table ≡ At p.row
+  free : free_row n.state.table ≡ Some p.row
   table : p.state.table ≡ take_row n.state.table p.row n.id r true
   meta : p.state.meta ≡ n.state.meta
 
@@ -149,11 +148,11 @@ node-step s n kind mode time uuid p q h =
     rest : Allocated → Out Opened
     rest k = guard (free k) 19 (bind (make_file k.state.arena (file 1 uuid)) (row k))
 
-    go : (a : List ℕ) → make_file n.state.arena (file 1 uuid) ≡ done a → (f : Found) → free_row n.state.table ≡ f
+    go : (a : List ℕ) → make_file n.state.arena (file 1 uuid) ≡ done a → (f : Option ℕ) → free_row n.state.table ≡ f
         → open_in (with_arena n.state a) n.id new true f ≡ done p → Newly n new p
-    go a e (At k) f w =
+    go a e (Some k) f w =
         subst (Newly n new) (done-is w) (record { by = ap (λ (y : Out (List ℕ)). bind y (λ b. done b)) e; free = f; table = refl; meta = refl })
-    go a e Nothing f w = absurd (let z : ◌≡◌ {A = ℕ} 0 1 = cc in omega arith)
+    go a e None f w = absurd (let z : ◌≡◌ {A = ℕ} 0 1 = cc in omega arith)
 
 -- ---- the steps
 
@@ -249,7 +248,7 @@ module _ (a : List ℕ) (t : Table) (w i : ℕ) (u : Used t i) (synced : NoneDir
       let v6 = bind-is-done (sync_row v5.0 i) _ g v5.2 in
       let A = alloc_step (start a t) m o n loads allocs knows in
       let N = node-step (start a t) n kind mode time uuid p allocs v0.1 in
-      let fr : free_row t ≡ At k = ap free_row (sym A.table) ∙ N.free in
+      let fr : free_row t ≡ Some k = ap free_row (sym A.table) ∙ N.free in
       let lc : k < 34 = (row-found t 0 k fr).0 in
       let li : i < 34 = u.below in
       let apart : i ≡ k → ⊥ = λ q. u.node (ap (λ (j : ℕ). (row_at t j).id) q ∙ (row-found t 0 k fr).1) in
@@ -310,8 +309,8 @@ module _ (a : List ℕ) (t : Table) (w i : ℕ) (u : Used t i) (synced : NoneDir
 -- what it has asked
 pub record Asked (p : Pair) (w : ℕ) (h : Handle) (name : List ℕ) (kind mode : ℕ) (time : Timespec) (uuid : List ℕ) (g : Given) : Type 0 where
   pub i : ℕ
-  pub live : live_row p.table w h ≡ At i
-  pub free : lookup p.arena (row_at p.table i).rec name ≡ done Nothing
+  pub live : live_row p.table w h ≡ Some i
+  pub free : lookup p.arena (row_at p.table i).rec name ≡ done None
   pub absent : there p.arena (file 1 uuid) ≡ false
   pub few : (is_folder kind && eqb (row_at p.table i).rec.nlinks 65535) ≡ false
   pub dir : is_folder (row_at p.table i).rec.kind ≡ true
@@ -348,7 +347,7 @@ module _ (p : Pair) (w : ℕ) (h : Handle) (name : List ℕ) (kind mode : ℕ) (
       record {
         i = x1.0;
         live = live (live_row p.table w h) x1.0 y.2;
-        free = x6.1 ∙ ap (λ (f : Found). done f) (no_slot x6.0 x7.0 x7.1);
+        free = x6.1 ∙ ap (λ (f : Option ℕ). done f) (no_slot x6.0 x7.0 x7.1);
         absent = not-true (there p.arena (file 1 uuid)) (ensured _ 14 x8.0 x8.1);
         few = not-true (is_folder kind && eqb (r x1.0).nlinks 65535) (ensured _ 15 x9.0 x9.1);
         dir = ensured (is_folder (r x1.0).kind) 7 d1.0 d1.1;
@@ -359,13 +358,13 @@ module _ (p : Pair) (w : ℕ) (h : Handle) (name : List ℕ) (kind mode : ℕ) (
         steps = xa.2;
       }
     where
-      no_slot : (f : Found) (u : Unit) → or_exists f ≡ done u → f ≡ Nothing
-      no_slot (At k) u e = absurd (let z : ◌≡◌ {A = ℕ} 0 1 = cc in omega arith)
-      no_slot Nothing u e = refl
+      no_slot : (f : Option ℕ) (u : Unit) → or_exists f ≡ done u → f ≡ None
+      no_slot (Some k) u e = absurd (let z : ◌≡◌ {A = ℕ} 0 1 = cc in omega arith)
+      no_slot None u e = refl
 
-      live : (f : Found) (i : ℕ) → or_bad_handle f ≡ done i → f ≡ At i
-      live (At j) i e = ap At (done-is e)
-      live Nothing i e = absurd (let z : ◌≡◌ {A = ℕ} 0 1 = cc in omega arith)
+      live : (f : Option ℕ) (i : ℕ) → or_bad_handle f ≡ done i → f ≡ Some i
+      live (Some j) i e = ap Some (done-is e)
+      live None i e = absurd (let z : ◌≡◌ {A = ℕ} 0 1 = cc in omega arith)
 
 -- superblock and maps could be read, and an id was allocated
 allocated : (s : Fs) (kind mode : ℕ) (time : Timespec) (uuid : List ℕ) (o : Opened) → new_node s kind mode time uuid ≡ done o
@@ -415,7 +414,7 @@ every-create p passed synced w h name kind mode time uuid fits g succeeds =
       refl,
     )
 
-pub at-is : (i j : ℕ) → At i ≡ At j → i ≡ j
+pub at-is : (i j : ℕ) → Some i ≡ Some j → i ≡ j
 at-is i j e = cc
 
 pub in_order : InOrder

@@ -2,8 +2,7 @@
 use mathlib.Core.Path.{◌≡◌, refl, sym, ap, ◌∙◌}
 use mathlib.Core.Bool.{true, ◌&&◌}
 use Prim.Native.Nat.{ℕ, ◌<◌}
-use Rattle.base.specs.declared.Found.{Found}
-use Rattle.base.specs.declared.Found.TheVariants.{At, Nothing}
+use Rattle.std.specs.Prelude.{Option, Some, None}
 use Rattle.base.proofs.Bools.{and_parts}
 use Rattle.structs.specs.Layout.{record_of}
 use Rattle.structs.specs.Types.{is_folder}
@@ -28,14 +27,14 @@ module _ (p : Pair) (y : Passed p) (z : NoneDirty p.table) where
   unfolding rec_of
   rec-synced id n = go (row_of p.table id) refl ∙ sym (rec-stored p.arena id (node-zero p y id n))
     where
-      go : (f : Found) → row_of p.table id ≡ f → rec_by p.arena p.table id f ≡ record_of (stored_bytes p.arena id)
-      go (At j) e =
+      go : (f : Option ℕ) → row_of p.table id ≡ f → rec_by p.arena p.table id f ≡ record_of (stored_bytes p.arena id)
+      go (Some j) e =
           let r = row-found p.table id j e in
           let l : j < 34 = r.0 in
           let q : (row_at p.table j).id ≡ id = r.1 in
           sym (record_of-record_bytes (row_at p.table j).rec (y.typed.fits.rows j l).rec)
           ∙ ap record_of ((allowed p y).rule4.clean j l (λ w. node-zero p y id n (sym q ∙ w)) (z j l) ∙ ap (stored_bytes p.arena) q)
-      go Nothing e = refl
+      go None e = refl
 
   pub folder-synced : (id : ℕ) → is_folder_at p.arena empty_table id ≡ true → is_folder_at p.arena p.table id ≡ true
   unfolding is_folder_at

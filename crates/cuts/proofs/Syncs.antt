@@ -10,8 +10,7 @@ use borrow.Author.Tests.{lt-ltb, le-ltb, ne_eqb, eq-eqb}
 use Rattle.base.specs.Count.{bit, count_to}
 use Rattle.base.specs.Out.{Out, done, bind, kept}
 use Rattle.base.specs.Search.{pick, found_below}
-use Rattle.base.specs.declared.Found.{Found}
-use Rattle.base.specs.declared.Found.TheVariants.{At, Nothing}
+use Rattle.std.specs.Prelude.{Option, Some, None}
 use Rattle.base.proofs.Bools.{bool_cases}
 use Rattle.base.proofs.Counts.{count_to-change, count_to-le, sum_to-le}
 use Rattle.base.proofs.Finds.{count_to-some, eq-cases}
@@ -21,7 +20,7 @@ use Rattle.structs.specs.Layout.{record_bytes}
 use Rattle.table.specs.declared.Row.{Row}
 use Rattle.table.specs.declared.Table.{Table}
 use Rattle.table.specs.Table.{row_at, with_row, next_row}
-use Rattle.table.proofs.Next.{Some, Best, best_none, best-take, best-keep, best-next}
+use Rattle.table.proofs.Next.{Nearest, Best, best_none, best-take, best-keep, best-next}
 use Rattle.table.proofs.Next as next
 use Rattle.table_laws.proofs.Rows.{row_here, row_apart}
 use Rattle.files.specs.Store.{put_file}
@@ -107,7 +106,7 @@ abbrev above : ℕ → Table → ℕ
 above low t = count_to (λ j. ltb low (id t j)) 34
 
 -- the row with the next id is done: fewer are left
-module _ (t u : Table) (low i least : ℕ) (F : Some (id t) low 34 i least) (S : Stored i t u) where
+module _ (t u : Table) (low i least : ℕ) (F : Nearest (id t) low 34 i least) (S : Stored i t u) where
   goes : Going low t → Going least u
   goes G = record {
     long = S.long ∙ G.long;
@@ -170,17 +169,17 @@ from-clean s d low (suc n) G l h =
     rest : ℕ → Out Fs
     rest i = bind (sync_row s i) (λ x. sync_from x (id_at s i) n)
 
-    is-next : (place least : ℕ) (b : Bool) → ltb place 34 ≡ b → Best (id s.table) low 34 place least → pick b (At place) Nothing ≡ next_row s.table low
-    is-next place least b e B = ap (λ (x : Bool). pick x (At place) Nothing) (sym e) ∙ best-next s.table low 34 place least (omega arith) (omega arith) B
+    is-next : (place least : ℕ) (b : Bool) → ltb place 34 ≡ b → Best (id s.table) low 34 place least → pick b (Some place) None ≡ next_row s.table low
+    is-next place least b e B = ap (λ (x : Bool). pick x (Some place) None) (sym e) ∙ best-next s.table low 34 place least (omega arith) (omega arith) B
 
     go : (place least : ℕ) → Best (id s.table) low 34 place least
         → ((x : Fs) (k : ℕ) → Going k x.table → above k x.table ≤ n → sync_from x k n ≡ done d → NoneDirty d.table) → NoneDirty d.table
     go place least (next.none N) again =
-        let e : Nothing ≡ next_row t low = is-next place least false (le-ltb place 34 (omega (arith, N.is))) (next.none N) in
-        subst (λ (x : Fs). NoneDirty x.table) (done-is (ap (λ (f : Found). with_next f s rest) e ∙ h)) (λ j m. G.clean j m (N.all j m))
+        let e : None ≡ next_row t low = is-next place least false (le-ltb place 34 (omega (arith, N.is))) (next.none N) in
+        subst (λ (x : Fs). NoneDirty x.table) (done-is (ap (λ (f : Option ℕ). with_next f s rest) e ∙ h)) (λ j m. G.clean j m (N.all j m))
     go place least (next.some F) again =
-        let e : At place ≡ next_row t low = is-next place least true (lt-ltb place 34 F.in34) (next.some F) in
-        let v = bind-is-done (sync_row s place) (λ x. sync_from x (id_at s place) n) d (ap (λ (f : Found). with_next f s rest) e ∙ h) in
+        let e : Some place ≡ next_row t low = is-next place least true (lt-ltb place 34 F.in34) (next.some F) in
+        let v = bind-is-done (sync_row s place) (λ x. sync_from x (id_at s place) n) d (ap (λ (f : Option ℕ). with_next f s rest) e ∙ h) in
         let S = row-stored s v.0 place (omega (arith, F.in34, G.long)) v.1 in
         again v.0 least (goes t v.0.table low place least F S G) (omega (arith, fewer t v.0.table low place least F S))
         (ap (λ (k : ℕ). sync_from v.0 k n) (sym F.is) ∙ v.2)

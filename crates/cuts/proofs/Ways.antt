@@ -7,7 +7,7 @@ use Prim.Native.Nat.{ℕ}
 use native.Mathlib.Omega.{arith}
 use Rattle.base.specs.Out.{Out, done, refused, bind, ensure, Ok}
 use Rattle.base.specs.Reasons.{not_dir, entry_not_found}
-use Rattle.base.specs.declared.Found.{Found}
+use Rattle.std.specs.Prelude.{Option}
 use Rattle.base.proofs.Bools.{and_both}
 use Rattle.base.proofs.Finds.{eq-cases}
 use Rattle.base.proofs.Outs.{bind-is-done, ok-done}
@@ -53,7 +53,7 @@ module _ (p : Pair) (c : Birth) (g : Given) (B : Creation p c g) (n : ℕ) (b : 
       -- the new name, looked up in the parent
       new : id ≡ c.up → name ≡ c.name → ◌≡◌ {A = Out Slot} (refused entry_not_found) (done s)
       new u m =
-          sym (ap (λ (o : Out Found). bind o (slot_of a c.parent)) (known p c g B).free)
+          sym (ap (λ (o : Out (Option ℕ)). bind o (slot_of a c.parent)) (known p c g B).free)
           ∙ sym (ap (λ (r : DiskINode). find_slot a r c.name) (ap (rec_in a) u ∙ rec-a p c g B))
           ∙ ap (find_slot a (rec_in a id)) (sym m)
           ∙ e

@@ -1,7 +1,6 @@
 -- "Let a create that succeeds begin just after sync on a passed pair, and stop it between any two stores of 000's order."
-use Rattle.std.specs.Prelude.{◌≡◌, false, List, ℕ, ◌<◌}
+use Rattle.std.specs.Prelude.{◌≡◌, false, List, ℕ, ◌<◌, Some}
 use Rattle.base.specs.Out.{done}
-use Rattle.base.specs.declared.Found.TheVariants.{At}
 use Rattle.structs.specs.declared.Timespec.{Timespec}
 use Rattle.table.specs.declared.Table.{Table}
 use Rattle.table.specs.declared.Handle.{Handle}
@@ -31,7 +30,7 @@ pub record Creation (p : Pair) (c : Birth) (g : Given) : Type 0 where
   pub mode : ℕ
   pub time : Timespec
   pub uuid : List ℕ
-  pub live : live_row p.table w h ≡ At i
+  pub live : live_row p.table w h ≡ Some i
   pub fits : Fits (create w h c.name kind mode time uuid)
   pub about : birth_of p.arena p.table i c.name kind mode time uuid ≡ done c
   pub succeeds : call_create p.arena p.table w h c.name kind mode time uuid ≡ done g

@@ -9,8 +9,7 @@ use lib.Dec.{ltb}
 use lib.ListN.{length}
 use borrow.Author.Tests.{lt-ltb}
 use Rattle.base.specs.Out.{Out, done, ensure, kept, Ok, went, said}
-use Rattle.base.specs.declared.Found.{Found}
-use Rattle.base.specs.declared.Found.TheVariants.{At, Nothing}
+use Rattle.std.specs.Prelude.{Option, Some, None}
 use Rattle.base.proofs.Outs.{ok-bind, ok-weaken}
 use Rattle.base.proofs.Bools.{and_both}
 use Rattle.base.proofs.Numbers.{lt-or-le}
@@ -208,9 +207,9 @@ unfolding rec_of
 upheld-lasting p q y H L id n =
     subst (Lasts (rec_of q.arena q.table id)) (sym (rec-stored q.arena id (node-zero q.arena id n))) (go (row_of q.table id) refl)
   where
-    go : (f : Found) → row_of q.table id ≡ f → Lasts (rec_by q.arena q.table id f) (record_of (stored_bytes q.arena id))
-    go Nothing e = lasts-is refl
-    go (At i) e =
+    go : (f : Option ℕ) → row_of q.table id ≡ f → Lasts (rec_by q.arena q.table id f) (record_of (stored_bytes q.arena id))
+    go None e = lasts-is refl
+    go (Some i) e =
         let x = row-found q.table id i e in
         let z : (row_at q.table i).id ≢ 0 = λ w. node-zero q.arena id n (sym x.1 ∙ w) in
         let m : (row_at q.table i).id % 1024 ≢ 1 = λ w. node-apart q.arena id n (ap (λ (k : ℕ). k % 1024) (sym x.1) ∙ w) in

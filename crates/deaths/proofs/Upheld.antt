@@ -10,8 +10,7 @@ use native.Mathlib.Omega.{arith}
 use lib.Dec.{eqb, ltb}
 use lib.ListN.{length, drop, length-take, length-set, get_or-eq_default}
 use Rattle.base.specs.Out.{done, Ok, went, said}
-use Rattle.base.specs.declared.Found.{Found}
-use Rattle.base.specs.declared.Found.TheVariants.{At, Nothing}
+use Rattle.std.specs.Prelude.{Option, Some, None}
 use Rattle.base.specs.Parts.{part}
 use Rattle.base.proofs.Outs.{ok-bind, ok-weaken, above_zero}
 use Rattle.base.proofs.Bools.{true-false, and_parts, or-second}
@@ -162,9 +161,9 @@ zero-upheld = record { wide = record { file = refl; mac = refl }; lasts = λ L z
 no-row-apart : (t : Table) (id : ℕ) → no_row (row_of t id) ≡ true → (j : ℕ) → j < 34 → (row_at t j).id ≢ id
 no-row-apart t id e = go (row_of t id) refl e
   where
-    go : (f : Found) → row_of t id ≡ f → no_row f ≡ true → (j : ℕ) → j < 34 → (row_at t j).id ≢ id
-    go (At i) q e = absurd (true-false e refl)
-    go Nothing q e = row-missing t id q
+    go : (f : Option ℕ) → row_of t id ≡ f → no_row f ≡ true → (j : ℕ) → j < 34 → (row_at t j).id ≢ id
+    go (Some i) q e = absurd (true-false e refl)
+    go None q e = row-missing t id q
 
 -- a dirty row is one of the 34
 dirty-below : (t : Table) → length t.rows ≡ 34 → (i : ℕ) → (row_at t i).dirty ≡ true → i < 34
@@ -346,9 +345,9 @@ module _ {p : Pair} where
         ok-bind (ok-weaken (λ b M. upheld-stay (stay-kept x.state.arena b (M.others meta_file (λ q. node-other name (sym q)))) K) (λ n r. tt) (make-law x.state.arena (file 1 name) N)) λ b M.
         go x b (and_parts (not (eqb x.id 0)) (no_row (row_of x.state.table x.id)) e).1 M (free_row x.state.table))
       where
-        go : (x : Allocated) (b : List ℕ) → no_row (row_of x.state.table x.id) ≡ true → Upheld p X b x.state.table → (f : Found)
+        go : (x : Allocated) (b : List ℕ) → no_row (row_of x.state.table x.id) ≡ true → Upheld p X b x.state.table → (f : Option ℕ)
             → Ok (λ (o : Opened). Upheld p (λ k d. X k d ⊎ (k ≡ o.row)) o.state.arena o.state.table) Any (open_in (with_arena x.state b) x.id (new_record kind mode time name) true f)
-        go x b e M (At i) =
+        go x b e M (Some i) =
             went (upheld-row i (record { id = x.id; dirty = true; rec = new_record kind mode time name }) (λ j d n y. inl y)
             (λ k. record { wide = record { file = N.size; mac = refl }; lasts = λ L z m. inl (inr refl) }) (λ k j l d z. no-row-apart x.state.table x.id e j l) M)
-        go x b e M Nothing = said tt
+        go x b e M None = said tt

@@ -9,8 +9,7 @@ use native.Mathlib.Omega.{arith}
 use lib.Dec.{eqb, ltb, leb}
 use lib.ListN.{length}
 use Rattle.base.specs.Out.{done, Ok, went, said}
-use Rattle.base.specs.declared.Found.{Found}
-use Rattle.base.specs.declared.Found.TheVariants.{At, Nothing}
+use Rattle.std.specs.Prelude.{Option, Some, None}
 use Rattle.base.proofs.Outs.{ok-bind}
 use Rattle.structs.specs.Types.{is_folder, move_verdict_of}
 use Rattle.structs.specs.declared.DiskEntry.{DiskEntry}
@@ -229,10 +228,10 @@ module _ (p : Pair) where
         any-pick (eqb was.entry.id new.id) (done (after s)) (move_onto c.state i j old name c.row d.row k)
         (λ _. went (upheld-more (λ k x. absurd x) h)) (λ _. onto c.state old name c.row d.row k l)
 
-    pub move-upheld : (s : Fs) (old name : List ℕ) (f : Found) → Upheld p (By Nobody) s.arena s.table → LeavesAfter (Upheld p Clean) (move_to s i j old name f)
+    pub move-upheld : (s : Fs) (old name : List ℕ) (f : Option ℕ) → Upheld p (By Nobody) s.arena s.table → LeavesAfter (Upheld p Clean) (move_to s i j old name f)
     unfolding move_free
-    move-upheld s old name (At k) h = replacing s old name k h
-    move-upheld s old name Nothing h =
+    move-upheld s old name (Some k) h = replacing s old name k h
+    move-upheld s old name None h =
         any-pick (eqb (id_at s i) (id_at s j)) (move_steps s i j old name none) _ (λ _. steps s old name none h) λ _.
         ok-bind (any (find_slot s.arena (rec_at s i) old)) λ was _.
         ok-bind (upheld-node s was.entry.id h) λ c g.

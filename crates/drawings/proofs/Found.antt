@@ -7,7 +7,7 @@ use Prim.Native.Nat.{ℕ, zero, suc, ◌<◌}
 use native.Mathlib.Omega.{arith}
 use lib.ListN.{length}
 use Rattle.base.specs.Out.{Out, done, bind, kept, Ok}
-use Rattle.base.specs.declared.Found.TheVariants.{At}
+use Rattle.std.specs.Prelude.{Some}
 use Rattle.base.proofs.Outs.{ok-done}
 use Rattle.base.proofs.Bools.{true-T, and_parts}
 use Rattle.base.proofs.Numbers.{lt-or-le}
@@ -116,7 +116,7 @@ module _ (p : Pair) (y : Passed p) where
         node : is_node p.arena n ≡ true
         node = node-named p d k n y N.at
 
-        row_on : (x : Added) (row : ℕ) → live_row x.table v x.handle ≡ At row → (row_at x.table row).id ≡ n → On x.table v x.handle n (row_at x.table row).rec.file
+        row_on : (x : Added) (row : ℕ) → live_row x.table v x.handle ≡ Some row → (row_at x.table row).id ≡ n → On x.table v x.handle n (row_at x.table row).rec.file
         row_on x row l q = record { row = row; live = l; node = q; file = refl }
 
 pub found-and-kept : FoundAndKept

@@ -17,8 +17,7 @@ use Rattle.base.proofs.Sames.{decided-yes, decided-no}
 use Rattle.base.proofs.Tests.{decides-leb, decides-same}
 use Rattle.base.specs.Search.{pick, lowest, found_below}
 use Rattle.base.specs.Decides.{same}
-use Rattle.base.specs.declared.Found.{Found}
-use Rattle.base.specs.declared.Found.TheVariants.{At, Nothing}
+use Rattle.std.specs.Prelude.{Option, Some, None}
 use Rattle.structs.specs.Types.{is_folder}
 use Rattle.structs.proofs.Layouts.{entry_of-fits}
 use Rattle.structs.specs.declared.DiskINode.{DiskINode}
@@ -107,10 +106,10 @@ module _ (p : Pair) (y : Passed p) (d n : ℕ) (name : List ℕ) (N : Named d na
       ok-bind (ok-is (slot_is a t A y.typed.bytes d N.at.folder k h.0)) λ x q.
       went (ap (λ (x : DiskEntry). is_node a x.id) q ∙ slot-node a t A d N.at.folder name (λ z. absurd (true-false z no-dots)) k h.0 h.1)
     where
-      found : (x : Found) → x ≡ found_below (lowest (λ k. is_named (slot_in p.arena (rec_of p.arena p.table d) k).name name) (rec_of p.arena p.table d).blocks) (rec_of p.arena p.table d).blocks
+      found : (x : Option ℕ) → x ≡ found_below (lowest (λ k. is_named (slot_in p.arena (rec_of p.arena p.table d) k).name name) (rec_of p.arena p.table d).blocks) (rec_of p.arena p.table d).blocks
           → Ok (λ k. (k < (rec_of p.arena p.table d).blocks) × (is_named (slot_in p.arena (rec_of p.arena p.table d) k).name name ≡ true)) (λ r. r ≡ 16) (or_not_found x)
-      found (At k) e = went (search-at (λ k. is_named (slot_in a (rec_of a t d) k).name name) (rec_of a t d).blocks k (sym e))
-      found Nothing e = absurd (true-false asked-for (search-nothing (λ k. is_named (slot_in a (rec_of a t d) k).name name) (rec_of a t d).blocks (sym e) N.slot N.at.inside))
+      found (Some k) e = went (search-at (λ k. is_named (slot_in a (rec_of a t d) k).name name) (rec_of a t d).blocks k (sym e))
+      found None e = absurd (true-false asked-for (search-nothing (λ k. is_named (slot_in a (rec_of a t d) k).name name) (rec_of a t d).blocks (sym e) N.slot N.at.inside))
 
   holds : (w id : ℕ) → is_node p.arena id ≡ true → Ok (λ (x : Added). Unit) (λ r. r ≡ 16) (hold_node (start p.arena p.table) w id)
   unfolding hold_node

@@ -14,7 +14,7 @@ use Rattle.base.proofs.Outs.{ok-bind, ok-weaken}
 use Rattle.base.proofs.Finds.{eq-cases}
 use Rattle.base.proofs.Numbers.{lt-or-le}
 use Rattle.base.specs.Search.{pick}
-use Rattle.base.specs.declared.Found.{Found}
+use Rattle.std.specs.Prelude.{Option}
 use Rattle.le.specs.Le.{Bytes}
 use Rattle.structs.specs.Constants.{type_dir}
 use Rattle.structs.specs.Fits.{EntryFits}
@@ -438,7 +438,7 @@ module _ (p : Pair) (y : Passed p) {d n : ℕ} {own : List ℕ} (N : Named d own
           is-slot : slot_at p.arena (row_at p.table j).rec m ≡ done (slot_in p.arena (row_at p.table j).rec m)
           is-slot = subst (λ (r : DiskINode). m < r.blocks → slot_at a r m ≡ done (slot_in a r m)) (row-rec a t A j uj) (slot_is a t A y.typed.bytes (row_at t j).id (row-folder a t A j uj to) m) below
 
-    goes : (row_at p.table i).rec.nlinks ≢ 0 → is_special name ≡ false → (x : Found) → Looked p.arena (row_at p.table j).rec name x → LeavesAfter Q (move_to (start p.arena p.table) i j old name x)
+    goes : (row_at p.table i).rec.nlinks ≢ 0 → is_special name ≡ false → (x : Option ℕ) → Looked p.arena (row_at p.table j).rec name x → LeavesAfter Q (move_to (start p.arena p.table) i j old name x)
     goes lives plain-new x (here m below named) = onto-moves lives plain-new m below named
     goes lives plain-new x (new _) = free-moves
 

@@ -8,7 +8,7 @@ use native.Mathlib.Omega.{arith}
 use lib.ListN.{take, replicate}
 use Rattle.base.specs.Out.{done, kept, Ok}
 use Rattle.base.specs.Parts.{part, paste, tab}
-use Rattle.base.specs.declared.Found.TheVariants.{At}
+use Rattle.std.specs.Prelude.{Some}
 use Rattle.base.proofs.Numbers.{lt-or-le}
 use Rattle.base.proofs.Outs.{ok-done, bind-is-done}
 use Rattle.base.proofs.Lists.{length-tab, get_or-tab, tab-cong}
@@ -179,7 +179,7 @@ text-is p q w h mode from len i y l e =
 -- ---- reads
 
 -- a read of a plain file is its part of the text
-text-part : (p : Pair) → Passed p → (v : ℕ) (g : Handle) (i : ℕ) → live_row p.table v g ≡ At i → (row_at p.table i).rec.kind ≡ 1 → (at room : ℕ)
+text-part : (p : Pair) → Passed p → (v : ℕ) (g : Handle) (i : ℕ) → live_row p.table v g ≡ Some i → (row_at p.table i).rec.kind ≡ 1 → (at room : ℕ)
     → call_read p.arena p.table v g at room ≡ done (part (text_at p.arena p.table i) at (at + room))
 text-part p y v g i l k at room =
     let o : On p.table v g (row_at p.table i).id (row_at p.table i).rec.file = record { row = i; live = l; node = refl; file = refl } in
@@ -191,18 +191,18 @@ text-part p y v g i l k at room =
     (λ j z. sym (get_or-tab b 0 n j (omega (arith, length-tab b 0 n)) ∙ ap b (let e : 0 + j ≡ j = omega arith in e))) at room
 
 -- the call leaves handles where they are, on a plain file still
-still-on : (p q : Pair) → Passed p → (w v : ℕ) (h g : Handle) (mode : FallocateMode) (from len i : ℕ) → live_row p.table w h ≡ At i → live_row p.table v g ≡ At i
-    → does (fallocate w h mode from len) p ≡ done q → (live_row q.table v g ≡ At i) × ((row_at q.table i).rec.kind ≡ 1)
+still-on : (p q : Pair) → Passed p → (w v : ℕ) (h g : Handle) (mode : FallocateMode) (from len i : ℕ) → live_row p.table w h ≡ Some i → live_row p.table v g ≡ Some i
+    → does (fallocate w h mode from len) p ≡ done q → (live_row q.table v g ≡ Some i) × ((row_at q.table i).rec.kind ≡ 1)
 still-on p q y w v h g mode from len i l m e =
     let L = fallocated p q w h mode from len e in
     let D = only-or mode p.arena p.table w h from len L.0 y.typed.bytes L.1 in
     let s : D.0 ≡ i = one-row p.table w h D.0 i D.1.asked.owns.live l in
     let k : (row_at p.table i).rec.kind ≡ 1 = subst (λ (j : ℕ). (row_at p.table j).rec.kind ≡ 1) s (kind-one (row_at p.table D.0).rec D.1.plain) in
-    subst (λ (r : Pair). (live_row r.table v g ≡ At i) × ((row_at r.table i).rec.kind ≡ 1)) L.2
+    subst (λ (r : Pair). (live_row r.table v g ≡ Some i) × ((row_at r.table i).rec.kind ≡ 1)) L.2
     (⊎_elim
     (λ O. let o = subst (λ (j : ℕ). Only p.arena p.table j O.0 O.1 L.0) s O.2 in
     (live_same p.table L.0.table v g o.holds ∙ m, ap (λ (r : Row). r.rec.kind) o.row ∙ k))
-    (λ z. subst (λ (x : After). (live_row x.table v g ≡ At i) × ((row_at x.table i).rec.kind ≡ 1)) (sym z) (m, k))
+    (λ z. subst (λ (x : After). (live_row x.table v g ≡ Some i) × ((row_at x.table i).rec.kind ≡ 1)) (sym z) (m, k))
     D.2)
 
 pub reads-text : ReadsText

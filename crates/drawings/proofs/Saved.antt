@@ -13,7 +13,7 @@ use Rattle.base.proofs.Outs.{bind-is-done}
 use Rattle.base.proofs.Bools.{bool_cases}
 use Rattle.base.proofs.Lists.{get_or-tab, tab-cong, length-paste, get_or-paste-in, get_or-paste-out}
 use Rattle.base.proofs.Numbers.{lt-or-le}
-use Rattle.base.specs.declared.Found.TheVariants.{At}
+use Rattle.std.specs.Prelude.{Some}
 use Rattle.structs.specs.Types.{is_folder}
 use Rattle.arena.specs.Fields.{file}
 use Rattle.files.specs.Read.{length_of, byte_at}
@@ -147,7 +147,7 @@ saved p q l w h n f place bytes y S along = still-reads p q w h n f place bytes 
 
 -- ---- and a colleague's
 
-through-own : {n : ℕ} {t : Table} {v : ℕ} {g : Handle} {place : ℕ} {bytes : List ℕ} → Through n t (write v g place bytes) → (i : ℕ) × (live_row t v g ≡ At i) × ((row_at t i).id ≡ n)
+through-own : {n : ℕ} {t : Table} {v : ℕ} {g : Handle} {place : ℕ} {bytes : List ℕ} → Through n t (write v g place bytes) → (i : ℕ) × (live_row t v g ≡ Some i) × ((row_at t i).id ≡ n)
 through-own (writes {i = i} e q) = (i, e, q)
 
 -- his write through a handle on another node is elsewhere

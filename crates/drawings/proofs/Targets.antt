@@ -9,7 +9,7 @@ use borrow.Author.Tests.{le-leb}
 use Rattle.base.specs.Out.{done, Ok}
 use Rattle.base.specs.Parts.{tab}
 use Rattle.base.proofs.Outs.{ok-done}
-use Rattle.base.specs.declared.Found.TheVariants.{At}
+use Rattle.std.specs.Prelude.{Some}
 use Rattle.structs.specs.declared.DiskINode.{DiskINode}
 use Rattle.files.specs.Read.{there, byte_at}
 use Rattle.table.specs.declared.Table.{Table}
@@ -32,7 +32,7 @@ use Rattle.sequences.proofs.Corner.{on-used}
 use Rattle.sequences.proofs.Reading.{whole-file}
 use Rattle.drawings.specs.Targets.{ContentIsTarget}
 
-module _ (p : Pair) (y : Passed p) (v : ℕ) (g : Handle) (i : ℕ) (live : live_row p.table v g ≡ At i) where
+module _ (p : Pair) (y : Passed p) (v : ℕ) (g : Handle) (i : ℕ) (live : live_row p.table v g ≡ Some i) where
   abbrev a : List ℕ
   a = p.arena
 

@@ -1,8 +1,7 @@
 -- Her drawing by its name: which calls can take a folder's name for a node away, or give it to another. All others leave it, so the drawing is found.
-use Rattle.std.specs.Prelude.{◌≡◌, List, ◌≢◌, ◌⊎◌, ℕ, length}
+use Rattle.std.specs.Prelude.{◌≡◌, List, ◌≢◌, ◌⊎◌, ℕ, length, Some}
 use Rattle.base.specs.Out.{done}
 use Rattle.base.specs.Reasons.{table_full}
-use Rattle.base.specs.declared.Found.TheVariants.{At}
 use Rattle.table.specs.declared.Table.{Table}
 use Rattle.table.specs.declared.Handle.{Handle}
 use Rattle.table.specs.declared.Added.{Added}
@@ -18,10 +17,10 @@ use Rattle.drawings.specs.Rests.{Named}
 -- the calls that can take a name of folder d away, each through a live handle of its asker's on the folder: a removal of that name, a move of that
 -- name to elsewhere or to another name, and a move to that name, which replaces what has it (or, where the same node moves there, changes nothing)
 pub data TakesName (d : ℕ) (name : List ℕ) (t : Table) : Call → Type 0 where
-  removes-file : {v : ℕ} {g : Handle} {i : ℕ} → live_row t v g ≡ At i → (row_at t i).id ≡ d → TakesName d name t (remove_file v g name)
-  removes-folder : {v : ℕ} {g : Handle} {i : ℕ} → live_row t v g ≡ At i → (row_at t i).id ≡ d → TakesName d name t (remove_folder v g name)
-  moves-away : {v : ℕ} {g target : Handle} {i : ℕ} {new : List ℕ} → live_row t v g ≡ At i → (row_at t i).id ≡ d → TakesName d name t (move v g name target new)
-  moves-onto : {v : ℕ} {g target : Handle} {i : ℕ} {old : List ℕ} → live_row t v target ≡ At i → (row_at t i).id ≡ d → TakesName d name t (move v g old target name)
+  removes-file : {v : ℕ} {g : Handle} {i : ℕ} → live_row t v g ≡ Some i → (row_at t i).id ≡ d → TakesName d name t (remove_file v g name)
+  removes-folder : {v : ℕ} {g : Handle} {i : ℕ} → live_row t v g ≡ Some i → (row_at t i).id ≡ d → TakesName d name t (remove_folder v g name)
+  moves-away : {v : ℕ} {g target : Handle} {i : ℕ} {new : List ℕ} → live_row t v g ≡ Some i → (row_at t i).id ≡ d → TakesName d name t (move v g name target new)
+  moves-onto : {v : ℕ} {g target : Handle} {i : ℕ} {old : List ℕ} → live_row t v target ≡ Some i → (row_at t i).id ≡ d → TakesName d name t (move v g old target name)
 
 -- a call that leaves the name: it fits its types, and where it is one of these it is refused
 pub record LeavesName (d : ℕ) (name : List ℕ) (c : Call) (p : Pair) : Type 0 where

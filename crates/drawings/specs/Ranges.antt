@@ -1,9 +1,8 @@
 -- Order 13's call as the designer sees it, and as the Linux fallocate(2) page says it: what each mode makes of a file's text, and so what every read
 -- gives afterwards.
-use Rattle.std.specs.Prelude.{◌≡◌, true, false, List, ◌++◌, ℕ, ◌+◌, length, take, drop, replicate}
+use Rattle.std.specs.Prelude.{◌≡◌, true, false, List, ◌++◌, ℕ, ◌+◌, length, take, drop, replicate, Some}
 use Rattle.base.specs.Out.{done}
 use Rattle.base.specs.Parts.{part, paste, tab}
-use Rattle.base.specs.declared.Found.TheVariants.{At}
 use Rattle.table.specs.declared.Table.{Table}
 use Rattle.table.specs.declared.Handle.{Handle}
 use Rattle.table.specs.Table.{live_row}
@@ -37,13 +36,13 @@ new_text Unknown from len old = old
 
 -- the new text is that of the old one
 unfoldable pub TextIs : Type 0
-TextIs = (p q : Pair) (w : ℕ) (h : Handle) (mode : FallocateMode) (from len i : ℕ) → Passed p → live_row p.table w h ≡ At i
+TextIs = (p q : Pair) (w : ℕ) (h : Handle) (mode : FallocateMode) (from len i : ℕ) → Passed p → live_row p.table w h ≡ Some i
     → does (fallocate w h mode from len) p ≡ done q → text_at q.arena q.table i ≡ new_text mode from len (text_at p.arena p.table i)
 
 -- every read afterwards, at any place and with any room, also across the range's ends, is its part of it: through h, and through anybody's handle g
 -- on the same row
 unfoldable pub ReadsText : Type 0
-ReadsText = (p q : Pair) (w v : ℕ) (h g : Handle) (mode : FallocateMode) (from len i at room : ℕ) → Passed p → live_row p.table w h ≡ At i → live_row p.table v g ≡ At i
+ReadsText = (p q : Pair) (w v : ℕ) (h g : Handle) (mode : FallocateMode) (from len i at room : ℕ) → Passed p → live_row p.table w h ≡ Some i → live_row p.table v g ≡ Some i
     → does (fallocate w h mode from len) p ≡ done q
     → call_read q.arena q.table v g at room ≡ done (part (new_text mode from len (text_at p.arena p.table i)) at (at + room))
 

@@ -1,7 +1,6 @@
 -- Order 7: "following symlinks whose content is the target".
-use Rattle.std.specs.Prelude.{◌≡◌, true, List, ℕ, ◌-◌, ◌≤◌, ◌<◌, length}
+use Rattle.std.specs.Prelude.{◌≡◌, true, List, ℕ, ◌-◌, ◌≤◌, ◌<◌, length, Some}
 use Rattle.base.specs.Out.{done}
-use Rattle.base.specs.declared.Found.TheVariants.{At}
 use Rattle.table.specs.declared.Handle.{Handle}
 use Rattle.table.specs.Table.{row_at, live_row}
 use Rattle.sefs.specs.Ask.{start}
@@ -15,6 +14,6 @@ use Rattle.sequences.specs.Pairs.{Pair, Passed}
 unfoldable pub ContentIsTarget : Type 0
 ContentIsTarget = (p : Pair) (v : ℕ) (g : Handle) (i : ℕ) (room : ℕ) (b : List ℕ) (at node : Spot) (l target : List ℕ) (all : ℕ) → Passed p
     → part_in (start p.arena p.table) at.rec l ≡ done node → is_link node.rec ≡ true
-    → live_row p.table v g ≡ At i → (row_at p.table i).id ≡ node.id
+    → live_row p.table v g ≡ Some i → (row_at p.table i).id ≡ node.id
     → call_read p.arena p.table v g 0 all ≡ done target → length target < all → length target ≤ room - length b
     → LinkAt (start p.arena p.table) room b at l target

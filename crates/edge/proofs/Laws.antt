@@ -6,7 +6,7 @@ use native.Mathlib.Omega.{arith}
 use lib.Dec.{eqb}
 use lib.ListN.{length}
 use borrow.Author.Tests.{eq-eqb, ne_eqb}
-use Rattle.base.specs.Out.{Out, done, refused, Went, well, ill}
+use Rattle.base.specs.Out.{Out, done, refused, answer, Went, well, ill}
 use Rattle.base.specs.Parts.{paste}
 use Rattle.base.specs.Search.{pick}
 use Rattle.le.specs.Le.{Bytes}
@@ -21,12 +21,11 @@ use Rattle.sefs.specs.declared.Metadata.{Metadata}
 use Rattle.sefs.specs.Create.{After, Given}
 use Rattle.sefs.specs.Read.{call_listing}
 use Rattle.mem.specs.Mem.{table_in}
-use Rattle.calls.specs.declared.Answer.{Answer}
-use Rattle.calls.specs.declared.Told.{Told}
-use Rattle.calls.specs.declared.Listed.{Listed}
-use Rattle.calls.specs.declared.Listed.TheVariants.{Slots}
-use Rattle.calls.specs.declared.Taken.{Taken}
-use Rattle.calls.specs.Answers.{added_as, answer_of, answer_number, told_of, told_number, listed_of, listed_number, taken_of, taken_number, Lays}
+use Rattle.std.specs.Prelude.{Result, Ok, Err}
+use Rattle.base.specs.Told.{code}
+use Rattle.base.specs.declared.reasons.Reason.{Reason}
+use Rattle.calls.specs.Answers.{added_as, out_of, answer_of, listed_of, taken_of, Lays}
+use Rattle.calls.proofs.Answers.{code-out}
 use Rattle.calls_list.proofs.Places.{listing-left, listed-slots}
 use Rattle.steps.specs.Ends.{Ended, went, stopped}
 use Rattle.calls_create.specs.Held.{EndedHeld}
@@ -45,7 +44,7 @@ use Rattle.fsck.specs.declared.Verdict.TheVariants.{Pass}
 use Rattle.edge_words.specs.Words.{handle_words, metadata_words}
 use Rattle.edge_ends.specs.Ends.{told_words_by, listed_words_by, taken_words_by}
 use Rattle.edge_ends.proofs.Laws.{passed_over}
-use Rattle.edge.specs.Edge.{sized, sized_walk, new_of, Answers, left_of, made_of, held_of, Walks, listed_in, read_in, counted, counts_of, mended_of, course_number, course_table_by}
+use Rattle.edge.specs.Edge.{sized, sized_walk, new_of, Answers, left_of, made_of, held_of, Walks, listed_in, read_in, counted, counts_of, mended_of, course_table_by}
 
 -- ---- a slice of a fixed size
 
@@ -68,13 +67,6 @@ pub new_is : {n : New} {kind mode : ℕ} {t u : Timespec} {f g : List ℕ} → n
 new_is {kind = kind} {mode = mode} e p q = e ∙ (λ x. new_of kind mode (p x) (q x))
 
 -- ---- an answer, by its case
-
-module _ {k : Course} (l : List ℕ) (u : Table) where
-  pub course-made : {b : List ℕ} → k ≡ Made → b ≡ bytes_of_table u → (0 ≡ course_number k) × (b ≡ course_table_by l u k)
-  course-made e q = (rw e, q ∙ rw e)
-
-  pub course-same : {b : List ℕ} → k ≡ Same → b ≡ bytes_of_table (table_of l) → (0 ≡ course_number k) × (b ≡ course_table_by l u k)
-  course-same e q = (rw e, q ∙ rw e)
 
 pub counts-pass : (w : List ℕ) {v : List ℕ} {x : Verdict} {a b c : ℕ} → x ≡ Pass a b c → v ≡ a ∷ b ∷ c ∷ [] → Answers (counted x) counts_of w v 0
 counts-pass w e q = record { number = rw e; places = q ∙ rw e }
@@ -104,8 +96,8 @@ by-mend e (mends.went f) E = rw (e, f) (record { number = E; places = refl })
 by-mend e (mends.stopped l f k) E = rw (e, f) (record { number = E; places = k })
 
 -- move: x is the table that it was given
-pub by_move : {o p : Out After} {x u : Table} {a c t b : List ℕ} {n : ℕ} {k : Course} → p ≡ o → x ≡ table_of t → EndedMove o x a c u k
-    → (n ≡ course_number k) × (b ≡ course_table_by t u k) → Answers p left_of (a, t) (c, b) n
+pub by_move : {o p : Out After} {x u : Table} {a c t b : List ℕ} {n : ℕ} {k : Result Course Reason} → p ≡ o → x ≡ table_of t → EndedMove o x a c u k
+    → (n ≡ code k) × (b ≡ course_table_by t u k) → Answers p left_of (a, t) (c, b) n
 by_move {c = c} e q (course.moves f) E = rw (e, f) (record { number = E.0; places = λ i. (c, E.1 i) })
 by_move e q (course.rests f k) E = let z = E.1 ∙ ap bytes_of_table (sym q) in rw (e, f) (record { number = E.0; places = λ i. (k i, z i) })
 by_move e q (course.denied l f k) E = rw (e, f) (record { number = E.0; places = λ i. (k i, E.1 i) })
@@ -141,27 +133,48 @@ pub by-table : {o p : Out Table} {u : Table} {t b : List ℕ} {P : Type 0} {r n 
 by-table e (well f x) E = rw (e, f) (record { number = E.0; places = E.1 })
 by-table {u = u} {t = t} e (ill {r = r} l f) E = rw (e, f) (record { number = E.0; places = E.1 ∙ sym (passed_over (bytes_of_table u) t r (λ q. omega arith)) })
 
-pub by-told : {o p : Out Metadata} {w v : List ℕ} {n : ℕ} {r : Told} → p ≡ o → r ≡ told_of o → (n ≡ told_number r) × (v ≡ told_words_by w r) → Answers p metadata_words w v n
-by-told {o = done y} e G E = rw e (record { number = E.0 ∙ rw G; places = E.1 ∙ rw G })
-by-told {o = refused m} e G E = rw e (record { number = E.0 ∙ rw G; places = E.1 ∙ rw G })
+pub by-told : {o p : Out Metadata} {w v : List ℕ} {n : ℕ} (r : Result Metadata Reason) → p ≡ o → out_of r ≡ o → (n ≡ code r) × (v ≡ told_words_by w r) → Answers p metadata_words w v n
+by-told (Ok m) e G E = rw (e, ← G) (record { number = E.0; places = E.1 })
+by-told (Err d) e G E = rw (e, ← G) (record { number = E.0; places = E.1 })
 
 -- get entry
-pub by-laid : {o p : Out (List ℕ)} {x y : List ℕ} {n : ℕ} {r : Answer} → p ≡ o → Lays answer_of o x y r → n ≡ answer_number r → Answers p (paste x 0) x y n
-by-laid {o = done l} e G E = rw e (record { number = E ∙ rw G.0; places = G.1 })
-by-laid {o = refused m} e G E = rw e (record { number = E ∙ rw G.0; places = G.1 })
+pub by-laid : {o p : Out (List ℕ)} {x y : List ℕ} {n : ℕ} (r : Result Unit Reason) → p ≡ o → Lays answer_of o x y r → n ≡ code r → Answers p (paste x 0) x y n
+by-laid {o = done l} r e G E = rw e (record { number = E ∙ code-out r ∙ ap answer G.0; places = G.1 })
+by-laid {o = refused m} r e G E = rw e (record { number = E ∙ code-out r ∙ ap answer G.0; places = G.1 })
 
-pub by-listed : {o p : Out (List ℕ)} {x y w v : List ℕ} {n : ℕ} {l : Listed} (f from : ℕ) → f ≡ from → p ≡ o → Lays listed_of o x y l
-    → (n ≡ listed_number l) × (v ≡ listed_words_by w f l) → Answers p (listed_in from x) (w, x) (v, y) n
-by-listed {o = done z} {w = w} {v = v} f from q e G E =
-    let k : v ≡ listed_words_by w from (listed_of (done z)) = E.1 ∙ ap₂ (listed_words_by w) q G.0 in
-    rw e (record { number = E.0 ∙ rw G.0; places = λ i. (k i, G.1 i) })
-by-listed {o = refused m} {w = w} {v = v} f from q e G E =
-    let k : v ≡ listed_words_by w from (listed_of (refused m)) = E.1 ∙ ap₂ (listed_words_by w) q G.0 in
-    rw e (record { number = E.0 ∙ rw G.0; places = λ i. (k i, G.1 i) })
+-- the words by the outcome that the result tells
+abbrev listed_out : List ℕ → ℕ → Out ℕ → List ℕ
+listed_out w from (done n) = (from + n) ∷ []
+listed_out w from (refused n) = w
 
-pub by-taken : {o p : Out (List ℕ)} {x y w v : List ℕ} {n : ℕ} {r : Taken} → p ≡ o → Lays taken_of o x y r → (n ≡ taken_number r) × (v ≡ taken_words_by w r) → Answers p (read_in x) (x, w) (y, v) n
-by-taken {o = done l} {w = w} e G E = let k = E.1 ∙ ap (taken_words_by w) G.0 in rw e (record { number = E.0 ∙ rw G.0; places = λ i. (G.1 i, k i) })
-by-taken {o = refused m} {w = w} e G E = let k = E.1 ∙ ap (taken_words_by w) G.0 in rw e (record { number = E.0 ∙ rw G.0; places = λ i. (G.1 i, k i) })
+abbrev taken_out : List ℕ → Out ℕ → List ℕ
+taken_out w (done n) = n ∷ []
+taken_out w (refused n) = w
+
+listed-out : (w : List ℕ) (from : ℕ) (r : Result ℕ Reason) → listed_words_by w from r ≡ listed_out w from (out_of r)
+listed-out w from (Ok n) = refl
+listed-out w from (Err e) = refl
+
+taken-out : (w : List ℕ) (r : Result ℕ Reason) → taken_words_by w r ≡ taken_out w (out_of r)
+taken-out w (Ok n) = refl
+taken-out w (Err e) = refl
+
+pub by-listed : {o p : Out (List ℕ)} {x y w v : List ℕ} {n : ℕ} (l : Result ℕ Reason) (f from : ℕ) → f ≡ from → p ≡ o → Lays listed_of o x y l
+    → (n ≡ code l) × (v ≡ listed_words_by w f l) → Answers p (listed_in from x) (w, x) (v, y) n
+by-listed {o = done z} {w = w} {v = v} l f from q e G E =
+    let k : v ≡ listed_out w from (listed_of (done z)) = E.1 ∙ listed-out w f l ∙ ap₂ (listed_out w) q G.0 in
+    rw e (record { number = E.0 ∙ code-out l ∙ ap answer G.0; places = λ i. (k i, G.1 i) })
+by-listed {o = refused m} {w = w} {v = v} l f from q e G E =
+    let k : v ≡ listed_out w from (listed_of (refused m)) = E.1 ∙ listed-out w f l ∙ ap₂ (listed_out w) q G.0 in
+    rw e (record { number = E.0 ∙ code-out l ∙ ap answer G.0; places = λ i. (k i, G.1 i) })
+
+pub by-taken : {o p : Out (List ℕ)} {x y w v : List ℕ} {n : ℕ} (r : Result ℕ Reason) → p ≡ o → Lays taken_of o x y r → (n ≡ code r) × (v ≡ taken_words_by w r) → Answers p (read_in x) (x, w) (y, v) n
+by-taken {o = done l} {w = w} r e G E =
+    let k = E.1 ∙ taken-out w r ∙ ap (taken_out w) G.0 in
+    rw e (record { number = E.0 ∙ code-out r ∙ ap answer G.0; places = λ i. (G.1 i, k i) })
+by-taken {o = refused m} {w = w} r e G E =
+    let k = E.1 ∙ taken-out w r ∙ ap (taken_out w) G.0 in
+    rw e (record { number = E.0 ∙ code-out r ∙ ap answer G.0; places = λ i. (G.1 i, k i) })
 
 -- check
 pub by-counts : {o p : Out (List ℕ)} {w v : List ℕ} {n : ℕ} → p ≡ o → Answers o counts_of w v n → Answers p counts_of w v n
@@ -169,10 +182,10 @@ by-counts e C = rw e C
 
 -- ---- the listing's word
 
-pub listed-room : (a t m : List ℕ) (w : ℕ) (h : Handle) (from room : ℕ) (l : Listed) → Bytes t → length t ≡ 4402 → table_in m ≡ table_of t → from < 18446744073709551616
-    → l ≡ listed_of (call_listing a (table_in m) w h from room) → (n : ℕ) → l ≡ Slots n → from + n < 18446744073709551616
+pub listed-room : (a t m : List ℕ) (w : ℕ) (h : Handle) (from room : ℕ) (l : Result ℕ Reason) → Bytes t → length t ≡ 4402 → table_in m ≡ table_of t → from < 18446744073709551616
+    → out_of l ≡ listed_of (call_listing a (table_in m) w h from room) → (n : ℕ) → l ≡ Ok n → from + n < 18446744073709551616
 listed-room a t m w h from room l B L e F q n k =
-    let s = listed-slots n (call_listing a (table_in m) w h from room) l q k in
+    let s = listed-slots n (call_listing a (table_in m) w h from room) (ap out_of (sym k) ∙ q) in
     let f = listing-left a (table_in m) w h from room s.0 s.1 in
     let b : (row_at (table_in m) f.0).rec.blocks < 4294967296 = subst (λ (x : Table). (row_at x f.0).rec.blocks < 4294967296) (sym e) ((table_fits t B L).rows f.0 f.1).rec.blocks in
     omega (arith, s.2, f.2, b, F)

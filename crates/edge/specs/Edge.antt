@@ -1,8 +1,9 @@
 -- The calls at the C edge: what a call returns, and what it leaves in the slices that it was lent, by the outcome that its definition gives.
-use Rattle.std.specs.Prelude.{◌≡◌, not, List, [], ◌∷◌, ℕ, ◌+◌, ◌/◌, length, get_or, eqb}
+use Rattle.std.specs.Prelude.{◌≡◌, not, List, [], ◌∷◌, ℕ, ◌+◌, ◌/◌, length, get_or, eqb, Result, Ok, Err}
 use Rattle.base.specs.Out.{Out, done, refused, guard, answer}
 use Rattle.base.specs.Parts.{paste}
 use Rattle.base.specs.Search.{pick}
+use Rattle.base.specs.declared.reasons.Reason.{Reason}
 use Rattle.structs.specs.declared.Timespec.{Timespec}
 use Rattle.table.specs.declared.Table.{Table}
 use Rattle.table.specs.declared.Added.{Added}
@@ -10,7 +11,7 @@ use Rattle.table_bytes.specs.Layout.{table_of, bytes_of_table}
 use Rattle.sefs.specs.Create.{After, Given}
 use Rattle.calls_create.specs.declared.New.{New}
 use Rattle.calls_move.specs.declared.Course.{Course}
-use Rattle.calls_move.specs.declared.Course.TheVariants.{Made, Same, Refused}
+use Rattle.calls_move.specs.declared.Course.TheVariants.{Made, Same}
 use Rattle.verdicts.specs.Starts.{start_of}
 use Rattle.walk.specs.Walk.{Walked, walked, most_links}
 use Rattle.fsck.specs.declared.Verdict.{Verdict}
@@ -84,14 +85,9 @@ counts_of w = w
 abbrev pub mended_of : List ℕ → List ℕ
 mended_of a = a
 
--- ---- move, by what deciding it came to: the number, and the table's bytes, which were l. u is the table that memory has
+-- ---- move, by what it came to: the table's bytes, which were l. u is the table that memory has
 
-abbrev pub course_number : Course → ℕ
-course_number Made = 0
-course_number Same = 0
-course_number (Refused n) = n
-
-abbrev pub course_table_by : List ℕ → Table → Course → List ℕ
-course_table_by l u Made = bytes_of_table u
-course_table_by l u Same = bytes_of_table (table_of l)
-course_table_by l u (Refused n) = l
+abbrev pub course_table_by : List ℕ → Table → Result Course Reason → List ℕ
+course_table_by l u (Ok Made) = bytes_of_table u
+course_table_by l u (Ok Same) = bytes_of_table (table_of l)
+course_table_by l u (Err e) = l

@@ -1,29 +1,32 @@
 // The ends by an answer that one call alone gives: move's, and the check's.
 ghost use Rattle.std.specs.Prelude.{◌≡◌, length};
+ghost use Rattle.base.specs.Told.{code};
 ghost use Rattle.mem.specs.Mem.{table_in, memory_size};
-ghost use Rattle.edge.specs.Edge.{Answers, counted, counts_of, course_number, course_table_by};
+ghost use Rattle.edge.specs.Edge.{Answers, counted, counts_of, course_table_by};
 
+use base::Reason;
 use calls_move::Course;
+use edge_ends::ends::refusal;
 use edge_words::results::put_counts;
 use fsck::Verdict;
 use mem::write_back;
 use table_bytes::settle_marks;
 
 // The table as memory has it; where both names are one node's, the table is written as it was given.
-pub fn end_course(table: &mut [u8], mem: &[u8], c: Course) -> u32
+pub fn end_course(table: &mut [u8], mem: &[u8], r: Result<Course, Reason>) -> u32
     requires { (length table.old ≡ 4402) × (length mem.now ≡ memory_size) }
-    ensures { (result ≡ course_number c) × (table.new ≡ course_table_by table.old (table_in mem.now) c) }
+    ensures { (result ≡ code r) × (table.new ≡ course_table_by table.old (table_in mem.now) r) }
 {
-    match c {
-        Course::Made => {
+    match r {
+        Ok(Course::Made) => {
             write_back(table, mem);
             0
         }
-        Course::Same => {
+        Ok(Course::Same) => {
             settle_marks(table);
             0
         }
-        Course::Refused(r) => r as u32,
+        Err(reason) => refusal(reason),
     }
 }
 

@@ -34,7 +34,7 @@ use calls_open::open_on;
 use calls_remove::remove_on;
 use calls_sync::sync_on;
 use calls_walk::walk_on;
-use edge_ends::ends::{end_after, end_fresh, end_held, end_taken, end_told};
+use edge_ends::ends::{end_after, end_fresh, end_held, end_taken, end_told, number};
 use edge_words::args::{file_of, handle, time};
 use edge_words::{
     COUNTS_WORDS, FILE_NAME, HANDLE_WORDS, LENGTH_WORDS, METADATA_WORDS, TABLE, WRONG_SIZE,
@@ -130,7 +130,7 @@ pub extern "C" fn dz_mend(arena: &mut [u8], table: &[u8]) -> u32
     let mut mem = [0u8; MEMORY];
     begin(&mut mem, table);
     let r = mend_on(arena, &mut mem);
-    r as u32
+    number(r)
 }
 
 // ---- holds

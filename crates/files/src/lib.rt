@@ -1,5 +1,5 @@
 // Byte files on a view of the arena (dev/mod.rs: File, Storage). A file is `which` (0 the metadata file, 1 a node file) and a name of 16 bytes.
-// A step answers 0, or the number of the reason that refuses it.
+// A step that is refused answers its reason, as an `Err`.
 #![tactic(auto)]
 
 pub mod read;
@@ -19,12 +19,10 @@ pub fn find_free<'a>(arena: &'a [u8], work: &'a [u8]) -> usize
     ensures { result ≡ free_of (view arena.now work.now) }
 {
     let n = arena.len() / 512;
-    let mut k = 0;
-    while k < n {
+    for k in 0..n {
         if is_free(block(arena, work, k)) {
             return k;
         }
-        k = k + 1;
     }
     n
 }
@@ -35,12 +33,10 @@ pub fn find_head<'a>(arena: &'a [u8], work: &'a [u8], which: u8, name: &[u8]) ->
     ensures { result ≡ head_of (view arena.now work.now) (file which name.now) }
 {
     let n = arena.len() / 512;
-    let mut k: usize = 0;
-    while k < n {
+    for k in 0..n {
         if is_head(block(arena, work, k), which, name) {
             return k;
         }
-        k = k + 1;
     }
     n
 }
@@ -51,12 +47,10 @@ pub fn find_data<'a>(arena: &'a [u8], work: &'a [u8], which: u8, name: &[u8], nu
     ensures { result ≡ data_of (view arena.now work.now) (file which name.now) number }
 {
     let n = arena.len() / 512;
-    let mut k: usize = 0;
-    while k < n {
+    for k in 0..n {
         if is_data(block(arena, work, k), which, name, number) {
             return k;
         }
-        k = k + 1;
     }
     n
 }

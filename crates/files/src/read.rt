@@ -1,5 +1,6 @@
 // Reading: existence, length, and a run of bytes.
 ghost use Rattle.std.specs.Prelude.{◌≡◌, ◌+◌, ◌-◌, ◌<◌, ◌≤◌, ◌/◌, ◌%◌, length};
+ghost use Rattle.base.specs.Told.{code};
 ghost use Rattle.base.specs.Out.{answer, kept};
 ghost use Rattle.base.specs.Parts.{tab};
 ghost use Rattle.arena.specs.Fields.{file};
@@ -7,7 +8,7 @@ ghost use Rattle.overlay.specs.View.{view, Fine};
 ghost use Rattle.files.specs.Read.{there as is_there, length_of, byte_at, read_file};
 
 use crate::{find_data, find_head};
-use base::{clear, copy, index, least};
+use base::{Reason, clear, copy, index, least};
 use le::u32_at;
 use overlay::block;
 
@@ -55,6 +56,7 @@ fn read_run<'a>(arena: &'a [u8], work: &'a [u8], which: u8, name: &[u8], pos: us
 {
     let total = out.len();
     let mut got: usize = 0;
+    // A while: a turn takes as many bytes as the block has.
     while got < total {
         let p = pos + got;
         let m = least(480 - p % 480, total - got);
@@ -72,22 +74,22 @@ pub fn read<'a>(
     name: &[u8],
     pos: usize,
     out: &mut [u8],
-) -> u8
+) -> Result<(), Reason>
     requires { Fine arena.now work.now × (length name.now ≡ 16) }
-    ensures value { result ≡ answer (read_file (view arena.now work.now) (file which name.now) pos (length out.old)) }
+    ensures value { code result ≡ answer (read_file (view arena.now work.now) (file which name.now) pos (length out.old)) }
     ensures out_after { out.new ≡ kept out.old (read_file (view arena.now work.now) (file which name.now) pos (length out.old)) }
 {
     let k = find_head(arena, work, which, name);
     if k >= arena.len() / 512 {
-        return 19;
+        return Err(Reason::Stuck);
     }
     let len = index(u32_at(block(arena, work, k), 20));
     if len < pos {
-        return 19;
+        return Err(Reason::Stuck);
     }
     if len - pos < out.len() {
-        return 19;
+        return Err(Reason::Stuck);
     }
     read_run(arena, work, which, name, pos, out);
-    0
+    Ok(())
 }

@@ -1,5 +1,6 @@
 // The four stores: put, cut, make, drop. Each works on the view and answers as its definition does there; the arena itself is only read.
 ghost use Rattle.std.specs.Prelude.{◌≡◌, ◌+◌, ◌*◌, ◌-◌, ◌<◌, ◌≤◌, ◌/◌, ◌%◌, length, replicate, ltb};
+ghost use Rattle.base.specs.Told.{code};
 ghost use Rattle.base.specs.Out.{done, bind};
 ghost use Rattle.base.specs.Parts.{paste};
 ghost use Rattle.base.specs.Search.{pick};
@@ -13,7 +14,7 @@ ghost use Rattle.files.specs.Store.{claim as claim_block, write_blk, put_block, 
 
 use crate::{find_data, find_free, find_head};
 use arena::{is_data, is_head, make_block};
-use base::{clear, copy, index, least, most};
+use base::{Reason, clear, copy, index, least, most};
 use le::{put_u32, u32_at};
 use overlay::{block, free};
 
@@ -41,17 +42,17 @@ fn edit(arena: &[u8], work: &mut [u8], k: usize, off: usize, src: &[u8])
 }
 
 // A new block: the lowest free one becomes b; 17 where there is none.
-fn claim(arena: &[u8], work: &mut [u8], b: &[u8]) -> u8
+fn claim(arena: &[u8], work: &mut [u8], b: &[u8]) -> Result<(), Reason>
     requires fine { Fine arena.now work.old × (1 ≤ left work.old) }
     requires b_len { length b.now ≡ 512 }
-    ensures { Did (claim_block (view arena.now work.old) b.now) arena.now work.old work.new 1 result }
+    ensures { Did (claim_block (view arena.now work.old) b.now) arena.now work.old work.new 1 (code result) }
 {
     let k = find_free(arena, &work[..]);
     if k >= arena.len() / 512 {
-        return 17;
+        return Err(Reason::NoDeviceSpace);
     }
     overlay::store(work, k, b);
-    0
+    Ok(())
 }
 
 // A new data block with src in its payload from `off` on.
@@ -63,10 +64,10 @@ fn write_new(
     number: u32,
     off: usize,
     src: &[u8],
-) -> u8
+) -> Result<(), Reason>
     requires fine { Fine arena.now work.old × (1 ≤ left work.old) }
     requires name_len { (length name.now ≡ 16) × (off + length src.now ≤ 480) }
-    ensures { Did (claim_block (view arena.now work.old) (paste (fresh 2 (file which name.now) number) (24 + off) src.now)) arena.now work.old work.new 1 result }
+    ensures { Did (claim_block (view arena.now work.old) (paste (fresh 2 (file which name.now) number) (24 + off) src.now)) arena.now work.old work.new 1 (code result) }
 {
     let mut b = [0u8; 512];
     make_block(&mut b, 2, which, name, number);
@@ -83,17 +84,17 @@ fn write_blk(
     number: u32,
     off: usize,
     src: &[u8],
-) -> u8
+) -> Result<(), Reason>
     requires fine { Fine arena.now work.old × (1 ≤ left work.old) }
     requires name_len { (length name.now ≡ 16) × (off + length src.now ≤ 480) }
-    ensures { Did (write_blk (view arena.now work.old) (file which name.now) number off src.now) arena.now work.old work.new 1 result }
+    ensures { Did (write_blk (view arena.now work.old) (file which name.now) number off src.now) arena.now work.old work.new 1 (code result) }
 {
     let k = find_data(arena, &work[..], which, name, number);
     if k >= arena.len() / 512 {
         return write_new(arena, work, which, name, number, off, src);
     }
     edit(arena, work, k, 24 + off, src);
-    0
+    Ok(())
 }
 
 // The head at block k with another length.
@@ -130,10 +131,10 @@ fn put_block(
     pos: usize,
     src: &[u8],
     q: usize,
-) -> u8
+) -> Result<(), Reason>
     requires fine { Fine arena.now work.old × (1 ≤ left work.old) }
     requires name_len { (length name.now ≡ 16) × ((pos + length src.now ≤ 4294967295) × ((pos ≤ 480 * q + 480) × (480 * q ≤ pos + length src.now))) }
-    ensures { Did (put_block (view arena.now work.old) (file which name.now) pos src.now q) arena.now work.old work.new 1 result }
+    ensures { Did (put_block (view arena.now work.old) (file which name.now) pos src.now q) arena.now work.old work.new 1 (code result) }
 {
     let lo = most(pos, 480 * q);
     let hi = least(pos + src.len(), 480 * q + 480);
@@ -143,19 +144,23 @@ fn put_block(
 }
 
 // The blocks that src touches, in rising order: a run of at most 480 bytes touches one or two.
-fn put_blocks(arena: &[u8], work: &mut [u8], which: u8, name: &[u8], pos: usize, src: &[u8]) -> u8
+fn put_blocks(
+    arena: &[u8],
+    work: &mut [u8],
+    which: u8,
+    name: &[u8],
+    pos: usize,
+    src: &[u8],
+) -> Result<(), Reason>
     requires fine { Fine arena.now work.old × (touched pos (length src.now) ≤ left work.old) }
     requires name_len { (length name.now ≡ 16) × ((pos + length src.now ≤ 4294967295) × ((0 < length src.now) × (length src.now ≤ 480))) }
-    ensures { Did (bind (put_block (view arena.now work.old) (file which name.now) pos src.now (pos / 480)) (λ d. pick (ltb (pos / 480) ((pos + length src.now - 1) / 480)) (put_block d (file which name.now) pos src.now ((pos + length src.now - 1) / 480)) (done d))) arena.now work.old work.new (touched pos (length src.now)) result }
+    ensures { Did (bind (put_block (view arena.now work.old) (file which name.now) pos src.now (pos / 480)) (λ d. pick (ltb (pos / 480) ((pos + length src.now - 1) / 480)) (put_block d (file which name.now) pos src.now ((pos + length src.now - 1) / 480)) (done d))) arena.now work.old work.new (touched pos (length src.now)) (code result) }
 {
     let first = pos / 480;
     let last = (pos + src.len() - 1) / 480;
-    let r = put_block(arena, work, which, name, pos, src, first);
-    if r != 0 {
-        return r;
-    }
+    put_block(arena, work, which, name, pos, src, first)?;
     if first >= last {
-        return 0;
+        return Ok(());
     }
     put_block(arena, work, which, name, pos, src, last)
 }
@@ -169,31 +174,38 @@ fn put_at(
     name: &[u8],
     pos: usize,
     src: &[u8],
-) -> u8
+) -> Result<(), Reason>
     requires fine { Fine arena.now work.old × (1 + touched pos (length src.now) ≤ left work.old) }
     requires name_len { (length name.now ≡ 16) × ((pos + length src.now ≤ 4294967295) × (length src.now ≤ 480)) }
     requires k_value { (k ≡ head_of (view arena.now work.old) (file which name.now)) × (k < blocks arena.now) }
-    ensures { Did (put_to (view arena.now work.old) (file which name.now) pos src.now (touched pos (length src.now))) arena.now work.old work.new (1 + touched pos (length src.now)) result }
+    ensures { Did (put_to (view arena.now work.old) (file which name.now) pos src.now (touched pos (length src.now))) arena.now work.old work.new (1 + touched pos (length src.now)) (code result) }
 {
     raise(arena, work, k, (pos + src.len()) as u32);
     if src.len() == 0 {
-        return 0;
+        return Ok(());
     }
     put_blocks(arena, work, which, name, pos, src)
 }
 
 // src at pos of the file: 19 where it is missing, 17 where the end passes the longest length or no block is free.
-pub fn put(arena: &[u8], work: &mut [u8], which: u8, name: &[u8], pos: usize, src: &[u8]) -> u8
+pub fn put(
+    arena: &[u8],
+    work: &mut [u8],
+    which: u8,
+    name: &[u8],
+    pos: usize,
+    src: &[u8],
+) -> Result<(), Reason>
     requires fine { Fine arena.now work.old × (1 + touched pos (length src.now) ≤ left work.old) }
     requires name_len { (length name.now ≡ 16) × (length src.now ≤ 480) }
-    ensures { Did (put_file (view arena.now work.old) (file which name.now) pos src.now) arena.now work.old work.new (1 + touched pos (length src.now)) result }
+    ensures { Did (put_file (view arena.now work.old) (file which name.now) pos src.now) arena.now work.old work.new (1 + touched pos (length src.now)) (code result) }
 {
     let k = find_head(arena, &work[..], which, name);
     if k >= arena.len() / 512 {
-        return 19;
+        return Err(Reason::Stuck);
     }
     if pos > 4294967295 - src.len() {
-        return 17;
+        return Err(Reason::NoDeviceSpace);
     }
     put_at(arena, work, k, which, name, pos, src)
 }
@@ -201,10 +213,10 @@ pub fn put(arena: &[u8], work: &mut [u8], which: u8, name: &[u8], pos: usize, sr
 // ---- make
 
 // A head of length 0; 17 where no block is free.
-pub fn make(arena: &[u8], work: &mut [u8], which: u8, name: &[u8]) -> u8
+pub fn make(arena: &[u8], work: &mut [u8], which: u8, name: &[u8]) -> Result<(), Reason>
     requires fine { Fine arena.now work.old × (1 ≤ left work.old) }
     requires name_len { length name.now ≡ 16 }
-    ensures { Did (make_file (view arena.now work.old) (file which name.now)) arena.now work.old work.new 1 result }
+    ensures { Did (make_file (view arena.now work.old) (file which name.now)) arena.now work.old work.new 1 (code result) }
 {
     let mut b = [0u8; 512];
     make_block(&mut b, 1, which, name, 0);
@@ -260,12 +272,9 @@ fn free_blocks(arena: &[u8], work: &mut [u8], which: u8, name: &[u8], all: bool,
     requires { Fine arena.now work.old × (length name.now ≡ 16) }
     ensures { Changed arena.now work.old work.new (clear_all (pick all (is_of (file which name.now)) (is_past (file which name.now) len)) (view arena.now work.old)) 0 }
 {
-    let n = arena.len() / 512;
-    let mut k: usize = 0;
-    while k < n {
+    for k in 0..arena.len() / 512 {
         let yes = goes(block(arena, &work[..], k), which, name, all, len);
         free_if(work, k, yes);
-        k = k + 1;
     }
 }
 
@@ -297,33 +306,33 @@ fn zero_tail(arena: &[u8], work: &mut [u8], which: u8, name: &[u8], len: usize)
 }
 
 // The file's length becomes len.
-pub fn cut(arena: &[u8], work: &mut [u8], which: u8, name: &[u8], len: usize) -> u8
+pub fn cut(arena: &[u8], work: &mut [u8], which: u8, name: &[u8], len: usize) -> Result<(), Reason>
     requires fine { Fine arena.now work.old × (2 ≤ left work.old) }
     requires name_len { length name.now ≡ 16 }
-    ensures { Did (cut_file (view arena.now work.old) (file which name.now) len) arena.now work.old work.new 2 result }
+    ensures { Did (cut_file (view arena.now work.old) (file which name.now) len) arena.now work.old work.new 2 (code result) }
 {
     let k = find_head(arena, &work[..], which, name);
     if k >= arena.len() / 512 {
-        return 19;
+        return Err(Reason::Stuck);
     }
     if len > 4294967295 {
-        return 17;
+        return Err(Reason::NoDeviceSpace);
     }
     set_length(arena, work, k, len as u32);
     free_blocks(arena, work, which, name, false, len);
     zero_tail(arena, work, which, name, len);
-    0
+    Ok(())
 }
 
 // ---- drop
 
-pub fn drop(arena: &[u8], work: &mut [u8], which: u8, name: &[u8]) -> u8
+pub fn drop(arena: &[u8], work: &mut [u8], which: u8, name: &[u8]) -> Result<(), Reason>
     requires { Fine arena.now work.old × (length name.now ≡ 16) }
-    ensures { Did (drop_file (view arena.now work.old) (file which name.now)) arena.now work.old work.new 0 result }
+    ensures { Did (drop_file (view arena.now work.old) (file which name.now)) arena.now work.old work.new 0 (code result) }
 {
     if find_head(arena, &work[..], which, name) >= arena.len() / 512 {
-        return 19;
+        return Err(Reason::Stuck);
     }
     free_blocks(arena, work, which, name, true, 0);
-    0
+    Ok(())
 }

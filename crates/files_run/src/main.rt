@@ -4,199 +4,106 @@
 #![tactic(auto)]
 
 mod ops;
+mod record;
 
-ghost use Rattle.std.specs.Prelude.{◌≡◌, ◌+◌, ◌*◌, ◌<◌, ◌≤◌, length};
+ghost use Rattle.std.specs.Prelude.{◌≡◌, ◌*◌, ◌≤◌, length};
 ghost use Rattle.arena.specs.Blocks.{blocks};
 
-use base::{clear, index, least};
-use le::u32_at;
-use ops::{CUT, MAKE, PUT};
+use base::code;
+use record::{Operation, Record, Store};
 use std::io;
 use sums::sum;
 
-const ARENA: u8 = 1;
-
-const READ: u8 = 6;
-
-// ---- what a record stands for
-
-// A name whose halves other names have too.
-fn name_of(name: &mut [u8], from: u8)
-    requires { length name.old ≡ 16 }
-{
-    let mut i: usize = 0;
-    while i < 8 {
-        name[i] = from % 4;
-        name[i + 8] = from / 4;
-        i = i + 1;
-    }
-}
-
 // Bytes that go up by the same step each.
-fn fill(buf: &mut [u8], first: u8, by: u8) {
-    let n = buf.len();
-    let mut b: u8 = first;
-    let mut i: usize = 0;
-    while i < n {
-        buf[i] = b;
-        b = std::num::wrapping_add_u8(b, by);
-        i = i + 1;
+fn data_of(seed: u8) -> [u8; 480] {
+    let mut data = [0u8; 480];
+    let mut b = seed;
+    for x in data.iter_mut() {
+        *x = b;
+        b = b.wrapping_add(37);
     }
-}
-
-// ---- the lines
-
-fn show(rt: &impl Print, label: &str, n: u64) -> io::Result<()> {
-    print!(rt; "{label}{n}")
-}
-
-fn end_line(rt: &impl Print, arena: &[u8]) -> io::Result<()> {
-    show(rt, " a ", sum(arena))?;
-    rt.write_all(b"\n")
+    data
 }
 
 // ---- the operations
 
-// What a store answered, by its name.
-fn show_store(rt: &impl Print, what: u8, n: u64) -> io::Result<()> {
-    match what {
-        PUT => show(rt, "put ", n),
-        CUT => show(rt, "cut ", n),
-        MAKE => show(rt, "make ", n),
-        _ => show(rt, "drop ", n),
-    }
-}
-
-// What is put goes up from the seed; what is cut ends at the place after pos and size.
 fn store(
     rt: &impl Print,
-    what: u8,
+    store: Store,
+    record: &Record,
     arena: &mut [u8],
-    work: &mut [u8],
-    which: u8,
-    name: &[u8],
-    seed: u8,
-    pos: usize,
-    size: usize,
+    work: &mut [u8; 9216],
 ) -> io::Result<()>
-    requires arena_len { (length arena.old ≡ 512 * blocks arena.old) × (blocks arena.old ≤ 128) }
-    requires work_len { (length work.old ≡ 9216) × (length name.now ≡ 16) }
-    requires pos_bound { (pos ≤ 4294967295) × (size ≤ 4294967295) }
+    requires { (length arena.old ≡ 512 * blocks arena.old) × (blocks arena.old ≤ 128) }
 {
-    let n = least(size, 480);
-    let mut buf = [0u8; 480];
-    fill(&mut buf, seed, 37);
-    let r = ops::store(what, arena, work, which, name, pos, &buf[..n], pos + size);
-    show_store(rt, what, r as u64)
+    let n = (record.size as usize).min(480);
+    let r = ops::store(store, record, arena, work, &data_of(record.seed)[..n]);
+    print!(rt; "{store} {}", code(r))
 }
 
-fn read(
-    rt: &impl Print,
-    arena: &[u8],
-    work: &mut [u8],
-    which: u8,
-    name: &[u8],
-    pos: usize,
-    size: usize,
-) -> io::Result<()>
-    requires arena_len { (length arena.now ≡ 512 * blocks arena.now) × (blocks arena.now ≤ 128) }
-    requires work_len { (length work.old ≡ 9216) × (length name.now ≡ 16) }
+fn read(rt: &impl Print, record: &Record, arena: &[u8], work: &mut [u8; 9216]) -> io::Result<()>
+    requires { (length arena.now ≡ 512 * blocks arena.now) × (blocks arena.now ≤ 128) }
 {
-    let n = least(size, 1024);
-    let mut buf = [0u8; 1024];
-    fill(&mut buf, 238, 0);
+    let n = (record.size as usize).min(1024);
+    let mut buf = [238u8; 1024];
     ops::start(work);
-    let r = files::read::read(arena, &work[..], which, name, pos, &mut buf[..n]);
-    show(rt, "read ", r as u64)?;
-    show(rt, " o ", sum(&buf))
+    let pos = record.pos as usize;
+    let r = files::read::read(arena, work, record.which, &record.name, pos, &mut buf[..n]);
+    print!(rt; "read {} o {}", code(r), sum(&buf))
 }
 
-fn ask(rt: &impl Print, arena: &[u8], work: &mut [u8], which: u8, name: &[u8]) -> io::Result<()>
-    requires arena_len { (length arena.now ≡ 512 * blocks arena.now) × (blocks arena.now ≤ 128) }
-    requires work_len { (length work.old ≡ 9216) × (length name.now ≡ 16) }
+fn ask(rt: &impl Print, record: &Record, arena: &[u8], work: &mut [u8; 9216]) -> io::Result<()>
+    requires { (length arena.now ≡ 512 * blocks arena.now) × (blocks arena.now ≤ 128) }
 {
     ops::start(work);
-    let n = files::read::file_length(arena, &work[..], which, name);
-    if files::read::there(arena, &work[..], which, name) {
-        return show(rt, "ask there ", n as u64);
+    let n = files::read::file_length(arena, work, record.which, &record.name);
+    if files::read::there(arena, work, record.which, &record.name) {
+        print!(rt; "ask there {n}")
+    } else {
+        print!(rt; "ask missing {n}")
     }
-    show(rt, "ask missing ", n as u64)
-}
-
-fn act(
-    rt: &impl Print,
-    what: u8,
-    arena: &mut [u8],
-    work: &mut [u8],
-    which: u8,
-    name: &[u8],
-    seed: u8,
-    pos: usize,
-    size: usize,
-) -> io::Result<()>
-    requires arena_len { (length arena.old ≡ 512 * blocks arena.old) × (blocks arena.old ≤ 128) }
-    requires work_len { (length work.old ≡ 9216) × (length name.now ≡ 16) }
-    requires pos_bound { (pos ≤ 4294967295) × (size ≤ 4294967295) }
-{
-    if what < READ {
-        return store(rt, what, arena, work, which, name, seed, pos, size);
-    }
-    if what == READ {
-        return read(rt, &arena[..], work, which, name, pos, size);
-    }
-    ask(rt, &arena[..], work, which, name)
 }
 
 // ---- the script
 
 // How many blocks the arena has after a record.
-fn sized(rec: &[u8], was: usize) -> usize
-    requires { (length rec.now ≡ 12) × ((16 ≤ was) × (was ≤ 128)) }
+fn sized(record: &Record, was: usize) -> usize
+    requires { (16 ≤ was) × (was ≤ 128) }
     ensures { (16 ≤ result) × (result ≤ 128) }
 {
-    if rec[0] != ARENA {
-        return was;
+    match record.operation {
+        Operation::Arena => (record.size as usize).clamp(16, 128),
+        _ => was,
     }
-    let n = index(u32_at(rec, 8));
-    if n < 16 {
-        return 16;
-    }
-    if n > 128 {
-        return 128;
-    }
-    n
 }
 
-fn step(rt: &impl Print, rec: &[u8], arena: &mut [u8], work: &mut [u8]) -> io::Result<()>
-    requires arena_len { (length arena.old ≡ 512 * blocks arena.old) × (blocks arena.old ≤ 128) }
-    requires work_len { (length work.old ≡ 9216) × (length rec.now ≡ 12) }
+fn step(rt: &impl Print, record: &Record, arena: &mut [u8], work: &mut [u8; 9216]) -> io::Result<()>
+    requires { (length arena.old ≡ 512 * blocks arena.old) × (blocks arena.old ≤ 128) }
 {
-    let what = rec[0];
-    if what == ARENA {
-        clear(arena);
-        return Ok(());
+    match record.operation {
+        Operation::Arena => {
+            arena.fill(0);
+            return Ok(());
+        }
+        Operation::Store(s) => store(rt, s, record, arena, work)?,
+        Operation::Read => read(rt, record, arena, work)?,
+        Operation::Ask => ask(rt, record, arena, work)?,
     }
-    let mut name = [0u8; 16];
-    name_of(&mut name, rec[2]);
-    let pos = index(u32_at(rec, 4));
-    let size = index(u32_at(rec, 8));
-    act(rt, what, arena, work, rec[1], &name, rec[3], pos, size)?;
-    end_line(rt, &arena[..])
+    println!(rt; " a {}", sum(arena))
 }
 
-fn run(rt: &impl Print, script: &[u8], space: &mut [u8], work: &mut [u8]) -> io::Result<()>
-    requires { (length space.old ≡ 65536) × (length work.old ≡ 9216) }
-{
-    let n = script.len() / 12;
-    let mut blocks: usize = 16;
-    let mut i: usize = 0;
-    while i < n {
-        let s = 12 * i;
-        let rec = &script[s..s + 12];
-        blocks = sized(rec, blocks);
-        let e = 512 * blocks;
-        step(rt, rec, &mut space[..e], work)?;
-        i = i + 1;
+fn run(
+    rt: &impl Print,
+    script: &[u8],
+    space: &mut [u8; 65536],
+    work: &mut [u8; 9216],
+) -> io::Result<()> {
+    let mut blocks = 16;
+    let (records, _) = script.as_chunks::<12>();
+    for bytes in records {
+        let record = Record::from(bytes);
+        blocks = sized(&record, blocks);
+        step(rt, &record, &mut space[..512 * blocks], work)?;
     }
     Ok(())
 }

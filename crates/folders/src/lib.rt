@@ -4,6 +4,7 @@
 pub mod slots;
 
 ghost use Rattle.std.specs.Prelude.{◌≡◌, ℕ, ◌<◌, ◌≤◌, List, [], ◌∷◌, length, eqb};
+ghost use Rattle.base.specs.Told.{code};
 ghost use Rattle.base.specs.Out.{Went, done, bind};
 ghost use Rattle.base.specs.Search.{pick};
 ghost use Rattle.structs.specs.Constants.{type_dir};
@@ -16,7 +17,7 @@ ghost use Rattle.mem.specs.Mem.{table_in, Whole};
 ghost use Rattle.mem.specs.State.{fs_of, Ready, Stepped};
 ghost use Rattle.folders.specs.Steps.{shortened, unlink_dots};
 
-use base::{index, least};
+use base::{Reason, index, least};
 use files::store::{cut, put};
 use le::put_u32;
 use mem::{blocks_at, file_at, id_at, kind_at, nlinks_at, set_blocks, set_links};
@@ -35,9 +36,16 @@ pub fn put_entry(slot: &mut [u8], id: u32, name: &[u8], kind: u32)
 }
 
 // 264 bytes at slot k of folder i. (The place is held below a bound, so that it does not wrap: no file is so long, and past it every store is refused alike.)
-pub fn put_slot(arena: &[u8], work: &mut [u8], mem: &[u8], i: usize, k: usize, slot: &[u8]) -> u8
+pub fn put_slot(
+    arena: &[u8],
+    work: &mut [u8],
+    mem: &[u8],
+    i: usize,
+    k: usize,
+    slot: &[u8],
+) -> Result<(), Reason>
     requires { Ready arena.now work.old mem.now × ((3 ≤ left work.old) × ((i < 34) × (length slot.now ≡ 264))) }
-    ensures { Stepped (put_slot (fs_of arena.now work.old mem.now) i k slot.now) arena.now work.old work.new mem.now 3 result }
+    ensures { Stepped (put_slot (fs_of arena.now work.old mem.now) i k slot.now) arena.now work.old work.new mem.now 3 (code result) }
 {
     let file = file_at(mem, i);
     put(arena, work, 1, file, 264 * least(k, 16777216), slot)
@@ -45,49 +53,61 @@ pub fn put_slot(arena: &[u8], work: &mut [u8], mem: &[u8], i: usize, k: usize, s
 
 // ---- 000's dirent_init: two slots, `.` with the folder's own id and `..` with its parent's
 
-fn put_dot(arena: &[u8], work: &mut [u8], mem: &[u8], i: usize) -> u8
+fn put_dot(arena: &[u8], work: &mut [u8], mem: &[u8], i: usize) -> Result<(), Reason>
     requires { Ready arena.now work.old mem.now × ((3 ≤ left work.old) × (i < 34)) }
-    ensures { Stepped (put_slot (fs_of arena.now work.old mem.now) i 0 (entry_bytes (entry (id_at (fs_of arena.now work.old mem.now) i) (46 ∷ []) type_dir))) arena.now work.old work.new mem.now 3 result }
+    ensures { Stepped (put_slot (fs_of arena.now work.old mem.now) i 0 (entry_bytes (entry (id_at (fs_of arena.now work.old mem.now) i) (46 ∷ []) type_dir))) arena.now work.old work.new mem.now 3 (code result) }
 {
     let mut slot = [0u8; 264];
     put_entry(&mut slot, id_at(mem, i), b".", 2);
     put_slot(arena, work, mem, i, 0, &slot)
 }
 
-pub fn put_dots(arena: &[u8], work: &mut [u8], mem: &[u8], i: usize, parent: u32) -> u8
+pub fn put_dots(
+    arena: &[u8],
+    work: &mut [u8],
+    mem: &[u8],
+    i: usize,
+    parent: u32,
+) -> Result<(), Reason>
     requires { Ready arena.now work.old mem.now × ((3 ≤ left work.old) × (i < 34)) }
-    ensures { Stepped (put_slot (fs_of arena.now work.old mem.now) i 1 (entry_bytes (dots_entry parent))) arena.now work.old work.new mem.now 3 result }
+    ensures { Stepped (put_slot (fs_of arena.now work.old mem.now) i 1 (entry_bytes (dots_entry parent))) arena.now work.old work.new mem.now 3 (code result) }
 {
     let mut slot = [0u8; 264];
     put_entry(&mut slot, parent, b"..", 2);
     put_slot(arena, work, mem, i, 1, &slot)
 }
 
-pub fn dirent_init(arena: &[u8], work: &mut [u8], mem: &mut [u8], i: usize, parent: u32) -> u8
+pub fn dirent_init(
+    arena: &[u8],
+    work: &mut [u8],
+    mem: &mut [u8],
+    i: usize,
+    parent: u32,
+) -> Result<(), Reason>
     requires { Ready arena.now work.old mem.old × ((6 ≤ left work.old) × (i < 34)) }
-    ensures { Stepped (dirent_init (fs_of arena.now work.old mem.old) i parent) arena.now work.old work.new mem.new 6 result }
+    ensures { Stepped (dirent_init (fs_of arena.now work.old mem.old) i parent) arena.now work.old work.new mem.new 6 (code result) }
 {
     set_blocks(mem, i, 2);
-    let r = put_dot(arena, work, &mem[..], i);
-    if r != 0 {
-        return r;
-    }
+    put_dot(arena, work, &mem[..], i)?;
     put_dots(arena, work, &mem[..], i, parent)
 }
 
 // ---- 000's dirent_append: a slot at the end. (The count can't overflow: the store is too long first.)
 
-pub fn dirent_append(arena: &[u8], work: &mut [u8], mem: &mut [u8], i: usize, slot: &[u8]) -> u8
+pub fn dirent_append(
+    arena: &[u8],
+    work: &mut [u8],
+    mem: &mut [u8],
+    i: usize,
+    slot: &[u8],
+) -> Result<(), Reason>
     requires { Ready arena.now work.old mem.old × ((3 ≤ left work.old) × ((i < 34) × (length slot.now ≡ 264))) }
-    ensures { Stepped (dirent_append (fs_of arena.now work.old mem.old) i (entry_of slot.now)) arena.now work.old work.new mem.new 3 result }
+    ensures { Stepped (dirent_append (fs_of arena.now work.old mem.old) i (entry_of slot.now)) arena.now work.old work.new mem.new 3 (code result) }
 {
     let total = blocks_at(&mem[..], i);
-    let r = put_slot(arena, work, &mem[..], i, index(total), slot);
-    if r != 0 {
-        return r;
-    }
+    put_slot(arena, work, &mem[..], i, index(total), slot)?;
     set_blocks(mem, i, total + 1);
-    0
+    Ok(())
 }
 
 // ---- 000's dirent_remove: the last slot is copied over slot k, whole, and the file is shortened
@@ -100,28 +120,25 @@ fn fill_hole(
     k: usize,
     last: usize,
     slot: &[u8],
-) -> u8
+) -> Result<(), Reason>
     requires { Ready arena.now work.old mem.now × ((3 ≤ left work.old) × ((i < 34) × (length slot.now ≡ 264))) }
-    ensures { Stepped (pick (eqb k last) (done (fs_of arena.now work.old mem.now)) (put_slot (fs_of arena.now work.old mem.now) i k slot.now)) arena.now work.old work.new mem.now 3 result }
+    ensures { Stepped (pick (eqb k last) (done (fs_of arena.now work.old mem.now)) (put_slot (fs_of arena.now work.old mem.now) i k slot.now)) arena.now work.old work.new mem.now 3 (code result) }
 {
     if k == last {
-        return 0;
+        return Ok(());
     }
     put_slot(arena, work, mem, i, k, slot)
 }
 
 // The file loses its last slot.
-fn shorten(arena: &[u8], work: &mut [u8], mem: &mut [u8], i: usize) -> u8
+fn shorten(arena: &[u8], work: &mut [u8], mem: &mut [u8], i: usize) -> Result<(), Reason>
     requires { Ready arena.now work.old mem.old × ((2 ≤ left work.old) × ((i < 34) × (0 < (row_at (table_in mem.old) i).rec.blocks))) }
-    ensures { Stepped (shortened (fs_of arena.now work.old mem.old) i) arena.now work.old work.new mem.new 2 result }
+    ensures { Stepped (shortened (fs_of arena.now work.old mem.old) i) arena.now work.old work.new mem.new 2 (code result) }
 {
     let last = blocks_at(&mem[..], i) - 1;
-    let r = cut(arena, work, 1, file_at(&mem[..], i), 264 * index(last));
-    if r != 0 {
-        return r;
-    }
+    cut(arena, work, 1, file_at(&mem[..], i), 264 * index(last))?;
     set_blocks(mem, i, last);
-    0
+    Ok(())
 }
 
 // `slot` is the last one: the hole is filled with it, and the file shortened.
@@ -133,14 +150,11 @@ fn close_hole(
     k: usize,
     last: usize,
     slot: &[u8],
-) -> u8
+) -> Result<(), Reason>
     requires { Ready arena.now work.old mem.old × ((5 ≤ left work.old) × ((i < 34) × ((0 < (row_at (table_in mem.old) i).rec.blocks) × (length slot.now ≡ 264)))) }
-    ensures { Stepped (bind (pick (eqb k last) (done (fs_of arena.now work.old mem.old)) (put_slot (fs_of arena.now work.old mem.old) i k slot.now)) (λ s. shortened s i)) arena.now work.old work.new mem.new 5 result }
+    ensures { Stepped (bind (pick (eqb k last) (done (fs_of arena.now work.old mem.old)) (put_slot (fs_of arena.now work.old mem.old) i k slot.now)) (λ s. shortened s i)) arena.now work.old work.new mem.new 5 (code result) }
 {
-    let r = fill_hole(arena, work, &mem[..], i, k, last, slot);
-    if r != 0 {
-        return r;
-    }
+    fill_hole(arena, work, &mem[..], i, k, last, slot)?;
     shorten(arena, work, mem, i)
 }
 
@@ -152,78 +166,69 @@ pub fn dirent_remove(
     slot: &mut [u8],
     i: usize,
     k: usize,
-) -> u8
+) -> Result<(), Reason>
     requires { Ready arena.now work.old mem.old × ((5 ≤ left work.old) × ((i < 34) × (length slot.old ≡ 264))) }
-    ensures { Stepped (dirent_remove (fs_of arena.now work.old mem.old) i k) arena.now work.old work.new mem.new 5 result }
+    ensures { Stepped (dirent_remove (fs_of arena.now work.old mem.old) i k) arena.now work.old work.new mem.new 5 (code result) }
 {
     let total = blocks_at(&mem[..], i);
     if total == 0 {
-        return 19;
+        return Err(Reason::Stuck);
     }
     let last = index(total - 1);
-    let r = slot_bytes(arena, &work[..], &mem[..], i, last, slot);
-    if r != 0 {
-        return r;
-    }
+    slot_bytes(arena, &work[..], &mem[..], i, last, slot)?;
     close_hole(arena, work, mem, i, k, last, &slot[..])
 }
 
 // ---- link counts
 
-pub fn nlinks_inc(mem: &mut [u8], i: usize) -> u8
+pub fn nlinks_inc(mem: &mut [u8], i: usize) -> Result<(), Reason>
     requires { Whole mem.old × (i < 34) }
-    ensures { (a w : List ℕ) → Went (nlinks_inc (fs_of a w mem.old) i) (fs_of a w mem.new) (Whole mem.new) result }
+    ensures { (a w : List ℕ) → Went (nlinks_inc (fs_of a w mem.old) i) (fs_of a w mem.new) (Whole mem.new) (code result) }
 {
     let n = nlinks_at(&mem[..], i);
     if n == 65535 {
-        return 15;
+        return Err(Reason::TooManyLinks);
     }
     set_links(mem, i, n + 1);
-    0
+    Ok(())
 }
 
-pub fn nlinks_dec(mem: &mut [u8], i: usize) -> u8
+pub fn nlinks_dec(mem: &mut [u8], i: usize) -> Result<(), Reason>
     requires { Whole mem.old × (i < 34) }
-    ensures { (a w : List ℕ) → Went (nlinks_dec (fs_of a w mem.old) i) (fs_of a w mem.new) (Whole mem.new) result }
+    ensures { (a w : List ℕ) → Went (nlinks_dec (fs_of a w mem.old) i) (fs_of a w mem.new) (Whole mem.new) (code result) }
 {
     let n = nlinks_at(&mem[..], i);
     if n == 0 {
-        return 19;
+        return Err(Reason::Stuck);
     }
     set_links(mem, i, n - 1);
-    0
+    Ok(())
 }
 
 // A removed folder is named once less, by its own `.` too, and its parent by its `..`.
-fn unlink_folder(mem: &mut [u8], i: usize, c: usize) -> u8
+fn unlink_folder(mem: &mut [u8], i: usize, c: usize) -> Result<(), Reason>
     requires { Whole mem.old × ((i < 34) × (c < 34)) }
-    ensures { (a w : List ℕ) → Went (unlink_folder (fs_of a w mem.old) i c) (fs_of a w mem.new) (Whole mem.new) result }
+    ensures { (a w : List ℕ) → Went (unlink_folder (fs_of a w mem.old) i c) (fs_of a w mem.new) (Whole mem.new) (code result) }
 {
-    let r = nlinks_dec(mem, c);
-    if r != 0 {
-        return r;
-    }
+    nlinks_dec(mem, c)?;
     nlinks_dec(mem, i)
 }
 
-fn unlink_dots(mem: &mut [u8], i: usize, c: usize) -> u8
+fn unlink_dots(mem: &mut [u8], i: usize, c: usize) -> Result<(), Reason>
     requires { Whole mem.old × ((i < 34) × (c < 34)) }
-    ensures { (a w : List ℕ) → Went (unlink_dots (fs_of a w mem.old) i c) (fs_of a w mem.new) (Whole mem.new) result }
+    ensures { (a w : List ℕ) → Went (unlink_dots (fs_of a w mem.old) i c) (fs_of a w mem.new) (Whole mem.new) (code result) }
 {
     if kind_at(&mem[..], c) == 2 {
         return unlink_folder(mem, i, c);
     }
-    0
+    Ok(())
 }
 
-fn unname(mem: &mut [u8], i: usize, c: usize) -> u8
+fn unname(mem: &mut [u8], i: usize, c: usize) -> Result<(), Reason>
     requires { Whole mem.old × ((i < 34) × (c < 34)) }
-    ensures { (a w : List ℕ) → Went (bind (nlinks_dec (fs_of a w mem.old) c) (λ s. unlink_dots s i c)) (fs_of a w mem.new) (Whole mem.new) result }
+    ensures { (a w : List ℕ) → Went (bind (nlinks_dec (fs_of a w mem.old) c) (λ s. unlink_dots s i c)) (fs_of a w mem.new) (Whole mem.new) (code result) }
 {
-    let r = nlinks_dec(mem, c);
-    if r != 0 {
-        return r;
-    }
+    nlinks_dec(mem, c)?;
     unlink_dots(mem, i, c)
 }
 
@@ -236,17 +241,11 @@ pub fn dirent_node_remove(
     i: usize,
     c: usize,
     k: usize,
-) -> u8
+) -> Result<(), Reason>
     requires { Ready arena.now work.old mem.old × ((18 ≤ left work.old) × ((i < 34) × ((c < 34) × (length slot.old ≡ 264)))) }
-    ensures { Stepped (dirent_node_remove (fs_of arena.now work.old mem.old) i c k) arena.now work.old work.new mem.new 18 result }
+    ensures { Stepped (dirent_node_remove (fs_of arena.now work.old mem.old) i c k) arena.now work.old work.new mem.new 18 (code result) }
 {
-    let r = dirent_remove(arena, work, mem, slot, i, k);
-    if r != 0 {
-        return r;
-    }
-    let r = unname(mem, i, c);
-    if r != 0 {
-        return r;
-    }
+    dirent_remove(arena, work, mem, slot, i, k)?;
+    unname(mem, i, c)?;
     release(arena, work, mem, c)
 }

@@ -1,6 +1,8 @@
 // A folder's slots, read after a store (000's read_direntry and the lookups). The folder is a row of the open nodes, and its record is looked at where
 // it stands in memory; a slot's 264 bytes go to a buffer that the caller lends.
 ghost use Rattle.std.specs.Prelude.{◌≡◌, ◌<◌, ◌≤◌, length};
+ghost use Rattle.std.specs.Result.{result_unwrap_or};
+ghost use Rattle.base.specs.Told.{code};
 ghost use Rattle.base.specs.Out.{Went, done};
 ghost use Rattle.structs.specs.Layout.{entry_of};
 ghost use Rattle.overlay.specs.View.{view};
@@ -9,8 +11,8 @@ ghost use Rattle.sefs.specs.Slots.{slot_bytes, slot_at, look_to, find_slot};
 ghost use Rattle.mem.specs.Mem.{table_in};
 ghost use Rattle.mem.specs.State.{Ready};
 
-use base::index;
-use chains::slots::{Looked, is_ended};
+use base::{Reason, index};
+use chains::slots::is_ended;
 use files::read::read;
 use le::u32_at;
 use mem::{blocks_at, file_at};
@@ -24,18 +26,15 @@ pub fn slot_bytes<'a>(
     i: usize,
     k: usize,
     slot: &mut [u8],
-) -> u8
+) -> Result<(), Reason>
     requires { Ready arena.now work.now mem.now × ((i < 34) × ((k ≤ 4294967295) × (length slot.old ≡ 264))) }
-    ensures { Went (slot_bytes (view arena.now work.now) (row_at (table_in mem.now) i).rec k) slot.new (length slot.new ≡ 264) result }
+    ensures { Went (slot_bytes (view arena.now work.now) (row_at (table_in mem.now) i).rec k) slot.new (length slot.new ≡ 264) (code result) }
 {
-    let r = read(arena, work, 1, file_at(mem, i), 264 * k, slot);
-    if r != 0 {
-        return r;
-    }
+    read(arena, work, 1, file_at(mem, i), 264 * k, slot)?;
     if u32_at(&slot[..], 260) > 4 {
-        return 19;
+        return Err(Reason::Stuck);
     }
-    0
+    Ok(())
 }
 
 // Slot k, where its name is looked at: one with no zero or not UTF-8 sticks.
@@ -46,18 +45,15 @@ pub fn slot_at<'a>(
     i: usize,
     k: usize,
     slot: &mut [u8],
-) -> u8
+) -> Result<(), Reason>
     requires { Ready arena.now work.now mem.now × ((i < 34) × ((k ≤ 4294967295) × (length slot.old ≡ 264))) }
-    ensures { Went (slot_at (view arena.now work.now) (row_at (table_in mem.now) i).rec k) (entry_of slot.new) (length slot.new ≡ 264) result }
+    ensures { Went (slot_at (view arena.now work.now) (row_at (table_in mem.now) i).rec k) (entry_of slot.new) (length slot.new ≡ 264) (code result) }
 {
-    let r = slot_bytes(arena, work, mem, i, k, slot);
-    if r != 0 {
-        return r;
-    }
+    slot_bytes(arena, work, mem, i, k, slot)?;
     if is_ended(&slot[4..260]) {
-        return 0;
+        return Ok(());
     }
-    19
+    Err(Reason::Stuck)
 }
 
 // The first slot with that name, or the count of slots where there is none; the empty name means `.`. Slots after it are not read.
@@ -68,32 +64,18 @@ pub fn lookup<'a>(
     i: usize,
     name: &[u8],
     slot: &mut [u8],
-) -> Looked
+) -> Result<usize, Reason>
     requires { Ready arena.now work.now mem.now × ((i < 34) × (length slot.old ≡ 264)) }
-    ensures { Went (look_to (view arena.now work.now) (row_at (table_in mem.now) i).rec name.now (row_at (table_in mem.now) i).rec.blocks) result.place ((result.place < (row_at (table_in mem.now) i).rec.blocks → slot_at (view arena.now work.now) (row_at (table_in mem.now) i).rec result.place ≡ done (entry_of slot.new)) × (result.place ≤ (row_at (table_in mem.now) i).rec.blocks)) result.reason }
+    ensures { Went (look_to (view arena.now work.now) (row_at (table_in mem.now) i).rec name.now (row_at (table_in mem.now) i).rec.blocks) (result_unwrap_or result 0) ((result_unwrap_or result 0 < (row_at (table_in mem.now) i).rec.blocks → slot_at (view arena.now work.now) (row_at (table_in mem.now) i).rec (result_unwrap_or result 0) ≡ done (entry_of slot.new)) × (result_unwrap_or result 0 ≤ (row_at (table_in mem.now) i).rec.blocks)) (code result) }
 {
     let n = index(blocks_at(mem, i));
-    let mut k: usize = 0;
-    while k < n {
-        let r = slot_at(arena, work, mem, i, k, slot);
-        if r != 0 {
-            return Looked {
-                reason: r,
-                place: 0,
-            };
-        }
+    for k in 0..n {
+        slot_at(arena, work, mem, i, k, slot)?;
         if is_named(&slot[4..260], name) {
-            return Looked {
-                reason: 0,
-                place: k,
-            };
+            return Ok(k);
         }
-        k = k + 1;
     }
-    Looked {
-        reason: 0,
-        place: n,
-    }
+    Ok(n)
 }
 
 // The first slot with that name; 11 where there is none.
@@ -104,19 +86,13 @@ pub fn find_slot<'a>(
     i: usize,
     name: &[u8],
     slot: &mut [u8],
-) -> Looked
+) -> Result<usize, Reason>
     requires { Ready arena.now work.now mem.now × ((i < 34) × (length slot.old ≡ 264)) }
-    ensures { Went (find_slot (view arena.now work.now) (row_at (table_in mem.now) i).rec name.now) (record { place = result.place; entry = entry_of slot.new }) (result.place < (row_at (table_in mem.now) i).rec.blocks) result.reason }
+    ensures { Went (find_slot (view arena.now work.now) (row_at (table_in mem.now) i).rec name.now) (record { place = (result_unwrap_or result 0); entry = entry_of slot.new }) (result_unwrap_or result 0 < (row_at (table_in mem.now) i).rec.blocks) (code result) }
 {
-    let l = lookup(arena, work, mem, i, name, slot);
-    if l.reason != 0 {
-        return l;
+    let place = lookup(arena, work, mem, i, name, slot)?;
+    if place < index(blocks_at(mem, i)) {
+        return Ok(place);
     }
-    if l.place < index(blocks_at(mem, i)) {
-        return l;
-    }
-    Looked {
-        reason: 11,
-        place: 0,
-    }
+    Err(Reason::EntryNotFound)
 }

@@ -10,9 +10,7 @@ use native.Mathlib.Numerals.{add-one}
 use lib.Dec.{eqb}
 use lib.ListN.{get_or}
 use borrow.Author.Tests.{eq-eqb, ne_eqb, lt-ltb, le-ltb}
-use Rattle.base.specs.Count.{all_to}
 use Rattle.base.proofs.Bools.{and-false}
-use Rattle.base.proofs.Counts.{all_to-false}
 use Rattle.base.proofs.Finds.{search-yes, search_no}
 use Rattle.base.proofs.Lists.{Stored, stored-all}
 use Rattle.le.specs.Le.{le_at}
@@ -20,7 +18,7 @@ use Rattle.structs.specs.Layout.{entry_of}
 use Rattle.structs.specs.declared.DiskINode.{DiskINode}
 use Rattle.table.specs.declared.Table.{Table}
 use Rattle.sefs.specs.Nodes.{node_file}
-use Rattle.rules.specs.Image.{run, is_node, rec_of, is_folder_at, slot_in, later_slots, named}
+use Rattle.rules.specs.Image.{run, is_node, rec_of, is_folder_at, slot_in, named}
 use Rattle.fsck_climb.specs.Way.{up_by, up, ups, has_place, child_fine, children_fine, climb_by, reaches_in, tree_fine}
 
 -- ---- a slot that was read
@@ -107,22 +105,6 @@ module _ (a p : List ℕ) (r : DiskINode) (id : ℕ) where
   unfolding child_fine
   child-folder k c v e f q =
       ap (λ (x : ℕ). eqb x id) (q ∙ ap (λ (x : ℕ). get_or p (x % 4096) 0) f) ∙ sym (rw (eq-eqb (slot_in a r k).kind 2 e) refl)
-
-  pub children-not : (n j : ℕ) → n ≡ r.blocks → 2 + j < n → child_fine a p r id (2 + j) ≡ false → false ≡ children_fine a p r id
-  unfolding children_fine
-  children-not n j e l f = sym (all_to-false (λ i. child_fine a p r id (2 + i)) (later_slots r) j (omega arith) f)
-
-  pub children-all : (n j : ℕ) → n ≡ r.blocks → n ≤ 2 + j → j ≤ later_slots r → all_to (λ i. child_fine a p r id (2 + i)) j ≡ true → true ≡ children_fine a p r id
-  unfolding children_fine
-  children-all n j e l m h = sym h ∙ ap (all_to (λ i. child_fine a p r id (2 + i))) (let q : j ≡ later_slots r = omega arith in q)
-
-  -- ---- a folder
-
-  pub folder-bad : children_fine a p r id ≡ false → false ≡ (children_fine a p r id && reaches_in p id 4097)
-  folder-bad f = sym (rw f refl)
-
-  pub folder-rest : (b : Bool) → children_fine a p r id ≡ true → b ≡ reaches_in p id 4097 → b ≡ (children_fine a p r id && reaches_in p id 4097)
-  folder-rest b f e = e ∙ sym (rw f refl)
 
 -- ---- climbing
 

@@ -54,10 +54,8 @@ fn find_parents(arena: &[u8], first: &[u16], next: &[u16], mem: &[u8], parents: 
     requires loaded { (Loaded mem.now × Of arena.now mem.now) × (length parents.old ≡ 4096) }
     ensures { parents.new ≡ ups arena.now (table_in mem.now) }
 {
-    let mut id: usize = 0;
-    while id < 4096 {
-        parents[id] = parent_at(arena, first, next, mem, id);
-        id = id + 1;
+    for (id, parent) in parents.iter_mut().enumerate() {
+        *parent = parent_at(arena, first, next, mem, id);
     }
 }
 
@@ -96,15 +94,7 @@ fn children_ok(
     requires parents_len { length parents.now ≡ 4096 }
     ensures { result ≡ children_fine arena.now parents.now rec id }
 {
-    let n = index(rec.blocks);
-    let mut j: usize = 0;
-    while 2 + j < n {
-        if !child_ok(arena, first, next, rec, id, 2 + j, parents) {
-            return false;
-        }
-        j = j + 1;
-    }
-    true
+    (2..index(rec.blocks)).all(|k| child_ok(arena, first, next, rec, id, k, parents))
 }
 
 // Climbing from `id`: a way up is no longer than the ids are many.
@@ -113,13 +103,11 @@ fn reaches_root(parents: &[u16], id: usize) -> bool
     ensures { result ≡ reaches_in parents.now id 4097 }
 {
     let mut at = id;
-    let mut i: usize = 0;
-    while i < 4097 {
+    for _ in 0..4097usize {
         if at == 2 {
             return true;
         }
         at = index16(parents[at]);
-        i = i + 1;
     }
     false
 }
@@ -136,10 +124,7 @@ fn folder_ok(
     requires ids { Ids parents.now × (id < 4096) }
     ensures { result ≡ (children_fine arena.now parents.now rec id && reaches_in parents.now id 4097) }
 {
-    if !children_ok(arena, first, next, rec, id, parents) {
-        return false;
-    }
-    reaches_root(parents, id)
+    children_ok(arena, first, next, rec, id, parents) && reaches_root(parents, id)
 }
 
 // A folder that no slot names has no place, but for the root.
@@ -160,7 +145,7 @@ fn node_ok(
     if !is_node(mem, id) {
         return true;
     }
-    if (id != 2) & (named == 0) {
+    if id != 2 && named == 0 {
         return true;
     }
     let rec = rec_of(arena, first, next, mem, id);
@@ -183,15 +168,7 @@ fn nodes_ok(
     requires counted { Counted arena.now (table_in mem.now) counts.now }
     ensures { result ≡ all_to (tree_fine arena.now (table_in mem.now) parents.now) (ids_in arena.now) }
 {
-    let n = ids(mem);
-    let mut id: usize = 0;
-    while id < n {
-        if !node_ok(arena, first, next, mem, id, counts[id], parents) {
-            return false;
-        }
-        id = id + 1;
-    }
-    true
+    (0..ids(mem)).all(|id| node_ok(arena, first, next, mem, id, counts[id], parents))
 }
 
 fn tree_by(
@@ -208,10 +185,7 @@ fn tree_by(
     requires parents_value { parents.now ≡ ups arena.now (table_in mem.now) }
     ensures { result ≡ all_rooted arena.now (table_in mem.now) }
 {
-    if parents[2] != 2 {
-        return false;
-    }
-    nodes_ok(arena, first, next, mem, counts, parents)
+    parents[2] == 2 && nodes_ok(arena, first, next, mem, counts, parents)
 }
 
 // `work` has the counts in its first half; what slot 1 of each folder names goes to the second.

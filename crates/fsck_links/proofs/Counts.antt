@@ -12,7 +12,7 @@ use borrow.Author.Tests.{eq-eqb, ne_eqb}
 use Rattle.base.specs.Count.{bit, sum_to, count_to}
 use Rattle.base.proofs.Bools.{and_both, true-T}
 use Rattle.base.proofs.Counts.{sum_to-more, count_to-more, count_to-none}
-use Rattle.base.proofs.Lists.{length-tab, Stored}
+use Rattle.base.proofs.Lists.{length-tab}
 use Rattle.le.specs.Le.{le_at}
 use Rattle.structs.specs.Layout.{entry_of}
 use Rattle.structs.specs.Types.{is_folder}
@@ -34,9 +34,6 @@ use Rattle.fsck_links.specs.Counts.{up_to, Holds, Counted, Below, names_to, name
 
 pub holds_same : (c : List ℕ) (f g : ℕ → ℕ) → Holds c f → ((i : ℕ) → f i ≡ g i) → Holds c g
 holds_same c f g H e = record { size = H.size; each = λ i l. H.each i l ∙ ap (λ (x : ℕ). up_to x) (e i) }
-
-pub holds-none : (c : List ℕ) (i : ℕ) → 4096 ≤ i → Stored 4096 (λ j. 0) c i → Holds c (λ j. 0)
-holds-none c i l S = record { size = S.size; each = λ j b. S.have j (omega arith) }
 
 -- one more at id
 holds-one : (c : List ℕ) (f g : ℕ → ℕ) (id v : ℕ) → Holds c f → id < 4096 → v ≡ up_to (f id + 1) → ((i : ℕ) → g i ≡ f i + bit (eqb id i)) → Holds (set c id v) g

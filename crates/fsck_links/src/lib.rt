@@ -11,7 +11,7 @@ ghost use Rattle.chains.specs.Led.{Led};
 ghost use Rattle.fsck_read.specs.Loaded.{Loaded, Of};
 ghost use Rattle.fsck_links.specs.Counts.{up_to, Holds, Counted, Below, names_at, links_at, names_fine, folders_named};
 
-use base::index;
+use base::{index, index16};
 use chains::slots::read_slot;
 use fsck_read::{ids, is_node, is_open, one, rec_of};
 use le::u32_at;
@@ -23,10 +23,7 @@ use structs::DiskINode;
 fn more(n: u16) -> u16
     ensures { (x : ℕ) → n ≡ up_to x → result ≡ up_to (x + 1) }
 {
-    if n < 65535 {
-        return n + 1;
-    }
-    n
+    n.saturating_add(1)
 }
 
 // The later slots of one folder, by the id that they name.
@@ -36,13 +33,10 @@ fn count_folder(arena: &[u8], first: &[u16], next: &[u16], rec: DiskINode, count
     ensures { (n : ℕ → ℕ) → Holds counts.old n → Holds counts.new (λ i. n i + names_in arena.now rec i) }
 {
     let mut slot = [0u8; 264];
-    let n = index(rec.blocks);
-    let mut k: usize = 2;
-    while k < n {
+    for k in 2..index(rec.blocks) {
         read_slot(arena, first, next, rec, k, &mut slot);
         let id = index(u32_at(&slot, 0)) % 4096;
         counts[id] = more(counts[id]);
-        k = k + 1;
     }
 }
 
@@ -67,11 +61,8 @@ fn count_all(arena: &[u8], first: &[u16], next: &[u16], mem: &[u8], counts: &mut
     requires mem_value { folders_allowed arena.now (table_in mem.now) ≡ true }
     ensures { Holds counts.new (image.named arena.now (table_in mem.now)) }
 {
-    let n = ids(mem);
-    let mut id: usize = 0;
-    while id < n {
+    for id in 0..ids(mem) {
         count_node(arena, first, next, mem, id, counts);
-        id = id + 1;
     }
 }
 
@@ -79,11 +70,7 @@ fn no_counts(counts: &mut [u16])
     requires { length counts.old ≡ 4096 }
     ensures { Holds counts.new (λ i. 0) }
 {
-    let mut i: usize = 0;
-    while i < 4096 {
-        counts[i] = 0;
-        i = i + 1;
-    }
+    counts.fill(0);
 }
 
 // The counts are lent, whatever they are.
@@ -105,13 +92,10 @@ pub fn subfolders(arena: &[u8], first: &[u16], next: &[u16], rec: DiskINode) -> 
     ensures { result ≡ image.subfolders arena.now rec }
 {
     let mut slot = [0u8; 264];
-    let n = index(rec.blocks);
     let mut c: u32 = 0;
-    let mut k: usize = 2;
-    while k < n {
+    for k in 2..index(rec.blocks) {
         read_slot(arena, first, next, rec, k, &mut slot);
-        c = c + one(u32_at(&slot, 260) == 2);
-        k = k + 1;
+        c += one(u32_at(&slot, 260) == 2);
     }
     c
 }
@@ -120,7 +104,7 @@ pub fn subfolders(arena: &[u8], first: &[u16], next: &[u16], rec: DiskINode) -> 
 fn is_loose(rec: DiskINode, id: usize, named: u16) -> bool
     ensures { (a : List ℕ) (t : Table) → named ≡ image.named a t id → result ≡ loose a t id rec }
 {
-    ((id != 2) & (named == 0)) & (rec.blocks == 2)
+    id != 2 && named == 0 && rec.blocks == 2
 }
 
 // How often a folder is to be named: root never, any other once.
@@ -147,25 +131,16 @@ fn folder_ok(
     ensures { result ≡ (linked arena.now (table_in mem.now) id rec || removed arena.now (table_in mem.now) id rec) }
 {
     if rec.nlinks == 0 {
-        return is_open(mem, id) & is_loose(rec, id, named);
+        return is_open(mem, id) && is_loose(rec, id, named);
     }
-    if !is_due(id, named) {
-        return false;
-    }
-    base::index16(rec.nlinks) == 2 + index(subfolders(arena, first, next, rec))
+    is_due(id, named) && index16(rec.nlinks) == 2 + index(subfolders(arena, first, next, rec))
 }
 
 fn other_ok(mem: &[u8], rec: DiskINode, id: usize, named: u16) -> bool
     requires { Loaded mem.now × (id < 4096) }
     ensures { result ≡ (eqb rec.nlinks named && (not (eqb rec.nlinks 0) || is_open (table_in mem.now) id)) }
 {
-    if rec.nlinks != named {
-        return false;
-    }
-    if named == 0 {
-        return is_open(mem, id);
-    }
-    true
+    rec.nlinks == named && (named != 0 || is_open(mem, id))
 }
 
 fn node_ok(arena: &[u8], first: &[u16], next: &[u16], mem: &[u8], id: usize, named: u16) -> bool
@@ -190,15 +165,7 @@ pub fn rule7(arena: &[u8], first: &[u16], next: &[u16], mem: &[u8], counts: &[u1
     requires counted { Counted arena.now (table_in mem.now) counts.now }
     ensures { result ≡ test7 arena.now (table_in mem.now) }
 {
-    let n = ids(mem);
-    let mut id: usize = 0;
-    while id < n {
-        if !node_ok(arena, first, next, mem, id, counts[id]) {
-            return false;
-        }
-        id = id + 1;
-    }
-    true
+    (0..ids(mem)).all(|id| node_ok(arena, first, next, mem, id, counts[id]))
 }
 
 // ---- the names of folders, links aside
@@ -216,7 +183,7 @@ fn names_at(arena: &[u8], first: &[u16], next: &[u16], mem: &[u8], id: usize, na
     if rec.kind != 2 {
         return true;
     }
-    is_due(id, named) | is_loose(rec, id, named)
+    is_due(id, named) || is_loose(rec, id, named)
 }
 
 pub fn names_ok(arena: &[u8], first: &[u16], next: &[u16], mem: &[u8], counts: &[u16]) -> bool
@@ -225,13 +192,5 @@ pub fn names_ok(arena: &[u8], first: &[u16], next: &[u16], mem: &[u8], counts: &
     requires counted { Counted arena.now (table_in mem.now) counts.now }
     ensures { result ≡ folders_named arena.now (table_in mem.now) }
 {
-    let n = ids(mem);
-    let mut id: usize = 0;
-    while id < n {
-        if !names_at(arena, first, next, mem, id, counts[id]) {
-            return false;
-        }
-        id = id + 1;
-    }
-    true
+    (0..ids(mem)).all(|id| names_at(arena, first, next, mem, id, counts[id]))
 }

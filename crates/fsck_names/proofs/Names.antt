@@ -21,7 +21,7 @@ use Rattle.base.proofs.Numbers.{lt-or-le}
 use Rattle.base.proofs.Parts.{get_or-zero-list}
 use Rattle.base.proofs.Sames.{and-true, all_to-suc, same_true, same-own, test-fails}
 use Rattle.base.proofs.Searches.{last-is, lowest-first, lowest-here, lowest-hit}
-use Rattle.structs.specs.Types.{is_folder, is_type}
+use Rattle.structs.specs.Types.{is_type}
 use Rattle.structs.specs.declared.DiskINode.{DiskINode}
 use Rattle.table.specs.declared.Table.{Table}
 use Rattle.arena.specs.Blocks.{blk, blocks}
@@ -35,7 +35,7 @@ use Rattle.files_laws.proofs.Views.{there-at, there-hit, there-of, there-none}
 use Rattle.files_laws.proofs.Parts.{sound-tidy}
 use Rattle.sefs.specs.Nodes.{node_file}
 use Rattle.rules.specs.Image.{ids_in, is_node, rec_of}
-use Rattle.rules.specs.Tests.{has_name, node_allowed, head_allowed, test5}
+use Rattle.rules.specs.Tests.{has_name, node_allowed, head_allowed}
 use Rattle.fsck_names.specs.Names.{claimable, owns, unclaimed, Claimed, head_claimed}
 
 -- ---- the head that the chains lead to
@@ -211,21 +211,13 @@ claimed-none a t = record { size = length-replicate {A = ℕ} 4096 0; each = λ 
 -- ---- a head
 
 module _ (a c : List ℕ) (k : ℕ) where
-  tag_is : get_or a (512 * k) 0 ≡ tag_of (blk a k)
+  pub tag_is : get_or a (512 * k) 0 ≡ tag_of (blk a k)
   unfolding blk
   tag_is = ap (λ (x : ℕ). get_or a x 0) (sym (add-zero (512 * k))) ∙ sym (get_d_part a (512 * k) (512 * k + 512) 0 (omega arith))
 
-  which-is : get_or a (512 * k + 1) 0 ≡ which_of (blk a k)
+  pub which-is : get_or a (512 * k + 1) 0 ≡ which_of (blk a k)
   unfolding blk
   which-is = sym (get_d_part a (512 * k) (512 * k + 512) 1 (omega arith))
-
-  pub head-set : (eqb (get_or a (512 * k) 0) 1 && eqb (get_or a (512 * k + 1) 0) 1) ≡ true → eqb (get_or c k 0) 1 ≡ head_claimed a c k
-  unfolding head_claimed
-  head-set e = sym (ap (λ (b : Bool). not b || eqb (get_or c k 0) 1) ((λ x. eqb (sym tag_is x) 1 && eqb (sym which-is x) 1) ∙ e))
-
-  pub head-none : (eqb (get_or a (512 * k) 0) 1 && eqb (get_or a (512 * k + 1) 0) 1) ≡ false → true ≡ head_claimed a c k
-  unfolding head_claimed
-  head-none e = sym (ap (λ (b : Bool). not b || eqb (get_or c k 0) 1) ((λ x. eqb (sym tag_is x) 1 && eqb (sym which-is x) 1) ∙ e))
 
 or_same : (x y z : Bool) → (x ≡ true → y ≡ z) → (not x || y) ≡ (not x || z)
 or_same true y z h = h refl
@@ -244,18 +236,5 @@ module _ (a : List ℕ) (t : Table) (c : List ℕ) (C : Claimed a t c (ids_in a)
       ∙ ap not (unclaimed-name a t k (name_of (blk a k)) h (ids_in a))
       ∙ sym (some-lowest (has_name a t (name_of (blk a k))) (ids_in a)))
 
-  heads-same : all_to (head_claimed a c) (blocks a) ≡ all_to (head_allowed a t) (blocks a)
+  pub heads-same : all_to (head_claimed a c) (blocks a) ≡ all_to (head_allowed a t) (blocks a)
   heads-same = all_to-cong (head_claimed a c) (head_allowed a t) (blocks a) head-same
-
-  module _ (x : Bool) (x-is : x ≡ all_to (node_allowed a t) (ids_in a)) (xt : x ≡ true) (y : Bool) (y-is : y ≡ all_to (head_claimed a c) (blocks a)) where
-    pub five-heads : y ≡ false → false ≡ test5 a t
-    unfolding test5
-    five-heads e = sym (rw (sym x-is ∙ xt, sym heads-same ∙ sym y-is ∙ e) refl)
-
-    pub five-root : (r : DiskINode) → y ≡ true → r ≡ rec_of a t 2 → eqb r.kind 2 ≡ test5 a t
-    unfolding test5
-    five-root r e q = ap (λ (r : DiskINode). is_folder r.kind) q ∙ sym (rw (sym x-is ∙ xt, sym heads-same ∙ sym y-is ∙ e) refl)
-
-pub five-nodes : (a : List ℕ) (t : Table) (x : Bool) → x ≡ all_to (node_allowed a t) (ids_in a) → x ≡ false → false ≡ test5 a t
-unfolding test5
-five-nodes a t x x-is e = sym (rw (sym x-is ∙ e) refl)

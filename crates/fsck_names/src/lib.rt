@@ -27,10 +27,7 @@ fn claim(arena: &[u8], first: &[u16], next: &[u16], rec: DiskINode, claimed: &mu
 {
     let file = rec.file;
     let c = find(arena, first, next, true, 1, &file, 0);
-    if c == 0 {
-        return false;
-    }
-    if claimed[c - 1] != 0 {
+    if c == 0 || claimed[c - 1] != 0 {
         return false;
     }
     claimed[c - 1] = 1;
@@ -68,13 +65,10 @@ fn nodes_ok(arena: &[u8], first: &[u16], next: &[u16], mem: &[u8], claimed: &mut
     ensures value { result ≡ all_to (node_allowed arena.now (table_in mem.now)) (ids_in arena.now) }
     ensures claimed_2 { result ≡ true → Claimed arena.now (table_in mem.now) claimed.new (ids_in arena.now) }
 {
-    let n = ids(mem);
-    let mut id: usize = 0;
-    while id < n {
+    for id in 0..ids(mem) {
         if !node_ok(arena, first, next, mem, id, claimed) {
             return false;
         }
-        id = id + 1;
     }
     true
 }
@@ -85,7 +79,7 @@ fn head_ok(arena: &[u8], claimed: &[u8], k: usize) -> bool
     ensures { result ≡ head_claimed arena.now claimed.now k }
 {
     let o = 512 * k;
-    if (arena[o] == 1) & (arena[o + 1] == 1) {
+    if arena[o] == 1 && arena[o + 1] == 1 {
         return claimed[k] == 1;
     }
     true
@@ -95,15 +89,7 @@ fn heads_ok(arena: &[u8], claimed: &[u8]) -> bool
     requires { (blocks arena.now ≤ 4096) × (length claimed.now ≡ 4096) }
     ensures { result ≡ all_to (head_claimed arena.now claimed.now) (blocks arena.now) }
 {
-    let n = arena.len() / 512;
-    let mut k: usize = 0;
-    while k < n {
-        if !head_ok(arena, claimed, k) {
-            return false;
-        }
-        k = k + 1;
-    }
-    true
+    (0..arena.len() / 512).all(|k| head_ok(arena, claimed, k))
 }
 
 pub fn rule5(arena: &[u8], first: &[u16], next: &[u16], mem: &[u8]) -> bool
@@ -112,11 +98,7 @@ pub fn rule5(arena: &[u8], first: &[u16], next: &[u16], mem: &[u8]) -> bool
     ensures { result ≡ test5 arena.now (table_in mem.now) }
 {
     let mut claimed = [0u8; 4096];
-    if !nodes_ok(arena, first, next, mem, &mut claimed) {
-        return false;
-    }
-    if !heads_ok(arena, &claimed) {
-        return false;
-    }
-    rec_of(arena, first, next, mem, 2).kind == 2
+    nodes_ok(arena, first, next, mem, &mut claimed)
+        && heads_ok(arena, &claimed)
+        && rec_of(arena, first, next, mem, 2).kind == 2
 }

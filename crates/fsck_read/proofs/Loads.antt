@@ -9,7 +9,7 @@ use native.Mathlib.Omega.{arith}
 use lib.Dec.{eqb, leb}
 use lib.ListN.{length, get_or, set, length-set}
 use lib.Seq.{get_or-set_same}
-use borrow.Author.Tests.{eq-eqb, ne_eqb, eqb-true, le-leb, lt-leb, leb-true}
+use borrow.Author.Tests.{eq-eqb, eqb-true, leb-true}
 use Rattle.base.specs.Parts.{part, back, paste}
 use Rattle.base.specs.Search.{pick}
 use Rattle.base.proofs.Bools.{bool_cases, and_parts, same_bool}
@@ -36,24 +36,6 @@ use Rattle.fsck_read.specs.Loaded.{Loaded, Of, super_fine, Mapped, Put}
 -- ---- the superblock by itself
 
 module _ (b : SuperBlock) (len : ℕ) where
-  pub super-magic : (b.magic ≡ sefs_magic → ⊥) → false ≡ super_fine b len
-  unfolding super_fine
-  super-magic n = sym (rw (ne_eqb b.magic sefs_magic n) refl)
-
-  pub super-none : b.magic ≡ sefs_magic → b.groups ≡ 0 → false ≡ super_fine b len
-  unfolding super_fine
-  super-none m z = sym (rw (eq-eqb b.magic sefs_magic m, lt-leb 1 b.groups (omega arith)) refl)
-
-  pub super-many : b.magic ≡ sefs_magic → (b.groups ≡ 0 → ⊥) → 4 < b.groups → false ≡ super_fine b len
-  unfolding super_fine
-  super-many m n l = sym (rw (eq-eqb b.magic sefs_magic m, le-leb 1 b.groups (omega arith), lt-leb b.groups 4 l) refl)
-
-  pub super-rest : (i : ℕ) → b.magic ≡ sefs_magic → (b.groups ≡ 0 → ⊥) → b.groups ≤ 4 → i ≡ b.groups → (eqb len (131072 * i) && eqb b.blocks (1024 * b.groups)) ≡ super_fine b len
-  unfolding super_fine
-  super-rest i m n l e =
-      ap (λ (x : ℕ). eqb len (131072 * x) && eqb b.blocks (1024 * b.groups)) e
-      ∙ sym (rw (eq-eqb b.magic sefs_magic m, le-leb 1 b.groups (omega arith), le-leb b.groups 4 l) refl)
-
   -- what it says
   pub super-says : super_fine b len ≡ true → (0 < b.groups) × ((b.groups ≤ 4) × (len ≡ 131072 * b.groups))
   unfolding super_fine

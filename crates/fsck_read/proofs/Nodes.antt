@@ -1,23 +1,21 @@
 -- Superblock, maps and table in memory say of nodes and records what the image says.
-use mathlib.Core.Path.{◌≡◌, refl, sym, ap, ◌∙◌}
-use mathlib.Core.Bool.{Bool, true, false, not, ◌&&◌}
+use mathlib.Core.Path.{◌≡◌, sym, ap, ◌∙◌}
+use mathlib.Core.Bool.{Bool, true, false, not}
 use mathlib.Core.List.{List}
-use Prim.Native.Nat.{ℕ, ◌+◌, ◌*◌, ◌%◌, ◌≤◌, ◌<◌}
+use Prim.Native.Nat.{ℕ, ◌+◌, ◌*◌, ◌≤◌, ◌<◌}
 use native.Mathlib.Omega.{arith}
-use lib.Dec.{eqb, ltb}
+use lib.Dec.{ltb}
 use lib.ListN.{length}
-use borrow.Author.Tests.{eq-eqb, ne_eqb, lt-ltb, le-ltb}
+use borrow.Author.Tests.{eq-eqb}
 use Rattle.base.specs.Count.{bit, count_to}
 use Rattle.base.specs.Parts.{part}
-use Rattle.base.specs.declared.Found.{Found}
-use Rattle.base.specs.declared.Found.TheVariants.{At, Nothing}
+use Rattle.std.specs.Prelude.{Option, Some, None}
 use Rattle.base.proofs.Bools.{and-false}
 use Rattle.base.proofs.Counts.{count_to-more, count_to-none}
 use Rattle.base.proofs.Lists.{length-tab}
 use Rattle.base.proofs.Parts.{part-whole}
 use Rattle.structs.specs.Layout.{super_of, record_of}
 use Rattle.structs.specs.declared.SuperBlock.{SuperBlock}
-use Rattle.maps.specs.Maps.{bit_at}
 use Rattle.table.specs.declared.Table.{Table}
 use Rattle.table.specs.Table.{row_at, row_of}
 use Rattle.files.specs.Read.{byte_at}
@@ -32,32 +30,13 @@ groups-some m L = (L.whole.some L.read, L.whole.few L.read)
 
 -- ---- nodes
 
-and-third : (a b : Bool) → (a && (b && false)) ≡ false
-and-third true b = and-false b
-and-third false b = refl
-
 module _ (a m : List ℕ) (O : Of a m) where
   pub ids-is : 1024 * (memory.super_in m).groups ≡ ids_in a
   ids-is = ap (λ (b : SuperBlock). 1024 * b.groups) O.super
 
-  pub node-past : (id n : ℕ) → n ≡ 1024 * (memory.super_in m).groups → n ≤ id → false ≡ is_node a id
-  unfolding is_node
-  node-past id n e l = sym (rw (le-ltb id (ids_in a) (omega (arith, ids-is))) refl)
-
-  pub node-bit : (id n : ℕ) (b : Bool) → n ≡ 1024 * (memory.super_in m).groups → id < n → (id ≡ 0 → ⊥) → (id % 1024 ≡ 1 → ⊥) → b ≡ bit_at (memory.maps_in m) id
-      → not b ≡ is_node a id
-  unfolding is_node
-  node-bit id n b e l z o q =
-      ap not q ∙ ap (λ (x : List ℕ). not (bit_at x id)) O.maps
-      ∙ sym (rw (lt-ltb id (ids_in a) (omega (arith, ids-is)), ne_eqb id 0 z, ne_eqb (id % 1024) 1 o) refl)
-
 pub node-zero : (a : List ℕ) (id : ℕ) → id ≡ 0 → false ≡ is_node a id
 unfolding is_node
 node-zero a id z = sym (rw (eq-eqb id 0 z) (and-false (ltb id (ids_in a))))
-
-pub node-map : (a : List ℕ) (id : ℕ) → id % 1024 ≡ 1 → false ≡ is_node a id
-unfolding is_node
-node-map a id o = sym (rw (eq-eqb (id % 1024) 1 o) (and-third (ltb id (ids_in a)) (not (eqb id 0))))
 
 -- ---- how many nodes there are
 
@@ -89,18 +68,18 @@ stored-read a l o id e q = ap record_of (read_all a l o (128 * id) 112 e q)
 -- ---- rows
 
 module _ (t : Table) (id : ℕ) where
-  pub rec-row : (a : List ℕ) (i : ℕ) → row_of t id ≡ At i → (row_at t i).rec ≡ rec_of a t id
+  pub rec-row : (a : List ℕ) (i : ℕ) → row_of t id ≡ Some i → (row_at t i).rec ≡ rec_of a t id
   unfolding rec_of
   rec-row a i e = sym (ap (rec_by a t id) e)
 
-  pub rec-stored : (a : List ℕ) → row_of t id ≡ Nothing → record_of (stored_bytes a id) ≡ rec_of a t id
+  pub rec-stored : (a : List ℕ) → row_of t id ≡ None → record_of (stored_bytes a id) ≡ rec_of a t id
   unfolding rec_of
   rec-stored a e = sym (ap (rec_by a t id) e)
 
-  pub open_row : (i : ℕ) → row_of t id ≡ At i → true ≡ is_open t id
+  pub open_row : (i : ℕ) → row_of t id ≡ Some i → true ≡ is_open t id
   unfolding is_open
-  open_row i e = sym (ap (λ (f : Found). not (no_row f)) e)
+  open_row i e = sym (ap (λ (f : Option ℕ). not (no_row f)) e)
 
-  pub open-not : row_of t id ≡ Nothing → false ≡ is_open t id
+  pub open-not : row_of t id ≡ None → false ≡ is_open t id
   unfolding is_open
-  open-not e = sym (ap (λ (f : Found). not (no_row f)) e)
+  open-not e = sym (ap (λ (f : Option ℕ). not (no_row f)) e)

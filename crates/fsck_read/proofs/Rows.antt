@@ -10,7 +10,6 @@ use Rattle.base.specs.Count.{all_to}
 use Rattle.base.specs.Decides.{same}
 use Rattle.base.specs.Parts.{part}
 use Rattle.base.proofs.Bools.{same_bool}
-use Rattle.base.proofs.Counts.{all_to-false, all_to-all}
 use Rattle.base.proofs.Lists.{length_part}
 use Rattle.base.proofs.Parts.{part-all, part-part}
 use Rattle.base.proofs.Sames.{same_true, same-own}
@@ -25,25 +24,10 @@ use Rattle.table.specs.Table.{row_at}
 use Rattle.table_bytes.specs.Layout.{row_from}
 use Rattle.sefs.specs.Meta.{meta_file}
 use Rattle.mem.specs.Mem.{table_in}
-use Rattle.mem.specs.Mem as memory
 use Rattle.mem.proofs.Mems.{row_read}
 use Rattle.rules.specs.Image.{run, stored_super, stored_maps, is_node, stored_bytes}
-use Rattle.rules.specs.Tests.{row_allowed, test4}
+use Rattle.rules.specs.Tests.{row_allowed}
 use Rattle.fsck_read.specs.Loaded.{Of, maps_clear}
-
--- ---- the maps' own bits
-
-pub clear_none : (m : List ℕ) → all_to (λ i. not (bit_at (memory.maps_in m) (1024 * i + 1))) 0 ≡ true
-clear_none m = all_to-all (λ i. not (bit_at (memory.maps_in m) (1024 * i + 1))) 0 (λ j l. absurd (omega arith))
-
-module _ (m : List ℕ) (n : ℕ) (is : n ≡ (memory.super_in m).groups) where
-  pub clear-not : (g : ℕ) → g < n → bit_at (memory.maps_in m) (1024 * g + 1) ≡ true → false ≡ maps_clear m
-  unfolding maps_clear
-  clear-not g l e = sym (all_to-false (λ i. not (bit_at (memory.maps_in m) (1024 * i + 1))) (memory.super_in m).groups g (omega arith) (ap not e))
-
-  pub clear-all : (g : ℕ) → g ≤ n → n ≤ g → all_to (λ i. not (bit_at (memory.maps_in m) (1024 * i + 1))) g ≡ true → true ≡ maps_clear m
-  unfolding maps_clear
-  clear-all g l h e = sym e ∙ ap (all_to (λ i. not (bit_at (memory.maps_in m) (1024 * i + 1)))) (let z : g ≡ n = omega arith in z ∙ is)
 
 -- ---- a row
 
@@ -86,37 +70,9 @@ module _ (a : List ℕ) (t : Table) (i id : ℕ) (is : id ≡ (row_at t i).id) w
   unfolding row_allowed
   row-rest r z n e = e ∙ sym (rw (ne_eqb (row_at t i).id 0 (λ e. z (is ∙ e)), sym (n ∙ ap (is_node a) is)))
 
-pub rows_none : (a : List ℕ) (t : Table) → all_to (row_allowed a t) 0 ≡ true
-rows_none a t = all_to-all (row_allowed a t) 0 (λ j l. absurd (omega arith))
-
-pub rows_all : (a : List ℕ) (t : Table) (i : ℕ) → i ≤ 34 → 34 ≤ i → all_to (row_allowed a t) i ≡ true → true ≡ all_to (row_allowed a t) 34
-rows_all a t i l g e = sym e ∙ ap (all_to (row_allowed a t)) (let z : i ≡ 34 = omega arith in z)
-
 -- ---- rule 4
 
 module _ (a m : List ℕ) (O : Of a m) where
-  bit_is : (id : ℕ) (b : Bool) → b ≡ bit_at (memory.maps_in m) id → bit_at (stored_maps a) id ≡ b
-  bit_is id b e = sym (e ∙ ap (λ (x : List ℕ). bit_at x id) O.maps)
-
-  clear-is : maps_clear m ≡ all_to (λ g. not (bit_at (stored_maps a) (1024 * g + 1))) (stored_super a).groups
+  pub clear-is : maps_clear m ≡ all_to (λ g. not (bit_at (stored_maps a) (1024 * g + 1))) (stored_super a).groups
   unfolding maps_clear
   clear-is = ap₂ (λ (x : List ℕ) (b : SuperBlock). all_to (λ g. not (bit_at x (1024 * g + 1))) b.groups) O.maps O.super
-
-  module _ (t : Table) (x : Bool) (x-is : x ≡ bit_at (memory.maps_in m) 0) where
-    pub four-zero : x ≡ true → false ≡ test4 a t
-    unfolding test4
-    four-zero e = sym (rw (bit_is 0 x x-is ∙ e))
-
-    module _ (off : x ≡ false) (y : Bool) (y-is : y ≡ bit_at (memory.maps_in m) 2) where
-      pub four-root : y ≡ true → false ≡ test4 a t
-      unfolding test4
-      four-root e = sym (rw (bit_is 0 x x-is ∙ off, bit_is 2 y y-is ∙ e))
-
-      module _ (none : y ≡ false) (z : Bool) (z-is : z ≡ maps_clear m) where
-        pub four-maps : z ≡ false → false ≡ test4 a t
-        unfolding test4
-        four-maps e = sym (rw (bit_is 0 x x-is ∙ off, bit_is 2 y y-is ∙ none, sym clear-is ∙ sym z-is ∙ e))
-
-        pub four-rows : (r : Bool) → z ≡ true → r ≡ all_to (row_allowed a t) 34 → r ≡ test4 a t
-        unfolding test4
-        four-rows r e q = q ∙ sym (rw (bit_is 0 x x-is ∙ off, bit_is 2 y y-is ∙ none, sym clear-is ∙ sym z-is ∙ e))

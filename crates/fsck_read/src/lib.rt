@@ -15,7 +15,7 @@ ghost use Rattle.rules.specs.Tests.{test3, test4, row_allowed};
 ghost use Rattle.chains.specs.Led.{Led};
 ghost use Rattle.fsck_read.specs.Loaded.{Loaded, Of, super_fine, Put, Mapped, maps_clear};
 
-use base::{Found, index};
+use base::index;
 use chains::{length_of, read_run};
 use mem::{MEMORY, bit_at, dirty_at, find_row, id_at, put_flag, rec_at, super_at};
 use structs::{DiskINode, SEFS_MAGIC, SuperBlock, disk_inode_at, put_super_block, super_block_at};
@@ -33,19 +33,14 @@ fn read_meta(arena: &[u8], first: &[u16], next: &[u16], pos: usize, out: &mut [u
 // ---- rule 3
 
 // Magic, groups 1 to 4, the metadata file's length, blocks.
+#[tactic(auto, unfolding(crate::specs::Loaded::super_fine))]
 fn super_ok(b: SuperBlock, len: usize) -> bool
     ensures { result ≡ super_fine b len }
 {
-    if b.magic != SEFS_MAGIC {
-        return false;
-    }
-    if b.groups == 0 {
-        return false;
-    }
-    if b.groups > 4 {
-        return false;
-    }
-    (len == 131072 * index(b.groups)) & (b.blocks == 1024 * b.groups)
+    b.magic == SEFS_MAGIC
+        && (1..=4).contains(&b.groups)
+        && len == 131072 * index(b.groups)
+        && b.blocks == 1024 * b.groups
 }
 
 // The superblock, and the mark that it is there.
@@ -62,8 +57,7 @@ fn load_maps(arena: &[u8], first: &[u16], next: &[u16], mem: &mut [u8], groups: 
     requires mem_len { (length mem.old ≡ memory_size) × (groups ≤ 4) }
     ensures { Mapped arena.now mem.old mem.new groups }
 {
-    let mut g: usize = 0;
-    while g < groups {
+    for g in 0..groups {
         let o = 4419 + 128 * g;
         read_meta(
             arena,
@@ -72,7 +66,6 @@ fn load_maps(arena: &[u8], first: &[u16], next: &[u16], mem: &mut [u8], groups: 
             128 * (1024 * g + 1),
             &mut mem[o..o + 128],
         );
-        g = g + 1;
     }
 }
 
@@ -123,16 +116,7 @@ pub fn is_node(mem: &[u8], id: usize) -> bool
     ensures id_bound { result ≡ true → id < 4096 }
     ensures by_index { (a : List ℕ) → Of a mem.now → result ≡ is_node a id }
 {
-    if id == 0 {
-        return false;
-    }
-    if id >= ids(mem) {
-        return false;
-    }
-    if id % 1024 == 1 {
-        return false;
-    }
-    !bit_at(mem, id)
+    id != 0 && id < ids(mem) && id % 1024 != 1 && !bit_at(mem, id)
 }
 
 // A test as a number.
@@ -146,12 +130,9 @@ pub fn count_nodes(mem: &[u8]) -> u32
     requires { Loaded mem.now }
     ensures { (a : List ℕ) → Of a mem.now → result ≡ node_count a }
 {
-    let n = ids(mem);
     let mut c: u32 = 0;
-    let mut id: usize = 0;
-    while id < n {
-        c = c + one(is_node(mem, id));
-        id = id + 1;
+    for id in 0..ids(mem) {
+        c += one(is_node(mem, id));
     }
     c
 }
@@ -161,15 +142,7 @@ fn maps_clear(mem: &[u8]) -> bool
     requires { Loaded mem.now }
     ensures { result ≡ maps_clear mem.now }
 {
-    let n = ids(mem) / 1024;
-    let mut g: usize = 0;
-    while g < n {
-        if bit_at(mem, 1024 * g + 1) {
-            return false;
-        }
-        g = g + 1;
-    }
-    true
+    (0..ids(mem) / 1024).all(|g| !bit_at(mem, 1024 * g + 1))
 }
 
 // A clean row equals its stored record.
@@ -208,14 +181,7 @@ fn rows_ok(arena: &[u8], first: &[u16], next: &[u16], mem: &[u8]) -> bool
     requires loaded { Loaded mem.now × Of arena.now mem.now }
     ensures { result ≡ all_to (row_allowed arena.now (table_in mem.now)) 34 }
 {
-    let mut i: usize = 0;
-    while i < 34 {
-        if !row_ok(arena, first, next, mem, i) {
-            return false;
-        }
-        i = i + 1;
-    }
-    true
+    (0..34).all(|i| row_ok(arena, first, next, mem, i))
 }
 
 pub fn rule4(arena: &[u8], first: &[u16], next: &[u16], mem: &[u8]) -> bool
@@ -223,16 +189,7 @@ pub fn rule4(arena: &[u8], first: &[u16], next: &[u16], mem: &[u8]) -> bool
     requires loaded { Loaded mem.now × Of arena.now mem.now }
     ensures { result ≡ test4 arena.now (table_in mem.now) }
 {
-    if bit_at(mem, 0) {
-        return false;
-    }
-    if bit_at(mem, 2) {
-        return false;
-    }
-    if !maps_clear(mem) {
-        return false;
-    }
-    rows_ok(arena, first, next, mem)
+    !bit_at(mem, 0) && !bit_at(mem, 2) && maps_clear(mem) && rows_ok(arena, first, next, mem)
 }
 
 // ---- records
@@ -256,8 +213,8 @@ pub fn rec_of(arena: &[u8], first: &[u16], next: &[u16], mem: &[u8], id: usize) 
 {
     let f = find_row(mem, id as u32);
     match f {
-        Found::At(i) => rec_at(mem, i),
-        Found::Nothing => stored_rec(arena, first, next, id),
+        Some(i) => rec_at(mem, i),
+        None => stored_rec(arena, first, next, id),
     }
 }
 
@@ -267,8 +224,8 @@ pub fn is_open(mem: &[u8], id: usize) -> bool
 {
     let f = find_row(mem, id as u32);
     match f {
-        Found::At(_) => true,
-        Found::Nothing => false,
+        Some(_) => true,
+        None => false,
     }
 }
 

@@ -5,24 +5,15 @@ use fsck::Verdict;
 use std::io;
 use std::io::Read;
 
-fn show(rt: &impl Print, label: &str, n: u32) -> io::Result<()> {
-    print!(rt; "{label}{n}")
-}
-
 fn tell(rt: &impl Print, v: Verdict) -> io::Result<()> {
     match v {
         Verdict::Pass {
             nodes,
             unused,
             free,
-        } => {
-            show(rt, "pass nodes ", nodes)?;
-            show(rt, " unused ", unused)?;
-            show(rt, " free ", free)?;
-        }
-        Verdict::Fail(rule) => show(rt, "fail rule ", rule as u32)?,
+        } => println!(rt; "pass nodes {nodes} unused {unused} free {free}"),
+        Verdict::Fail(rule) => println!(rt; "fail rule {rule}"),
     }
-    rt.write_all(b"\n")
 }
 
 // The input's bytes, to its end or one past the limit.

@@ -98,9 +98,3 @@ module _ (p : ℕ → Bool) where
 
   pub found_none : (n j : ℕ) → n ≤ j → ((i : ℕ) → i < j → p i ≡ false) → false ≡ ltb (lowest p n) n
   found_none n j l h = sym (le-ltb (lowest p n) n (omega (arith, lowest-none p n (λ i u. h i (omega arith)))))
-
-  pub none_more : (j : ℕ) → ((i : ℕ) → i < j → p i ≡ false) → p j ≡ false → (i : ℕ) → i < j + 1 → p i ≡ false
-  none_more j h e i l = ⊎_elim
-      (λ (y : ltb i j ≡ true). h i (ltb-true i j y))
-      (λ (y : ltb i j ≡ false). let z : j ≡ i = omega (arith, ltb-false i j y) in subst (λ (x : ℕ). p x ≡ false) z e)
-      (bool_cases (ltb i j))

@@ -3,23 +3,22 @@ use mathlib.Core.Path.{◌≡◌, refl, sym, ap, ap₂, ◌∙◌}
 use mathlib.Core.Bool.{Bool, true, false, not, ◌&&◌, ◌||◌}
 use mathlib.Core.List.{List}
 use mathlib.Core.Logic.{◌⊎◌, inl, inr, ⊎_elim}
-use Prim.Native.Nat.{ℕ, suc, ◌+◌, ◌*◌, ◌-◌, ◌≤◌, ◌<◌}
+use Prim.Native.Nat.{ℕ, suc, ◌+◌, ◌*◌, ◌-◌, ◌≤◌}
 use native.Mathlib.Omega.{arith}
+use native.Mathlib.Decide.{ℕ_discrete}
 use lib.Dec.{eqb, ltb, leb}
-use borrow.Author.Tests.{eq-eqb, ne_eqb, ltb-true, ltb-false, le-leb, lt-leb}
+use borrow.Author.Tests.{eq-eqb, ne_eqb, ltb-true, ltb-false}
 use Rattle.base.specs.Count.{all_to}
 use Rattle.base.specs.Decides.{same}
 use Rattle.base.specs.Parts.{part}
 use Rattle.base.specs.Search.{lowest, pick}
 use Rattle.base.proofs.Bools.{bool_cases, and_both, and-false, and_assoc}
-use Rattle.base.proofs.Counts.{all_to-all}
 use Rattle.base.proofs.Searches.{lowest-le}
-use Rattle.le.specs.Le.{le_at}
 use Rattle.structs.specs.Layout.{entry_of}
 use Rattle.structs.specs.Types.{is_folder}
 use Rattle.structs.specs.declared.DiskINode.{DiskINode}
 use Rattle.structs.specs.declared.DiskEntry.{DiskEntry}
-use Rattle.utf8.specs.Names.{name_of, is_dot, is_dots, is_special, stored_name}
+use Rattle.utf8.specs.Names.{name_of, is_special, stored_name}
 use Rattle.utf8.specs.declared.StoredName.{StoredName}
 use Rattle.utf8.specs.declared.StoredName.TheVariants.{Ended, Broken}
 use Rattle.table.specs.declared.Table.{Table}
@@ -35,26 +34,6 @@ use Rattle.fsck_slots.proofs.Names.{slot_is, slot-later}
 -- ---- one slot by itself
 
 module _ (l : List ℕ) where
-  pub dot-id : (id i : ℕ) → i ≡ le_at l 0 4 → (i ≡ id → ⊥) → false ≡ dot_allowed id (entry_of l)
-  unfolding dot_allowed entry_of
-  dot-id id i e n = sym (rw (ne_eqb (le_at l 0 4) id (λ z. n (e ∙ z))))
-
-  pub dot-kind : (id i k : ℕ) → i ≡ le_at l 0 4 → i ≡ id → k ≡ le_at l 260 4 → (k ≡ 2 → ⊥) → false ≡ dot_allowed id (entry_of l)
-  unfolding dot_allowed entry_of
-  dot-kind id i k e o f n = sym (rw (eq-eqb (le_at l 0 4) id (sym e ∙ o), ne_eqb (le_at l 260 4) 2 (λ z. n (f ∙ z))))
-
-  pub dot-name : (id i k : ℕ) (n : List ℕ) (r : Bool) → i ≡ le_at l 0 4 → i ≡ id → k ≡ le_at l 260 4 → k ≡ 2 → n ≡ name_of (entry_of l).name → r ≡ is_dot n → r ≡ dot_allowed id (entry_of l)
-  unfolding dot_allowed entry_of
-  dot-name id i k n r e o f t g q = q ∙ ap is_dot g ∙ sym (rw (eq-eqb (le_at l 0 4) id (sym e ∙ o), eq-eqb (le_at l 260 4) 2 (sym f ∙ t)))
-
-  pub dots-kind : (k : ℕ) → k ≡ le_at l 260 4 → (k ≡ 2 → ⊥) → false ≡ dots_allowed (entry_of l)
-  unfolding dots_allowed entry_of
-  dots-kind k f n = sym (rw (ne_eqb (le_at l 260 4) 2 (λ z. n (f ∙ z))))
-
-  pub dots-name : (k : ℕ) (n : List ℕ) (r : Bool) → k ≡ le_at l 260 4 → k ≡ 2 → n ≡ name_of (entry_of l).name → r ≡ is_dots n → r ≡ dots_allowed (entry_of l)
-  unfolding dots_allowed entry_of
-  dots-name k n r f t g q = q ∙ ap is_dots g ∙ sym (rw (eq-eqb (le_at l 260 4) 2 (sym f ∙ t)))
-
   pub plain-broken : stored_name (part l 4 260) ≡ Broken → false ≡ plain_name (entry_of l)
   unfolding plain_name entry_of
   plain-broken e = sym (ap (λ (x : StoredName). is_ended x && not (is_special (name_of (part l 4 260)))) e)
@@ -63,16 +42,6 @@ module _ (l : List ℕ) where
   unfolding plain_name entry_of
   plain-ended k n r e g q =
       ap not (q ∙ ap is_special g) ∙ sym (ap (λ (x : StoredName). is_ended x && not (is_special (name_of (part l 4 260)))) e)
-
-  module _ (a : List ℕ) (t : Table) (i : ℕ) (is : i ≡ le_at l 0 4) where
-    pub names-not : false ≡ is_node a i → false ≡ names_node a t (entry_of l)
-    unfolding names_node entry_of
-    names-not n = sym (rw (sym (n ∙ ap (is_node a) is)))
-
-    pub names-kind : (k : ℕ) (r : DiskINode) → true ≡ is_node a i → r ≡ rec_of a t i → k ≡ le_at l 260 4 → eqb r.kind k ≡ names_node a t (entry_of l)
-    unfolding names_node entry_of
-    names-kind k r n e f =
-        ap₂ eqb (ap (λ (x : DiskINode). x.kind) (e ∙ ap (rec_of a t) is)) f ∙ sym (rw (sym (n ∙ ap (is_node a) is)))
 
 -- ---- a later slot
 
@@ -116,14 +85,6 @@ module _ (a : List ℕ) (t : Table) (r : DiskINode) (j : ℕ) (l : List ℕ) (l-
             let f : is_first a r j ≡ true = sym (first-is name name-is) ∙ eq-eqb (lowest (bears a r name) j) j z in
             sym (slot-parts ∙ and_both (and_both (sym p-is ∙ yes) (sym q-is ∙ good)) f)
 
--- ---- tests of all numbers below n
-
-pub all_none : (p : ℕ → Bool) → all_to p 0 ≡ true
-all_none p = all_to-all p 0 (λ j l. absurd (omega arith))
-
-pub all-through : (p : ℕ → Bool) (j n : ℕ) → j ≤ n → n ≤ j → all_to p j ≡ true → true ≡ all_to p n
-all-through p j n l g e = sym e ∙ ap (all_to p) (let z : j ≡ n = omega arith in z)
-
 -- ---- a folder
 
 module _ (a : List ℕ) (r : DiskINode) (id : ℕ) (l : List ℕ) (l-is : l ≡ run a (node_file r) (264 * 0) 264) (p : Bool) (p-is : p ≡ dot_allowed id (entry_of l)) where
@@ -140,16 +101,12 @@ module _ (a : List ℕ) (r : DiskINode) (id : ℕ) (l : List ℕ) (l-is : l ≡ 
       q-is ∙ ap dots_allowed (slot_is a r 1 m m-is) ∙ sym (ap (λ (b : Bool). b && dots_allowed (slot_in a r 1)) (dot-is ∙ e))
 
 module _ (a : List ℕ) (t : Table) (id : ℕ) (r : DiskINode) where
-  folder-parts : folder_allowed a t id r
+  pub folder-parts : folder_allowed a t id r
       ≡ (leb 2 r.blocks && (eqb (length_of a (node_file r)) (264 * r.blocks) && (start_allowed a r id && all_to (slot_allowed a t r) (later_slots r))))
   unfolding folder_allowed start_allowed slot_allowed
   folder-parts =
       ap (λ (b : Bool). leb 2 r.blocks && (eqb (length_of a (node_file r)) (264 * r.blocks) && b))
       (sym (and_assoc (dot_allowed id (slot_in a r 0)) (dots_allowed (slot_in a r 1)) (all_to (λ j. later_allowed a t (later_slot a r j) && is_first a r j) (later_slots r))))
-
-  pub folder-few : r.blocks < 2 → false ≡ folder_allowed a t id r
-  folder-few l =
-      sym (folder-parts ∙ ap (λ (b : Bool). b && (eqb (length_of a (node_file r)) (264 * r.blocks) && (start_allowed a r id && all_to (slot_allowed a t r) (later_slots r)))) (lt-leb 2 r.blocks l))
 
   module _ (some : 2 ≤ r.blocks) (i : ℕ) (i-is : i ≡ r.blocks) (n : ℕ) (n-is : n ≡ pick (there a (node_file r)) (suc (length_of a (node_file r))) 0) where
     length-cases : (n ≡ suc (length_of a (node_file r))) ⊎ ((n ≡ 0) × (length_of a (node_file r) ≡ 0))
@@ -170,26 +127,13 @@ module _ (a : List ℕ) (t : Table) (id : ℕ) (r : DiskINode) where
         (λ (y : (n ≡ 0) × (length_of a (node_file r) ≡ 0)). absurd (omega (arith, y.0, d)))
         length-cases
 
-    pub folder-length : (n ≡ 264 * i + 1 → ⊥) → false ≡ folder_allowed a t id r
-    folder-length d =
-        sym (folder-parts
-        ∙ ap₂ (λ (b c : Bool). b && (c && (start_allowed a r id && all_to (slot_allowed a t r) (later_slots r))))
-        (le-leb 2 r.blocks some) (ne_eqb (length_of a (node_file r)) (264 * r.blocks) (length-not d)))
-
-    module _ (d : n ≡ 264 * i + 1) (s : Bool) (s-is : s ≡ start_allowed a r id) where
-      rest-is : folder_allowed a t id r ≡ (s && all_to (slot_allowed a t r) (later_slots r))
-      rest-is =
-          folder-parts
-          ∙ ap₂ (λ (b c : Bool). b && (c && (start_allowed a r id && all_to (slot_allowed a t r) (later_slots r))))
-          (le-leb 2 r.blocks some) (eq-eqb (length_of a (node_file r)) (264 * r.blocks) (length-yes d))
-          ∙ ap (λ (b : Bool). b && all_to (slot_allowed a t r) (later_slots r)) (sym s-is)
-
-      pub folder-start : s ≡ false → false ≡ folder_allowed a t id r
-      folder-start e = sym (rest-is ∙ ap (λ (b : Bool). b && all_to (slot_allowed a t r) (later_slots r)) e)
-
-      pub folder-rest : (v : Bool) → s ≡ true → v ≡ all_to (slot_allowed a t r) (i - 2) → v ≡ folder_allowed a t id r
-      folder-rest v e q =
-          q ∙ ap (λ (x : ℕ). all_to (slot_allowed a t r) (x - 2)) i-is ∙ sym (rest-is ∙ ap (λ (b : Bool). b && all_to (slot_allowed a t r) (later_slots r)) e)
+    -- the code's end of the file is the rule's length
+    pub length-same : eqb n (264 * i + 1) ≡ eqb (length_of a (node_file r)) (264 * r.blocks)
+    length-same =
+        elim (ℕ_discrete n (264 * i + 1)) [
+          | yes e ↦ eq-eqb n (264 * i + 1) e ∙ sym (eq-eqb (length_of a (node_file r)) (264 * r.blocks) (length-yes e))
+          | no d ↦ ne_eqb n (264 * i + 1) d ∙ sym (ne_eqb (length_of a (node_file r)) (264 * r.blocks) (length-not d))
+        ]
 
 -- ---- another node
 

@@ -15,7 +15,7 @@ ghost use Rattle.fsck_read.specs.Loaded.{Loaded, Of};
 ghost use Rattle.fsck_slots.specs.Hash.{hash_name, Hashed};
 ghost use Rattle.fsck_slots.specs.Slots.{plain_name, names_node, bears, slot_allowed, start_allowed, folder_fine, size_fine};
 
-use base::{index, wide};
+use base::index;
 use chains::length_of;
 use chains::slots::read_slot;
 use fsck_read::{ids, is_node, name_of, rec_of};
@@ -28,13 +28,7 @@ fn dot_ok(slot: &[u8], id: usize) -> bool
     requires { length slot.now ≡ 264 }
     ensures { result ≡ dot_allowed id (entry_of slot.now) }
 {
-    if index(u32_at(slot, 0)) != id {
-        return false;
-    }
-    if u32_at(slot, 260) != 2 {
-        return false;
-    }
-    is_dot(name_of(slot))
+    index(u32_at(slot, 0)) == id && u32_at(slot, 260) == 2 && is_dot(name_of(slot))
 }
 
 // Slot 1 is `..`; its id is looked at in rule 8.
@@ -42,10 +36,7 @@ fn dots_ok(slot: &[u8]) -> bool
     requires { length slot.now ≡ 264 }
     ensures { result ≡ dots_allowed (entry_of slot.now) }
 {
-    if u32_at(slot, 260) != 2 {
-        return false;
-    }
-    is_dots(name_of(slot))
+    u32_at(slot, 260) == 2 && is_dots(name_of(slot))
 }
 
 // A name that is ended, UTF-8, not empty, not `.` or `..`.
@@ -67,10 +58,7 @@ fn names_node(arena: &[u8], first: &[u16], next: &[u16], mem: &[u8], slot: &[u8]
     ensures { result ≡ names_node arena.now (table_in mem.now) (entry_of slot.now) }
 {
     let id = index(u32_at(slot, 0));
-    if !is_node(mem, id) {
-        return false;
-    }
-    rec_of(arena, first, next, mem, id).kind == u32_at(slot, 260)
+    is_node(mem, id) && rec_of(arena, first, next, mem, id).kind == u32_at(slot, 260)
 }
 
 // ---- distinct names: a name is compared with those before it that have its hash
@@ -78,12 +66,9 @@ fn names_node(arena: &[u8], first: &[u16], next: &[u16], mem: &[u8], slot: &[u8]
 fn hash_name(name: &[u8]) -> u16
     ensures { result ≡ hash_name name.now }
 {
-    let n = name.len();
     let mut h: u32 = 0;
-    let mut i: usize = 0;
-    while i < n {
-        h = (h * 257 + wide(name[i]) + 1) % 65521;
-        i = i + 1;
+    for b in name {
+        h = (h * 257 + u32::from(*b) + 1) % 65521;
     }
     h as u16
 }
@@ -110,10 +95,7 @@ fn can_be(hashes: &[u16], j: usize, h: u16) -> bool
     requires { length hashes.now ≡ 7680 }
     ensures { result ≡ (leb 7680 j || eqb (get_or hashes.now j 0) h) }
 {
-    if j >= 7680 {
-        return true;
-    }
-    hashes[j] == h
+    j >= 7680 || hashes[j] == h
 }
 
 // Whether later slot j has the name, whose hash is h.
@@ -131,10 +113,7 @@ fn has_name(
     requires j_bound { (j < 4294967294) × ((h ≡ hash_name name.now) × Hashed arena.now rec hashes.now (j + 1)) }
     ensures { result ≡ bears arena.now rec name.now j }
 {
-    if !can_be(hashes, j, h) {
-        return false;
-    }
-    same_name(arena, first, next, rec, j + 2, name)
+    can_be(hashes, j, h) && same_name(arena, first, next, rec, j + 2, name)
 }
 
 // Whether one of the first n later slots has the name, whose hash is h.
@@ -152,12 +131,10 @@ fn in_slots(
     requires n_bound { (n < 4294967294) × ((h ≡ hash_name name.now) × Hashed arena.now rec hashes.now n) }
     ensures { result ≡ ltb (lowest (bears arena.now rec name.now) n) n }
 {
-    let mut j: usize = 0;
-    while j < n {
+    for j in 0..n {
         if has_name(arena, first, next, rec, j, name, h, hashes) {
             return true;
         }
-        j = j + 1;
     }
     false
 }
@@ -218,12 +195,10 @@ fn all_later(
     requires n_bound { (n < 4294967294) × (length hashes.old ≡ 7680) }
     ensures { result ≡ all_to (slot_allowed arena.now (table_in mem.now) rec) n }
 {
-    let mut j: usize = 0;
-    while j < n {
+    for j in 0..n {
         if !later_ok(arena, first, next, mem, rec, j, hashes) {
             return false;
         }
-        j = j + 1;
     }
     true
 }
@@ -256,17 +231,11 @@ fn folder_ok(
     requires loaded { (Loaded mem.now × Of arena.now mem.now) × (length hashes.old ≡ 7680) }
     ensures { result ≡ folder_allowed arena.now (table_in mem.now) id rec }
 {
-    if rec.blocks < 2 {
-        return false;
-    }
     let file = rec.file;
-    if length_of(arena, first, next, 1, &file) != 264 * index(rec.blocks) + 1 {
-        return false;
-    }
-    if !first_slots(arena, first, next, rec, id) {
-        return false;
-    }
-    all_later(arena, first, next, mem, rec, index(rec.blocks) - 2, hashes)
+    rec.blocks >= 2
+        && length_of(arena, first, next, 1, &file) == 264 * index(rec.blocks) + 1
+        && first_slots(arena, first, next, rec, id)
+        && all_later(arena, first, next, mem, rec, index(rec.blocks) - 2, hashes)
 }
 
 fn folder_at(
@@ -297,13 +266,10 @@ pub fn folders_ok(arena: &[u8], first: &[u16], next: &[u16], mem: &[u8], hashes:
     requires loaded { (Loaded mem.now × Of arena.now mem.now) × (length hashes.old ≡ 7680) }
     ensures { result ≡ folders_allowed arena.now (table_in mem.now) }
 {
-    let n = ids(mem);
-    let mut id: usize = 0;
-    while id < n {
+    for id in 0..ids(mem) {
         if !folder_at(arena, first, next, mem, id, hashes) {
             return false;
         }
-        id = id + 1;
     }
     true
 }
@@ -314,10 +280,7 @@ pub fn folders_ok(arena: &[u8], first: &[u16], next: &[u16], mem: &[u8], hashes:
 fn length_by(end: usize) -> u64
     ensures { result ≡ end - 1 }
 {
-    if end == 0 {
-        return 0;
-    }
-    (end - 1) as u64
+    end.saturating_sub(1) as u64
 }
 
 fn size_ok(arena: &[u8], first: &[u16], next: &[u16], rec: DiskINode) -> bool
@@ -349,13 +312,5 @@ pub fn sizes_ok(arena: &[u8], first: &[u16], next: &[u16], mem: &[u8]) -> bool
     requires loaded { Loaded mem.now × Of arena.now mem.now }
     ensures { result ≡ sizes_allowed arena.now (table_in mem.now) }
 {
-    let n = ids(mem);
-    let mut id: usize = 0;
-    while id < n {
-        if !size_at(arena, first, next, mem, id) {
-            return false;
-        }
-        id = id + 1;
-    }
-    true
+    (0..ids(mem)).all(|id| size_at(arena, first, next, mem, id))
 }

@@ -11,8 +11,7 @@ use borrow.Author.Tests.{eq-eqb, ne_eqb, lt-ltb, le-ltb}
 use lib.Dec.{ltb, eqb}
 use Rattle.base.proofs.Lists.{length-paste, part-paste-other}
 use Rattle.base.specs.Parts.{part, paste}
-use Rattle.base.specs.declared.Found.{Found}
-use Rattle.base.specs.declared.Found.TheVariants.{At}
+use Rattle.std.specs.Prelude.{Option, Some}
 use Rattle.le.specs.Le.{le_of, le_at, le_bytes, le_put}
 use Rattle.le.proofs.Laws.{length-le_bytes, length-le_put, le_at-le_put-fits}
 use Rattle.structs.proofs.Places.{part-written}
@@ -121,7 +120,7 @@ module _ (m : List ℕ) (v : ℕ) (W : Whole m) (F : v < 2 ^ 64) where
 -- the memory was m, is a with the hold and b with the next stamp too
 pub given :
     (m a b : List ℕ) (w row i next : ℕ) → next ≡ (table_in m).next → table_in a ≡ with_hold (table_in m) i (record { row = row; stamp = next; owner = w }) → table_in b ≡ with_next (table_in a) (next + 1)
-    → ◌≡◌ {A = Added} (add_at (table_in m) w row (At i)) (record { handle = record { hold = i; stamp = next }; table = table_in b })
+    → ◌≡◌ {A = Added} (add_at (table_in m) w row (Some i)) (record { handle = record { hold = i; stamp = next }; table = table_in b })
 given m a b w row i next e ea eb =
     let t : Table = table_in m in
     let u : table_in b ≡ with_next (with_hold t i (record { row = row; stamp = next; owner = w })) (next + 1) = eb ∙ ap (λ (k : Table). with_next k (next + 1)) ea in
@@ -146,11 +145,11 @@ module _ (t : Table) (i : ℕ) (r : Row) (e : r ≡ row_at t i) where
       let b : eqb (row_at t i).id 0 ≡ true = eq-eqb _ _ (ap (λ (k : Row). k.id) (sym e) ∙ q) in
       rw b (ap₂ ◌&&◌ (ap (λ (k : Row). not k.dirty) e) (ez ∙ ap (λ (k : Row). record_zero k.rec) e))
 
-  pub row-used : (f : Found) (a u : Bool) → (r.id ≡ 0 → ⊥) → f ≡ row_of t r.id → a ≡ is_at f i → u ≡ row_used t i → (a && u) ≡ row_ok t i
+  pub row-used : (f : Option ℕ) (a u : Bool) → (r.id ≡ 0 → ⊥) → f ≡ row_of t r.id → a ≡ is_at f i → u ≡ row_used t i → (a && u) ≡ row_ok t i
   unfolding row_ok
   row-used f a u q ef ea eu =
       let b : eqb (row_at t i).id 0 ≡ false = ne_eqb _ _ (λ z. q (ap (λ (k : Row). k.id) e ∙ z)) in
-      rw b (ap₂ ◌&&◌ (ea ∙ ap (λ (g : Found). is_at g i) (ef ∙ ap (λ (k : Row). row_of t k.id) e)) eu)
+      rw b (ap₂ ◌&&◌ (ea ∙ ap (λ (g : Option ℕ). is_at g i) (ef ∙ ap (λ (k : Row). row_of t k.id) e)) eu)
 
 module _ (t : Table) (i : ℕ) (h : Hold) (e : h ≡ hold_at t i) where
   pub hold-free : h.stamp ≡ 0 → (eqb h.row 0 && eqb h.owner 0) ≡ hold_ok t i
@@ -173,7 +172,7 @@ module _ (t : Table) (i : ℕ) (h : Hold) (e : h ≡ hold_at t i) where
       rw b
 
   pub live_in :
-      (row id next : ℕ) (f : Found) (a o : Bool) → row ≡ h.row → row < 34 → id ≡ (row_at t row).id → next ≡ t.next → f ≡ hold_of t h.stamp → a ≡ is_at f i → o ≡ is_owner h.owner
+      (row id next : ℕ) (f : Option ℕ) (a o : Bool) → row ≡ h.row → row < 34 → id ≡ (row_at t row).id → next ≡ t.next → f ≡ hold_of t h.stamp → a ≡ is_at f i → o ≡ is_owner h.owner
       → (not (eqb id 0) && (ltb h.stamp next && (a && o))) ≡ live_ok t i
   unfolding live_ok
   live_in row id next f a o er l ei en ef ea eo =
@@ -181,5 +180,5 @@ module _ (t : Table) (i : ℕ) (h : Hold) (e : h ≡ hold_at t i) where
       let s : h.stamp ≡ (hold_at t i).stamp = ap (λ (k : Hold). k.stamp) e in
       let b : ltb (hold_at t i).row 34 ≡ true = lt-ltb (hold_at t i).row 34 (omega (arith, r, l)) in
       let d : id ≡ (row_at t (hold_at t i).row).id = ei ∙ ap (λ (k : ℕ). (row_at t k).id) r in
-      let g : a ≡ is_at (hold_of t (hold_at t i).stamp) i = ea ∙ ap (λ (k : Found). is_at k i) (ef ∙ ap (hold_of t) s) in
+      let g : a ≡ is_at (hold_of t (hold_at t i).stamp) i = ea ∙ ap (λ (k : Option ℕ). is_at k i) (ef ∙ ap (hold_of t) s) in
       rw b (ap₂ ◌&&◌ (ap (λ (k : ℕ). not (eqb k 0)) d) (ap₂ ◌&&◌ (ap₂ ltb s en) (ap₂ ◌&&◌ g (eo ∙ ap (λ (k : Hold). is_owner k.owner) e))))

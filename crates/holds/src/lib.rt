@@ -2,14 +2,13 @@
 // wherever it is passed.
 #![tactic(auto)]
 
-ghost use Rattle.std.specs.Prelude.{◌≡◌, ◌<◌};
-ghost use Rattle.base.specs.declared.Found.TheVariants.{At};
+ghost use Rattle.std.specs.Prelude.{◌≡◌, ◌<◌, Some};
 ghost use Rattle.table.specs.Table.{hold_at, with_hold, hold_of, live_row, is_owner, own_holds, no_holds, can_hold, add_at, add_hold, close_hold};
 ghost use Rattle.table.specs.Formed.{is_at, hold_ok, row_ok, holds_ok, rows_ok, owners_ok, well_formed};
 ghost use Rattle.mem.specs.Mem.{table_in, Whole, Tabled};
 ghost use Rattle.holds.specs.Holds.{with_next, live_ok};
 
-use base::{Found, found_below, index};
+use base::{found_below, index};
 use mem::{find_row, id_at, row_at, row_held};
 use table::{Handle, Hold, record_zero};
 
@@ -42,18 +41,16 @@ fn put_next(mem: &mut [u8], next: u64)
 }
 
 // The lowest hold with that stamp; stamp 0 asks for a free hold.
-fn find_hold(mem: &[u8], stamp: u64) -> Found
+fn find_hold(mem: &[u8], stamp: u64) -> Option<usize>
     requires { Whole mem.now }
     ensures { result ≡ hold_of (table_in mem.now) stamp }
 {
-    let mut n: usize = 0;
-    while n < 32 {
+    for n in 0..32 {
         if hold_at(mem, n).stamp == stamp {
-            return Found::At(n);
+            return Some(n);
         }
-        n = n + 1;
     }
-    Found::Nothing
+    None
 }
 
 // No hold is live, whoever's: reason 24 is where this is false.
@@ -61,32 +58,25 @@ pub fn no_holds(mem: &[u8]) -> bool
     requires { Whole mem.now }
     ensures { result ≡ no_holds (table_in mem.now) }
 {
-    let mut n: usize = 0;
-    while n < 32 {
-        if hold_at(mem, n).stamp != 0 {
-            return false;
-        }
-        n = n + 1;
-    }
-    true
+    (0..32).all(|n| hold_at(mem, n).stamp == 0)
 }
 
 // ---- handles
 
 // The row of a live handle of who asks.
-pub fn live(mem: &[u8], who: u8, h: Handle) -> Found
+pub fn live(mem: &[u8], who: u8, h: Handle) -> Option<usize>
     requires { Whole mem.now }
     ensures { result ≡ live_row (table_in mem.now) who h }
 {
     let n = index(h.hold);
     if n >= 32 {
-        return Found::Nothing;
+        return None;
     }
     let held = hold_at(mem, n);
     if ((h.stamp != 0) & (held.stamp == h.stamp)) & (held.owner == who) {
         return found_below(index(held.row), 34);
     }
-    Found::Nothing
+    None
 }
 
 // Owners are 1 to 4.
@@ -102,13 +92,11 @@ fn own_holds(mem: &[u8], who: u8) -> usize
     ensures { result ≡ own_holds (table_in mem.now) who }
 {
     let mut own: usize = 0;
-    let mut n: usize = 0;
-    while n < 32 {
+    for n in 0..32 {
         let h = hold_at(mem, n);
         if (h.stamp != 0) & (h.owner == who) {
-            own = own + 1;
+            own += 1;
         }
-        n = n + 1;
     }
     own
 }
@@ -124,14 +112,14 @@ pub fn can_hold(mem: &[u8], who: u8) -> bool
 // A hold of who's on the row with the next stamp, at the free hold n.
 fn give_hold(mem: &mut [u8], who: u8, n: usize, row: u32) -> Handle
     requires { Whole mem.old × ((n < 32) × ((table_in mem.old).next < 18446744073709551615)) }
-    ensures { add_at (table_in mem.old) who row (At n) ≡ record { handle = result; table = table_in mem.new } }
+    ensures { add_at (table_in mem.old) who row (Some n) ≡ record { handle = result; table = table_in mem.new } }
 {
     let next = next_stamp(&mem[..]);
     put_hold(
         mem,
         n,
         Hold {
-            row: row,
+            row,
             stamp: next,
             owner: who,
         },
@@ -153,8 +141,8 @@ pub fn add_hold(mem: &mut [u8], who: u8, row: u32) -> Handle
     }
     let f = find_hold(&mem[..], 0);
     match f {
-        Found::At(n) => give_hold(mem, who, n, row),
-        Found::Nothing => Handle { hold: 0, stamp: 0 },
+        Some(n) => give_hold(mem, who, n, row),
+        None => Handle { hold: 0, stamp: 0 },
     }
 }
 
@@ -182,13 +170,10 @@ pub fn close_hold(mem: &mut [u8], hold: u32) -> bool
 
 // ---- well formed
 
-fn is_at(f: Found, i: usize) -> bool
+fn is_at(f: Option<usize>, i: usize) -> bool
     ensures { result ≡ is_at f i }
 {
-    match f {
-        Found::At(j) => j == i,
-        Found::Nothing => false,
-    }
+    f == Some(i)
 }
 
 // A live hold: its row is in use, its stamp is below the next, no lower hold has the stamp, and its owner is one.
@@ -231,14 +216,7 @@ fn holds_ok(mem: &[u8]) -> bool
     requires { Whole mem.now }
     ensures { result ≡ holds_ok (table_in mem.now) }
 {
-    let mut n: usize = 0;
-    while n < 32 {
-        if !hold_ok(mem, n) {
-            return false;
-        }
-        n = n + 1;
-    }
-    true
+    (0..32).all(|n| hold_ok(mem, n))
 }
 
 // No owner has more than 8.
@@ -246,28 +224,14 @@ fn owners_ok(mem: &[u8]) -> bool
     requires { Whole mem.now }
     ensures { result ≡ owners_ok (table_in mem.now) }
 {
-    let mut k: u8 = 0;
-    while k < 4 {
-        if own_holds(mem, k + 1) > 8 {
-            return false;
-        }
-        k = k + 1;
-    }
-    true
+    (1..5).all(|who| own_holds(mem, who) <= 8)
 }
 
 fn rows_ok(mem: &[u8]) -> bool
     requires { Whole mem.now }
     ensures { result ≡ rows_ok (table_in mem.now) }
 {
-    let mut i: usize = 0;
-    while i < 34 {
-        if !row_ok(mem, i) {
-            return false;
-        }
-        i = i + 1;
-    }
-    true
+    (0..34).all(|i| row_ok(mem, i))
 }
 
 // For any table, also one that no call returned.

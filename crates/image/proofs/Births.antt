@@ -15,7 +15,7 @@ use Rattle.base.proofs.Finds.{eq-cases}
 use Rattle.base.proofs.Sames.{decided-yes, same_true}
 use Rattle.base.proofs.Searches.{upd_same, upd_other}
 use Rattle.base.proofs.Tests.{decides-same}
-use Rattle.base.specs.declared.Found.TheVariants.{At}
+use Rattle.std.specs.Prelude.{Some}
 use Rattle.structs.specs.Types.{is_folder}
 use Rattle.structs.specs.declared.DiskEntry.{DiskEntry}
 use Rattle.structs.specs.declared.DiskINode.{DiskINode}
@@ -71,7 +71,7 @@ with_node v n c kind blocks size long slots = record {
 
 module _ {style : Spelling} (a b : List ℕ) (t u : Table) (M : Midway style none a t) (i : ℕ) (ui : Used t i)
     (dir : is_folder (row_at t i).rec.kind ≡ true) (lives : (row_at t i).rec.nlinks ≢ 0)
-    (c : ℕ) (free : free_row t ≡ At c) (id : ℕ) (m : Meta) (K : Taken (stored_meta a) m id)
+    (c : ℕ) (free : free_row t ≡ Some c) (id : ℕ) (m : Meta) (K : Taken (stored_meta a) m id)
     (r s : DiskINode) (R : Rowed a t c i id r s u)
     (name : List ℕ) (N : NewName a (rec_of a t (row_at t i).id) name)
     (least : 1 ≤ r.kind) (most : r.kind ≤ 4) (two : is_folder r.kind ≡ true → r.blocks ≡ 2) (small : r.size ≡ 0)

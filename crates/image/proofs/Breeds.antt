@@ -12,7 +12,7 @@ use Rattle.base.specs.Out.{done, bind, Ok, went}
 use Rattle.base.specs.Search.{pick}
 use Rattle.base.proofs.Outs.{ok-bind, ok-weaken}
 use Rattle.base.proofs.Bools.{true-false}
-use Rattle.base.specs.declared.Found.TheVariants.{At}
+use Rattle.std.specs.Prelude.{Some}
 use Rattle.le.specs.Le.{Bytes}
 use Rattle.structs.specs.Fits.{EntryFits}
 use Rattle.structs.specs.Layout.{entry_bytes}
@@ -67,7 +67,7 @@ pub record Settled (a f : List ℕ) (kind id up : ℕ) (s : DiskINode) (e : Disk
   pub housed : Housed a s e b
   pub others : (g : List ℕ) → g ≢ f → g ≢ s.file → Kept a b (file 1 g)
 
-module _ {style : Spelling} (a : List ℕ) (t : Table) (M : Midway style none a t) (i : ℕ) (ui : Used t i) (c : ℕ) (free : free_row t ≡ At c) (id : ℕ) (m : Meta) (some : id ≢ 0) where
+module _ {style : Spelling} (a : List ℕ) (t : Table) (M : Midway style none a t) (i : ℕ) (ui : Used t i) (c : ℕ) (free : free_row t ≡ Some c) (id : ℕ) (m : Meta) (some : id ≢ 0) where
   abbrev d : ℕ
   d = (row_at t i).id
 

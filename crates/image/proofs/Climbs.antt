@@ -11,8 +11,7 @@ use borrow.Author.Tests.{eq-eqb, ne_eqb, eqb-true, eqb-false, not-true}
 use Rattle.base.specs.Out.{Out, done, bind, guard, Ok, went}
 use Rattle.base.proofs.Outs.{ok-guard, ok-weaken}
 use Rattle.base.specs.Search.{pick}
-use Rattle.base.specs.declared.Found.{Found}
-use Rattle.base.specs.declared.Found.TheVariants.{At, Nothing}
+use Rattle.std.specs.Prelude.{Option, Some, None}
 use Rattle.base.proofs.Bools.{and_parts, true-false}
 use Rattle.structs.specs.Types.{is_folder}
 use Rattle.structs.specs.declared.DiskINode.{DiskINode}
@@ -54,9 +53,9 @@ module _ {style : Spelling} (s : Fs) (A : Fair style s.arena s.table) (meta : s.
       ∙ ap (λ (b : Bool). guard b 19 (record_by s id (row_of t id))) (used-is a t A id n)
       ∙ go (row_of t id)
     where
-      go : (f : Found) → record_by s id f ≡ done (rec_by s.arena s.table id f)
-      go (At i) = refl
-      go Nothing = rw (meta-read s.arena s.table A (128 * id) 112 (omega (arith, node-below s.arena id n)))
+      go : (f : Option ℕ) → record_by s id f ≡ done (rec_by s.arena s.table id f)
+      go (Some i) = refl
+      go None = rw (meta-read s.arena s.table A (128 * id) 112 (omega (arith, node-below s.arena id n)))
 
   -- what its slot 1 names
   pub dots-is : (x : ℕ) → Lives (tree_of s.arena s.table) x → dots_of s (rec_of s.arena s.table x) ≡ done (parent (tree_of s.arena s.table) x)

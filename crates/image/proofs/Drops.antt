@@ -14,8 +14,7 @@ use Rattle.base.proofs.Bools.{true-false}
 use Rattle.base.proofs.Finds.{eq-cases, search-cong, search-none}
 use Rattle.base.proofs.Lists.{tab-cong}
 use Rattle.base.specs.Search.{pick}
-use Rattle.base.specs.declared.Found.{Found}
-use Rattle.base.specs.declared.Found.TheVariants.{At, Nothing}
+use Rattle.std.specs.Prelude.{Option, Some, None}
 use Rattle.le.specs.Le.{Bytes}
 use Rattle.structs.specs.Layout.{super_of, record_of, record_bytes}
 use Rattle.structs.proofs.Layouts.{super_of-fits, record_of-record_bytes}
@@ -128,7 +127,7 @@ module _ {way : Look} {own : ℕ → Type 0} (a : List ℕ) (t : Table) (i : ℕ
   ids-apart : (j : ℕ) → j < 34 → (j ≡ i → ⊥) → (row_at t j).id ≢ id
   ids-apart j l d q = d (sym (M.formed.one-row i j used.below l used.node (sym q)))
 
-  own_row : row_of w id ≡ Nothing
+  own_row : row_of w id ≡ None
   unfolding row_of
   own_row =
       sym (search-none (is_row w id) 34 (λ j l. split (λ (x : Row). eqb x.id id ≡ false) j (λ e. ne_eqb 0 id (λ z. used.node (sym z))) (λ d. ne_eqb (row_at t j).id id (ids-apart j l d))))
@@ -152,9 +151,9 @@ module _ {way : Look} {own : ℕ → Type 0} (a : List ℕ) (t : Table) (i : ℕ
   unfolding rec_of
   other-rec b same k m d = ap (rec_by b w k) (other_row k (node-some a t M.fair k m) d) ∙ go (row_of t k) refl
     where
-      go : (f : Found) → row_of t k ≡ f → rec_by b w k f ≡ rec_by a t k f
-      go (At j) e = ap (λ (x : Row). x.rec) (else j (λ q. d (sym (row-found t k j e).1 ∙ ap (λ (m : ℕ). (row_at t m).id) q)))
-      go Nothing e = ap record_of (same k m)
+      go : (f : Option ℕ) → row_of t k ≡ f → rec_by b w k f ≡ rec_by a t k f
+      go (Some j) e = ap (λ (x : Row). x.rec) (else j (λ q. d (sym (row-found t k j e).1 ∙ ap (λ (m : ℕ). (row_at t m).id) q)))
+      go None e = ap record_of (same k m)
 
   own-rec : rec_of a w id ≡ rec_of a t id
   unfolding rec_of
@@ -164,7 +163,7 @@ module _ {way : Look} {own : ℕ → Type 0} (a : List ℕ) (t : Table) (i : ℕ
 
   other-open : (k : ℕ) → is_node a k ≡ true → k ≢ id → is_open t k ≡ true → is_open w k ≡ true
   unfolding is_open
-  other-open k m d o = ap (λ (f : Found). not (no_row f)) (other_row k (node-some a t M.fair k m) d) ∙ o
+  other-open k m d o = ap (λ (f : Option ℕ). not (no_row f)) (other_row k (node-some a t M.fair k m) d) ∙ o
 
   w-formed : Formed own w
   w-formed = free-kept t i M.formed used.below unheld

@@ -9,7 +9,7 @@ use borrow.Author.Tests.{eq-eqb}
 use lib.Dec.{eqb, ltb}
 use Rattle.base.specs.Count.{sum_to, count_to}
 use Rattle.base.specs.Search.{pick}
-use Rattle.base.specs.declared.Found.TheVariants.{Nothing}
+use Rattle.std.specs.Prelude.{None}
 use Rattle.base.proofs.Finds.{search-none}
 use Rattle.base.proofs.Bools.{and_both, and_parts, true-false}
 use Rattle.base.proofs.Counts.{sum_to-cong, sum_to-zero}
@@ -87,7 +87,7 @@ module _ (n : ℕ) (time : Timespec) (name b : List ℕ) (fine : legal b ≡ tru
   bit_is : (i : ℕ) → bit_at (stored_maps b) i ≡ bit_at root_map i
   bit_is i = ap (λ (m : List ℕ). bit_at m i) maps-is
 
-  no-row : row_of t 2 ≡ Nothing
+  no-row : row_of t 2 ≡ None
   unfolding row_of
   no-row = sym (search-none (is_row t 2) 34 (λ j l. ap (λ (k : ℕ). eqb k 2) (free j l)))
 

@@ -11,8 +11,7 @@ use lib.Seq.{get_or-set_same, get_or-set_other}
 use borrow.Author.Tests.{ltb-true}
 use Rattle.base.proofs.Bools.{and_parts}
 use Rattle.base.proofs.Finds.{eq-cases}
-use Rattle.base.specs.declared.Found.{Found}
-use Rattle.base.specs.declared.Found.TheVariants.{At, Nothing}
+use Rattle.std.specs.Prelude.{Option, Some, None}
 use Rattle.structs.specs.Layout.{record_bytes}
 use Rattle.table.specs.declared.Table.{Table}
 use Rattle.table.specs.declared.Row.{Row}
@@ -41,13 +40,13 @@ pub rows-rec : (a : List ℕ) (t u : Table) → u.rows ≡ t.rows → (id : ℕ)
 unfolding rec_of
 rows-rec a t u e id = ap (rec_by a u id) (rows_of t u e id) ∙ go (row_of t id)
   where
-    go : (f : Found) → rec_by a u id f ≡ rec_by a t id f
-    go (At j) = ap (λ (x : Row). x.rec) (rows_at t u e j)
-    go Nothing = refl
+    go : (f : Option ℕ) → rec_by a u id f ≡ rec_by a t id f
+    go (Some j) = ap (λ (x : Row). x.rec) (rows_at t u e j)
+    go None = refl
 
 pub rows-open : (t u : Table) → u.rows ≡ t.rows → (id : ℕ) → is_open u id ≡ is_open t id
 unfolding is_open
-rows-open t u e id = ap (λ (f : Found). not (no_row f)) (rows_of t u e id)
+rows-open t u e id = ap (λ (f : Option ℕ). not (no_row f)) (rows_of t u e id)
 
 pub add-rows : (t : Table) (w row : ℕ) → (add_hold t w row).table.rows ≡ t.rows
 add-rows t w row = add-cases (λ u. u.rows ≡ t.rows) t w row refl (λ g. refl)

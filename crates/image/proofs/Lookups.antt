@@ -15,8 +15,7 @@ use Rattle.base.proofs.Sames.{decided-yes}
 use Rattle.base.proofs.Tests.{decides-same}
 use Rattle.base.proofs.Searches.{lowest-hit, at-found}
 use Rattle.base.specs.Search.{pick, lowest, found_below}
-use Rattle.base.specs.declared.Found.{Found}
-use Rattle.base.specs.declared.Found.TheVariants.{At, Nothing}
+use Rattle.std.specs.Prelude.{Option, Some, None}
 use Rattle.le.specs.Le.{Bytes}
 use Rattle.structs.specs.declared.DiskINode.{DiskINode}
 use Rattle.structs.specs.declared.DiskEntry.{DiskEntry}
@@ -76,11 +75,11 @@ module _ (a : List ℕ) (t : Table) (A : Allowed a t) (b : Bytes a) (id : ℕ) (
       ok-bind (found g e) λ k h.
       ok-bind (ok-is (slot_is a t A b id f k h.0)) λ x q. went (record { inside = h.0; is = q; named = h.1 })
     where
-      found : (g : Found) → g ≡ found_below (lowest p r.blocks) r.blocks → Ok (λ k. (k < r.blocks) × (p k ≡ true)) (λ n. n ≡ 11) (or_not_found g)
-      found (At k) e =
+      found : (g : Option ℕ) → g ≡ found_below (lowest p r.blocks) r.blocks → Ok (λ k. (k < r.blocks) × (p k ≡ true)) (λ n. n ≡ 11) (or_not_found g)
+      found (Some k) e =
           let q = at-found (lowest p r.blocks) r.blocks k (sym e) in
           went (q.1, subst (λ (j : ℕ). p j ≡ true) (sym q.0) (lowest-hit p r.blocks (omega arith)))
-      found Nothing e = said refl
+      found None e = said refl
 
 -- ---- what a slot that has a name names
 

@@ -11,7 +11,7 @@ use Rattle.base.specs.Out.{done, bind, guard, Ok, went}
 use Rattle.base.proofs.Outs.{ok-bind, ok-weaken}
 use Rattle.base.proofs.Bools.{true-false}
 use Rattle.base.proofs.Finds.{search-none}
-use Rattle.base.specs.declared.Found.TheVariants.{At, Nothing}
+use Rattle.std.specs.Prelude.{Some, None}
 use Rattle.le.specs.Le.{Bytes}
 use Rattle.structs.specs.declared.DiskINode.{DiskINode}
 use Rattle.structs.specs.declared.Timespec.{Timespec}
@@ -59,8 +59,8 @@ pub record Makes (s : Fs) (m : Meta) (r : DiskINode) (o : Opened) : Type 0 where
   pub meta : Meta
   pub id : ℕ
   pub is : o.state ≡ record { arena = arena; table = take_row s.table o.row id r true; meta = done meta }
-  pub free : free_row s.table ≡ At o.row
-  pub none : row_of s.table id ≡ Nothing
+  pub free : free_row s.table ≡ Some o.row
+  pub none : row_of s.table id ≡ None
   pub taken : Taken m meta id
   pub ground : Ground s.arena (131072 * meta.super.groups) arena
   pub exists : there arena (file 1 r.file) ≡ true
@@ -76,10 +76,10 @@ make-file a f N = ok-weaken (λ b M. M) (λ r q. why q) (make-law a f N)
 module _ (s : Fs) (m : Meta) (known : s.meta ≡ done m) (S : Sane m) (exists : there s.arena meta_file ≡ true) (long : length_of s.arena meta_file ≡ 131072 * m.super.groups)
     (bytes : Bytes s.arena) (fine : sound s.arena ≡ true)
     (nodes : (j : ℕ) → j < 34 → (row_at s.table j).id ≢ 0 → node_in m (row_at s.table j).id ≡ true)
-    (i : ℕ) (free : free_row s.table ≡ At i)
+    (i : ℕ) (free : free_row s.table ≡ Some i)
     (name : List ℕ) (N : Named (file 1 name)) (new : there s.arena (file 1 name) ≡ false) where
   -- an id that is taken has no row
-  no-row : (n : Meta) (id : ℕ) → Taken m n id → row_of s.table id ≡ Nothing
+  no-row : (n : Meta) (id : ℕ) → Taken m n id → row_of s.table id ≡ None
   unfolding row_of
   no-row n id K =
       sym (search-none (is_row s.table id) 34 (λ j l. ne_eqb (row_at s.table j).id id (λ e.

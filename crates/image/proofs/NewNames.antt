@@ -15,8 +15,7 @@ use Rattle.base.proofs.Finds.{search-nothing}
 use Rattle.base.proofs.Parts.{get_or-zero-list}
 use Rattle.base.proofs.Sames.{decided-yes}
 use Rattle.base.specs.Search.{lowest, found_below}
-use Rattle.base.specs.declared.Found.{Found}
-use Rattle.base.specs.declared.Found.TheVariants.{At, Nothing}
+use Rattle.std.specs.Prelude.{Option, Some, None}
 use Rattle.le.specs.Le.{Bytes}
 use Rattle.structs.specs.Fits.{EntryFits}
 use Rattle.structs.proofs.Joins.{bytes-append}
@@ -52,7 +51,7 @@ asked-full [] n = absurd (n refl)
 asked-full (x ∷ l) n = refl
 
 module _ (a : List ℕ) (t : Table) (id : ℕ) (F : Folder a t id) (name : List ℕ) (g : NewGood name) (short : length name ≤ 255)
-    (none : found_below (lowest (λ k. is_named (slot_in a (rec_of a t id) k).name name) (rec_of a t id).blocks) (rec_of a t id).blocks ≡ Nothing) where
+    (none : found_below (lowest (λ k. is_named (slot_in a (rec_of a t id) k).name name) (rec_of a t id).blocks) (rec_of a t id).blocks ≡ None) where
   abbrev r : DiskINode
   r = rec_of a t id
 
@@ -90,6 +89,6 @@ entry-fits id name kind i k s b = record {
 }
 
 -- none was found, or 12
-pub exists-law : (f : Found) → Ok (λ _. f ≡ Nothing) Clear (or_exists f)
-exists-law (At k) = said (clear 12 refl)
-exists-law Nothing = went refl
+pub exists-law : (f : Option ℕ) → Ok (λ _. f ≡ None) Clear (or_exists f)
+exists-law (Some k) = said (clear 12 refl)
+exists-law None = went refl

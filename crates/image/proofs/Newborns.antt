@@ -10,8 +10,7 @@ use lib.Dec.{eqb}
 use borrow.Author.Tests.{ne_eqb}
 use Rattle.base.proofs.Bools.{true-false}
 use Rattle.base.proofs.Finds.{eq-cases, search-cong}
-use Rattle.base.specs.declared.Found.{Found}
-use Rattle.base.specs.declared.Found.TheVariants.{At, Nothing}
+use Rattle.std.specs.Prelude.{Option, Some, None}
 use Rattle.structs.specs.Fits.{RecordFits}
 use Rattle.structs.specs.Layout.{record_of, record_bytes}
 use Rattle.structs.specs.declared.DiskINode.{DiskINode}
@@ -46,7 +45,7 @@ pub record Rowed (a : List ℕ) (t : Table) (c i id : ℕ) (r s : DiskINode) (u 
   pub child-like : Like (row_at u c).rec r
   pub own_like : Like (row_at u i).rec s
 
-module _ {style : Spelling} (a : List ℕ) (t : Table) (M : Midway style none a t) (c i id : ℕ) (free : free_row t ≡ At c) (ui : Used t i) (some : id ≢ 0) where
+module _ {style : Spelling} (a : List ℕ) (t : Table) (M : Midway style none a t) (c i id : ℕ) (free : free_row t ≡ Some c) (ui : Used t i) (some : id ≢ 0) where
   in34 : c < 34
   in34 = (row-found t 0 c free).0
 
@@ -57,7 +56,7 @@ module _ {style : Spelling} (a : List ℕ) (t : Table) (M : Midway style none a 
   rows_apart q = ui.node (ap (λ (j : ℕ). (row_at t j).id) q ∙ was_free)
 
   -- the row is taken
-  module _ (new : row_of t id ≡ Nothing) (r : DiskINode) (F : RecordFits r) (small : id < 2 ^ 32) where
+  module _ (new : row_of t id ≡ None) (r : DiskINode) (F : RecordFits r) (small : id < 2 ^ 32) where
     abbrev row : Row
     row = record { id = id; dirty = true; rec = r }
 
@@ -152,19 +151,19 @@ module _ {style : Spelling} (a : List ℕ) (t : Table) (M : Midway style none a 
 
     pub open-else : (k : ℕ) → k ≢ 0 → k ≢ id → is_open u k ≡ is_open t k
     unfolding is_open
-    open-else k z d = ap (λ (f : Found). not (no_row f)) (row-else k z d)
+    open-else k z d = ap (λ (f : Option ℕ). not (no_row f)) (row-else k z d)
 
     pub open-child : is_open u id ≡ true
     unfolding is_open
-    open-child = ap (λ (f : Found). not (no_row f)) (ap (row_of u) (sym R.child) ∙ row_is u R.formed c in34 used-child.node)
+    open-child = ap (λ (f : Option ℕ). not (no_row f)) (ap (row_of u) (sym R.child) ∙ row_is u R.formed c in34 used-child.node)
 
     -- and the record that it had, where that is stored as it was
     pub rec-else : (b : List ℕ) (k : ℕ) → stored_bytes b k ≡ stored_bytes a k → k ≢ 0 → k ≢ id → k ≢ (row_at t i).id → rec_of b u k ≡ rec_of a t k
     unfolding rec_of
     rec-else b k same z d e = ap (rec_by b u k) (row-else k z d) ∙ go (row_of t k) refl
       where
-        go : (f : Found) → row_of t k ≡ f → rec_by b u k f ≡ rec_by a t k f
-        go (At j) q =
+        go : (f : Option ℕ) → row_of t k ≡ f → rec_by b u k f ≡ rec_by a t k f
+        go (Some j) q =
             let y : (row_at t j).id ≡ k = (row-found t k j q).1 in
             ap (λ (x : Row). x.rec) (R.others j (λ p. z (sym y ∙ ap (λ (n : ℕ). (row_at t n).id) p ∙ was_free)) (λ p. e (sym y ∙ ap (λ (n : ℕ). (row_at t n).id) p)))
-        go Nothing q = ap record_of same
+        go None q = ap record_of same

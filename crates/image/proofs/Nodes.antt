@@ -11,7 +11,7 @@ use Rattle.base.specs.Out.{Out, done, bind}
 use Rattle.base.proofs.Bools.{and_both, and_parts, bool_cases}
 use Rattle.base.proofs.Tests.{decides-leb}
 use Rattle.base.proofs.Sames.{decided-yes}
-use Rattle.base.specs.declared.Found.TheVariants.{At, Nothing}
+use Rattle.std.specs.Prelude.{Some, None}
 use Rattle.structs.specs.Layout.{record_of}
 use Rattle.structs.specs.declared.DiskINode.{DiskINode}
 use Rattle.maps.specs.Maps.{bit_at}
@@ -73,16 +73,16 @@ module _ {k : Look} (a : List ℕ) (t : Table) (A : Fairly k a t) where
         eqb-false id 0 (not-true (eqb id 0) y.0)
 
     -- it has a row
-    pub node-held : (i : ℕ) → row_of t id ≡ At i → get_node (start a t) id ≡ done (opened (start a t) i)
+    pub node-held : (i : ℕ) → row_of t id ≡ Some i → get_node (start a t) id ≡ done (opened (start a t) i)
     unfolding get_node
     node-held i e = rw (meta-is, used-is, e)
 
     -- or its record is read, into the lowest free row
-    pub stored_is : row_of t id ≡ Nothing → record_of (stored_bytes a id) ≡ rec_of a t id
+    pub stored_is : row_of t id ≡ None → record_of (stored_bytes a id) ≡ rec_of a t id
     unfolding rec_of
     stored_is e = sym (ap (rec_by a t id) e)
 
-    pub node-read : (i : ℕ) → row_of t id ≡ Nothing → free_row t ≡ At i
+    pub node-read : (i : ℕ) → row_of t id ≡ None → free_row t ≡ Some i
         → get_node (start a t) id ≡ done (opened (with_table (start a t) (take_row t i id (record_of (stored_bytes a id)) false)) i)
     unfolding get_node load_node stored_bytes
     node-read i e f =

@@ -6,8 +6,7 @@ use mathlib.Core.Logic.{◌≢◌, ⊎_elim}
 use Prim.Native.Nat.{ℕ, ◌<◌}
 use native.Mathlib.Omega.{arith}
 use Rattle.base.proofs.Finds.{eq-cases}
-use Rattle.base.specs.declared.Found.{Found}
-use Rattle.base.specs.declared.Found.TheVariants.{At, Nothing}
+use Rattle.std.specs.Prelude.{Option, Some, None}
 use Rattle.structs.specs.Fits.{RecordFits}
 use Rattle.structs.specs.declared.DiskINode.{DiskINode}
 use Rattle.table.specs.declared.Table.{Table}
@@ -101,13 +100,13 @@ module _ (a : List ℕ) (t : Table) (A : Allowed a t) (i : ℕ) (used : Used t i
   same_row : (id : ℕ) → row_of u id ≡ row_of t id
   same_row id = row_same u t id (λ j l. same_id j)
 
-  like-by : (id : ℕ) (f : Found) → Like (rec_by a u id f) (rec_by a t id f)
-  like-by id (At j) = split (λ (x : Row). Like x.rec (row_at t j).rec) j (λ e. subst (λ (k : ℕ). Like r (row_at t k).rec) (sym e) like) (λ n. like-same refl)
-  like-by id Nothing = like-same refl
+  like-by : (id : ℕ) (f : Option ℕ) → Like (rec_by a u id f) (rec_by a t id f)
+  like-by id (Some j) = split (λ (x : Row). Like x.rec (row_at t j).rec) j (λ e. subst (λ (k : ℕ). Like r (row_at t k).rec) (sym e) like) (λ n. like-same refl)
+  like-by id None = like-same refl
 
   like-all : (id : ℕ) → Like (rec_of a u id) (rec_of a t id)
   unfolding rec_of
-  like-all id = subst (λ (f : Found). Like (rec_by a u id f) (rec_by a t id (row_of t id))) (sym (same_row id)) (like-by id (row_of t id))
+  like-all id = subst (λ (f : Option ℕ). Like (rec_by a u id f) (rec_by a t id (row_of t id))) (sym (same_row id)) (like-by id (row_of t id))
 
   open-all : (id : ℕ) → is_open t id ≡ true → is_open u id ≡ true
   unfolding is_open

@@ -9,8 +9,7 @@ use native.Mathlib.Omega.{arith}
 use lib.Dec.{eqb, ltb}
 use Rattle.base.proofs.Bools.{true-false}
 use Rattle.base.proofs.Finds.{eq-cases}
-use Rattle.base.specs.declared.Found.{Found}
-use Rattle.base.specs.declared.Found.TheVariants.{At, Nothing}
+use Rattle.std.specs.Prelude.{Option, Some, None}
 use Rattle.structs.specs.Fits.{RecordFits}
 use Rattle.structs.specs.Layout.{record_of, record_bytes}
 use Rattle.structs.specs.declared.DiskINode.{DiskINode}
@@ -71,7 +70,7 @@ module _ {own : ℕ → Type 0} (t : Table) (O : Formed own t) (i : ℕ) (used :
 
   pub reset-open : (k : ℕ) → is_open (take_row t i (row_at t i).id r true) k ≡ is_open t k
   unfolding is_open
-  reset-open k = ap (λ (f : Found). not (no_row f)) (same_row k)
+  reset-open k = ap (λ (f : Option ℕ). not (no_row f)) (same_row k)
 
   pub reset-own : (a : List ℕ) → rec_of a (take_row t i (row_at t i).id r true) (row_at t i).id ≡ r
   unfolding rec_of
@@ -81,9 +80,9 @@ module _ {own : ℕ → Type 0} (t : Table) (O : Formed own t) (i : ℕ) (used :
   unfolding rec_of
   reset-other a k d = ap (rec_by a u k) (same_row k) ∙ go (row_of t k) refl
     where
-      go : (f : Found) → row_of t k ≡ f → rec_by a u k f ≡ rec_by a t k f
-      go (At j) e = ap (λ (x : Row). x.rec) (reset-apart j (λ q. d (sym (row-found t k j e).1 ∙ ap (λ (m : ℕ). (row_at t m).id) q)))
-      go Nothing e = refl
+      go : (f : Option ℕ) → row_of t k ≡ f → rec_by a u k f ≡ rec_by a t k f
+      go (Some j) e = ap (λ (x : Row). x.rec) (reset-apart j (λ q. d (sym (row-found t k j e).1 ∙ ap (λ (m : ℕ). (row_at t m).id) q)))
+      go None e = refl
 
   pub reset-formed : Formed own (take_row t i (row_at t i).id r true)
   reset-formed = change-row t O i used.below row used.node refl
@@ -99,9 +98,9 @@ pub recs-kept : (a b : List ℕ) (t : Table) → Kept a b meta_file → (k : ℕ
 unfolding rec_of
 recs-kept a b t K k = go (row_of t k)
   where
-    go : (f : Found) → rec_by b t k f ≡ rec_by a t k f
-    go (At j) = refl
-    go Nothing = ap record_of (stored-kept a b K k)
+    go : (f : Option ℕ) → rec_by b t k f ≡ rec_by a t k f
+    go (Some j) = refl
+    go None = ap record_of (stored-kept a b K k)
 
 pub nodes-kept : (a b : List ℕ) → Kept a b meta_file → (k : ℕ) → is_node b k ≡ is_node a k
 unfolding is_node
@@ -161,4 +160,4 @@ module _ {was-way : Look} (way : Look) (a b : List ℕ) (t u : Table) (A : Fairl
 -- a node with a row is open
 pub row_open : {own : ℕ → Type 0} (t : Table) → Formed own t → (i : ℕ) → Used t i → is_open t (row_at t i).id ≡ true
 unfolding is_open
-row_open t O i u = ap (λ (f : Found). not (no_row f)) (row_is t O i u.below u.node)
+row_open t O i u = ap (λ (f : Option ℕ). not (no_row f)) (row_is t O i u.below u.node)

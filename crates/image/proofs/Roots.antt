@@ -9,7 +9,7 @@ use lib.ListN.{length, replicate, length-replicate, get_or-replicate, get_or-eq_
 use Rattle.base.specs.Count.{sum_to, all_to, count_to}
 use Rattle.base.specs.Out.{Out, done}
 use Rattle.base.specs.Search.{lowest, found_below}
-use Rattle.base.specs.declared.Found.TheVariants.{At, Nothing}
+use Rattle.std.specs.Prelude.{Some, None}
 use Rattle.base.proofs.Counts.{all_to-true}
 use Rattle.base.proofs.Numbers.{lt-or-le}
 use Rattle.base.proofs.Searches.{lowest-here}
@@ -115,11 +115,11 @@ alloc-root a = rw first_two (take-root a)
 
 -- ---- the row is taken
 
-empty-two : row_of empty_table 2 ≡ Nothing
+empty-two : row_of empty_table 2 ≡ None
 unfolding row_of lowest found_below
 empty-two = refl
 
-empty-free : row_of empty_table 0 ≡ At 0
+empty-free : row_of empty_table 0 ≡ Some 0
 unfolding row_of lowest found_below
 empty-free = refl
 

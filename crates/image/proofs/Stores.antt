@@ -16,8 +16,7 @@ use Rattle.base.proofs.Lists.{tab-cong, tab-get_or}
 use Rattle.base.proofs.Numbers.{lt-or-le}
 use Rattle.base.proofs.Finds.{eq-cases}
 use Rattle.base.specs.Search.{pick}
-use Rattle.base.specs.declared.Found.{Found}
-use Rattle.base.specs.declared.Found.TheVariants.{At, Nothing}
+use Rattle.std.specs.Prelude.{Option, Some, None}
 use Rattle.le.specs.Le.{Bytes}
 use Rattle.structs.specs.Fits.{RecordFits}
 use Rattle.structs.specs.Layout.{super_of, record_of, record_bytes}
@@ -168,13 +167,13 @@ module _ {way : Look} {own : ℕ → Type 0} (a : List ℕ) (t : Table) (A : Fai
     unfolding rec_of
     same-all k = ap (rec_by b u k) (same_row k) ∙ go (row_of t k) refl
       where
-        go : (f : Found) → row_of t k ≡ f → rec_by b u k f ≡ rec_by a t k f
-        go (At j) e = same-rec j
-        go Nothing e = ap record_of (put-others a t A id n src long b P k (λ q. row-missing t k e i used.below (sym q)))
+        go : (f : Option ℕ) → row_of t k ≡ f → rec_by b u k f ≡ rec_by a t k f
+        go (Some j) e = same-rec j
+        go None e = ap record_of (put-others a t A id n src long b P k (λ q. row-missing t k e i used.below (sym q)))
 
     open-all : (k : ℕ) → is_open t k ≡ true → is_open u k ≡ true
     unfolding is_open
-    open-all k o = ap (λ (f : Found). not (no_row f)) (same_row k) ∙ o
+    open-all k o = ap (λ (f : Option ℕ). not (no_row f)) (same_row k) ∙ o
 
     pub stored-fair : Fairly way b (with_dirty t i false)
     stored-fair =

@@ -11,8 +11,7 @@ use borrow.Author.Tests.{ne_eqb}
 use Rattle.base.specs.Out.{Ok, went}
 use Rattle.base.proofs.Finds.{eq-cases, search-cong}
 use Rattle.base.proofs.Lists.{length-tab}
-use Rattle.base.specs.declared.Found.{Found}
-use Rattle.base.specs.declared.Found.TheVariants.{At, Nothing}
+use Rattle.std.specs.Prelude.{Option, Some, None}
 use Rattle.le.specs.Le.{Bytes}
 use Rattle.structs.specs.Layout.{record_of, record_bytes}
 use Rattle.structs.proofs.Layouts.{record_bytes-record_of, record_of-fits}
@@ -57,7 +56,7 @@ pub record Gets (way : Look) (own : ℕ → Type 0) (a : List ℕ) (t : Table) (
 abbrev pub Got : Spelling → List ℕ → Table → ℕ → Opened → Type 0
 Got style a t id o = Gets (plain style) none a t id o
 
-module _ {way : Look} {own : ℕ → Type 0} (a : List ℕ) (t : Table) (M : Amid way own a t) (id : ℕ) (n : is_node a id ≡ true) (i : ℕ) (new : row_of t id ≡ Nothing) (free : free_row t ≡ At i) where
+module _ {way : Look} {own : ℕ → Type 0} (a : List ℕ) (t : Table) (M : Amid way own a t) (id : ℕ) (n : is_node a id ≡ true) (i : ℕ) (new : row_of t id ≡ None) (free : free_row t ≡ Some i) where
   abbrev rec : DiskINode
   rec = record_of (stored_bytes a id)
 
@@ -96,18 +95,18 @@ module _ {way : Look} {own : ℕ → Type 0} (a : List ℕ) (t : Table) (M : Ami
   u-formed : Formed (also own i) u
   u-formed = take-kept t M.formed i in34 id rec false was_free (some id n) (row-missing t id new)
 
-  own_row : row_of u id ≡ At i
+  own_row : row_of u id ≡ Some i
   own_row =
       let e : (row_at u i).id ≡ id = ap (λ (x : Row). x.id) (here i refl) in
-      subst (λ (k : ℕ). row_of u k ≡ At i) e (row_is u u-formed i in34 (λ z. some id n (sym e ∙ z)))
+      subst (λ (k : ℕ). row_of u k ≡ Some i) e (row_is u u-formed i in34 (λ z. some id n (sym e ∙ z)))
 
   other-rec : (k : ℕ) → k ≢ 0 → k ≢ id → rec_of a u k ≡ rec_of a t k
   unfolding rec_of
   other-rec k z d = ap (rec_by a u k) (other_row k z d) ∙ go (row_of t k) refl
     where
-      go : (f : Found) → row_of t k ≡ f → rec_by a u k f ≡ rec_by a t k f
-      go (At j) e = ap (λ (x : Row). x.rec) (else j (λ q. z (sym (row-found t k j e).1 ∙ ap (λ (m : ℕ). (row_at t m).id) q ∙ was_free)))
-      go Nothing e = refl
+      go : (f : Option ℕ) → row_of t k ≡ f → rec_by a u k f ≡ rec_by a t k f
+      go (Some j) e = ap (λ (x : Row). x.rec) (else j (λ q. z (sym (row-found t k j e).1 ∙ ap (λ (m : ℕ). (row_at t m).id) q ∙ was_free)))
+      go None e = refl
 
   own-rec : rec_of a u id ≡ rec_of a t id
   unfolding rec_of
@@ -124,8 +123,8 @@ module _ {way : Look} {own : ℕ → Type 0} (a : List ℕ) (t : Table) (M : Ami
   unfolding is_open
   open-all k m o =
       ⊎_elim
-      (λ (e : k ≡ id). ap (λ (f : Found). not (no_row f)) (ap (row_of u) e ∙ own_row))
-      (λ d. ap (λ (f : Found). not (no_row f)) (other_row k (some k m) d) ∙ o)
+      (λ (e : k ≡ id). ap (λ (f : Option ℕ). not (no_row f)) (ap (row_of u) e ∙ own_row))
+      (λ d. ap (λ (f : Option ℕ). not (no_row f)) (other_row k (some k m) d) ∙ o)
       (eq-cases k id)
 
   stored-long : length (stored_bytes a id) ≡ 112
@@ -165,8 +164,8 @@ module _ {way : Look} {own : ℕ → Type 0} (a : List ℕ) (t : Table) (M : Ami
 pub get-more : {way : Look} {own : ℕ → Type 0} {R : ℕ → Type 0} (a : List ℕ) (t : Table) → Amid way own a t → (k : ℕ) → ((j : ℕ) → own j → j ≡ k) → (id : ℕ) → is_node a id ≡ true → Ok (Gets way own a t id) R (get_node (start a t) id)
 get-more {way = way} {own = own} {R = R} a t M k only id n = go (row_of t id) refl
   where
-    go : (f : Found) → row_of t id ≡ f → Ok (Gets way own a t id) R (get_node (start a t) id)
-    go (At i) e =
+    go : (f : Option ℕ) → row_of t id ≡ f → Ok (Gets way own a t id) R (get_node (start a t) id)
+    go (Some i) e =
         let s = row-found t id i e in
         rw (node-held a t M.fair id n i e)
         (went (record {
@@ -181,7 +180,7 @@ get-more {way = way} {own = own} {R = R} a t M k only id n = go (row_of t id) re
           how = inl refl;
           can = λ w. refl;
         }))
-    go Nothing e =
+    go None e =
         let s = spare-row t k M.formed only in
         rw (node-read a t M.fair id n s.0 e s.1) (went (taken a t M id n s.0 e s.1))
 

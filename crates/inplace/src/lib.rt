@@ -12,7 +12,7 @@ ghost use Rattle.arena.specs.Places.{free_of, data_of};
 ghost use Rattle.files.specs.Store.{clear_all, is_past, is_of, zero_tail};
 
 use arena::{is_data, is_free, is_head, make_block, put_check};
-use base::{clear, copy, index};
+use base::{clear, index};
 use le::{put_u32, u32_at};
 
 // ---- a block of 512 bytes
@@ -31,7 +31,7 @@ fn edit_block(b: &mut [u8], off: usize, src: &[u8])
 {
     let s = 24 + off;
     let e = s + src.len();
-    copy(&mut b[s..e], src);
+    b[s..e].copy_from_slice(src);
     put_check(b);
 }
 
@@ -58,10 +58,7 @@ fn is_past(b: &[u8], which: u8, name: &[u8; 16], len: usize) -> bool
     ensures { result ≡ is_past (file which name.now) len b.now }
 {
     let q = u32_at(b, 20);
-    if !is_data(b, which, name, q) {
-        return false;
-    }
-    len <= 480 * index(q)
+    is_data(b, which, name, q) && len <= 480 * index(q)
 }
 
 // Whether it is a block of the file: its head, or one of its data blocks.
@@ -69,10 +66,7 @@ pub fn is_of(b: &[u8], which: u8, name: &[u8; 16]) -> bool
     requires { length b.now ≡ 512 }
     ensures { result ≡ is_of (file which name.now) b.now }
 {
-    if is_head(b, which, name) {
-        return true;
-    }
-    is_data(b, which, name, u32_at(b, 20))
+    is_head(b, which, name) || is_data(b, which, name, u32_at(b, 20))
 }
 
 // ---- block k of the arena
@@ -149,13 +143,10 @@ fn free_at(arena: &mut [u8], k: usize, yes: bool)
 pub fn free_past(arena: &mut [u8], which: u8, name: &[u8; 16], len: usize)
     ensures { arena.new ≡ clear_all (is_past (file which name.now) len) arena.old }
 {
-    let n = arena.len() / 512;
-    let mut k: usize = 0;
-    while k < n {
+    for k in 0..arena.len() / 512 {
         let o = 512 * k;
         let yes = is_past(&arena[o..o + 512], which, name, len);
         free_at(arena, k, yes);
-        k = k + 1;
     }
 }
 
@@ -163,13 +154,10 @@ pub fn free_past(arena: &mut [u8], which: u8, name: &[u8; 16], len: usize)
 pub fn drop_file(arena: &mut [u8], which: u8, name: &[u8; 16])
     ensures { arena.new ≡ clear_all (is_of (file which name.now)) arena.old }
 {
-    let n = arena.len() / 512;
-    let mut k: usize = 0;
-    while k < n {
+    for k in 0..arena.len() / 512 {
         let o = 512 * k;
         let yes = is_of(&arena[o..o + 512], which, name);
         free_at(arena, k, yes);
-        k = k + 1;
     }
 }
 
@@ -181,13 +169,11 @@ pub fn next_free(arena: &[u8], from: usize) -> usize
     ensures { result ≡ free_of arena.now }
 {
     let n = arena.len() / 512;
-    let mut k = from;
-    while k < n {
+    for k in from..n {
         let o = 512 * k;
         if is_free(&arena[o..o + 512]) {
             return k;
         }
-        k = k + 1;
     }
     n
 }
@@ -197,13 +183,11 @@ fn find_data(arena: &[u8], which: u8, name: &[u8; 16], number: u32) -> usize
     ensures { result ≡ data_of arena.now (file which name.now) number }
 {
     let n = arena.len() / 512;
-    let mut k: usize = 0;
-    while k < n {
+    for k in 0..n {
         let o = 512 * k;
         if is_data(&arena[o..o + 512], which, name, number) {
             return k;
         }
-        k = k + 1;
     }
     n
 }

@@ -7,7 +7,7 @@ use Prim.Native.Nat.{ℕ, ◌<◌}
 use lib.Dec.{eqb, ltb}
 use lib.ListN.{get_or-replicate}
 use borrow.Author.Tests.{ne_eqb, eqb-false, not-true}
-use Rattle.base.specs.declared.Found.TheVariants.{Nothing}
+use Rattle.std.specs.Prelude.{None}
 use Rattle.base.proofs.Bools.{and_parts}
 use Rattle.base.proofs.Finds.{search-none}
 use Rattle.structs.specs.Layout.{record_of}
@@ -49,7 +49,7 @@ delivers a room t e =
 pub empty-id : (i : ℕ) → i < 34 → (row_at empty_table i).id ≡ 0
 empty-id i l = ap (λ (r : Row). r.id) (get_or-replicate 34 i zero_row off_row l)
 
-empty-row : (id : ℕ) → id ≢ 0 → row_of empty_table id ≡ Nothing
+empty-row : (id : ℕ) → id ≢ 0 → row_of empty_table id ≡ None
 unfolding row_of
 empty-row id n = sym (search-none (is_row empty_table id) 34 (λ j l. ne_eqb (row_at empty_table j).id id (λ e. n (sym e ∙ empty-id j l))))
 

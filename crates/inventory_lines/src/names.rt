@@ -16,21 +16,16 @@ fn is_escaped(b: u8) -> bool
 fn byte_size(b: u8) -> usize
     ensures { (result ≡ length (escape_byte b)) × (result ≤ 3) }
 {
-    if is_escaped(b) {
-        return 3;
-    }
-    1
+    if is_escaped(b) { 3 } else { 1 }
 }
 
 pub fn escaped_size(name: &[u8]) -> usize
     requires { length name.now ≤ 256 }
     ensures { (result ≡ length (escape name.now)) × (result ≤ 768) }
 {
-    let mut i: usize = 0;
-    let mut n: usize = 0;
-    while i < name.len() {
-        n = n + byte_size(name[i]);
-        i = i + 1;
+    let mut n = 0;
+    for b in name {
+        n += byte_size(*b);
     }
     n
 }
@@ -39,10 +34,7 @@ fn hex_digit(d: u8) -> u8
     requires { d < 16 }
     ensures { result ≡ hex_digit d }
 {
-    if d < 10 {
-        return 48 + d;
-    }
-    87 + d
+    if d < 10 { b'0' + d } else { 87 + d }
 }
 
 // One byte from `at` on; where it ends.
@@ -65,11 +57,9 @@ pub fn put_escaped(out: &mut [u8], at: usize, name: &[u8]) -> usize
     requires { at + length (escape name.now) ≤ length out.old }
     ensures { (result ≡ at + length (escape name.now)) × (out.new ≡ paste out.old at (escape name.now)) }
 {
-    let mut i: usize = 0;
     let mut e = at;
-    while i < name.len() {
-        e = put_byte(out, e, name[i]);
-        i = i + 1;
+    for b in name {
+        e = put_byte(out, e, *b);
     }
     e
 }
@@ -79,9 +69,7 @@ pub fn copy_on(out: &mut [u8], from: usize, to: usize, n: usize)
     requires { (from + n ≤ to) × (to + n ≤ length out.old) }
     ensures { out.new ≡ paste out.old to (part out.old from (from + n)) }
 {
-    let mut i: usize = 0;
-    while i < n {
+    for i in 0..n {
         out[to + i] = out[from + i];
-        i = i + 1;
     }
 }

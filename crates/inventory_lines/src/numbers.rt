@@ -9,9 +9,10 @@ pub fn number_size(n: u32) -> usize
 {
     let mut m = n;
     let mut k: usize = 1;
+    // A while: it ends with the digits, not at a count.
     while m >= 10 {
-        m = m / 10;
-        k = k + 1;
+        m /= 10;
+        k += 1;
     }
     k
 }
@@ -31,10 +32,11 @@ pub fn put_number(out: &mut [u8], at: usize, n: u32) -> usize
     let end = at + number_size(n);
     let mut m = n;
     let mut e = end - 1;
+    // A while: it ends with the digits, not at a count.
     while m >= 10 {
         out[e] = digit(m % 10);
-        m = m / 10;
-        e = e - 1;
+        m /= 10;
+        e -= 1;
     }
     out[e] = digit(m);
     end

@@ -14,9 +14,10 @@ use Rattle.base.proofs.Lists.{length-paste}
 use Rattle.table.specs.declared.Table.{Table}
 use Rattle.table.specs.Table.{empty_table}
 use Rattle.rules.specs.Tests.{checked}
-use Rattle.calls.specs.Answers.{taken_of, laid, Lays}
-use Rattle.calls.specs.declared.Taken.{Taken}
-use Rattle.calls.specs.declared.Taken.TheVariants.{Bytes, Refused}
+use Rattle.calls.specs.Answers.{out_of, taken_of, laid, Lays}
+use Rattle.std.specs.Prelude.{Result, Ok, Err}
+use Rattle.base.specs.Told.{number}
+use Rattle.base.specs.declared.reasons.Reason.{Reason}
 use Rattle.fsck.specs.Verdicts.{verdict_of}
 use Rattle.fsck.proofs.Verdicts.{verdict-passes, verdict-fails}
 use Rattle.fsck.specs.declared.Verdict.{Verdict}
@@ -87,25 +88,25 @@ only-full true t k e = absurd (let w : ◌≡◌ {A = ℕ} 0 1 = cc in omega ari
 only-full false t k e = refl
 
 module _ (a out : List ℕ) (h : length a ≤ 65536) where
-  written : (now : List ℕ) (n : ℕ) (o : Out (List ℕ)) → call_inventory a 65536 ≡ o → Bytes n ≡ taken_of o → now ≡ laid out o → Begins out now n (printed a)
+  written : (now : List ℕ) (n : ℕ) (o : Out (List ℕ)) → call_inventory a 65536 ≡ o → ◌≡◌ {A = Out ℕ} (done n) (taken_of o) → now ≡ laid out o → Begins out now n (printed a)
   written now n (done t) e p q = begins-same out now n (printed a) t ((prints a h).list t e) (cc, q)
   written now n (refused k) e p q = absurd (let w : ◌≡◌ {A = ℕ} 0 1 = cc in omega arith)
 
-  left : (now : List ℕ) (k : ℕ) (o : Out (List ℕ)) → checked a empty_table ≡ 0 → call_inventory a 65536 ≡ o → Refused k ≡ taken_of o → now ≡ laid out o → (printed a ≡ too_long) × (now ≡ out)
+  left : (now : List ℕ) (k : ℕ) (o : Out (List ℕ)) → checked a empty_table ≡ 0 → call_inventory a 65536 ≡ o → ◌≡◌ {A = Out ℕ} (refused k) (taken_of o) → now ≡ laid out o → (printed a ≡ too_long) × (now ≡ out)
   unfolding Exactly
   left now k (done t) c e p q = absurd (let w : ◌≡◌ {A = ℕ} 0 1 = cc in omega arith)
   left now k (refused j) c e p q =
       let E = (exactly a 65536).passes c in
       ((prints a h).long.1 (E ∙ only-full (leb (length (text a)) 65536) (text a) j (sym E ∙ e)), q)
 
-module _ (a out now : List ℕ) (h : length a ≤ 65536) (z : length out ≡ 65536) (r : Taken) (L : Lays taken_of (call_inventory a (length out)) out now r) where
-  pub list_written : (n : ℕ) → r ≡ Bytes n → Begins out now n (printed a)
-  list_written n e = written a out h now n (call_inventory a (length out)) (ap (call_inventory a) (sym z)) (sym e ∙ L.0) L.1
+module _ (a out now : List ℕ) (h : length a ≤ 65536) (z : length out ≡ 65536) (r : Result ℕ Reason) (L : Lays taken_of (call_inventory a (length out)) out now r) where
+  pub list_written : (n : ℕ) → r ≡ Ok n → Begins out now n (printed a)
+  list_written n e = written a out h now n (call_inventory a (length out)) (ap (call_inventory a) (sym z)) (sym (ap out_of e) ∙ L.0) L.1
 
   -- and then `too long` is laid
-  pub list_left : (k m : ℕ) (last : List ℕ) → checked a empty_table ≡ 0 → r ≡ Refused k → Begins now last m too_long → Begins out last m (printed a)
+  pub list_left : (k : Reason) (m : ℕ) (last : List ℕ) → checked a empty_table ≡ 0 → r ≡ Err k → Begins now last m too_long → Begins out last m (printed a)
   list_left k m last c e B =
-      let l = left a out h now k (call_inventory a (length out)) c (ap (call_inventory a) (sym z)) (sym e ∙ L.0) L.1 in
+      let l = left a out h now (number k) (call_inventory a (length out)) c (ap (call_inventory a) (sym z)) (sym (ap out_of e) ∙ L.0) L.1 in
       begins-same out last m (printed a) too_long l.0 (B.0, B.1 ∙ ap (λ (x : List ℕ). paste x 0 too_long) l.1)
 
 -- ---- the verdict with the empty table

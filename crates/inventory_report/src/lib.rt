@@ -7,7 +7,6 @@ ghost use Rattle.table.specs.Table.{empty_table};
 ghost use Rattle.rules.specs.Tests.{checked};
 ghost use Rattle.inventory.specs.Inventory.{fail_line, too_long, printed};
 
-use calls::Taken;
 use calls_inventory::inventory;
 use fsck::Verdict;
 use inventory_lines::numbers::put_number;
@@ -42,10 +41,9 @@ fn put_list(arena: &[u8], out: &mut [u8]) -> usize
     requires out_len { length out.old ≡ 65536 }
     ensures { (result ≡ length (printed arena.now)) × (out.new ≡ paste out.old 0 (printed arena.now)) }
 {
-    let t = inventory(arena, out);
-    match t {
-        Taken::Bytes(n) => n,
-        Taken::Refused(_) => put_too_long(out),
+    match inventory(arena, out) {
+        Ok(n) => n,
+        Err(_) => put_too_long(out),
     }
 }
 
@@ -59,11 +57,7 @@ pub fn put_printed(arena: &[u8], out: &mut [u8]) -> usize
     }
     let v = fsck::check(arena, table::empty());
     match v {
-        Verdict::Pass {
-            nodes: _,
-            unused: _,
-            free: _,
-        } => put_list(arena, out),
+        Verdict::Pass { .. } => put_list(arena, out),
         Verdict::Fail(rule) => put_fail(out, rule),
     }
 }

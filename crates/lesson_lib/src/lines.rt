@@ -1,29 +1,27 @@
 // Lines that tell what an image's bytes say.
 ghost use Rattle.std.specs.Prelude.{◌≡◌, length};
 
+use crate::raw;
 use crate::raw::{FIRST_MAP, SECOND_MAP};
-use crate::say::{part, text};
-use crate::{raw, say};
-use std::io;
+use std::{fmt, io};
 
 // One letter for a block, by its first byte: free, a file's head, data.
-fn mark(rt: &impl Print, tag: u8) -> io::Result<()> {
-    match tag {
-        0 => text(rt, b"."),
-        1 => text(rt, b"H"),
-        _ => text(rt, b"D"),
-    }
-}
+#[derive(Clone, Copy)]
+struct Marks<'a>(&'a [u8]);
 
-fn marks(rt: &impl Print, arena: &[u8]) -> io::Result<()>
-    requires { length arena.now ≡ 8192 }
-{
-    let mut k: usize = 0;
-    while k < 16 {
-        mark(rt, arena[512 * k])?;
-        k = k + 1;
+impl fmt::Display for Marks<'_> {
+    fn fmt<W: fmt::Write>(&self, f: &mut fmt::Formatter<W>) -> fmt::Result {
+        let arena = self.0;
+        let (blocks, _) = arena.as_chunks::<512>();
+        for block in blocks {
+            f.write_str(match block[0] {
+                0 => ".",
+                1 => "H",
+                _ => "D",
+            })?;
+        }
+        Ok(())
     }
-    Ok(())
 }
 
 // How many blocks are in use, and which.
@@ -31,30 +29,26 @@ pub fn blocks_line(rt: &impl Print, world: &[u8]) -> io::Result<()>
     requires { length world.now ≡ 12594 }
 {
     let arena = &world[4402..];
-    let story: &[u8] = b"  % blocks are in use: %\n";
-    say::number(rt, story, 0, raw::used(arena))?;
-    part(rt, story, 1)?;
-    marks(rt, arena)?;
-    part(rt, story, 2)
+    let used = raw::used(arena);
+    println!(rt; "  {used} blocks are in use: {}", Marks(arena))
 }
 
 pub fn numbers_line(rt: &impl Print, world: &[u8]) -> io::Result<()>
     requires { length world.now ≡ 12594 }
 {
-    let story: &[u8] = b"  % node numbers are free; the first map byte is %.\n";
-    say::number(rt, story, 0, raw::unused(world))?;
-    say::number(rt, story, 1, raw::meta_byte(world, FIRST_MAP) as u64)?;
-    part(rt, story, 2)
+    let unused = raw::unused(world);
+    let first = raw::meta_byte(world, FIRST_MAP);
+    println!(rt; "  {unused} node numbers are free; the first map byte is {first}.")
 }
 
 pub fn second_group_line(rt: &impl Print, world: &[u8]) -> io::Result<()>
     requires { length world.now ≡ 12594 }
 {
-    let story: &[u8] =
-        b"  A second group came: % node numbers are free; its map's first byte is %;\n  \
-        the metadata file has % bytes.\n";
-    say::number(rt, story, 0, raw::unused(world))?;
-    say::number(rt, story, 1, raw::meta_byte(world, SECOND_MAP) as u64)?;
-    say::number(rt, story, 2, raw::meta_length(world))?;
-    part(rt, story, 3)
+    let unused = raw::unused(world);
+    let first = raw::meta_byte(world, SECOND_MAP);
+    let length = raw::meta_length(world);
+    println!(rt;
+        "  A second group came: {unused} node numbers are free; its map's first byte is {first};\n  \
+        the metadata file has {length} bytes."
+    )
 }

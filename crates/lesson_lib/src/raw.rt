@@ -2,10 +2,8 @@
 ghost use Rattle.std.specs.Prelude.{◌≡◌, ◌+◌, ◌%◌, ◌<◌, ◌≤◌, length};
 
 use arena::{free_count, is_data, is_head, put_check};
-use base::{clear, copy, index};
 use le::{put_u32, u32_at};
 use structs::super_block_at;
-use utf8::equal;
 
 // Where the maps of the first two groups begin in the metadata file.
 pub const FIRST_MAP: u32 = 128;
@@ -45,9 +43,7 @@ enum Piece {
     Data(u32),
 }
 
-fn is_piece(block: &[u8], which: u8, name: &[u8], p: Piece) -> bool
-    requires { (length block.now ≡ 512) × (length name.now ≡ 16) }
-{
+fn is_piece(block: &[u8; 512], which: u8, name: &[u8; 16], p: Piece) -> bool {
     match p {
         Piece::Head => is_head(block, which, name),
         Piece::Data(n) => is_data(block, which, name, n),
@@ -56,17 +52,15 @@ fn is_piece(block: &[u8], which: u8, name: &[u8], p: Piece) -> bool
 
 // The block that has it. Where there is none it is block 0: format puts the head of the metadata file there, and a head's payload is zeros, as
 // an absent block reads.
-fn block_of(arena: &[u8], which: u8, name: &[u8], p: Piece) -> usize
-    requires { (length arena.now ≡ 8192) × (length name.now ≡ 16) }
+fn block_of(arena: &[u8], which: u8, name: &[u8; 16], p: Piece) -> usize
+    requires { length arena.now ≡ 8192 }
     ensures { result < 16 }
 {
-    let mut k: usize = 0;
-    while k < 16 {
-        let o = 512 * k;
-        if is_piece(&arena[o..o + 512], which, name, p) {
+    let (blocks, _) = arena.as_chunks::<512>();
+    for (k, block) in blocks.iter().enumerate() {
+        if is_piece(block, which, name, p) {
             return k;
         }
-        k = k + 1;
     }
     0
 }
@@ -76,7 +70,7 @@ fn length_of(world: &[u8], which: u8, name: &[u8; 16]) -> u64
     requires { length world.now ≡ 12594 }
 {
     let o = 512 * block_of(&world[4402..], which, name, Piece::Head);
-    u32_at(world, o + 4422) as u64
+    u64::from(u32_at(world, o + 4422))
 }
 
 pub fn meta_length(world: &[u8]) -> u64
@@ -104,8 +98,7 @@ pub fn unused(world: &[u8]) -> u64
     requires { length world.now ≡ 12594 }
 {
     let o = meta_at(world, 0);
-    let b = super_block_at(world, o + 24);
-    b.unused as u64
+    u64::from(super_block_at(world, o + 24).unused)
 }
 
 // A byte of the metadata file.
@@ -113,14 +106,14 @@ pub fn meta_byte(world: &[u8], pos: u32) -> u8
     requires { length world.now ≡ 12594 }
 {
     let o = meta_at(world, pos / 480);
-    world[o + 24 + index(pos % 480)]
+    world[o + 24 + (pos % 480) as usize]
 }
 
 // Whether two worlds have the same image.
 pub fn same_image(a: &[u8], b: &[u8]) -> bool
     requires { (4402 ≤ length a.now) × (4402 ≤ length b.now) }
 {
-    equal(&a[4402..], &b[4402..])
+    a[4402..] == b[4402..]
 }
 
 // The metadata file's first block, with unused 0 and no bit set in the first map.
@@ -128,7 +121,7 @@ fn use_all(block: &mut [u8])
     requires { length block.old ≡ 512 }
 {
     put_u32(block, 32, 0);
-    clear(&mut block[152..280]);
+    block[152..280].fill(0);
     put_check(block);
 }
 
@@ -136,7 +129,7 @@ fn use_all(block: &mut [u8])
 pub fn fill_group(world: &mut [u8])
     requires { length world.old ≡ 12594 }
 {
-    let o = meta_at(&world[..], 0);
+    let o = meta_at(world, 0);
     use_all(&mut world[o..o + 512]);
 }
 
@@ -160,7 +153,7 @@ fn take_block(world: &mut [u8], whole: &[u8], n: u8, p: Piece)
     requires { (length world.old ≡ 12594) × (length whole.now ≡ 12594) }
 {
     let o = 4402 + 512 * block_of(&whole[4402..], 1, &[n; 16], p);
-    copy(&mut world[o..o + 512], &whole[o..o + 512]);
+    world[o..o + 512].copy_from_slice(&whole[o..o + 512]);
 }
 
 // The root's slot 3, which is one store with the length that it brings: bytes 792 to 1055, in the second and third block.
@@ -177,7 +170,7 @@ fn take_part(block: &mut [u8], whole: &[u8], from: usize, n: usize)
     requires { (length block.old ≡ 512) × ((length whole.now ≡ 512) × (from + n ≤ 512)) }
 {
     let to = from + n;
-    copy(&mut block[from..to], &whole[from..to]);
+    block[from..to].copy_from_slice(&whole[from..to]);
     put_check(block);
 }
 
@@ -186,7 +179,7 @@ fn take_meta(world: &mut [u8], whole: &[u8], pos: u32, n: usize)
     requires { (length world.old ≡ 12594) × ((length whole.now ≡ 12594) × (pos % 480 + n ≤ 480)) }
 {
     let o = meta_at(whole, pos / 480);
-    let from = 24 + index(pos % 480);
+    let from = 24 + (pos % 480) as usize;
     take_part(&mut world[o..o + 512], &whole[o..o + 512], from, n);
 }
 

@@ -1,14 +1,11 @@
 // The scene in which a line goes into the middle of a log, and is taken out again.
-use base::copy;
-use lesson_lib::say;
-use lesson_lib::say::{part, stored, text};
-use lesson_world::lines::{answer, create_line, size};
-use lesson_world::world::{ANN, fallocate, fresh, read, write};
+use lesson_lib::say::Text;
+use lesson_world::lines::{create_line, size};
+use lesson_world::world::{ANN, Outcome, fallocate, fresh, read, write};
 use ranges::FallocateMode;
-use std::io;
+use std::{fmt, io};
 use structs::FILE;
 use table::Handle;
-use utf8::equal;
 
 // How long a line of the log is: one piece, as insert and collapse count. And where its lines begin.
 const LINE: u64 = 128;
@@ -27,37 +24,36 @@ const STROKE: u64 = 4;
 // ---- what the log reads
 
 // A line up to the zeros that fill it.
-fn line(
-    rt: &impl Print,
-    world: &[u8; 12594],
-    log: Handle,
-    place: u64,
-    story: &[u8],
-    k: u8,
-) -> io::Result<()> {
-    let mut out = [0u8; 128];
-    read(world, ANN, log, place, &mut out);
-    part(rt, story, k)?;
-    if equal(&out, &[0u8; 128]) {
-        text(rt, b"zeros")
-    } else {
-        stored(rt, &out)
+#[derive(Clone, Copy)]
+struct LogLine([u8; 128]);
+
+impl fmt::Display for LogLine {
+    fn fmt<W: fmt::Write>(&self, f: &mut fmt::Formatter<W>) -> fmt::Result {
+        if self.0.iter().all(|b| *b == 0) {
+            f.write_str("zeros")
+        } else {
+            write!(f, "{}", Text(self.0))
+        }
     }
 }
 
+fn line(world: &[u8; 12594], log: Handle, place: u64) -> LogLine {
+    let mut out = [0u8; 128];
+    read(world, ANN, log, place, &mut out);
+    LogLine(out)
+}
+
 fn three_lines(rt: &impl Print, world: &[u8; 12594], log: Handle) -> io::Result<()> {
-    let story: &[u8] = b"  It has % bytes: % | % | %";
-    size(rt, world, ANN, log, story, 0)?;
-    line(rt, world, log, FIRST, story, 1)?;
-    line(rt, world, log, SECOND, story, 2)?;
-    line(rt, world, log, THIRD, story, 3)
+    let bytes = size(world, ANN, log);
+    let first = line(world, log, FIRST);
+    let second = line(world, log, SECOND);
+    let third = line(world, log, THIRD);
+    print!(rt; "  It has {bytes} bytes: {first} | {second} | {third}")
 }
 
 fn four_lines(rt: &impl Print, world: &[u8; 12594], log: Handle) -> io::Result<()> {
-    let story: &[u8] = b" | %.\n";
     three_lines(rt, world, log)?;
-    line(rt, world, log, FOURTH, story, 0)?;
-    part(rt, story, 1)
+    println!(rt; " | {}.", line(world, log, FOURTH))
 }
 
 // Whether the log reads the same in both worlds, byte for byte. There is more room than it has bytes.
@@ -66,71 +62,30 @@ fn same_log(world: &[u8; 12594], kept: &[u8; 12594], log: Handle) -> bool {
     let mut before = [0u8; 512];
     read(world, ANN, log, FIRST, &mut out);
     read(kept, ANN, log, FIRST, &mut before);
-    equal(&out, &before)
+    out == before
 }
 
 // ---- what is done to it
 
-// A range goes in or out, and a line says so; what is the mode's word.
-fn range(
-    rt: &impl Print,
-    world: &mut [u8; 12594],
-    log: Handle,
-    what: &[u8],
-    mode: FallocateMode,
-    from: u64,
-    len: u64,
-) -> io::Result<()> {
-    let story: &[u8] = b" % bytes at %: %";
-    text(rt, what)?;
-    say::number(rt, story, 0, len)?;
-    say::number(rt, story, 1, from)?;
-    let a = fallocate(world, ANN, log, mode, from, len);
-    answer(rt, story, 2, a)
+fn insert(world: &mut [u8; 12594], log: Handle, from: u64, len: u64) -> Outcome {
+    fallocate(world, ANN, log, FallocateMode::InsertRange, from, len)
 }
 
-fn insert(
-    rt: &impl Print,
-    world: &mut [u8; 12594],
-    log: Handle,
-    from: u64,
-    len: u64,
-) -> io::Result<()> {
-    range(
-        rt,
-        world,
-        log,
-        b"  insert",
-        FallocateMode::InsertRange,
-        from,
-        len,
-    )
-}
-
-fn stroke(
-    rt: &impl Print,
-    world: &mut [u8; 12594],
-    log: Handle,
-    place: u64,
-    bytes: &[u8],
-    story: &[u8],
-    k: u8,
-) -> io::Result<()> {
-    let a = write(world, ANN, log, place, bytes);
-    answer(rt, story, k, a)
+fn stroke(world: &mut [u8; 12594], log: Handle, place: u64, stroke: &str) -> Outcome {
+    write(world, ANN, log, place, stroke.as_bytes())
 }
 
 // Zeros fill each line up to the next, and nothing the last.
 fn logged(rt: &impl Print, world: &mut [u8; 12594], log: Handle) -> io::Result<()> {
-    let story: &[u8] =
-        b"  Ann logs three strokes, each where a line of 128 bytes begins: %, %, %.\n%.\n";
-    let last = b"L5 2 L4 2 C3 7 2 7 1 2 L1 1 L2 1 L2 0 L0 0 Z";
-    stroke(rt, world, log, FIRST, b"M0 0", story, 0)?;
-    stroke(rt, world, log, SECOND, b"C1 9 4 9 5 0", story, 1)?;
-    stroke(rt, world, log, THIRD, last, story, 2)?;
-    part(rt, story, 3)?;
+    let last = "L5 2 L4 2 C3 7 2 7 1 2 L1 1 L2 1 L2 0 L0 0 Z";
+    let a = stroke(world, log, FIRST, "M0 0");
+    let b = stroke(world, log, SECOND, "C1 9 4 9 5 0");
+    let c = stroke(world, log, THIRD, last);
+    println!(rt;
+        "  Ann logs three strokes, each where a line of 128 bytes begins: {a}, {b}, {c}."
+    )?;
     three_lines(rt, world, log)?;
-    part(rt, story, 4)
+    println!(rt; ".")
 }
 
 // Room for the stroke and no more; and a whole line, but not where one begins. The world as it was is kept beside it.
@@ -140,28 +95,32 @@ fn not_whole(
     kept: &mut [u8; 12594],
     log: Handle,
 ) -> io::Result<()> {
-    let story: &[u8] = b"  A stroke is missing after the first, and room goes in by whole lines.\n\
-        %.\n\
-        %; image and table are byte for byte what they were.\n\
-        %; image or table changed.\n";
-    copy(kept, world);
-    part(rt, story, 0)?;
-    insert(rt, world, log, SECOND, STROKE)?;
-    part(rt, story, 1)?;
-    insert(rt, world, log, SECOND + STROKE, LINE)?;
-    say::whether(rt, equal(kept, world), story, 2, 3)
+    *kept = *world;
+    let place = SECOND + STROKE;
+    let small = insert(world, log, SECOND, STROKE);
+    let between = insert(world, log, place, LINE);
+    print!(rt;
+        "  A stroke is missing after the first, and room goes in by whole lines.\n  \
+        insert {STROKE} bytes at {SECOND}: {small}.\n  \
+        insert {LINE} bytes at {place}: {between}"
+    )?;
+    if kept == world {
+        println!(rt; "; image and table are byte for byte what they were.")
+    } else {
+        println!(rt; "; image or table changed.")
+    }
 }
 
 fn inserted(rt: &impl Print, world: &mut [u8; 12594], log: Handle) -> io::Result<()> {
-    let story: &[u8] = b".\n\
-        %  In 000 a line is lost here: the last 128 of the 172 bytes move, and for the first 44 it looks 84 bytes too low.\n  \
-        So C1 9 4 9 5 0 stays where the zeros go, and the last line is there twice.\n  \
-        Ann writes the stroke over the zeros: %.\n";
-    insert(rt, world, log, SECOND, LINE)?;
-    part(rt, story, 0)?;
+    let a = insert(world, log, SECOND, LINE);
+    println!(rt; "  insert {LINE} bytes at {SECOND}: {a}.")?;
     four_lines(rt, world, log)?;
-    stroke(rt, world, log, SECOND, b"L0 2", story, 1)?;
-    part(rt, story, 2)?;
+    let b = stroke(world, log, SECOND, "L0 2");
+    println!(rt;
+        "  In 000 a line is lost here: the last 128 of the 172 bytes move, and for the first 44 it looks 84 bytes too low.\n  \
+        So C1 9 4 9 5 0 stays where the zeros go, and the last line is there twice.\n  \
+        Ann writes the stroke over the zeros: {b}."
+    )?;
     four_lines(rt, world, log)
 }
 
@@ -172,23 +131,14 @@ fn collapsed(
     kept: &[u8; 12594],
     log: Handle,
 ) -> io::Result<()> {
-    let story: &[u8] = b"  She takes it out again.\n\
-        %.\n\
-        %; every byte is what it was.\n\
-        %; that is not what it was.\n";
-    part(rt, story, 0)?;
-    range(
-        rt,
-        world,
-        log,
-        b"  collapse",
-        FallocateMode::CollapseRange,
-        SECOND,
-        LINE,
-    )?;
-    part(rt, story, 1)?;
+    let a = fallocate(world, ANN, log, FallocateMode::CollapseRange, SECOND, LINE);
+    println!(rt; "  She takes it out again.\n  collapse {LINE} bytes at {SECOND}: {a}.")?;
     three_lines(rt, world, log)?;
-    say::whether(rt, same_log(world, kept, log), story, 2, 3)
+    if same_log(world, kept, log) {
+        println!(rt; "; every byte is what it was.")
+    } else {
+        println!(rt; "; that is not what it was.")
+    }
 }
 
 pub fn log_edited(
@@ -196,9 +146,9 @@ pub fn log_edited(
     world: &mut [u8; 12594],
     kept: &mut [u8; 12594],
 ) -> io::Result<()> {
-    text(rt, b"\nA line in the middle of the log\n")?;
+    println!(rt; "\nA line in the middle of the log")?;
     let root = fresh(world);
-    let log = create_line(rt, world, ANN, root, b"log", FILE, 2)?;
+    let log = create_line(rt, world, ANN, root, "log", FILE, 2)?;
     logged(rt, world, log)?;
     not_whole(rt, world, kept, log)?;
     inserted(rt, world, log)?;

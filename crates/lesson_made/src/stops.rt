@@ -1,34 +1,27 @@
 // The scene in which a create stops between two of 000's stores.
-use base::copy;
 use lesson_lib::raw::{Store, same_image, take_store};
-use lesson_lib::say;
-use lesson_lib::say::{part, text};
-use lesson_world::lines::{answer, create_line, got, judged, node, outline, save};
-use lesson_world::world::{ANN, begin, close, find, fresh, go_down, handle};
+use lesson_world::lines::{create_line, judged, node, outline, save};
+use lesson_world::world::{ANN, begin, close, find, fresh, go_down};
 use std::io;
 use structs::FILE;
 use table::Handle;
 
 // The close stores what waited in the table, so all that a create finds is stored.
 fn one_saved(rt: &impl Print, world: &mut [u8; 12594], root: Handle) -> io::Result<()> {
-    let story: &[u8] = b"  Ann saves her curve in a: %; she closes it: %.\n";
-    let a = create_line(rt, world, ANN, root, b"a", FILE, 2)?;
-    save(rt, world, ANN, a, b"M0 0 C1 9 4 9 5 0", story, 0)?;
-    let r = close(world, ANN, a);
-    answer(rt, story, 1, r)?;
-    part(rt, story, 2)
+    let a = create_line(rt, world, ANN, root, "a", FILE, 2)?;
+    let saved = save(world, ANN, a, "M0 0 C1 9 4 9 5 0");
+    let closed = close(world, ANN, a);
+    println!(rt; "  Ann saves her curve in a: {saved}; she closes it: {closed}.")
 }
 
 // What the two names lead to. The table is empty again when it is told.
-fn found(rt: &impl Print, world: &mut [u8; 12594], story: &[u8]) -> io::Result<()> {
+fn found(rt: &impl Print, world: &mut [u8; 12594]) -> io::Result<()> {
     let root = begin(world);
     let b = find(world, ANN, root, b"b");
-    got(rt, story, 3, b)?;
     let a = find(world, ANN, root, b"a");
-    outline(rt, world, ANN, handle(a), story, 4)?;
-    part(rt, story, 5)?;
+    let drawing = outline(world, ANN, a.handle);
     go_down(world);
-    Ok(())
+    println!(rt; "; find b: {}; a reads {drawing}.", b.outcome)
 }
 
 // One store more, and it stops. The mender leaves every byte as it is, refused or with nothing to mend, so the next store comes on top.
@@ -37,38 +30,39 @@ fn stop(
     world: &mut [u8; 12594],
     whole: &[u8; 12594],
     last: Store,
-    what: &[u8],
+    what: &str,
 ) -> io::Result<()> {
-    let story: &[u8] = b": check: %; mend: %%; find b: %; a reads %.\n";
     take_store(world, whole, last);
-    text(rt, what)?;
-    judged(rt, world, story)?;
-    found(rt, world, story)
+    let (check, mend) = judged(world);
+    print!(rt; "  {what}: check: {check}; mend: {mend}")?;
+    found(rt, world)
 }
 
 fn stops(rt: &impl Print, world: &mut [u8; 12594], whole: &[u8; 12594]) -> io::Result<()> {
-    stop(rt, world, whole, Store::NewFile, b"  b's file")?;
-    stop(rt, world, whole, Store::Slot, b"  root's slot")?;
-    stop(rt, world, whole, Store::SuperBlock, b"  the superblock")?;
-    stop(rt, world, whole, Store::Map, b"  the map")?;
-    stop(rt, world, whole, Store::NewRecord, b"  b's record")?;
+    stop(rt, world, whole, Store::NewFile, "b's file")?;
+    stop(rt, world, whole, Store::Slot, "root's slot")?;
+    stop(rt, world, whole, Store::SuperBlock, "the superblock")?;
+    stop(rt, world, whole, Store::Map, "the map")?;
+    stop(rt, world, whole, Store::NewRecord, "b's record")?;
     stop(
         rt,
         world,
         whole,
         Store::RootRecord,
-        b"  root's record, the last",
+        "root's record, the last",
     )
 }
 
 // Nothing is missing after the last.
 fn complete(rt: &impl Print, world: &mut [u8; 12594], whole: &[u8; 12594]) -> io::Result<()> {
-    let story: &[u8] = b"  Now b is %, and every byte of the image is what the whole create left.\n\
-        %, and the image is not what the whole create left.\n";
     let root = begin(world);
     let b = find(world, ANN, root, b"b");
-    node(rt, world, ANN, handle(b), story, 0)?;
-    say::whether(rt, same_image(whole, world), story, 1, 2)
+    let it = node(world, ANN, b.handle);
+    if same_image(whole, world) {
+        println!(rt; "  Now b is {it}, and every byte of the image is what the whole create left.")
+    } else {
+        println!(rt; "  Now b is {it}, and the image is not what the whole create left.")
+    }
 }
 
 // The whole create is done in the second world; the first gets its stores one by one.
@@ -77,14 +71,14 @@ pub fn create_stops(
     world: &mut [u8; 12594],
     kept: &mut [u8; 12594],
 ) -> io::Result<()> {
-    let story: &[u8] = b"\nA create stops half way\n\
-        %  That is the whole create. It stops after each of 000's stores in turn, and leaves:\n";
-    part(rt, story, 0)?;
+    println!(rt; "\nA create stops half way")?;
     let root = fresh(world);
     one_saved(rt, world, root)?;
-    copy(kept, world);
-    create_line(rt, kept, ANN, root, b"b", FILE, 3)?;
-    part(rt, story, 1)?;
+    *kept = *world;
+    create_line(rt, kept, ANN, root, "b", FILE, 3)?;
+    println!(rt;
+        "  That is the whole create. It stops after each of 000's stores in turn, and leaves:"
+    )?;
     go_down(world);
     stops(rt, world, kept)?;
     complete(rt, world, kept)

@@ -1,151 +1,104 @@
-// What several scenes tell, each after part k of the scene's story.
+// What several scenes tell.
 ghost use Rattle.std.specs.Prelude.{◌≤◌, length};
 
 use crate::world::{
-    ANN, check, create, get_entry, handle, mend, metadata, path, read, walk, write,
+    ANN, Outcome, check, create, get_entry, mend, metadata, path, read, walk, write,
 };
-use calls::{Answer, Got, Told};
+use base::Reason;
 use fsck::Verdict;
-use lesson_lib::say;
-use lesson_lib::say::{part, stored, text};
-use std::io;
+use lesson_lib::say::{Refusal, Text};
+use sefs::Metadata;
+use std::{fmt, io};
 use table::Handle;
 
 const SYMLINK: u32 = 3;
 
-// What a call answered.
-pub fn answer(rt: &impl Print, story: &[u8], k: u8, a: Answer) -> io::Result<()> {
-    part(rt, story, k)?;
-    match a {
-        Answer::Done => text(rt, b"done"),
-        Answer::Refused(r) => say::refusal(rt, r),
-    }
-}
-
-pub fn got(rt: &impl Print, story: &[u8], k: u8, a: Got) -> io::Result<()> {
-    part(rt, story, k)?;
-    match a {
-        Got::Held(_) => text(rt, b"done"),
-        Got::Refused(r) => say::refusal(rt, r),
-    }
-}
-
 // What a handle tells who asks with it: its node's number and links.
-pub fn node(
-    rt: &impl Print,
-    world: &[u8],
-    who: u8,
-    h: Handle,
-    story: &[u8],
-    k: u8,
-) -> io::Result<()>
+#[derive(Clone, Copy)]
+pub struct NodeWords(Result<Metadata, Reason>);
+
+impl fmt::Display for NodeWords {
+    fn fmt<W: fmt::Write>(&self, f: &mut fmt::Formatter<W>) -> fmt::Result {
+        match self.0 {
+            Ok(m) => write!(f, "node {}, links {}", m.inode, m.nlinks),
+            Err(reason) => write!(f, "{}", Refusal(reason)),
+        }
+    }
+}
+
+pub fn node(world: &[u8], who: u8, h: Handle) -> NodeWords
     requires { 4402 ≤ length world.now }
 {
-    part(rt, story, k)?;
-    let told = metadata(world, who, h);
-    match told {
-        Told::Tells(m) => {
-            let pair = b"node %, links %";
-            say::number(rt, pair, 0, m.inode as u64)?;
-            say::number(rt, pair, 1, m.nlinks as u64)
-        }
-        Told::Refused(r) => say::refusal(rt, r),
-    }
+    NodeWords(metadata(world, who, h))
 }
 
 // How many bytes of its own the node has.
-pub fn size(
-    rt: &impl Print,
-    world: &[u8],
-    who: u8,
-    h: Handle,
-    story: &[u8],
-    k: u8,
-) -> io::Result<()>
-    requires { 4402 ≤ length world.now }
-{
-    let told = metadata(world, who, h);
-    match told {
-        Told::Tells(m) => say::number(rt, story, k, m.size),
-        Told::Refused(r) => say::refusal(rt, r),
+#[derive(Clone, Copy)]
+pub struct SizeWords(Result<Metadata, Reason>);
+
+impl fmt::Display for SizeWords {
+    fn fmt<W: fmt::Write>(&self, f: &mut fmt::Formatter<W>) -> fmt::Result {
+        match self.0 {
+            Ok(m) => write!(f, "{}", m.size),
+            Err(reason) => write!(f, "{}", Refusal(reason)),
+        }
     }
 }
 
+pub fn size(world: &[u8], who: u8, h: Handle) -> SizeWords
+    requires { 4402 ≤ length world.now }
+{
+    SizeWords(metadata(world, who, h))
+}
+
 // What a node's own bytes say.
-pub fn outline(
-    rt: &impl Print,
-    world: &[u8],
-    who: u8,
-    h: Handle,
-    story: &[u8],
-    k: u8,
-) -> io::Result<()>
+pub fn outline(world: &[u8], who: u8, h: Handle) -> Text<64>
     requires { 4402 ≤ length world.now }
 {
     let mut out = [0u8; 64];
     read(world, who, h, 0, &mut out);
-    part(rt, story, k)?;
-    stored(rt, &out)
+    Text(out)
 }
 
 // A folder's path, as its title bar shows it.
-pub fn title(
-    rt: &impl Print,
-    world: &[u8],
-    who: u8,
-    h: Handle,
-    story: &[u8],
-    k: u8,
-) -> io::Result<()>
+pub fn title(world: &[u8], who: u8, h: Handle) -> Text<64>
     requires { 4402 ≤ length world.now }
 {
     let mut out = [0u8; 64];
     path(world, who, h, &mut out);
-    part(rt, story, k)?;
-    stored(rt, &out)
+    Text(out)
 }
 
 // The name in a slot of the root, by Ann's handle.
-pub fn slot(
-    rt: &impl Print,
-    world: &[u8],
-    root: Handle,
-    i: u64,
-    story: &[u8],
-    k: u8,
-) -> io::Result<()>
+pub fn slot(world: &[u8], root: Handle, i: u64) -> Text<256>
     requires { 4402 ≤ length world.now }
 {
     let mut entry = [0u8; 264];
     get_entry(world, ANN, root, i, &mut entry);
-    part(rt, story, k)?;
-    stored(rt, &entry[4..260])
+    let mut name = [0u8; 256];
+    name.copy_from_slice(&entry[4..260]);
+    Text(name)
 }
 
 // What the check says of image and table.
-pub fn verdict(rt: &impl Print, world: &[u8], story: &[u8], k: u8) -> io::Result<()>
-    requires { 4402 ≤ length world.now }
-{
-    part(rt, story, k)?;
-    let v = check(world);
-    match v {
-        Verdict::Pass {
-            nodes: _,
-            unused: _,
-            free: _,
-        } => text(rt, b"passes"),
-        Verdict::Fail(rule) => say::number(rt, b"fails rule %", 0, rule as u64),
+#[derive(Clone, Copy)]
+pub struct Judgement(Verdict);
+
+impl fmt::Display for Judgement {
+    fn fmt<W: fmt::Write>(&self, f: &mut fmt::Formatter<W>) -> fmt::Result {
+        match self.0 {
+            Verdict::Pass { .. } => f.write_str("passes"),
+            Verdict::Fail(rule) => write!(f, "fails rule {rule}"),
+        }
     }
 }
 
-// The same, and then what the mender does: the story's first two blanks.
-pub fn judged(rt: &impl Print, world: &mut [u8], story: &[u8]) -> io::Result<()>
+// The same, and then what the mender does.
+pub fn judged(world: &mut [u8]) -> (Judgement, Outcome)
     requires { 4402 ≤ length world.old }
 {
-    verdict(rt, &world[..], story, 0)?;
-    let a = mend(world);
-    answer(rt, story, 1, a)?;
-    part(rt, story, 2)
+    let verdict = Judgement(check(world));
+    (verdict, mend(world))
 }
 
 // A new node in a folder, and what its handle tells: a line of its own.
@@ -154,37 +107,23 @@ pub fn create_line(
     world: &mut [u8],
     who: u8,
     folder: Handle,
-    name: &[u8],
+    name: &str,
     kind: u32,
     n: u8,
 ) -> io::Result<Handle>
     requires { 4402 ≤ length world.old }
 {
-    let story: &[u8] = b"  create %: %; it is %.\n";
-    part(rt, story, 0)?;
-    text(rt, name)?;
-    let a = create(world, who, folder, name, kind, n);
-    got(rt, story, 1, a)?;
-    let h = handle(a);
-    node(rt, &world[..], who, h, story, 2)?;
-    part(rt, story, 3)?;
-    Ok(h)
+    let a = create(world, who, folder, name.as_bytes(), kind, n);
+    let it = node(world, who, a.handle);
+    println!(rt; "  create {name}: {}; it is {it}.", a.outcome)?;
+    Ok(a.handle)
 }
 
 // An outline goes into a node's own bytes.
-pub fn save(
-    rt: &impl Print,
-    world: &mut [u8],
-    who: u8,
-    h: Handle,
-    outline: &[u8],
-    story: &[u8],
-    k: u8,
-) -> io::Result<()>
+pub fn save(world: &mut [u8], who: u8, h: Handle, outline: &str) -> Outcome
     requires { 4402 ≤ length world.old }
 {
-    let a = write(world, who, h, 0, outline);
-    answer(rt, story, k, a)
+    write(world, who, h, 0, outline.as_bytes())
 }
 
 // A symlink a in a folder, by Ann: what is written in it is its target.
@@ -193,29 +132,25 @@ pub fn symlink_line(
     world: &mut [u8],
     folder: Handle,
     n: u8,
-    target: &[u8],
+    target: &str,
 ) -> io::Result<()>
     requires { 4402 ≤ length world.old }
 {
-    let story: &[u8] = b"  a symlink a there, with the target %: %.\n";
-    part(rt, story, 0)?;
-    text(rt, target)?;
     let a = create(world, ANN, folder, b"a", SYMLINK, n);
-    save(rt, world, ANN, handle(a), target, story, 1)?;
-    part(rt, story, 2)
+    let saved = save(world, ANN, a.handle, target);
+    println!(rt; "  a symlink a there, with the target {target}: {saved}.")
 }
 
 // Her walk from the root, and the targets that it has read.
-pub fn walk_line(rt: &impl Print, world: &mut [u8], root: Handle, path: &[u8]) -> io::Result<Handle>
+pub fn walk_line(rt: &impl Print, world: &mut [u8], root: Handle, path: &str) -> io::Result<Handle>
     requires { 4402 ≤ length world.old }
 {
-    let story: &[u8] = b"  walk to %: %; the link buffer has %";
-    part(rt, story, 0)?;
-    text(rt, path)?;
     let mut links = [0u8; 64];
-    let a = walk(world, ANN, root, path, &mut links);
-    got(rt, story, 1, a)?;
-    part(rt, story, 2)?;
-    stored(rt, &links)?;
-    Ok(handle(a))
+    let a = walk(world, ANN, root, path.as_bytes(), &mut links);
+    print!(rt;
+        "  walk to {path}: {}; the link buffer has {}",
+        a.outcome,
+        Text(links)
+    )?;
+    Ok(a.handle)
 }

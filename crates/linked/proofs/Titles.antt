@@ -8,7 +8,7 @@ use lib.Dec.{leb}
 use lib.ListN.{length}
 use Rattle.base.specs.Out.{Out, done, refused, guard, answer}
 use Rattle.base.specs.Reasons.{out_full}
-use Rattle.base.specs.declared.Found.TheVariants.{At}
+use Rattle.std.specs.Prelude.{Some}
 use Rattle.base.proofs.Outs.{bind-is-done}
 use Rattle.table.specs.declared.Handle.{Handle}
 use Rattle.table.specs.Table.{row_at, live_row}
@@ -67,7 +67,7 @@ module _ {R : Functions} {I : Image → Type 0} (T : Transports R I) (trusted : 
       }
 
   -- after a list of runs: where l is the path of row k, a walk's run along l opens that row's node
-  leads-back : {s u : Image} {c : List Call} → I s → Runs R s c u → (w : ℕ) (h : Handle) (k room : ℕ) (l : List ℕ) → live_row (pair_of u).table w h ≡ At k
+  leads-back : {s u : Image} {c : List Call} → I s → Runs R s c u → (w : ℕ) (h : Handle) (k room : ℕ) (l : List ℕ) → live_row (pair_of u).table w h ≡ Some k
       → call_path u.arena (pair_of u).table w h room ≡ done l → Slashfree (pair_of u) k → LeadsBack R I u w k l
   unfolding WalksBack
   leads-back {s} {u} i m w h k room l live d free v x y n g j buffer on can F r z =
@@ -88,8 +88,8 @@ module _ {R : Functions} {I : Image → Type 0} (T : Transports R I) (trusted : 
       let G : Goes Free c s x u y 0 = one T i F r not_255 in
       let d = bind-is-done (call_path p.arena p.table w h room) (λ _. done p) (next c p) (zero-done c p G.number) in
       let same : pair_of u ≡ pair_of s = G.left ∙ path-next p w h room d.0 d.1 in
-      let there : (live_row (pair_of u).table w h ≡ At k) × (call_path u.arena (pair_of u).table w h room ≡ done d.0) =
-      subst (λ (q : Pair). (live_row q.table w h ≡ At k) × (call_path q.arena q.table w h room ≡ done d.0)) (sym same) (live, d.1) in (
+      let there : (live_row (pair_of u).table w h ≡ Some k) × (call_path u.arena (pair_of u).table w h room ≡ done d.0) =
+      subst (λ (q : Pair). (live_row q.table w h ≡ Some k) × (call_path q.arena q.table w h room ≡ done d.0)) (sym same) (live, d.1) in (
         same,
         d.0,
         path-gives p w h room d.0 d.1 G.given,

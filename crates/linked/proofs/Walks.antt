@@ -6,7 +6,7 @@ use mathlib.Core.Logic.{◌≢◌, ◌⊎◌, inl, inr}
 use Prim.Native.Nat.{ℕ}
 use Rattle.base.specs.Out.{done, refused, bind, ensure}
 use Rattle.base.specs.Reasons.{bad_name, table_full}
-use Rattle.base.specs.declared.Found.TheVariants.{At}
+use Rattle.std.specs.Prelude.{Some}
 use Rattle.base.proofs.Outs.{ok-does}
 use Rattle.structs.specs.declared.DiskINode.{DiskINode}
 use Rattle.table.specs.declared.Table.{Table}
@@ -29,7 +29,7 @@ use Rattle.sequences.specs.Chains.{Finds, WalkAsFinds, HaltsAsFind}
 use Rattle.sequences.proofs.Passing.{allowed}
 use Rattle.sequences.proofs.Chains.{Follows, Gives, hold-gives, reaches, begins, walk-as-finds, halts-as-find}
 
-module _ (a : List ℕ) (t : Table) (w : ℕ) (h : Handle) (i : ℕ) (path : List ℕ) (room : ℕ) (y : Passed (pair a t)) (l : live_row t w h ≡ At i) (good : good_text path ≡ true)
+module _ (a : List ℕ) (t : Table) (w : ℕ) (h : Handle) (i : ℕ) (path : List ℕ) (room : ℕ) (y : Passed (pair a t)) (l : live_row t w h ≡ Some i) (good : good_text path ≡ true)
     (rel : from_root path ≡ false) (u : Table) (g : Handle) where
   A : Allowed a t
   A = allowed (pair a t) y
@@ -37,7 +37,7 @@ module _ (a : List ℕ) (t : Table) (w : ℕ) (h : Handle) (i : ℕ) (path : Lis
   own : Owns t w h i
   own = live-owns t w h i (formed a t A) l
 
-  module _ (j : ℕ) (m : live_row u w g ≡ At j) (c : Finds a w t h (parts_of path) u g) where
+  module _ (j : ℕ) (m : live_row u w g ≡ Some j) (c : Finds a w t h (parts_of path) u g) where
     abbrev id : ℕ
     id = (row_at u j).id
 

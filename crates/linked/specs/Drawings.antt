@@ -1,11 +1,10 @@
 -- What a designer was told of her drawings (crates/drawings), said of runs of the functions that are linked: she writes by `dz_write` or `dz_own_write`,
 -- and who reads, reads by `dz_read` or `dz_own_read`. A run that answers 255 was made with a slice of a wrong size, and made no call.
-use Rattle.std.specs.Prelude.{◌≡◌, List, [], ◌∷◌, ◌≢◌, ◌⊎◌, ◌↔◌, ℕ, ◌+◌, ◌≤◌, ◌<◌, T, length, take}
+use Rattle.std.specs.Prelude.{◌≡◌, List, [], ◌∷◌, ◌≢◌, ◌⊎◌, ◌↔◌, ℕ, ◌+◌, ◌≤◌, ◌<◌, T, length, take, Some}
 use contract.Lifetimes.{Lfts}
 use Rattle.base.specs.Out.{done}
 use Rattle.base.specs.Parts.{part, paste}
 use Rattle.base.specs.Reasons.{table_full, no_device_space}
-use Rattle.base.specs.declared.Found.TheVariants.{At}
 use Rattle.arena.specs.Places.{free_count}
 use Rattle.table.specs.declared.Handle.{Handle}
 use Rattle.table.specs.Table.{live_row}
@@ -126,7 +125,7 @@ module _ (R : Functions) (I : Image → Type 0) where
   -- `reads-text`: so through anybody's handle g on the row of h, whose file had that text
   unfoldable pub RunsReadText : Type 0
   RunsReadText = (s u z : Image) (w v : ℕ) (h g : Handle) (mode : FallocateMode) (from len i at room : ℕ) (a b x y : Places) (k : ℕ) → I s
-      → live_row (pair_of s).table w h ≡ At i → live_row (pair_of s).table v g ≡ At i
+      → live_row (pair_of s).table w h ≡ Some i → live_row (pair_of s).table v g ≡ Some i
       → Fits (fallocate w h mode from len) → R (fallocate w h mode from len) s a u b 0
       → Fits (read v g at room) → R (read v g at room) u x z y k → k ≢ 255
       → GaveBytes (part (new_text mode from len (text_at s.arena (pair_of s).table i)) at (at + room)) x y k

@@ -1,9 +1,8 @@
 -- Theorems over sequences of calls, said of runs of the functions that are linked.
-use Rattle.std.specs.Prelude.{◌≡◌, true, false, List, [], ◌∷◌, ◌++◌, ◌≢◌, ◌⊎◌, ◌↔◌, ℕ, T, ℤ}
+use Rattle.std.specs.Prelude.{◌≡◌, true, false, List, [], ◌∷◌, ◌++◌, ◌≢◌, ◌⊎◌, ◌↔◌, ℕ, T, ℤ, Some}
 use contract.Lifetimes.{Lfts}
 use Rattle.base.specs.Out.{done, answer, refused}
 use Rattle.base.specs.Reasons.{bad_handle, bad_name, table_full}
-use Rattle.base.specs.declared.Found.TheVariants.{At}
 use Rattle.le.specs.Le.{Bytes}
 use Rattle.structs.specs.Fits.{TimeFits}
 use Rattle.structs.specs.declared.Timespec.{Timespec}
@@ -128,7 +127,7 @@ module _ (R : Functions) (I : Image → Type 0) where
   -- `refused-others`
   unfoldable pub RunsRefused : Type 0
   RunsRefused = (c : Call) (s u : Image) (x y : Places) (n w : ℕ) (h : Handle) (i : ℕ) → I s → Fits c → R c s x u y n → n ≢ 255
-      → live_row (pair_of s).table w h ≡ At i → Owner (asker c) → asker c ≢ w → Names h c → n ≡ bad_handle
+      → live_row (pair_of s).table w h ≡ Some i → Owner (asker c) → asker c ≢ w → Names h c → n ≡ bad_handle
 
   -- `full-means`: 16 says that the asker has no place left, and where he has none nothing is made
   unfoldable pub RunsFull : Type 0
@@ -156,14 +155,14 @@ module _ (R : Functions) (I : Image → Type 0) where
   -- `walk-as-finds`: where finds lead from h to g, in table t, a walk of the path from h gives a handle on g's node; or w has no place left
   unfoldable pub RunsWalk : Type 0
   RunsWalk = (s u : Image) (x y : Places) (n w : ℕ) (h g : Handle) (i j : ℕ) (path : List ℕ) (room : ℕ) (t : Table) → I s → Fits (walk w h path room)
-      → R (walk w h path room) s x u y n → n ≢ 255 → live_row (pair_of s).table w h ≡ At i → live_row t w g ≡ At j → good_text path ≡ true → from_root path ≡ false
+      → R (walk w h path room) s x u y n → n ≢ 255 → live_row (pair_of s).table w h ≡ Some i → live_row t w g ≡ Some j → good_text path ≡ true → from_root path ≡ false
       → Finds s.arena w (pair_of s).table h (parts_of path) t g
       → ((n ≡ 0) × Handles y.words (pair_of u).table w (row_at t j).id (row_at t j).rec.file) ⊎ (n ≡ table_full)
 
   -- `halts-as-find`: and where the next find is refused, the walk is, with its reason
   unfoldable pub RunsHalt : Type 0
   RunsHalt = (s u : Image) (x y : Places) (n w : ℕ) (h g : Handle) (i : ℕ) (path : List ℕ) (room : ℕ) (t : Table) (ps : List (List ℕ)) (p : List ℕ) (qs : List (List ℕ)) (m : ℕ)
-      → I s → Fits (walk w h path room) → R (walk w h path room) s x u y n → n ≢ 255 → live_row (pair_of s).table w h ≡ At i → good_text path ≡ true → from_root path ≡ false
+      → I s → Fits (walk w h path room) → R (walk w h path room) s x u y n → n ≢ 255 → live_row (pair_of s).table w h ≡ Some i → good_text path ≡ true → from_root path ≡ false
       → parts_of path ≡ ps ++ (p ∷ qs) → Finds s.arena w (pair_of s).table h ps t g → call_find s.arena t w g p ≡ refused m → m ≢ bad_name → m ≢ table_full → n ≡ m
 
   pub record Theorems : Type 0 where

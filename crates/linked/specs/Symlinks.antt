@@ -1,9 +1,8 @@
 -- Order 7, where a symlink is met (crates/sequences, Symlinks), said of runs of `dz_walk` and `dz_own_walk`; and "23 SymLoop at the ninth link".
-use Rattle.std.specs.Prelude.{◌≡◌, true, List, [], ◌∷◌, ◌++◌, ◌≢◌, ◌↔◌, ℕ, ◌-◌}
+use Rattle.std.specs.Prelude.{◌≡◌, true, List, [], ◌∷◌, ◌++◌, ◌≢◌, ◌↔◌, ℕ, ◌-◌, Some}
 use Rattle.base.specs.Out.{answer}
 use Rattle.base.specs.Parts.{paste}
 use Rattle.base.specs.Reasons.{sym_loop}
-use Rattle.base.specs.declared.Found.TheVariants.{At}
 use Rattle.table.specs.declared.Handle.{Handle}
 use Rattle.table.specs.declared.Added.{Added}
 use Rattle.table.specs.Table.{live_row}
@@ -37,7 +36,7 @@ pub record WalkedAs (o : Walked Added) (s : Image) (x : Places) (u : Image) (y :
 -- symlink, whose target fits the link buffer's room
 pub record MeetsLink (s : Image) (w : ℕ) (h : Handle) (room : ℕ) (at : Spot) (p l target : List ℕ) : Type 0 where
   pub row : ℕ
-  pub live : live_row (pair_of s).table w h ≡ At row
+  pub live : live_row (pair_of s).table w h ≡ Some row
   pub front : Front (state_of s) (row_spot (pair_of s).table row) p at
   pub link : LinkAt (state_of s) room [] at l target
   pub part : IsPart l
@@ -69,7 +68,7 @@ module _ (R : Functions) (I : Image → Type 0) where
 
   -- `ninth-link-call`: from a live handle, a walk returns 23 exactly where the path is good, eight links are followed on it and a ninth is met
   unfoldable pub RunNinth : Type 0
-  RunNinth = (s u : Image) (x y : Places) (n w : ℕ) (h : Handle) (i : ℕ) (path : List ℕ) (room : ℕ) → I s → live_row (pair_of s).table w h ≡ At i
+  RunNinth = (s u : Image) (x y : Places) (n w : ℕ) (h : Handle) (i : ℕ) (path : List ℕ) (room : ℕ) → I s → live_row (pair_of s).table w h ≡ Some i
       → Fits (walk w h path room) → R (walk w h path room) s x u y n → n ≢ 255
       → (n ≡ sym_loop) ↔ MeetsNinth (state_of s) (row_spot (pair_of s).table i) path room
 

@@ -2,7 +2,7 @@
 use mathlib.Core.Path.{◌≡◌, refl, sym, ◌∙◌, ap}
 use mathlib.Core.Bool.{Bool, true, false, not, ◌&&◌}
 use mathlib.Core.List.{List}
-use Prim.Native.Nat.{ℕ, zero, suc, ◌*◌, ◌-◌, ◌/◌, min}
+use Prim.Native.Nat.{ℕ, ◌*◌, ◌-◌, ◌/◌, min}
 use native.Mathlib.Omega.{arith}
 use lib.ListN.{length}
 use lib.Dec.{ltb}
@@ -11,9 +11,8 @@ use Rattle.base.proofs.Outs.{went-not, above_zero}
 use Rattle.structs.specs.declared.DiskINode.{DiskINode}
 use Rattle.sefs.specs.Read.{readable, list_to}
 use Rattle.calls.specs.Answers.{listed_of, Laid, lay, leave}
-use Rattle.calls.specs.declared.Listed.TheVariants as listeds
 use Rattle.calls.proofs.Asks.{Asks, asks-ensure, asks-then, asks-readable, asked-not, asked-done, answer-stop, answer-next}
-use Rattle.list_slots.specs.List.{list_ask, list_in, whether, listed_as}
+use Rattle.list_slots.specs.List.{list_ask, list_in, whether}
 use Rattle.list_slots.proofs.Turns.{whether-not}
 
 pub asks-list : (r : DiskINode) (next room : ℕ) → Asks (list_ask r next room)
@@ -31,13 +30,9 @@ module _ (r : DiskINode) (n : ℕ) (e : n ≡ answer (readable r)) where
   unfolding list_ask
   list-ask-room next room z = answer-next (readable r) (λ _. ensure (not (ltb next r.blocks && ltb room 264)) 20) (asks-readable r) n e z
 
-pub listed-as : (r n : ℕ) → (r ≡ 0 → ⊥) → listeds.Refused r ≡ listed_as r n
-listed-as zero n z = absurd (z refl)
-listed-as (suc r) n z = refl
-
-pub laid-listed : {o : Out (List ℕ)} {out now : List ℕ} {m r : ℕ} (n : ℕ) → m ≡ 264 * n → Laid o out now m r → listed_as r n ≡ listed_of o
-laid-listed n h (lay {l = l} e q p) = ap listeds.Slots (let z : n ≡ length l / 264 = omega arith in z) ∙ sym (ap listed_of e)
-laid-listed n h (leave {r = r} z e p) = sym (listed-as r n (λ q. omega arith)) ∙ sym (ap listed_of e)
+pub laid-listed : {o : Out (List ℕ)} {out now : List ℕ} {m : ℕ} (n : ℕ) → m ≡ 264 * n → Laid o out now m 0 → ◌≡◌ {A = Out ℕ} (done n) (listed_of o)
+laid-listed n h (lay {l = l} e q p) = ap done (let z : n ≡ length l / 264 = omega arith in z) ∙ sym (ap listed_of e)
+laid-listed n h (leave z e p) = absurd (omega arith)
 
 -- the questions as one
 pub list-split : (a : List ℕ) (r : DiskINode) (next room : ℕ) → list_in a r next room ≡ bind (list_ask r next room) (λ _. list_to a r next (min (r.blocks - next) (room / 264)))

@@ -1,11 +1,9 @@
 -- The listing, once the handle's row is known: 7, 20, then the slots.
-use Rattle.std.specs.Prelude.{not, ◌&&◌, List, ℕ, zero, suc, ◌-◌, ◌/◌, min, ltb}
+use Rattle.std.specs.Prelude.{not, ◌&&◌, List, ℕ, ◌-◌, ◌/◌, min, ltb}
 use Rattle.base.specs.Out.{Out, done, refused, ensure, ◌>>=◌}
 use Rattle.base.specs.Reasons.{out_full}
 use Rattle.structs.specs.declared.DiskINode.{DiskINode}
 use Rattle.sefs.specs.Read.{readable, list_to}
-use Rattle.calls.specs.declared.Listed.{Listed}
-use Rattle.calls.specs.declared.Listed.TheVariants as listeds
 
 unfoldable pub list_ask : DiskINode → ℕ → ℕ → Out Unit
 list_ask r next room = do
@@ -22,8 +20,3 @@ list_in a r next room = do
 abbrev pub whether : {A : Type 0} → Out A → Out Unit
 whether (done x) = done tt
 whether (refused n) = refused n
-
--- an answer, by a reason's number
-abbrev pub listed_as : ℕ → ℕ → Listed
-listed_as zero n = listeds.Slots n
-listed_as (suc r) n = listeds.Refused (suc r)

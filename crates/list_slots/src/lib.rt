@@ -5,29 +5,27 @@
 mod slots;
 
 ghost use Rattle.std.specs.Prelude.{◌≡◌, ◌+◌, ◌*◌, ◌-◌, ◌≤◌, length};
+ghost use Rattle.base.specs.Told.{code};
 ghost use Rattle.base.specs.Out.{answer};
 ghost use Rattle.sefs.specs.Read.{list_to};
 ghost use Rattle.chains.specs.Led.{Led};
 ghost use Rattle.calls.specs.Answers.{listed_of, Laid, Lays};
-ghost use Rattle.list_slots.specs.List.{list_ask, list_in, listed_as};
+ghost use Rattle.list_slots.specs.List.{list_ask, list_in};
 
-use base::least;
-use calls::{Listed, long, readable};
+use base::{Reason, least};
+use calls::{long, readable};
 use chains::slots::end_of;
 use slots::{list_check, list_write};
 use structs::DiskINode;
 
-fn list_ask(rec: DiskINode, next: u64, room: usize) -> u8
-    ensures { result ≡ answer (list_ask rec next room) }
+fn list_ask(rec: DiskINode, next: u64, room: usize) -> Result<(), Reason>
+    ensures { code result ≡ answer (list_ask rec next room) }
 {
-    let r = readable(rec);
-    if r != 0 {
-        return r;
-    }
+    readable(rec)?;
     if (next < long(rec.blocks)) & (room < 264) {
-        return 20;
+        return Err(Reason::OutFull);
     }
-    0
+    Ok(())
 }
 
 // How many slots there are from `next` on: none past the end.
@@ -50,18 +48,15 @@ fn write_slots(
     at: usize,
     n: usize,
     out: &mut [u8],
-) -> u8
+) -> Result<(), Reason>
     requires led { Led arena.now first.now next.now }
     requires slot_len { (length slot.old ≡ 264) × ((at + n ≤ 4294967295) × (264 * n ≤ length out.old)) }
-    ensures { Laid (list_to arena.now rec at n) out.old out.new (264 * n) result }
+    ensures { Laid (list_to arena.now rec at n) out.old out.new (264 * n) (code result) }
 {
     let end = end_of(arena, first, next, rec);
-    let r = list_check(arena, first, next, slot, rec, end, at, n);
-    if r != 0 {
-        return r;
-    }
+    list_check(arena, first, next, slot, rec, end, at, n)?;
     list_write(arena, first, next, rec, end, at, n, out);
-    0
+    Ok(())
 }
 
 fn read_slots(
@@ -72,10 +67,10 @@ fn read_slots(
     at: usize,
     n: usize,
     out: &mut [u8],
-) -> u8
+) -> Result<(), Reason>
     requires led { Led arena.now first.now next.now }
     requires n_bound { (at + n ≤ 4294967295) × (264 * n ≤ length out.old) }
-    ensures { Laid (list_to arena.now rec at n) out.old out.new (264 * n) result }
+    ensures { Laid (list_to arena.now rec at n) out.old out.new (264 * n) (code result) }
 {
     let mut slot = [0u8; 264];
     write_slots(arena, first, next, &mut slot, rec, at, n, out)
@@ -90,24 +85,15 @@ fn list_some(
     at: u64,
     n: usize,
     out: &mut [u8],
-) -> u8
+) -> Result<(), Reason>
     requires led { Led arena.now first.now next.now }
     requires n_bound { (n ≤ 4294967295 - at) × (264 * n ≤ length out.old) }
-    ensures { Laid (list_to arena.now rec at n) out.old out.new (264 * n) result }
+    ensures { Laid (list_to arena.now rec at n) out.old out.new (264 * n) (code result) }
 {
     if n == 0 {
-        return 0;
+        return Ok(());
     }
     read_slots(arena, first, next, rec, at as usize, n, out)
-}
-
-fn as_listed(reason: u8, n: usize) -> Listed
-    ensures { result ≡ listed_as reason n }
-{
-    if reason == 0 {
-        return Listed::Slots(n);
-    }
-    Listed::Refused(reason)
 }
 
 pub fn list_in(
@@ -117,17 +103,14 @@ pub fn list_in(
     rec: DiskINode,
     at: u64,
     out: &mut [u8],
-) -> Listed
+) -> Result<usize, Reason>
     requires { Led arena.now first.now next.now }
     ensures { Lays listed_of (list_in arena.now rec at (length out.old)) out.old out.new result }
 {
     let room = out.len();
-    let r = list_ask(rec, at, room);
-    if r != 0 {
-        return Listed::Refused(r);
-    }
+    list_ask(rec, at, room)?;
     let left = slots_left(long(rec.blocks), at);
     let n = least(left, room / 264);
-    let r = list_some(arena, first, next, rec, at, n, out);
-    as_listed(r, n)
+    list_some(arena, first, next, rec, at, n, out)?;
+    Ok(n)
 }

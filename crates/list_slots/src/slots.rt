@@ -1,5 +1,6 @@
 // A folder's slots, as the listing reads them: all are known to be readable before one is written. `end` is the end of the folder's file.
 ghost use Rattle.std.specs.Prelude.{◌≡◌, ◌+◌, ◌*◌, ◌≤◌, length};
+ghost use Rattle.base.specs.Told.{code};
 ghost use Rattle.base.specs.Out.{Went, done};
 ghost use Rattle.sefs.specs.Nodes.{node_file};
 ghost use Rattle.sefs.specs.Read.{list_slot, list_to};
@@ -7,6 +8,7 @@ ghost use Rattle.chains.specs.Led.{Led, end_of};
 ghost use Rattle.calls.specs.Answers.{Laid};
 ghost use Rattle.list_slots.specs.List.{whether};
 
+use base::Reason;
 use chains::slots::{named_slot, slot_bytes};
 use le::u32_at;
 use structs::DiskINode;
@@ -20,19 +22,16 @@ fn list_slot(
     end: usize,
     k: usize,
     slot: &mut [u8],
-) -> u8
+) -> Result<(), Reason>
     requires led { Led arena.now first.now next.now }
     requires end_value { (end ≡ end_of arena.now (node_file rec)) × ((end ≤ 4294967296) × ((k ≤ 4294967295) × (length slot.old ≡ 264))) }
-    ensures { Went (list_slot arena.now rec k) slot.new (length slot.new ≡ 264) result }
+    ensures { Went (list_slot arena.now rec k) slot.new (length slot.new ≡ 264) (code result) }
 {
-    let r = named_slot(arena, first, next, rec, end, k, slot);
-    if r != 0 {
-        return r;
-    }
+    named_slot(arena, first, next, rec, end, k, slot)?;
     if u32_at(&slot[..], 260) == 0 {
-        return 19;
+        return Err(Reason::Stuck);
     }
-    0
+    Ok(())
 }
 
 // Whether the n slots from `at` on can be listed.
@@ -45,20 +44,15 @@ pub fn list_check(
     end: usize,
     at: usize,
     n: usize,
-) -> u8
+) -> Result<(), Reason>
     requires led { Led arena.now first.now next.now }
     requires end_value { (end ≡ end_of arena.now (node_file rec)) × ((end ≤ 4294967296) × ((at + n ≤ 4294967295) × (length slot.old ≡ 264))) }
-    ensures { Went (whether (list_to arena.now rec at n)) tt Unit result }
+    ensures { Went (whether (list_to arena.now rec at n)) tt Unit (code result) }
 {
-    let mut k: usize = 0;
-    while k < n {
-        let r = list_slot(arena, first, next, rec, end, at + k, slot);
-        if r != 0 {
-            return r;
-        }
-        k = k + 1;
+    for k in 0..n {
+        list_slot(arena, first, next, rec, end, at + k, slot)?;
     }
-    0
+    Ok(())
 }
 
 // They go to the output's start.
@@ -77,10 +71,8 @@ pub fn list_write(
     requires n_value { whether (list_to arena.now rec at n) ≡ done tt }
     ensures { Laid (list_to arena.now rec at n) out.old out.new (264 * n) 0 }
 {
-    let mut k: usize = 0;
-    while k < n {
+    for k in 0..n {
         let o = 264 * k;
-        slot_bytes(arena, first, next, rec, end, at + k, &mut out[o..o + 264]);
-        k = k + 1;
+        let _ = slot_bytes(arena, first, next, rec, end, at + k, &mut out[o..o + 264]);
     }
 }

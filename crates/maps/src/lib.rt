@@ -48,30 +48,17 @@ pub fn put_bit(maps: &mut [u8], i: usize, b: bool)
 }
 
 // The lowest set bit of the lowest group that has one.
-pub fn lowest_set(maps: &[u8], groups: usize) -> base::Found
+pub fn lowest_set(maps: &[u8], groups: usize) -> Option<usize>
     requires { (groups ≤ 4) × (128 * groups ≤ length maps.now) }
     ensures { result ≡ found_below (lowest (bit_at maps.now) (1024 * groups)) (1024 * groups) }
 {
-    let mut group: usize = 0;
-    let id = 'search: loop {
-        if group == groups {
-            break BLKBITS * groups;
+    let n = BLKBITS * groups;
+    for id in 0..n {
+        if bit_at(maps, id) {
+            return base::found_below(id, n);
         }
-        let mut byte: usize = 0;
-        while byte < BLKSIZE {
-            let x = maps[BLKSIZE * group + byte];
-            let mut k: usize = 0;
-            while k < 8 {
-                if bit_of(x, k) {
-                    break 'search BLKBITS * group + 8 * byte + k;
-                }
-                k = k + 1;
-            }
-            byte = byte + 1;
-        }
-        group = group + 1;
-    };
-    base::found_below(id, BLKBITS * groups)
+    }
+    base::found_below(n, n)
 }
 
 // How many blocks are free.
@@ -79,12 +66,11 @@ pub fn count_set(maps: &[u8], groups: usize) -> u32
     requires { (groups ≤ 4) × (128 * groups ≤ length maps.now) }
     ensures { result ≡ set_bits maps.now (1024 * groups) }
 {
-    let n = BLKBITS * groups;
-    let mut count: u32 = 0;
-    let mut i: usize = 0;
-    while i < n {
-        count = count + base::wide(one(bit_at(maps, i)));
-        i = i + 1;
+    let mut count = 0;
+    for i in 0..BLKBITS * groups {
+        if bit_at(maps, i) {
+            count += 1;
+        }
     }
     count
 }

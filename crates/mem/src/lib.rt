@@ -21,7 +21,7 @@ ghost use Rattle.sefs.specs.Meta.{super_with, grown};
 ghost use Rattle.sefs.specs.Records.{with_links, with_blocks};
 ghost use Rattle.mem.specs.Mem.{table_in, super_in, maps_in, meta_in, Whole, Tabled, Mapped, memory_size};
 
-use base::{Found, copy, index};
+use base::{copy, index};
 use le::{put_u16, put_u32, u16_at, u32_at};
 use structs::{DiskINode, SEFS_MAGIC, SuperBlock, put_super_block, super_block_at};
 use table::{Row, Table};
@@ -118,9 +118,9 @@ pub fn set_rec(mem: &mut [u8], i: usize, rec: DiskINode)
         mem,
         i,
         Row {
-            id: id,
+            id,
             dirty: true,
-            rec: rec,
+            rec,
         },
     );
 }
@@ -168,18 +168,16 @@ pub fn clear_row(mem: &mut [u8], i: usize)
 }
 
 // The lowest row with that id; id 0 asks for a free row.
-pub fn find_row(mem: &[u8], id: u32) -> Found
+pub fn find_row(mem: &[u8], id: u32) -> Option<usize>
     requires { Whole mem.now }
     ensures { result ≡ row_of (table_in mem.now) id }
 {
-    let mut i: usize = 0;
-    while i < 34 {
+    for i in 0..34 {
         if id_at(mem, i) == id {
-            return Found::At(i);
+            return Some(i);
         }
-        i = i + 1;
     }
-    Found::Nothing
+    None
 }
 
 // ---- holds
@@ -197,12 +195,10 @@ pub fn row_held(mem: &[u8], i: usize) -> bool
     requires { Whole mem.now }
     ensures { result ≡ row_used (table_in mem.now) i }
 {
-    let mut n: usize = 0;
-    while n < 32 {
+    for n in 0..32 {
         if names_row(mem, n, i) {
             return true;
         }
-        n = n + 1;
     }
     false
 }
@@ -239,7 +235,7 @@ pub fn map_bytes(mem: &[u8], group: usize) -> &[u8]
 }
 
 // The lowest set bit of the groups' maps.
-pub fn first_bit(mem: &[u8]) -> Found
+pub fn first_bit(mem: &[u8]) -> Option<usize>
     requires { Whole mem.now × (get_or mem.now 4402 0 ≡ 1) }
     ensures { result ≡ found_below (lowest (bit_at (maps_in mem.now)) (1024 * (super_in mem.now).groups)) (1024 * (super_in mem.now).groups) }
 {
@@ -276,9 +272,9 @@ pub fn add_group(mem: &mut [u8])
     let mut sb = super_at(&mem[..]);
     let o = 4419 + 128 * index(sb.groups);
     put_map(&mut mem[o..o + 128], 253);
-    sb.blocks = sb.blocks + 1024;
-    sb.unused = sb.unused + 1023;
-    sb.groups = sb.groups + 1;
+    sb.blocks += 1024;
+    sb.unused += 1023;
+    sb.groups += 1;
     put_super_block(mem, 4403, sb);
 }
 
@@ -287,11 +283,7 @@ fn put_map(map: &mut [u8], first: u8)
     requires { length map.old ≡ 128 }
     ensures { map.new ≡ first ∷ replicate 127 255 }
 {
-    let mut i: usize = 0;
-    while i < 128 {
-        map[i] = 255;
-        i = i + 1;
-    }
+    map.fill(255);
     map[0] = first;
 }
 

@@ -5,11 +5,9 @@ use mathlib.Core.List.{List}
 use mathlib.Core.Logic.{⊎_elim}
 use Prim.Native.Nat.{ℕ, ◌+◌, ◌*◌, ◌^◌, ◌≤◌, ◌<◌}
 use native.Mathlib.Omega.{arith}
-use lib.Dec.{eqb}
 use lib.ListN.{length}
-use borrow.Author.Tests.{eq-eqb, eqb-true}
 use Rattle.base.specs.Search.{pick}
-use Rattle.base.proofs.Bools.{bool_cases, true-false, and_both, and_parts, and-false, true-T}
+use Rattle.base.proofs.Bools.{bool_cases, and_both, and-false, true-T}
 use Rattle.base.proofs.Lists.{length-tab}
 use Rattle.base.proofs.Sames.{same-own, same_false}
 use Rattle.le.specs.Le.{Bytes}
@@ -130,16 +128,12 @@ module _ (a : List ℕ) (B : Bytes a) (M : Mendable a) (id : ℕ) (n : is_node a
     size-due : size ≡ due_size a id
     size-due = es ∙ ap (λ (x : DiskINode). pick (is_folder x.kind) x.size (length_of a (node_file x))) is
 
-    pub fate-right : (eqb r.nlinks links && eqb r.size size) ≡ true → 0 ≡ pick (changed a id) (mended a id).nlinks 0
-    fate-right e =
-        let p = and_parts (eqb r.nlinks links) (eqb r.size size) e in
-        rw (unchanged (sym (ap (λ (x : DiskINode). x.nlinks) is) ∙ eqb-true r.nlinks links p.0 ∙ links-due) (sym (ap (λ (x : DiskINode). x.size) is) ∙ eqb-true r.size size p.1 ∙ size-due)) refl
+    pub fate-right : r.nlinks ≡ links → r.size ≡ size → 0 ≡ pick (changed a id) (mended a id).nlinks 0
+    fate-right e f =
+        rw (unchanged (sym (ap (λ (x : DiskINode). x.nlinks) is) ∙ e ∙ links-due) (sym (ap (λ (x : DiskINode). x.size) is) ∙ f ∙ size-due)) refl
 
-    pub fate-wrong : lost a id ≡ false → (eqb r.nlinks links && eqb r.size size) ≡ false → links ≡ pick (changed a id) (mended a id).nlinks 0
-    fate-wrong k e =
+    pub fate-wrong : lost a id ≡ false → (r.nlinks ≡ links → r.size ≡ size → ⊥) → links ≡ pick (changed a id) (mended a id).nlinks 0
+    fate-wrong k differ =
         let c : changed a id ≡ true =
-        is-changed k (λ x y.
-        true-false
-        (and_both (eq-eqb r.nlinks links (ap (λ (z : DiskINode). z.nlinks) is ∙ x ∙ sym links-due)) (eq-eqb r.size size (ap (λ (z : DiskINode). z.size) is ∙ y ∙ sym size-due)))
-        e) in
+        is-changed k (λ x y. differ (ap (λ (z : DiskINode). z.nlinks) is ∙ x ∙ sym links-due) (ap (λ (z : DiskINode). z.size) is ∙ y ∙ sym size-due)) in
         rw c (links-due ∙ sym (mended-links a id))

@@ -1,6 +1,6 @@
 -- Blocks that are lacking, and blocks that files give back.
 use mathlib.Core.Path.{◌≡◌, refl, sym, ap, ap₂, ◌∙◌}
-use mathlib.Core.Bool.{true, false, not, ◌&&◌}
+use mathlib.Core.Bool.{Bool, true, false, not, ◌&&◌}
 use mathlib.Core.List.{List}
 use mathlib.Core.Logic.{◌≢◌, ⊎_elim}
 use Prim.Native.Nat.{ℕ, suc, ◌+◌, ◌*◌, ◌-◌, ◌/◌, ◌≤◌, ◌<◌}
@@ -8,10 +8,12 @@ use native.Mathlib.Nat.{zero-add, add-zero}
 use native.Mathlib.Numerals.{add-one}
 use native.Mathlib.Omega.{arith}
 use lib.Dec.{eqb, leb}
+use mir.Val.{bool_byte}
 use lib.ListN.{length, get_or}
-use borrow.Author.Tests.{le-leb, lt-leb}
+use borrow.Author.Tests.{le-leb, lt-leb, eq-eqb, ne_eqb}
 use Rattle.base.specs.Count.{bit, sum_to, count_to}
 use Rattle.base.specs.Parts.{part}
+use Rattle.base.proofs.Bools.{true-false, and_both, and_parts}
 use Rattle.base.proofs.Numbers.{lt-or-le}
 use Rattle.base.proofs.Parts.{part-part}
 use Rattle.base.proofs.Sames.{test-fails}
@@ -35,6 +37,21 @@ use Rattle.mending.proofs.Stores.{want-more}
 use Rattle.mend_plan.specs.Plan.{gone, Fated, Placed}
 use Rattle.mend_plan.proofs.Records.{can-mend}
 use Rattle.mend_plan.proofs.Fates.{lost-fate, fate-lost, changed-is, head-here, head-below, head-file}
+
+-- a test as a number, as a conversion makes it
+pub bit_of : (b : Bool) → bool_byte b ≡ bit b
+bit_of true = refl
+bit_of false = refl
+
+-- whether a fate is one with which a record is stored
+pub stored_yes : (x : ℕ) → (x ≡ 0 → ⊥) → (x ≡ gone → ⊥) → (not (eqb x 0) && not (eqb x gone)) ≡ true
+stored_yes x d e = and_both (ap not (ne_eqb x 0 d)) (ap not (ne_eqb x gone e))
+
+pub stored_no : (x : ℕ) → ((x ≡ 0 → ⊥) → (x ≡ gone → ⊥) → ⊥) → (not (eqb x 0) && not (eqb x gone)) ≡ false
+stored_no x e =
+    test-fails _ (λ y.
+    let p = and_parts (not (eqb x 0)) (not (eqb x gone)) y in
+    e (λ z. true-false p.0 (ap not (eq-eqb x 0 z))) (λ z. true-false p.1 (ap not (eq-eqb x gone z))))
 
 -- ---- a record's blocks
 
@@ -77,11 +94,11 @@ module _ (a work : List ℕ) (n id : ℕ) (m : mendable a ≡ true) (F : Fated a
   told : (not (eqb (get_or work id 0) 0) && not (eqb (get_or work id 0) gone)) ≡ changed a id
   told = ap (λ (x : ℕ). not (eqb x 0) && not (eqb x gone)) (F.fate id l) ∙ changed-is a (can-mend a m) id
 
-  pub wanted-yes : c ≡ wanted_to a id → (not (eqb (get_or work id 0) 0) && not (eqb (get_or work id 0) gone)) ≡ true → k ≡ lacking a meta_file (128 * id) 112 → d ≡ c + k → d ≡ wanted_to a (id + 1)
-  wanted-yes so e is q = omega (arith, ap (wanted_to a) (add-one id), want-more a id true (sym told ∙ e))
+  pub wanted-yes : c ≡ wanted_to a id → (get_or work id 0 ≡ 0 → ⊥) → (get_or work id 0 ≡ gone → ⊥) → k ≡ lacking a meta_file (128 * id) 112 → d ≡ c + k → d ≡ wanted_to a (id + 1)
+  wanted-yes so d e is q = omega (arith, ap (wanted_to a) (add-one id), want-more a id true (sym told ∙ stored_yes _ d e))
 
-  pub wanted-no : c ≡ wanted_to a id → (not (eqb (get_or work id 0) 0) && not (eqb (get_or work id 0) gone)) ≡ false → d ≡ c → d ≡ wanted_to a (id + 1)
-  wanted-no so e q = omega (arith, ap (wanted_to a) (add-one id), want-more a id false (sym told ∙ e))
+  pub wanted-no : c ≡ wanted_to a id → ((get_or work id 0 ≡ 0 → ⊥) → (get_or work id 0 ≡ gone → ⊥) → ⊥) → d ≡ c → d ≡ wanted_to a (id + 1)
+  wanted-no so e q = omega (arith, ap (wanted_to a) (add-one id), want-more a id false (sym told ∙ stored_no _ e))
 
   pub back-yes : c ≡ given_back_to a id → lost a id ≡ true → k ≡ own_count a (node_file (rec_in a id)) → d ≡ c + k → d ≡ given_back_to a (id + 1)
   back-yes so e is q = omega (arith, ap (given_back_to a) (add-one id), back_more a id true e)

@@ -3,6 +3,7 @@
 #![tactic(auto)]
 
 ghost use Rattle.std.specs.Prelude.{◌≡◌, true, false, List, ℕ, ◌+◌, ◌*◌, ◌-◌, ◌<◌, ◌≤◌, leb, length};
+ghost use Rattle.base.specs.Told.{code};
 ghost use Rattle.base.specs.Search.{pick};
 ghost use Rattle.structs.specs.Types.{is_folder};
 ghost use Rattle.table.specs.Table.{empty_table};
@@ -24,7 +25,7 @@ ghost use Rattle.mending.specs.Room.{wanted_to, given_back_to, wanted, given_bac
 ghost use Rattle.mend_plan.specs.Plan.{Fated, Placed, Ready, Decided};
 
 use arena::free_count;
-use base::{byte, copy, index16, one};
+use base::Reason;
 use chains::head_at;
 use fsck_links::subfolders;
 use fsck_read::{ids, is_node, rec_of};
@@ -39,10 +40,6 @@ pub const GONE: u16 = 65535;
 
 // A metadata file of four groups has so many blocks.
 pub const META_BLOCKS: usize = 1093;
-
-const WRONG_FS: u8 = 18;
-
-const NO_DEVICE_SPACE: u8 = 17;
 
 // ---- fates
 
@@ -86,7 +83,7 @@ fn fate_of(
     ensures { result ≡ pick (changed arena.now id) (mended arena.now id).nlinks 0 }
 {
     let links = due_links(arena, first, next, rec, named);
-    if (rec.nlinks == links) & (rec.size == due_size(arena, rec, head)) {
+    if rec.nlinks == links && rec.size == due_size(arena, rec, head) {
         return 0;
     }
     links
@@ -108,7 +105,7 @@ fn plan_id(arena: &[u8], first: &[u16], next: &[u16], mem: &[u8], work: &mut [u1
     let head = head_at(arena, first, next, 1, &file);
     let named = work[id];
     work[4096 + id] = head as u16;
-    if (id != 2) & (named == 0) {
+    if id != 2 && named == 0 {
         work[id] = GONE;
         return;
     }
@@ -121,11 +118,8 @@ fn plan_ids(arena: &[u8], first: &[u16], next: &[u16], mem: &[u8], work: &mut [u
     requires arena_value { (mendable arena.now ≡ true) × Fated arena.now work.old 0 }
     ensures { Fated arena.now work.new (ids_in arena.now) }
 {
-    let n = ids(mem);
-    let mut id: usize = 0;
-    while id < n {
+    for id in 0..ids(mem) {
         plan_id(arena, first, next, mem, work, id);
-        id = id + 1;
     }
 }
 
@@ -138,11 +132,11 @@ fn lacks(places: &[u16], id: usize) -> usize
     ensures { (result ≤ 2) × ((a : List ℕ) → Placed a places.now → result ≡ lacking a meta_file (128 * id) 112) }
 {
     let q = 128 * id / 480;
-    let c = byte(one(places[q] == 0));
+    let c = usize::from(places[q] == 0);
     if touched(128 * id, 112) == 1 {
         return c;
     }
-    c + byte(one(places[q + 1] == 0))
+    c + usize::from(places[q + 1] == 0)
 }
 
 // How many blocks the records lack that are to be stored.
@@ -151,12 +145,10 @@ fn wanted_by(work: &[u16], places: &[u16], n: usize) -> usize
     ensures { (a : List ℕ) → mendable a ≡ true → Fated a work.now n → Placed a places.now → result ≡ wanted_to a n }
 {
     let mut c: usize = 0;
-    let mut id: usize = 0;
-    while id < n {
-        if (work[id] != 0) & (work[id] != GONE) {
-            c = c + lacks(places, id);
+    for id in 0..n {
+        if work[id] != 0 && work[id] != GONE {
+            c += lacks(places, id);
         }
-        id = id + 1;
     }
     c
 }
@@ -168,14 +160,11 @@ fn own_count(arena: &[u8], k: usize) -> usize
 {
     let mut name = [0u8; 16];
     let s = 512 * k;
-    copy(&mut name, &arena[s + 4..s + 20]);
-    let n = arena.len() / 512;
+    name.copy_from_slice(&arena[s + 4..s + 20]);
     let mut c: usize = 0;
-    let mut i: usize = 0;
-    while i < n {
+    for i in 0..arena.len() / 512 {
         let o = 512 * i;
-        c = c + byte(one(is_of(&arena[o..o + 512], arena[s + 1], &name)));
-        i = i + 1;
+        c += usize::from(is_of(&arena[o..o + 512], arena[s + 1], &name));
     }
     c
 }
@@ -186,12 +175,10 @@ fn given_back(arena: &[u8], work: &[u16], n: usize) -> usize
     ensures { result ≡ given_back_to arena.now n }
 {
     let mut c: usize = 0;
-    let mut id: usize = 0;
-    while id < n {
+    for id in 0..n {
         if work[id] == GONE {
-            c = c + own_count(arena, index16(work[4096 + id]) - 1);
+            c += own_count(arena, usize::from(work[4096 + id]) - 1);
         }
-        id = id + 1;
     }
     c
 }
@@ -203,10 +190,7 @@ fn has_room(arena: &[u8], work: &[u16], places: &[u16], n: usize) -> bool
 {
     let lacking = wanted_by(work, places, n);
     let free = free_count(arena);
-    if lacking <= free {
-        return true;
-    }
-    lacking - free <= given_back(arena, work, n)
+    lacking <= free || lacking - free <= given_back(arena, work, n)
 }
 
 // ---- all of it
@@ -228,20 +212,20 @@ pub fn plan_mending(
     mem: &mut [u8],
     work: &mut [u16],
     places: &mut [u16],
-) -> u8
+) -> Result<(), Reason>
     requires led { Led arena.now first.now next.now }
     requires mem_len { (length mem.old ≡ memory_size) × (table_in mem.old ≡ empty_table) }
     requires work_len { (length work.old ≡ 8192) × (length places.old ≡ 1093) }
-    ensures { Decided arena.now ((Loaded mem.new × Of arena.now mem.new) × Ready arena.now work.new places.new) result }
+    ensures { Decided arena.now ((Loaded mem.new × Of arena.now mem.new) × Ready arena.now work.new places.new) (code result) }
 {
     if !can_mend(arena, first, next, mem, work) {
-        return WRONG_FS;
+        return Err(Reason::WrongFs);
     }
     plan_ids(arena, first, next, &mem[..], work);
     find_places(arena, first, next, places);
     let n = ids(&mem[..]);
     if has_room(arena, &work[..], &places[..], n) {
-        return 0;
+        return Ok(());
     }
-    NO_DEVICE_SPACE
+    Err(Reason::NoDeviceSpace)
 }

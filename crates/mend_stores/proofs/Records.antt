@@ -43,6 +43,7 @@ use Rattle.mending.proofs.Stores.{Stored, Short, src-long, changed-stays, store-
 use Rattle.mend_plan.specs.Plan.{gone}
 use Rattle.mend_plan.proofs.Records.{can-mend}
 use Rattle.mend_plan.proofs.Fates.{changed-is, changed-fate}
+use Rattle.mend_plan.proofs.Rooms.{stored_yes, stored_no}
 use Rattle.mend_stores.specs.Stores.{state_of, Storable, PutInMeta, renewed_by, FreedTo, Begun, StoredTo}
 use Rattle.mend_stores.proofs.Places.{head-some, head-number, head-below}
 use Rattle.mend_stores.proofs.Frees.{freed-is}
@@ -93,8 +94,14 @@ module _ (a m c work : List ℕ) (n : ℕ) (first : List ℕ) (B : Begun a m c w
 
     module _ (l : id < n) where
       -- as the code asks whether the record changes
-      pub plan-changed : (b : Bool) → (not (eqb (get_or work id 0) 0) && not (eqb (get_or work id 0) gone)) ≡ b → changed a id ≡ b
-      plan-changed b e = sym (changed-is a begun-mendable id) ∙ ap (λ (v : ℕ). not (eqb v 0) && not (eqb v gone)) (sym (B.fated.fate id l)) ∙ e
+      told : (b : Bool) → (not (eqb (get_or work id 0) 0) && not (eqb (get_or work id 0) gone)) ≡ b → changed a id ≡ b
+      told b e = sym (changed-is a begun-mendable id) ∙ ap (λ (v : ℕ). not (eqb v 0) && not (eqb v gone)) (sym (B.fated.fate id l)) ∙ e
+
+      pub plan-changed : (get_or work id 0 ≡ 0 → ⊥) → (get_or work id 0 ≡ gone → ⊥) → changed a id ≡ true
+      plan-changed d e = told true (stored_yes _ d e)
+
+      pub plan-same : ((get_or work id 0 ≡ 0 → ⊥) → (get_or work id 0 ≡ gone → ⊥) → ⊥) → changed a id ≡ false
+      plan-same e = told false (stored_no _ e)
 
       below : id < ids_in a
       below = omega (arith, B.all)

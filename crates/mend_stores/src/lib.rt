@@ -23,7 +23,7 @@ ghost use Rattle.mending.specs.Room.{wanted, given_back};
 ghost use Rattle.mend_plan.specs.Plan.{Placed, Ready, Fated};
 ghost use Rattle.mend_stores.specs.Stores.{state_of, Storable, PutInMeta, freed_in, renewed_by, FreedTo, Begun, StoredTo, MetaHasBlocks};
 
-use base::{copy, index, index16, least};
+use base::index;
 use inplace::drop_file;
 use le::u32_at;
 use mem::{map_bytes, put_bit, super_at, super_bytes};
@@ -40,7 +40,7 @@ fn read_place(arena: &[u8], places: &[u16], q: usize, off: usize, out: &mut [u8]
     requires out_bound { off + length out.old ≤ 480 }
     ensures { out.new ≡ run arena.now meta_file (480 * q + off) (length out.old) }
 {
-    read_block(arena, index16(places[q]), off, out);
+    read_block(arena, usize::from(places[q]), off, out);
 }
 
 // The id's record, in one block or two.
@@ -50,7 +50,7 @@ fn read_record(arena: &[u8], places: &[u16], id: usize, out: &mut [u8])
 {
     let q = 128 * id / 480;
     let off = 128 * id % 480;
-    let m = least(480 - off, 112);
+    let m = (480 - off).min(112);
     read_place(arena, places, q, off, &mut out[0..m]);
     if m == 112 {
         return;
@@ -74,7 +74,7 @@ fn put_place(
     ensures placed_2 { Placed arena.new places.new × ((g : File) → head_at arena.new g ≡ head_at arena.old g) }
 {
     let meta = [0u8; 16];
-    let found = index16(places[q]);
+    let found = usize::from(places[q]);
     let k = put_block(arena, 0, &meta, pos, src, q, found, from);
     if found > 0 {
         return k;
@@ -91,10 +91,8 @@ fn put_meta(arena: &mut [u8], places: &mut [u16], pos: usize, src: &[u8], from: 
     let n = touched(pos, src.len());
     let q = pos / 480;
     let mut at = from;
-    let mut i: usize = 0;
-    while i < n {
+    for i in 0..n {
         at = put_place(arena, places, pos, src, q + i, at);
-        i = i + 1;
     }
     at
 }
@@ -110,7 +108,7 @@ fn free_node(arena: &mut [u8], mem: &mut [u8], id: usize, k: usize)
 {
     let mut name = [0u8; 16];
     let o = 512 * k + 4;
-    copy(&mut name, &arena[o..o + 16]);
+    name.copy_from_slice(&arena[o..o + 16]);
     let unused = super_at(&mem[..]).unused;
     put_bit(mem, id, true, unused + 1);
     drop_file(arena, 1, &name);
@@ -121,12 +119,10 @@ fn free_nodes(arena: &mut [u8], mem: &mut [u8], work: &[u16], n: usize)
     requires loaded { Loaded mem.old × Of arena.old mem.old }
     ensures { FreedTo arena.old arena.new mem.new n }
 {
-    let mut id: usize = 0;
-    while id < n {
+    for id in 0..n {
         if work[id] == GONE {
-            free_node(arena, mem, id, index16(work[4096 + id]) - 1);
+            free_node(arena, mem, id, usize::from(work[4096 + id]) - 1);
         }
-        id = id + 1;
     }
 }
 
@@ -171,19 +167,17 @@ fn store_records(arena: &mut [u8], work: &[u16], places: &mut [u16], n: usize) -
     ensures { (a m : List ℕ) → Begun a m arena.old work.now places.old n → StoredTo a arena.new m places.new n result }
 {
     let mut from: usize = 0;
-    let mut id: usize = 0;
-    while id < n {
-        if (work[id] != 0) & (work[id] != GONE) {
+    for id in 0..n {
+        if work[id] != 0 && work[id] != GONE {
             from = store_record(
                 arena,
                 places,
                 id,
                 work[id],
-                index16(work[4096 + id]) - 1,
+                usize::from(work[4096 + id]) - 1,
                 from,
             );
         }
-        id = id + 1;
     }
     from
 }
@@ -195,10 +189,8 @@ fn store_maps(arena: &mut [u8], mem: &[u8], places: &mut [u16], groups: usize, f
     ensures { store_maps arena.old (maps_in mem.now) groups ≡ done arena.new }
 {
     let mut at = from;
-    let mut g: usize = 0;
-    while g < groups {
+    for g in 0..groups {
         at = put_meta(arena, places, map_at(g), map_bytes(mem, g), at);
-        g = g + 1;
     }
 }
 

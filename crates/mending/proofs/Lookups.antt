@@ -10,8 +10,7 @@ use Rattle.base.specs.Out.{Out, done, refused, bind, guard}
 use Rattle.base.specs.Parts.{tab}
 use Rattle.base.specs.Reasons.{stuck}
 use Rattle.base.specs.Search.{pick, found_below}
-use Rattle.base.specs.declared.Found.{Found}
-use Rattle.base.specs.declared.Found.TheVariants.{At, Nothing}
+use Rattle.std.specs.Prelude.{Option, Some, None}
 use Rattle.base.proofs.Lists.{tab-cong}
 use Rattle.structs.specs.Layout.{entry_of}
 use Rattle.structs.specs.declared.DiskEntry.{DiskEntry}
@@ -53,18 +52,18 @@ lookup-same x y r s name q h =
     ap (λ (n : ℕ). bind (look_to x r name n) (λ k. done (found_below k n))) q ∙ ap (λ (o : Out ℕ). bind o (λ k. done (found_below k s.blocks))) (look-same x y r s name s.blocks h)
 
 -- the slot that a lookup found
-abbrev pub slot_of : List ℕ → DiskINode → Found → Out Slot
+abbrev pub slot_of : List ℕ → DiskINode → Option ℕ → Out Slot
 slot_of x r f = bind (or_not_found f) (λ k. bind (slot_at x r k) (λ e. done (record { place = k; entry = e })))
 
 pub find-same : (x y : List ℕ) (r s : DiskINode) (name : List ℕ) → r.blocks ≡ s.blocks → Alike x y r s s.blocks → find_slot x r name ≡ find_slot y s name
 unfolding find_slot lookup found_below
-find-same x y r s name q h = ap (λ (o : Out Found). bind o (slot_of x r)) (lookup-same x y r s name q h) ∙ go (look_to y s name s.blocks)
+find-same x y r s name q h = ap (λ (o : Out (Option ℕ)). bind o (slot_of x r)) (lookup-same x y r s name q h) ∙ go (look_to y s name s.blocks)
   where
     go : (o : Out ℕ) → bind (bind o (λ k. done (found_below k s.blocks))) (slot_of x r) ≡ bind (bind o (λ k. done (found_below k s.blocks))) (slot_of y s)
     go (refused m) = refl
     go (done k) = at (ltb k s.blocks) refl
       where
-        at : (b : Bool) → ltb k s.blocks ≡ b → slot_of x r (pick b (At k) Nothing) ≡ slot_of y s (pick b (At k) Nothing)
+        at : (b : Bool) → ltb k s.blocks ≡ b → slot_of x r (pick b (Some k) None) ≡ slot_of y s (pick b (Some k) None)
         at true t = ap (λ (o : Out DiskEntry). bind o (λ e. done (record { place = k; entry = e }))) (slot_same x y r s k (h k (ltb-true k s.blocks t)))
         at false t = refl
 

@@ -10,8 +10,7 @@ use lib.ListN.{get_or-replicate}
 use borrow.Author.Tests.{eqb-true, ne_eqb}
 use Rattle.base.specs.Count.{all_to}
 use Rattle.base.specs.Search.{lowest}
-use Rattle.base.specs.declared.Found.{Found}
-use Rattle.base.specs.declared.Found.TheVariants.{At, Nothing}
+use Rattle.std.specs.Prelude.{Option, Some, None}
 use Rattle.base.proofs.Bools.{true-false}
 use Rattle.base.proofs.Counts.{all_to-true}
 use Rattle.base.proofs.Finds.{eq-cases, search-cong, search-none}
@@ -65,17 +64,17 @@ module _ (t : Table) (w : well_formed t ≡ true) (none : no_holds t ≡ true) w
   unfolding rec_of row_of
   recs-same a id = ap (rec_by a t id) (rows_same id) ∙ go (row_of empty_table id) refl
     where
-      go : (f : Found) → row_of empty_table id ≡ f → rec_by a t id f ≡ rec_by a empty_table id f
-      go (At i) e = ap (λ (r : Row). r.rec) (row_same i (at-found (lowest (is_row empty_table id) 34) 34 i e).1)
-      go Nothing e = refl
+      go : (f : Option ℕ) → row_of empty_table id ≡ f → rec_by a t id f ≡ rec_by a empty_table id f
+      go (Some i) e = ap (λ (r : Row). r.rec) (row_same i (at-found (lowest (is_row empty_table id) 34) 34 i e).1)
+      go None e = refl
 
-  pub no-row : (id : ℕ) → id ≢ 0 → row_of t id ≡ Nothing
+  pub no-row : (id : ℕ) → id ≢ 0 → row_of t id ≡ None
   unfolding row_of
   no-row id z = sym (search-none (is_row t id) 34 (λ i l. ap (λ (r : Row). eqb r.id id) (row-free i l) ∙ ne_eqb 0 id (λ e. z (sym e))))
 
   pub not-open : (id : ℕ) → id ≢ 0 → is_open t id ≡ false
   unfolding is_open
-  not-open id z = ap (λ (f : Found). not (no_row f)) (no-row id z)
+  not-open id z = ap (λ (f : Option ℕ). not (no_row f)) (no-row id z)
 
 pub empty-id : (i : ℕ) → i < 34 → (row_at empty_table i).id ≡ 0
 empty-id i l = no-id empty_table empty-formed empty_holds i l

@@ -2,6 +2,7 @@
 #![tactic(auto)]
 
 ghost use Rattle.std.specs.Prelude.{◌≡◌, List, ℕ, ◌<◌, ◌≤◌, length};
+ghost use Rattle.base.specs.Told.{code};
 ghost use Rattle.base.specs.Out.{Went};
 ghost use Rattle.overlay.specs.View.{left};
 ghost use Rattle.structs.specs.Layout.{entry_of};
@@ -10,6 +11,7 @@ ghost use Rattle.mem.specs.Mem.{Whole};
 ghost use Rattle.mem.specs.State.{fs_of, Ready, Stepped};
 ghost use Rattle.move_steps.specs.Steps.{InRow, remove_gone, within_folder, end_folders, end_move, open_moved, rest_move, between_folders, move_slot, move_named, move_over};
 
+use base::Reason;
 use folders::slots::find_slot;
 use folders::{
     dirent_append, dirent_node_remove, dirent_remove, nlinks_dec, nlinks_inc, put_dots, put_entry,
@@ -37,12 +39,12 @@ fn remove_gone(
     slot: &mut [u8],
     j: usize,
     gone: Gone,
-) -> u8
+) -> Result<(), Reason>
     requires { Ready arena.now work.old mem.old × ((18 ≤ left work.old) × ((j < 34) × ((length slot.old ≡ 264) × (InRow gone)))) }
-    ensures { Stepped (remove_gone (fs_of arena.now work.old mem.old) j gone) arena.now work.old work.new mem.new 18 result }
+    ensures { Stepped (remove_gone (fs_of arena.now work.old mem.old) j gone) arena.now work.old work.new mem.new 18 (code result) }
 {
     match gone {
-        Gone::Free => 0,
+        Gone::Free => Ok(()),
         Gone::Node(row, place) => dirent_node_remove(arena, work, mem, slot, j, row, place),
     }
 }
@@ -56,95 +58,95 @@ fn move_within(
     i: usize,
     k: usize,
     gone: Gone,
-) -> u8
+) -> Result<(), Reason>
     requires { Ready arena.now work.old mem.old × ((24 ≤ left work.old) × ((i < 34) × ((length moved.old ≡ 264) × (InRow gone)))) }
-    ensures { Stepped (within_folder (fs_of arena.now work.old mem.old) i k (entry_of moved.old) gone) arena.now work.old work.new mem.new 24 result }
+    ensures { Stepped (within_folder (fs_of arena.now work.old mem.old) i k (entry_of moved.old) gone) arena.now work.old work.new mem.new 24 (code result) }
 {
-    let r = put_slot(arena, work, &mem[..], i, k, &moved[..]);
-    if r != 0 {
-        return r;
-    }
-    let r = remove_gone(arena, work, mem, moved, i, gone);
-    if r != 0 {
-        return r;
-    }
+    put_slot(arena, work, &mem[..], i, k, &moved[..])?;
+    remove_gone(arena, work, mem, moved, i, gone)?;
     sync_row(arena, work, mem, i)
 }
 
 // A folder that moves takes its `..` along: the source is named once less, the target once more.
-fn move_dots(mem: &mut [u8], i: usize, j: usize) -> u8
+fn move_dots(mem: &mut [u8], i: usize, j: usize) -> Result<(), Reason>
     requires { Whole mem.old × ((i < 34) × ((j < 34))) }
-    ensures { (a w : List ℕ) → Went (move_dots (fs_of a w mem.old) i j) (fs_of a w mem.new) (Whole mem.new) result }
+    ensures { (a w : List ℕ) → Went (move_dots (fs_of a w mem.old) i j) (fs_of a w mem.new) (Whole mem.new) (code result) }
 {
-    let r = nlinks_dec(mem, i);
-    if r != 0 {
-        return r;
-    }
+    nlinks_dec(mem, i)?;
     nlinks_inc(mem, j)
 }
 
 // The moved node's type is looked at.
-fn move_links(mem: &mut [u8], i: usize, j: usize, c: usize) -> u8
+fn move_links(mem: &mut [u8], i: usize, j: usize, c: usize) -> Result<(), Reason>
     requires { Whole mem.old × ((i < 34) × ((j < 34) × ((c < 34)))) }
-    ensures { (a w : List ℕ) → Went (move_links (fs_of a w mem.old) i j c) (fs_of a w mem.new) (Whole mem.new) result }
+    ensures { (a w : List ℕ) → Went (move_links (fs_of a w mem.old) i j c) (fs_of a w mem.new) (Whole mem.new) (code result) }
 {
     let kind = kind_at(&mem[..], c);
     if kind > 4 {
-        return 19;
+        return Err(Reason::Stuck);
     }
     if kind == 2 {
         return move_dots(mem, i, j);
     }
-    0
+    Ok(())
 }
 
 // Slot 1 of a moved folder names its new parent.
-fn move_parent(arena: &[u8], work: &mut [u8], mem: &[u8], j: usize, c: usize) -> u8
+fn move_parent(arena: &[u8], work: &mut [u8], mem: &[u8], j: usize, c: usize) -> Result<(), Reason>
     requires { Ready arena.now work.old mem.now × ((3 ≤ left work.old) × ((j < 34) × (c < 34))) }
-    ensures { Stepped (move_parent (fs_of arena.now work.old mem.now) j c) arena.now work.old work.new mem.now 3 result }
+    ensures { Stepped (move_parent (fs_of arena.now work.old mem.now) j c) arena.now work.old work.new mem.now 3 (code result) }
 {
     if kind_at(mem, c) == 2 {
         return put_dots(arena, work, mem, c, id_at(mem, j));
     }
-    0
+    Ok(())
 }
 
-fn end_folders(arena: &[u8], work: &mut [u8], mem: &mut [u8], i: usize, j: usize, c: usize) -> u8
+fn end_folders(
+    arena: &[u8],
+    work: &mut [u8],
+    mem: &mut [u8],
+    i: usize,
+    j: usize,
+    c: usize,
+) -> Result<(), Reason>
     requires { Ready arena.now work.old mem.old × ((9 ≤ left work.old) × ((i < 34) × ((j < 34) × (c < 34)))) }
-    ensures { Stepped (end_folders (fs_of arena.now work.old mem.old) i j c) arena.now work.old work.new mem.new 9 result }
+    ensures { Stepped (end_folders (fs_of arena.now work.old mem.old) i j c) arena.now work.old work.new mem.new 9 (code result) }
 {
-    let r = move_parent(arena, work, &mem[..], j, c);
-    if r != 0 {
-        return r;
-    }
+    move_parent(arena, work, &mem[..], j, c)?;
     sync_two(arena, work, mem, j, i)
 }
 
 // The moved node, in row c: the links of both folders, its slot 1, their records, and the end of c's opening.
-fn move_end(arena: &[u8], work: &mut [u8], mem: &mut [u8], i: usize, j: usize, c: usize) -> u8
+fn move_end(
+    arena: &[u8],
+    work: &mut [u8],
+    mem: &mut [u8],
+    i: usize,
+    j: usize,
+    c: usize,
+) -> Result<(), Reason>
     requires { Ready arena.now work.old mem.old × ((22 ≤ left work.old) × ((i < 34) × ((j < 34) × ((c < 34))))) }
-    ensures { Stepped (end_move (fs_of arena.now work.old mem.old) i j c) arena.now work.old work.new mem.new 22 result }
+    ensures { Stepped (end_move (fs_of arena.now work.old mem.old) i j c) arena.now work.old work.new mem.new 22 (code result) }
 {
-    let r = move_links(mem, i, j, c);
-    if r != 0 {
-        return r;
-    }
-    let r = end_folders(arena, work, mem, i, j, c);
-    if r != 0 {
-        return r;
-    }
+    move_links(mem, i, j, c)?;
+    end_folders(arena, work, mem, i, j, c)?;
     release(arena, work, mem, c)
 }
 
-fn move_open(arena: &[u8], work: &mut [u8], mem: &mut [u8], i: usize, j: usize, id: u32) -> u8
+fn move_open(
+    arena: &[u8],
+    work: &mut [u8],
+    mem: &mut [u8],
+    i: usize,
+    j: usize,
+    id: u32,
+) -> Result<(), Reason>
     requires { Ready arena.now work.old mem.old × ((22 ≤ left work.old) × ((i < 34) × ((j < 34)))) }
-    ensures { Stepped (open_moved (fs_of arena.now work.old mem.old) i j id) arena.now work.old work.new mem.new 22 result }
+    ensures { Stepped (open_moved (fs_of arena.now work.old mem.old) i j id) arena.now work.old work.new mem.new 22 (code result) }
 {
-    let o = get_node(arena, &work[..], mem, id);
-    if o.reason != 0 {
-        return o.reason;
-    }
-    move_end(arena, work, mem, i, j, o.row)
+    let row = get_node(arena, &work[..], mem, id)?;
+    move_end(arena, work, mem, i, j, row)
 }
 
 // The slots are moved.
@@ -157,14 +159,11 @@ fn move_rest(
     j: usize,
     id: u32,
     gone: Gone,
-) -> u8
+) -> Result<(), Reason>
     requires { Ready arena.now work.old mem.old × ((40 ≤ left work.old) × ((i < 34) × ((j < 34) × ((length slot.old ≡ 264) × (InRow gone))))) }
-    ensures { Stepped (rest_move (fs_of arena.now work.old mem.old) i j id gone) arena.now work.old work.new mem.new 40 result }
+    ensures { Stepped (rest_move (fs_of arena.now work.old mem.old) i j id gone) arena.now work.old work.new mem.new 40 (code result) }
 {
-    let r = remove_gone(arena, work, mem, slot, j, gone);
-    if r != 0 {
-        return r;
-    }
+    remove_gone(arena, work, mem, slot, j, gone)?;
     move_open(arena, work, mem, i, j, id)
 }
 
@@ -177,19 +176,13 @@ fn move_between(
     j: usize,
     k: usize,
     gone: Gone,
-) -> u8
+) -> Result<(), Reason>
     requires { Ready arena.now work.old mem.old × ((48 ≤ left work.old) × ((i < 34) × ((j < 34) × ((length moved.old ≡ 264) × (InRow gone))))) }
-    ensures { Stepped (between_folders (fs_of arena.now work.old mem.old) i j k (entry_of moved.old) gone) arena.now work.old work.new mem.new 48 result }
+    ensures { Stepped (between_folders (fs_of arena.now work.old mem.old) i j k (entry_of moved.old) gone) arena.now work.old work.new mem.new 48 (code result) }
 {
     let id = u32_at(&moved[..], 0);
-    let r = dirent_append(arena, work, mem, j, &moved[..]);
-    if r != 0 {
-        return r;
-    }
-    let r = dirent_remove(arena, work, mem, moved, i, k);
-    if r != 0 {
-        return r;
-    }
+    dirent_append(arena, work, mem, j, &moved[..])?;
+    dirent_remove(arena, work, mem, moved, i, k)?;
     move_rest(arena, work, mem, moved, i, j, id, gone)
 }
 
@@ -202,9 +195,9 @@ pub fn move_slot(
     j: usize,
     k: usize,
     gone: Gone,
-) -> u8
+) -> Result<(), Reason>
     requires { Ready arena.now work.old mem.old × ((48 ≤ left work.old) × ((i < 34) × ((j < 34) × ((length moved.old ≡ 264) × (InRow gone))))) }
-    ensures { Stepped (move_slot (fs_of arena.now work.old mem.old) i j k (entry_of moved.old) gone) arena.now work.old work.new mem.new 48 result }
+    ensures { Stepped (move_slot (fs_of arena.now work.old mem.old) i j k (entry_of moved.old) gone) arena.now work.old work.new mem.new 48 (code result) }
 {
     if id_at(&mem[..], i) == id_at(&mem[..], j) {
         return move_within(arena, work, mem, moved, i, k, gone);
@@ -232,16 +225,13 @@ fn move_steps(
     old: &[u8],
     name: &[u8],
     gone: Gone,
-) -> u8
+) -> Result<(), Reason>
     requires { Ready arena.now work.old mem.old × ((48 ≤ left work.old) × ((i < 34) × ((j < 34) × ((length name.now ≤ 255) × ((length slot.old ≡ 264) × (InRow gone)))))) }
-    ensures { Stepped (move_named (fs_of arena.now work.old mem.old) i j old.now name.now gone) arena.now work.old work.new mem.new 48 result }
+    ensures { Stepped (move_named (fs_of arena.now work.old mem.old) i j old.now name.now gone) arena.now work.old work.new mem.new 48 (code result) }
 {
-    let p = find_slot(arena, &work[..], &mem[..], i, old, slot);
-    if p.reason != 0 {
-        return p.reason;
-    }
+    let place = find_slot(arena, &work[..], &mem[..], i, old, slot)?;
     rename(slot, name);
-    move_slot(arena, work, mem, slot, i, j, p.place, gone)
+    move_slot(arena, work, mem, slot, i, j, place, gone)
 }
 
 // ---- the new name exists
@@ -259,13 +249,10 @@ pub fn move_onto(
     c: usize,
     d: usize,
     k: usize,
-) -> u8
+) -> Result<(), Reason>
     requires { Ready arena.now work.old mem.old × ((61 ≤ left work.old) × ((i < 34) × ((j < 34) × ((c < 34) × ((d < 34) × ((length name.now ≤ 255) × (length slot.old ≡ 264))))))) }
-    ensures { Stepped (move_over (fs_of arena.now work.old mem.old) i j old.now name.now c d k) arena.now work.old work.new mem.new 61 result }
+    ensures { Stepped (move_over (fs_of arena.now work.old mem.old) i j old.now name.now c d k) arena.now work.old work.new mem.new 61 (code result) }
 {
-    let r = release(arena, work, mem, c);
-    if r != 0 {
-        return r;
-    }
+    release(arena, work, mem, c)?;
     move_steps(arena, work, mem, slot, i, j, old, name, Gone::Node(d, k))
 }

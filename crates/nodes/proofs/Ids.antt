@@ -10,8 +10,7 @@ use lib.Dec.{eqb, ltb}
 use borrow.Author.Tests.{lt-ltb, le-ltb, ltb-true}
 use Rattle.base.specs.Out.{Out, done, refused, bind, guard, kept, Went, well}
 use Rattle.base.specs.Search.{lowest, found_below, pick}
-use Rattle.base.specs.declared.Found.{Found}
-use Rattle.base.specs.declared.Found.TheVariants.{At, Nothing}
+use Rattle.std.specs.Prelude.{Option, Some, None}
 use Rattle.base.proofs.Bools.{and_parts}
 use Rattle.base.proofs.Outs.{above_zero}
 use Rattle.base.proofs.Searches.{at-found, nothing-found, lowest-at-most}
@@ -34,11 +33,11 @@ use Rattle.nodes.proofs.Steps.{at-tabled, fs-mapped, did-mapped, did-stops}
 
 -- ---- rows
 
-pub row_below : (t : Table) (id i : ℕ) → row_of t id ≡ At i → i < 34
+pub row_below : (t : Table) (id i : ℕ) → row_of t id ≡ Some i → i < 34
 unfolding row_of
 row_below t id i e = (at-found (lowest (is_row t id) 34) 34 i e).1
 
-pub opened_in : (m n : List ℕ) (i id : ℕ) (rec : DiskINode) (dirty : Bool) → row_of (table_in m) 0 ≡ At i → Tabled m n (take_row (table_in m) i id rec dirty) → (a : List ℕ) → Went (open_in (fs_at a m) id rec dirty (free_row (table_in m))) (opened (fs_at a n) i) (Whole n × (i < 34)) 0
+pub opened_in : (m n : List ℕ) (i id : ℕ) (rec : DiskINode) (dirty : Bool) → row_of (table_in m) 0 ≡ Some i → Tabled m n (take_row (table_in m) i id rec dirty) → (a : List ℕ) → Went (open_in (fs_at a m) id rec dirty (free_row (table_in m))) (opened (fs_at a n) i) (Whole n × (i < 34)) 0
 opened_in m n i id rec dirty e c a =
     well (rw e (ap (λ (s : Fs). done (opened s i)) (sym (at-tabled a c)))) (c.whole, row_below (table_in m) 0 i e)
 
@@ -69,14 +68,14 @@ none-taken m z a w = rw (le-ltb 0 (super_in m).unused (omega arith))
 
 -- what the search for a set bit finds
 module _ (m : List ℕ) where
-  abbrev found : Found
+  abbrev found : Option ℕ
   found = found_below (lowest (bit_at (maps_in m)) (1024 * (super_in m).groups)) (1024 * (super_in m).groups)
 
-  pub first-at : (i : ℕ) → found ≡ At i → (i ≡ first_bit (meta_of m)) × (i < 1024 * (super_in m).groups)
+  pub first-at : (i : ℕ) → found ≡ Some i → (i ≡ first_bit (meta_of m)) × (i < 1024 * (super_in m).groups)
   unfolding first_bit
   first-at i e = at-found (lowest (bit_at (maps_in m)) (1024 * (super_in m).groups)) (1024 * (super_in m).groups) i e
 
-  pub first-over : found ≡ Nothing → 1024 * (super_in m).groups ≤ first_bit (meta_of m)
+  pub first-over : found ≡ None → 1024 * (super_in m).groups ≤ first_bit (meta_of m)
   unfolding first_bit
   first-over e = nothing-found (lowest (bit_at (maps_in m)) (1024 * (super_in m).groups)) (1024 * (super_in m).groups) e
 

@@ -9,7 +9,7 @@ use lib.Dec.{eqb, leb}
 use Rattle.base.specs.Out.{Out, done, refused, bind, guard, Went, well, ill}
 use Rattle.base.specs.Parts.{part}
 use Rattle.base.specs.Search.{pick}
-use Rattle.base.specs.declared.Found.TheVariants.{Nothing}
+use Rattle.std.specs.Prelude.{None}
 use Rattle.base.proofs.Lists.{length_part}
 use Rattle.base.proofs.Outs.{above_zero, went-is, went-has, went-not, went-weaken}
 use Rattle.le.specs.Le.{Bytes}
@@ -36,7 +36,7 @@ use Rattle.nodes.proofs.Steps.{fs-tabled, did-step, did-tabled, did-stops, still
 
 -- ---- a node is opened
 
-pub open_none : (m : List ℕ) (id : ℕ) (rec : DiskINode) (dirty : Bool) → row_of (table_in m) 0 ≡ Nothing → (a : List ℕ) → open_in (fs_at a m) id rec dirty (free_row (table_in m)) ≡ refused 19
+pub open_none : (m : List ℕ) (id : ℕ) (rec : DiskINode) (dirty : Bool) → row_of (table_in m) 0 ≡ None → (a : List ℕ) → open_in (fs_at a m) id rec dirty (free_row (table_in m)) ≡ refused 19
 open_none m id rec dirty e a = rw e
 
 module _ (a m : List ℕ) (id r : ℕ) (l : List ℕ) (g : Went (read_file a meta_file (128 * id) 112) l Unit r) where

@@ -1,11 +1,13 @@
 // Nodes: opened, made, stored and dropped (000's SEFS and INodeImpl's Drop). A node in use has a row. The arena is only read: `work` has
-// the blocks that would change, `mem` the open nodes, the superblock and the free maps. A step answers 0, or the number of the reason
-// that refuses it.
+// the blocks that would change, `mem` the open nodes, the superblock and the free maps. A step that is refused
+// answers its reason, as an `Err`.
 #![tactic(auto)]
 
 pub mod meta;
 
 ghost use Rattle.std.specs.Prelude.{◌≡◌, false, not, ◌&&◌, List, ℕ, ◌+◌, ◌*◌, ◌<◌, ◌≤◌, eqb, leb};
+ghost use Rattle.std.specs.Result.{result_unwrap_or};
+ghost use Rattle.base.specs.Told.{code};
 ghost use Rattle.base.specs.Out.{Went, done, guard};
 ghost use Rattle.base.specs.Reasons.{stuck};
 ghost use Rattle.base.specs.Search.{pick};
@@ -20,7 +22,7 @@ ghost use Rattle.mem.specs.Mem.{table_in, Whole};
 ghost use Rattle.nodes.specs.Steps.{made_node, remove_node};
 ghost use Rattle.mem.specs.State.{fs_of, Ready, Still, Stepped, fs_at};
 
-use base::{Found, index};
+use base::{Reason, index};
 use files::read::{read, there};
 use files::store::{drop, make, put};
 use mem::{
@@ -31,22 +33,14 @@ use meta::{alloc_block, free_block, is_used, sync_meta};
 use structs::{DiskINode, Timespec, disk_inode_at};
 use table::Row;
 
-// The row of a node that was opened, where the reason is 0.
-#[repr(C)]
-#[derive(Clone, Copy)]
-pub struct Opened {
-    pub reason: u8,
-    pub row: usize,
-}
-
 // A node takes the lowest free row. (There is one: an operation's own openings are two at the most.)
-pub fn open_in(mem: &mut [u8], id: u32, rec: DiskINode, dirty: bool) -> Opened
+pub fn open_in(mem: &mut [u8], id: u32, rec: DiskINode, dirty: bool) -> Result<usize, Reason>
     requires { Whole mem.old }
-    ensures { (a : List ℕ) → Went (open_in (fs_at a mem.old) id rec dirty (free_row (table_in mem.old))) (opened_as (fs_at a mem.new) result.row) (Whole mem.new × (result.row < 34)) result.reason }
+    ensures { (a : List ℕ) → Went (open_in (fs_at a mem.old) id rec dirty (free_row (table_in mem.old))) (opened_as (fs_at a mem.new) (result_unwrap_or result 0)) (Whole mem.new × (result_unwrap_or result 0 < 34)) (code result) }
 {
     let f = find_row(&mem[..], 0);
     match f {
-        Found::At(i) => {
+        Some(i) => {
             put_row(
                 mem,
                 i,
@@ -56,9 +50,9 @@ pub fn open_in(mem: &mut [u8], id: u32, rec: DiskINode, dirty: bool) -> Opened
                     rec: rec,
                 },
             );
-            Opened { reason: 0, row: i }
+            Ok(i)
         }
-        Found::Nothing => Opened { reason: 19, row: 0 },
+        None => Err(Reason::Stuck),
     }
 }
 
@@ -72,48 +66,56 @@ fn has_file<'a>(arena: &'a [u8], work: &'a [u8], name: [u8; 16]) -> bool
 }
 
 // A record that was read: its type is looked at, its file looked for.
-fn open_read<'a>(arena: &'a [u8], work: &'a [u8], mem: &mut [u8], id: u32, rec: DiskINode) -> Opened
+fn open_read<'a>(
+    arena: &'a [u8],
+    work: &'a [u8],
+    mem: &mut [u8],
+    id: u32,
+    rec: DiskINode,
+) -> Result<usize, Reason>
     requires { Ready arena.now work.now mem.old }
-    ensures { Went (guard (leb rec.kind 4) stuck (guard (there_in (view arena.now work.now) (node_file rec)) stuck (open_in (fs_of arena.now work.now mem.old) id rec false (free_row (table_in mem.old))))) (opened_as (fs_of arena.now work.now mem.new) result.row) (Whole mem.new × (result.row < 34)) result.reason }
+    ensures { Went (guard (leb rec.kind 4) stuck (guard (there_in (view arena.now work.now) (node_file rec)) stuck (open_in (fs_of arena.now work.now mem.old) id rec false (free_row (table_in mem.old))))) (opened_as (fs_of arena.now work.now mem.new) (result_unwrap_or result 0)) (Whole mem.new × (result_unwrap_or result 0 < 34)) (code result) }
 {
     if rec.kind > 4 {
-        return Opened { reason: 19, row: 0 };
+        return Err(Reason::Stuck);
     }
     let file = rec.file;
     if !has_file(arena, work, file) {
-        return Opened { reason: 19, row: 0 };
+        return Err(Reason::Stuck);
     }
     open_in(mem, id, rec, false)
 }
 
 // The stored record of a node without a row.
-fn load_node<'a>(arena: &'a [u8], work: &'a [u8], mem: &mut [u8], id: u32) -> Opened
+fn load_node<'a>(arena: &'a [u8], work: &'a [u8], mem: &mut [u8], id: u32) -> Result<usize, Reason>
     requires { Ready arena.now work.now mem.old }
-    ensures { Went (load_node (fs_of arena.now work.now mem.old) id) (opened_as (fs_of arena.now work.now mem.new) result.row) (Whole mem.new × (result.row < 34)) result.reason }
+    ensures { Went (load_node (fs_of arena.now work.now mem.old) id) (opened_as (fs_of arena.now work.now mem.new) (result_unwrap_or result 0)) (Whole mem.new × (result_unwrap_or result 0 < 34)) (code result) }
 {
     let meta = [0u8; 16];
     let mut l = [0u8; 112];
-    let r = read(arena, work, 0, &meta, 128 * index(id), &mut l);
-    if r != 0 {
-        return Opened { reason: r, row: 0 };
-    }
+    read(arena, work, 0, &meta, 128 * index(id), &mut l)?;
     open_read(arena, work, mem, id, disk_inode_at(&l, 0))
 }
 
-pub fn get_node<'a>(arena: &'a [u8], work: &'a [u8], mem: &mut [u8], id: u32) -> Opened
+pub fn get_node<'a>(
+    arena: &'a [u8],
+    work: &'a [u8],
+    mem: &mut [u8],
+    id: u32,
+) -> Result<usize, Reason>
     requires { Ready arena.now work.now mem.old }
-    ensures { Went (get_node (fs_of arena.now work.now mem.old) id) (opened_as (fs_of arena.now work.now mem.new) result.row) (Whole mem.new × (result.row < 34)) result.reason }
+    ensures { Went (get_node (fs_of arena.now work.now mem.old) id) (opened_as (fs_of arena.now work.now mem.new) (result_unwrap_or result 0)) (Whole mem.new × (result_unwrap_or result 0 < 34)) (code result) }
 {
     if !has_meta(&mem[..]) {
-        return Opened { reason: 19, row: 0 };
+        return Err(Reason::Stuck);
     }
     if !is_used(&mem[..], id) {
-        return Opened { reason: 19, row: 0 };
+        return Err(Reason::Stuck);
     }
     let f = find_row(&mem[..], id);
     match f {
-        Found::At(i) => Opened { reason: 0, row: i },
-        Found::Nothing => load_node(arena, work, mem, id),
+        Some(i) => Ok(i),
+        None => load_node(arena, work, mem, id),
     }
 }
 
@@ -149,8 +151,8 @@ fn is_new(mem: &[u8], id: u32) -> bool
     }
     let f = find_row(mem, id);
     match f {
-        Found::At(_) => false,
-        Found::Nothing => true,
+        Some(_) => false,
+        None => true,
     }
 }
 
@@ -163,17 +165,14 @@ fn make_node(
     mode: u16,
     time: Timespec,
     file: [u8; 16],
-) -> Opened
+) -> Result<usize, Reason>
     requires { Ready arena.now work.old mem.old × (1 ≤ left work.old) }
-    ensures { Went (made_node (fs_of arena.now work.old mem.old) id kind mode time file) (opened_as (fs_of arena.now work.new mem.new) result.row) (Still arena.now work.old work.new mem.new 1 × (result.row < 34)) result.reason }
+    ensures { Went (made_node (fs_of arena.now work.old mem.old) id kind mode time file) (opened_as (fs_of arena.now work.new mem.new) (result_unwrap_or result 0)) (Still arena.now work.old work.new mem.new 1 × (result_unwrap_or result 0 < 34)) (code result) }
 {
     if !is_new(&mem[..], id) {
-        return Opened { reason: 19, row: 0 };
+        return Err(Reason::Stuck);
     }
-    let r = make(arena, work, 1, &file);
-    if r != 0 {
-        return Opened { reason: r, row: 0 };
-    }
+    make(arena, work, 1, &file)?;
     open_in(mem, id, new_record(kind, mode, time, file), true)
 }
 
@@ -185,104 +184,85 @@ pub fn new_node(
     mode: u16,
     time: Timespec,
     file: [u8; 16],
-) -> Opened
+) -> Result<usize, Reason>
     requires { Ready arena.now work.old mem.old × (3 ≤ left work.old) }
-    ensures { Went (new_node (fs_of arena.now work.old mem.old) kind mode time file) (opened_as (fs_of arena.now work.new mem.new) result.row) (Still arena.now work.old work.new mem.new 3 × (result.row < 34)) result.reason }
+    ensures { Went (new_node (fs_of arena.now work.old mem.old) kind mode time file) (opened_as (fs_of arena.now work.new mem.new) (result_unwrap_or result 0)) (Still arena.now work.old work.new mem.new 3 × (result_unwrap_or result 0 < 34)) (code result) }
 {
-    let n = alloc_block(arena, work, mem);
-    if n.reason != 0 {
-        let r = n.reason;
-        return Opened { reason: r, row: 0 };
-    }
-    make_node(arena, work, mem, n.id, kind, mode, time, file)
+    let id = alloc_block(arena, work, mem)?;
+    make_node(arena, work, mem, id, kind, mode, time, file)
 }
 
 // ---- 000's sync_metadata of a node
 
 // The record, at 128 x id. In memory it has its bytes already.
-fn store_row(arena: &[u8], work: &mut [u8], mem: &mut [u8], i: usize) -> u8
+fn store_row(arena: &[u8], work: &mut [u8], mem: &mut [u8], i: usize) -> Result<(), Reason>
     requires { Ready arena.now work.old mem.old × ((3 ≤ left work.old) × (i < 34)) }
-    ensures { Stepped (store_row (fs_of arena.now work.old mem.old) i) arena.now work.old work.new mem.new 3 result }
+    ensures { Stepped (store_row (fs_of arena.now work.old mem.old) i) arena.now work.old work.new mem.new 3 (code result) }
 {
     let meta = [0u8; 16];
     let at = 128 * index(id_at(&mem[..], i));
     let o = 117 * i + 5;
-    let r = put(arena, work, 0, &meta, at, &mem[o..o + 112]);
-    if r != 0 {
-        return r;
-    }
+    put(arena, work, 0, &meta, at, &mem[o..o + 112])?;
     put_dirty(mem, i, false);
-    0
+    Ok(())
 }
 
-pub fn sync_row(arena: &[u8], work: &mut [u8], mem: &mut [u8], i: usize) -> u8
+pub fn sync_row(arena: &[u8], work: &mut [u8], mem: &mut [u8], i: usize) -> Result<(), Reason>
     requires { Ready arena.now work.old mem.old × ((3 ≤ left work.old) × (i < 34)) }
-    ensures { Stepped (sync_row (fs_of arena.now work.old mem.old) i) arena.now work.old work.new mem.new 3 result }
+    ensures { Stepped (sync_row (fs_of arena.now work.old mem.old) i) arena.now work.old work.new mem.new 3 (code result) }
 {
     if dirty_at(&mem[..], i) {
         return store_row(arena, work, mem, i);
     }
-    0
+    Ok(())
 }
 
 // ---- 000's Drop of a node
 
 // The id is free: superblock and maps are stored, and the file is removed.
-fn remove_node(arena: &[u8], work: &mut [u8], mem: &[u8], i: usize) -> u8
+fn remove_node(arena: &[u8], work: &mut [u8], mem: &[u8], i: usize) -> Result<(), Reason>
     requires { Ready arena.now work.old mem.now × ((10 ≤ left work.old) × (i < 34)) }
-    ensures { Stepped (remove_node (fs_of arena.now work.old mem.now) i) arena.now work.old work.new mem.now 10 result }
+    ensures { Stepped (remove_node (fs_of arena.now work.old mem.now) i) arena.now work.old work.new mem.now 10 (code result) }
 {
-    let r = sync_meta(arena, work, mem);
-    if r != 0 {
-        return r;
-    }
+    sync_meta(arena, work, mem)?;
     drop(arena, work, 1, file_at(mem, i))
 }
 
-fn free_node(arena: &[u8], work: &mut [u8], mem: &mut [u8], i: usize) -> u8
+fn free_node(arena: &[u8], work: &mut [u8], mem: &mut [u8], i: usize) -> Result<(), Reason>
     requires { Ready arena.now work.old mem.old × ((10 ≤ left work.old) × (i < 34)) }
-    ensures { Stepped (free_node (fs_of arena.now work.old mem.old) i) arena.now work.old work.new mem.new 10 result }
+    ensures { Stepped (free_node (fs_of arena.now work.old mem.old) i) arena.now work.old work.new mem.new 10 (code result) }
 {
-    let r = free_block(mem, id_at(&mem[..], i));
-    if r != 0 {
-        return r;
-    }
+    free_block(mem, id_at(&mem[..], i))?;
     remove_node(arena, work, &mem[..], i)
 }
 
-fn free_unlinked(arena: &[u8], work: &mut [u8], mem: &mut [u8], i: usize) -> u8
+fn free_unlinked(arena: &[u8], work: &mut [u8], mem: &mut [u8], i: usize) -> Result<(), Reason>
     requires { Ready arena.now work.old mem.old × ((10 ≤ left work.old) × (i < 34)) }
-    ensures { Stepped (pick (eqb (row_at (table_in mem.old) i).rec.nlinks 0) (free_node (fs_of arena.now work.old mem.old) i) (done (fs_of arena.now work.old mem.old))) arena.now work.old work.new mem.new 10 result }
+    ensures { Stepped (pick (eqb (row_at (table_in mem.old) i).rec.nlinks 0) (free_node (fs_of arena.now work.old mem.old) i) (done (fs_of arena.now work.old mem.old))) arena.now work.old work.new mem.new 10 (code result) }
 {
     if nlinks_at(&mem[..], i) == 0 {
         return free_node(arena, work, mem, i);
     }
-    0
+    Ok(())
 }
 
-pub fn drop_node(arena: &[u8], work: &mut [u8], mem: &mut [u8], i: usize) -> u8
+pub fn drop_node(arena: &[u8], work: &mut [u8], mem: &mut [u8], i: usize) -> Result<(), Reason>
     requires { Ready arena.now work.old mem.old × ((13 ≤ left work.old) × (i < 34)) }
-    ensures { Stepped (drop_node (fs_of arena.now work.old mem.old) i) arena.now work.old work.new mem.new 13 result }
+    ensures { Stepped (drop_node (fs_of arena.now work.old mem.old) i) arena.now work.old work.new mem.new 13 (code result) }
 {
-    let r = sync_row(arena, work, mem, i);
-    if r != 0 {
-        return r;
-    }
-    let r = free_unlinked(arena, work, mem, i);
-    if r != 0 {
-        return r;
-    }
+    sync_row(arena, work, mem, i)?;
+    free_unlinked(arena, work, mem, i)?;
     clear_row(mem, i);
-    0
+    Ok(())
 }
 
 // An operation's own opening ends: where nobody holds the node, it is dropped.
-pub fn release(arena: &[u8], work: &mut [u8], mem: &mut [u8], i: usize) -> u8
+pub fn release(arena: &[u8], work: &mut [u8], mem: &mut [u8], i: usize) -> Result<(), Reason>
     requires { Ready arena.now work.old mem.old × ((13 ≤ left work.old) × (i < 34)) }
-    ensures { Stepped (release_node (fs_of arena.now work.old mem.old) i) arena.now work.old work.new mem.new 13 result }
+    ensures { Stepped (release_node (fs_of arena.now work.old mem.old) i) arena.now work.old work.new mem.new 13 (code result) }
 {
     if row_held(&mem[..], i) {
-        return 0;
+        return Ok(());
     }
     drop_node(arena, work, mem, i)
 }

@@ -1,5 +1,6 @@
 // Superblock and free maps, read at a call's start (000's SEFS).
 ghost use Rattle.std.specs.Prelude.{◌≡◌, ◌+◌, ◌*◌, ◌<◌, ◌≤◌, length};
+ghost use Rattle.base.specs.Told.{code};
 ghost use Rattle.base.specs.Out.{Went};
 ghost use Rattle.base.specs.Parts.{part};
 ghost use Rattle.files.specs.Read.{read_file};
@@ -8,34 +9,46 @@ ghost use Rattle.chains.specs.Led.{Led};
 ghost use Rattle.mem.specs.Mem.{table_in, super_in, meta_in, Whole, memory_size};
 ghost use Rattle.nodes.specs.Steps.{meta_of};
 
-use base::index;
+use base::{Reason, index};
 use chains::read;
 use mem::put_flag;
 use nodes::meta::map_at;
 use structs::super_block_at;
 
-pub fn read_meta(arena: &[u8], first: &[u16], next: &[u16], pos: usize, out: &mut [u8]) -> u8
+pub fn read_meta(
+    arena: &[u8],
+    first: &[u16],
+    next: &[u16],
+    pos: usize,
+    out: &mut [u8],
+) -> Result<(), Reason>
     requires led { Led arena.now first.now next.now }
     requires out_len_bound { length out.old ≤ 480 }
-    ensures { Went (read_file arena.now meta_file pos (length out.old)) out.new (length out.new ≡ length out.old) result }
+    ensures { Went (read_file arena.now meta_file pos (length out.old)) out.new (length out.new ≡ length out.old) (code result) }
 {
     let meta = [0u8; 16];
     read(arena, first, next, 0, &meta, pos, out)
 }
 
-pub fn load_super(arena: &[u8], first: &[u16], next: &[u16], mem: &mut [u8]) -> u8
+pub fn load_super(arena: &[u8], first: &[u16], next: &[u16], mem: &mut [u8]) -> Result<(), Reason>
     requires led { Led arena.now first.now next.now }
     requires mem_len { length mem.old ≡ memory_size }
-    ensures went { Went (read_file arena.now meta_file 0 16) (part mem.new 4403 4419) Unit result }
+    ensures went { Went (read_file arena.now meta_file 0 16) (part mem.new 4403 4419) Unit (code result) }
     ensures mem_unchanged { part mem.new 0 4403 ≡ part mem.old 0 4403 }
 {
     read_meta(arena, first, next, 0, &mut mem[4403..4419])
 }
 
-fn load_map(arena: &[u8], first: &[u16], next: &[u16], mem: &mut [u8], g: usize) -> u8
+fn load_map(
+    arena: &[u8],
+    first: &[u16],
+    next: &[u16],
+    mem: &mut [u8],
+    g: usize,
+) -> Result<(), Reason>
     requires led { Led arena.now first.now next.now }
     requires mem_len { (length mem.old ≡ memory_size) × (g < 4) }
-    ensures went { Went (read_file arena.now meta_file (map_at g) 128) (part mem.new (4419 + 128 * g) (4419 + 128 * g + 128)) Unit result }
+    ensures went { Went (read_file arena.now meta_file (map_at g) 128) (part mem.new (4419 + 128 * g) (4419 + 128 * g + 128)) Unit (code result) }
     ensures g_unchanged { part mem.new 0 (4419 + 128 * g) ≡ part mem.old 0 (4419 + 128 * g) }
 {
     let o = 4419 + 128 * g;
@@ -43,39 +56,37 @@ fn load_map(arena: &[u8], first: &[u16], next: &[u16], mem: &mut [u8], g: usize)
 }
 
 // The maps of the first n groups.
-pub fn load_maps(arena: &[u8], first: &[u16], next: &[u16], mem: &mut [u8], n: usize) -> u8
+pub fn load_maps(
+    arena: &[u8],
+    first: &[u16],
+    next: &[u16],
+    mem: &mut [u8],
+    n: usize,
+) -> Result<(), Reason>
     requires led { Led arena.now first.now next.now }
     requires mem_len { (length mem.old ≡ memory_size) × (n ≤ 4) }
-    ensures went { Went (load_maps arena.now n) (part mem.new 4419 (4419 + 128 * n)) Unit result }
+    ensures went { Went (load_maps arena.now n) (part mem.new 4419 (4419 + 128 * n)) Unit (code result) }
     ensures mem_unchanged { part mem.new 0 4419 ≡ part mem.old 0 4419 }
 {
-    let mut g: usize = 0;
-    while g < n {
-        let r = load_map(arena, first, next, mem, g);
-        if r != 0 {
-            return r;
-        }
-        g = g + 1;
+    for g in 0..n {
+        load_map(arena, first, next, mem, g)?;
     }
-    0
+    Ok(())
 }
 
-fn read_all(arena: &[u8], first: &[u16], next: &[u16], mem: &mut [u8]) -> u8
+fn read_all(arena: &[u8], first: &[u16], next: &[u16], mem: &mut [u8]) -> Result<(), Reason>
     requires led { Led arena.now first.now next.now }
     requires mem_len { length mem.old ≡ memory_size }
-    ensures went { Went (load_meta arena.now) (meta_of mem.new) ((0 < (super_in mem.new).groups) × ((super_in mem.new).groups ≤ 4)) result }
+    ensures went { Went (load_meta arena.now) (meta_of mem.new) ((0 < (super_in mem.new).groups) × ((super_in mem.new).groups ≤ 4)) (code result) }
     ensures mem_unchanged { part mem.new 0 4403 ≡ part mem.old 0 4403 }
 {
-    let r = load_super(arena, first, next, mem);
-    if r != 0 {
-        return r;
-    }
+    load_super(arena, first, next, mem)?;
     let groups = super_block_at(&mem[..], 4403).groups;
     if groups == 0 {
-        return 19;
+        return Err(Reason::Stuck);
     }
     if groups > 4 {
-        return 19;
+        return Err(Reason::Stuck);
     }
     load_maps(arena, first, next, mem, index(groups))
 }
@@ -87,5 +98,5 @@ pub fn load_meta(arena: &[u8], first: &[u16], next: &[u16], mem: &mut [u8])
     ensures { (meta_in mem.new ≡ load_meta arena.now) × ((table_in mem.new ≡ table_in mem.old) × Whole mem.new) }
 {
     let r = read_all(arena, first, next, mem);
-    put_flag(mem, r == 0);
+    put_flag(mem, r.is_ok());
 }

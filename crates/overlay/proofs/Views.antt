@@ -1,6 +1,5 @@
 -- The laws of the view: its blocks, a block stored, a block freed, and the view of no marks.
 use mathlib.Core.Path.{◌≡◌, refl, ap, ◌∙◌, sym}
-use mathlib.Core.Bool.{true, false, ◌&&◌}
 use mathlib.Core.Logic.{◌≢◌, ⊎_elim}
 use mathlib.Core.List.{List, [], ◌∷◌}
 use Prim.Native.Nat.{ℕ, zero, suc, ◌+◌, ◌*◌, ◌≤◌, ◌<◌, ◌-◌, ◌/◌}
@@ -9,7 +8,6 @@ use native.Mathlib.Omega.{arith}
 use native.Mathlib.Decide.{ℕ_discrete}
 use lib.ListN.{length, get_or, take, drop, set, replicate, length-set, length-replicate}
 use lib.Seq.{get_or-set_same, get_or-set_other}
-use lib.Dec.{ltb}
 use borrow.Author.Tests.{eq-eqb, ne_eqb, lt-ltb, le-ltb}
 use Rattle.base.proofs.Parts.{get_or-zero-list}
 use Rattle.base.proofs.Numbers.{lt-or-le}
@@ -418,17 +416,3 @@ ready a w m whole small ten few e =
       is = view-start a z whole small size (omega arith) (omega arith) (get_or-zero-list (512 * m)) nine;
       room = left-start a z whole small size (omega arith) (omega arith) (get_or-zero-list (512 * m)) nine ∙ omega arith;
     })
-
--- ---- where a block goes
-
-pub own_is : (w : List ℕ) (k m u : ℕ) → m ≡ mark_of w k → u ≡ used_of w → (ltb 9 m && ltb m u) ≡ has_own w k
-unfolding has_own
-own_is w k m u e f = rw (e, f)
-
-pub stored-over : (w : List ℕ) (k : ℕ) (b : List ℕ) → has_own w k ≡ true → put_blk w (mark_of w k) (seal b) ≡ stored w k b
-unfolding stored
-stored-over w k b e = rw e
-
-pub stored-new : (w : List ℕ) (k : ℕ) (b : List ℕ) → has_own w k ≡ false → stored_new w k b ≡ stored w k b
-unfolding stored
-stored-new w k b e = rw e

@@ -10,6 +10,7 @@ use arena::write_block;
 use base::byte;
 
 // A workspace of zeros, made ready.
+#[tactic(auto, unfolding(crate::specs::View::begun))]
 pub fn begin(work: &mut [u8])
     requires { 4096 < length work.old }
     ensures { work.new ≡ begun work.old }
@@ -18,6 +19,7 @@ pub fn begin(work: &mut [u8])
 }
 
 // Block k as it would be.
+#[tactic(auto, unfolding(crate::specs::View::blk_of, arena::specs::Blocks::blk))]
 pub fn block<'a>(arena: &'a [u8], work: &'a [u8], k: usize) -> &'a [u8]
     requires { (k < blocks arena.now) × Fine arena.now work.now }
     ensures { result.now ≡ blk_of arena.now work.now k }
@@ -32,6 +34,7 @@ pub fn block<'a>(arena: &'a [u8], work: &'a [u8], k: usize) -> &'a [u8]
 }
 
 // Block k becomes b, with its check, in a new block of the workspace.
+#[tactic(auto, unfolding(crate::specs::View::left, crate::specs::View::stored_new, arena::specs::Blocks::put_blk))]
 fn store_new(work: &mut [u8], k: usize, b: &[u8])
     requires k_bound { (k < 4096) × (length b.now ≡ 512) }
     requires bound { (9 < used_of work.old) × ((length work.old ≡ 512 * blocks work.old) × ((blocks work.old ≤ 255) × (1 ≤ left work.old))) }
@@ -45,6 +48,7 @@ fn store_new(work: &mut [u8], k: usize, b: &[u8])
 }
 
 // Block m of the workspace becomes b, with its check.
+#[tactic(auto, unfolding(arena::specs::Blocks::put_blk))]
 fn store_over(work: &mut [u8], m: usize, b: &[u8])
     requires { (m < blocks work.old) × (length b.now ≡ 512) }
     ensures { work.new ≡ put_blk work.old m (seal b.now) }
@@ -54,6 +58,7 @@ fn store_over(work: &mut [u8], m: usize, b: &[u8])
 }
 
 // Block k becomes b, with its check. One that was stored before keeps its place in the workspace.
+#[tactic(auto, unfolding(crate::specs::View::left, crate::specs::View::stored, crate::specs::View::has_own))]
 pub fn store(work: &mut [u8], k: usize, b: &[u8])
     requires k_bound { (k < 4096) × (length b.now ≡ 512) }
     requires bound { (9 < used_of work.old) × ((length work.old ≡ 512 * blocks work.old) × ((blocks work.old ≤ 255) × (1 ≤ left work.old))) }
@@ -61,14 +66,15 @@ pub fn store(work: &mut [u8], k: usize, b: &[u8])
 {
     let m = byte(work[k]);
     let u = byte(work[4096]);
-    if (9 < m) & (m < u) {
+    if 9 < m && m < u {
         store_over(work, m, b);
-        return;
+    } else {
+        store_new(work, k, b);
     }
-    store_new(work, k, b);
 }
 
 // Block k becomes free.
+#[tactic(auto, unfolding(crate::specs::View::freed))]
 pub fn free(work: &mut [u8], k: usize)
     requires { k < length work.old }
     ensures { work.new ≡ freed work.old k }
@@ -77,17 +83,17 @@ pub fn free(work: &mut [u8], k: usize)
 }
 
 // Block k of the arena becomes what it would be: a part lent from the arena's middle goes to the block writer.
+#[tactic(auto, unfolding(crate::specs::View::committed, arena::specs::Blocks::put_blk, arena::specs::Blocks::blk))]
 fn commit_block(arena: &mut [u8], work: &[u8], k: usize)
     requires { (k < blocks arena.old) × ((k < length work.now) × (mark_of work.now k < blocks work.now)) }
     ensures { arena.new ≡ committed arena.old work.now k }
 {
     let m = byte(work[k]);
-    if m == 0 {
-        return;
+    if m != 0 {
+        let o = 512 * k;
+        let p = 512 * m;
+        write_block(&mut arena[o..o + 512], &work[p..p + 512]);
     }
-    let o = 512 * k;
-    let p = 512 * m;
-    write_block(&mut arena[o..o + 512], &work[p..p + 512]);
 }
 
 // The arena becomes what it would be.
@@ -95,10 +101,7 @@ pub fn commit(arena: &mut [u8], work: &[u8])
     requires { Fine arena.old work.now }
     ensures { arena.new ≡ view arena.old work.now }
 {
-    let n = arena.len() / 512;
-    let mut k: usize = 0;
-    while k < n {
+    for k in 0..arena.len() / 512 {
         commit_block(arena, work, k);
-        k = k + 1;
     }
 }

@@ -2,6 +2,7 @@
 #![tactic(auto)]
 
 ghost use Rattle.std.specs.Prelude.{◌≡◌, length};
+ghost use Rattle.base.specs.Told.{code};
 ghost use Rattle.base.specs.Parts.{paste};
 ghost use Rattle.table_bytes.specs.Layout.{table_of};
 ghost use Rattle.sefs.specs.Contents.{call_read, call_write, call_resize};
@@ -15,6 +16,7 @@ ghost use Rattle.edge_words.specs.Words.{handle_of};
 ghost use Rattle.edge.specs.Edge.{sized, Answers, left_of, start_in, listed_in, read_in};
 ghost use Rattle.owners_kept.specs.Owned.{Chained, Owned, Kept};
 
+use base::Reason;
 use calls_entry::entry_led;
 use calls_fallocate::{PLAN, SOURCE, fallocate_led, fallocate_row};
 use calls_list::list_led;
@@ -22,7 +24,7 @@ use calls_path::path_led;
 use calls_read::read_led;
 use calls_resize::resize_led;
 use calls_write::{write_led, write_row};
-use edge_ends::ends::{end_after, end_listed, end_taken};
+use edge_ends::ends::{end_after, end_listed, end_taken, number};
 use edge_words::args::handle;
 use edge_words::{LENGTH_WORDS, NEXT_WORDS, WRONG_SIZE};
 use mem::{MEMORY, begin};
@@ -79,9 +81,9 @@ fn write_in(
     place: u64,
     src: &[u8],
     plan: &mut [u16],
-) -> u8
+) -> Result<(), Reason>
     requires { Kept arena.old chains.old mem.old × (length plan.old ≡ 4096) }
-    ensures ended { Ended (call_write arena.old (table_in mem.old) who h place src.now) arena.old arena.new (table_in mem.new) result }
+    ensures ended { Ended (call_write arena.old (table_in mem.old) who h place src.now) arena.old arena.new (table_in mem.new) (code result) }
     ensures chained { Chained arena.new chains.new }
 {
     let c = &chains[..];
@@ -95,13 +97,10 @@ fn write_in(
         place,
         src.len(),
         plan,
-    );
-    if s.reason != 0 {
-        return s.reason;
-    }
+    )?;
     write_row(arena, mem, s.row, s.head, place as usize, src, &plan[..]);
     chain_all(&arena[..], chains);
-    0
+    Ok(())
 }
 
 fn write_on(
@@ -112,9 +111,9 @@ fn write_on(
     h: Handle,
     place: u64,
     src: &[u8],
-) -> u8
+) -> Result<(), Reason>
     requires { Kept arena.old chains.old mem.old }
-    ensures ended { Ended (call_write arena.old (table_in mem.old) who h place src.now) arena.old arena.new (table_in mem.new) result }
+    ensures ended { Ended (call_write arena.old (table_in mem.old) who h place src.now) arena.old arena.new (table_in mem.new) (code result) }
     ensures chained { Chained arena.new chains.new }
 {
     let mut plan = [0u16; 4096];
@@ -152,19 +151,23 @@ pub extern "C" fn dz_own_write(
 
 // ---- resize
 
-fn resize_on(arena: &mut [u8], chains: &mut [u16], mem: &mut [u8], who: u8, h: Handle, n: u64) -> u8
+fn resize_on(
+    arena: &mut [u8],
+    chains: &mut [u16],
+    mem: &mut [u8],
+    who: u8,
+    h: Handle,
+    n: u64,
+) -> Result<(), Reason>
     requires { Kept arena.old chains.old mem.old }
-    ensures ended { Ended (call_resize arena.old (table_in mem.old) who h n) arena.old arena.new (table_in mem.new) result }
+    ensures ended { Ended (call_resize arena.old (table_in mem.old) who h n) arena.old arena.new (table_in mem.new) (code result) }
     ensures chained { Chained arena.new chains.new }
 {
     let c = &chains[..];
-    let s = resize_led(&arena[..], &c[..4096], &c[4096..8192], &mem[..], who, h, n);
-    if s.reason != 0 {
-        return s.reason;
-    }
+    let s = resize_led(&arena[..], &c[..4096], &c[4096..8192], &mem[..], who, h, n)?;
     set_size(arena, mem, s.row, s.head, n as usize);
     chain_all(&arena[..], chains);
-    0
+    Ok(())
 }
 
 #[unsafe(no_mangle)]
@@ -201,9 +204,9 @@ fn fallocate_in(
     len: u64,
     plan: &mut [u16],
     source: &mut [u16],
-) -> u8
+) -> Result<(), Reason>
     requires { Kept arena.old chains.old mem.old × ((length plan.old ≡ 4096) × (length source.old ≡ 4097)) }
-    ensures ended { Ended (call_fallocate arena.old (table_in mem.old) who h mode from len) arena.old arena.new (table_in mem.new) result }
+    ensures ended { Ended (call_fallocate arena.old (table_in mem.old) who h mode from len) arena.old arena.new (table_in mem.new) (code result) }
     ensures chained { Chained arena.new chains.new }
 {
     let c = &chains[..];
@@ -219,12 +222,9 @@ fn fallocate_in(
         len,
         plan,
         source,
-    );
-    if s.reason != 0 {
-        return s.reason;
-    }
+    )?;
     if s.idle {
-        return 0;
+        return Ok(());
     }
     fallocate_row(
         arena,
@@ -238,7 +238,7 @@ fn fallocate_in(
         &source[..],
     );
     chain_all(&arena[..], chains);
-    0
+    Ok(())
 }
 
 fn fallocate_on(
@@ -250,9 +250,9 @@ fn fallocate_on(
     mode: FallocateMode,
     from: u64,
     len: u64,
-) -> u8
+) -> Result<(), Reason>
     requires { Kept arena.old chains.old mem.old }
-    ensures ended { Ended (call_fallocate arena.old (table_in mem.old) who h mode from len) arena.old arena.new (table_in mem.new) result }
+    ensures ended { Ended (call_fallocate arena.old (table_in mem.old) who h mode from len) arena.old arena.new (table_in mem.new) (code result) }
     ensures chained { Chained arena.new chains.new }
 {
     let mut plan = [0u16; PLAN];
@@ -331,7 +331,7 @@ pub extern "C" fn dz_own_get_entry(
         slot,
         out,
     );
-    r as u32
+    number(r)
 }
 
 // The word is the place's next slot, and then the one to go on with. `dots` is not 0 where the dots are asked for.

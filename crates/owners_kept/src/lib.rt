@@ -3,6 +3,7 @@
 #![tactic(auto)]
 
 ghost use Rattle.std.specs.Prelude.{◌≡◌, true, ◌<◌};
+ghost use Rattle.base.specs.Told.{code};
 ghost use Rattle.arena.specs.Blocks.{legal};
 ghost use Rattle.sefs.specs.Close.{close_steps, call_close, call_sync};
 ghost use Rattle.mem.specs.Mem.{table_in, Whole};
@@ -10,6 +11,7 @@ ghost use Rattle.mem.specs.State.{fs_at};
 ghost use Rattle.steps.specs.Ends.{ending, Ended};
 ghost use Rattle.owners_kept.specs.Owned.{Chained, Kept};
 
+use base::Reason;
 use calls_close::{close_led, close_row};
 use calls_sync::{sync_in, sync_led};
 use rows::stores;
@@ -19,9 +21,15 @@ use table::Handle;
 // ---- close
 
 // Where nothing is stored, the chains stay right.
-fn close_kept(arena: &mut [u8], chains: &mut [u16], mem: &mut [u8], last: bool, i: usize) -> u8
+fn close_kept(
+    arena: &mut [u8],
+    chains: &mut [u16],
+    mem: &mut [u8],
+    last: bool,
+    i: usize,
+) -> Result<(), Reason>
     requires { Chained arena.old chains.old × ((legal arena.old ≡ true) × (Whole mem.old × (i < 34))) }
-    ensures ended { Ended (ending (close_steps (fs_at arena.old mem.old) last i)) arena.old arena.new (table_in mem.new) result }
+    ensures ended { Ended (ending (close_steps (fs_at arena.old mem.old) last i)) arena.old arena.new (table_in mem.new) (code result) }
     ensures chained { Chained arena.new chains.new }
 {
     let again = stores(&mem[..], last, i);
@@ -32,24 +40,27 @@ fn close_kept(arena: &mut [u8], chains: &mut [u16], mem: &mut [u8], last: bool, 
     r
 }
 
-pub fn close_on(arena: &mut [u8], chains: &mut [u16], mem: &mut [u8], who: u8, h: Handle) -> u8
+pub fn close_on(
+    arena: &mut [u8],
+    chains: &mut [u16],
+    mem: &mut [u8],
+    who: u8,
+    h: Handle,
+) -> Result<(), Reason>
     requires { Kept arena.old chains.old mem.old }
-    ensures ended { Ended (call_close arena.old (table_in mem.old) who h) arena.old arena.new (table_in mem.new) result }
+    ensures ended { Ended (call_close arena.old (table_in mem.old) who h) arena.old arena.new (table_in mem.new) (code result) }
     ensures chained { Chained arena.new chains.new }
 {
     let c = &chains[..];
-    let b = close_led(&arena[..], &c[..4096], &c[4096..8192], mem, who, h);
-    if b.reason != 0 {
-        return b.reason;
-    }
+    let b = close_led(&arena[..], &c[..4096], &c[4096..8192], mem, who, h)?;
     close_kept(arena, chains, mem, b.last, b.row)
 }
 
 // ---- sync
 
-pub fn sync_on(arena: &mut [u8], chains: &mut [u16], mem: &mut [u8]) -> u8
+pub fn sync_on(arena: &mut [u8], chains: &mut [u16], mem: &mut [u8]) -> Result<(), Reason>
     requires { Kept arena.old chains.old mem.old }
-    ensures ended { Ended (call_sync arena.old (table_in mem.old)) arena.old arena.new (table_in mem.new) result }
+    ensures ended { Ended (call_sync arena.old (table_in mem.old)) arena.old arena.new (table_in mem.new) (code result) }
     ensures chained { Chained arena.new chains.new }
 {
     let c = &chains[..];

@@ -3,20 +3,22 @@
 #![tactic(auto)]
 
 ghost use Rattle.std.specs.Prelude.{◌≡◌, length};
+ghost use Rattle.std.specs.Result.{result_unwrap_or};
+ghost use Rattle.base.specs.Told.{code};
 ghost use Rattle.table_bytes.specs.Layout.{table_of};
 ghost use Rattle.sefs.specs.Create.{call_create, call_link};
 ghost use Rattle.sefs.specs.Move.{call_move};
 ghost use Rattle.sefs.specs.Remove.{call_remove};
 ghost use Rattle.mem.specs.Mem.{table_in};
-ghost use Rattle.calls.specs.Answers.{added_as};
+ghost use Rattle.calls.specs.Answers.{added_as, no_handle};
 ghost use Rattle.steps.specs.Ends.{Ended};
 ghost use Rattle.calls_create.specs.Held.{EndedHeld};
 ghost use Rattle.owners_kept.specs.Owned.{Chained, Kept};
 
-use calls::{Handed, not_handed};
+use base::Reason;
 use calls_create::{New, create_led, create_rows};
 use calls_link::{link_led, link_rows};
-use calls_move::{move_rows, plan_led};
+use calls_move::{Way, move_rows, plan_led};
 use calls_remove::{pick_led, remove};
 use mem::begin;
 use sound::chain_all;
@@ -30,13 +32,13 @@ pub fn create_on(
     h: Handle,
     name: &[u8],
     new: New,
-) -> Handed
+) -> Result<Handle, Reason>
     requires { Kept arena.old chains.old mem.old }
-    ensures ended_held { EndedHeld (call_create arena.old (table_in mem.old) who h name.now new.kind new.mode new.time new.file) arena.old arena.new (added_as result.handle (table_in mem.new)) result.reason }
+    ensures ended_held { EndedHeld (call_create arena.old (table_in mem.old) who h name.now new.kind new.mode new.time new.file) arena.old arena.new (added_as (result_unwrap_or result no_handle) (table_in mem.new)) (code result) }
     ensures chained { Chained arena.new chains.new }
 {
     let c = &chains[..];
-    let b = create_led(
+    let row = create_led(
         &arena[..],
         &c[..4096],
         &c[4096..8192],
@@ -45,11 +47,8 @@ pub fn create_on(
         h,
         name,
         new,
-    );
-    if b.reason != 0 {
-        return not_handed(b.reason);
-    }
-    let r = create_rows(arena, mem, who, b.row, name, new);
+    )?;
+    let r = create_rows(arena, mem, who, row, name, new);
     chain_all(&arena[..], chains);
     r
 }
@@ -62,13 +61,13 @@ pub fn link_on(
     h: Handle,
     name: &[u8],
     child: Handle,
-) -> u8
+) -> Result<(), Reason>
     requires { Kept arena.old chains.old mem.old }
-    ensures ended { Ended (call_link arena.old (table_in mem.old) who h name.now child) arena.old arena.new (table_in mem.new) result }
+    ensures ended { Ended (call_link arena.old (table_in mem.old) who h name.now child) arena.old arena.new (table_in mem.new) (code result) }
     ensures chained { Chained arena.new chains.new }
 {
     let c = &chains[..];
-    let b = link_led(
+    let (i, j) = link_led(
         &arena[..],
         &c[..4096],
         &c[4096..8192],
@@ -77,11 +76,8 @@ pub fn link_on(
         h,
         name,
         child,
-    );
-    if b.reason != 0 {
-        return b.reason;
-    }
-    let r = link_rows(arena, mem, b.row, name, b.other);
+    )?;
+    let r = link_rows(arena, mem, i, name, j);
     chain_all(&arena[..], chains);
     r
 }
@@ -94,13 +90,13 @@ pub fn remove_on(
     h: Handle,
     name: &[u8],
     folder: bool,
-) -> u8
+) -> Result<(), Reason>
     requires { Kept arena.old chains.old mem.old }
-    ensures ended { Ended (call_remove folder arena.old (table_in mem.old) who h name.now) arena.old arena.new (table_in mem.new) result }
+    ensures ended { Ended (call_remove folder arena.old (table_in mem.old) who h name.now) arena.old arena.new (table_in mem.new) (code result) }
     ensures chained { Chained arena.new chains.new }
 {
     let c = &chains[..];
-    let b = pick_led(
+    let p = pick_led(
         &arena[..],
         &c[..4096],
         &c[4096..8192],
@@ -109,11 +105,8 @@ pub fn remove_on(
         h,
         name,
         folder,
-    );
-    if b.reason != 0 {
-        return b.reason;
-    }
-    let r = remove(arena, mem, b.row, b.node, b.place);
+    )?;
+    let r = remove(arena, mem, p.row, p.node, p.place);
     chain_all(&arena[..], chains);
     r
 }
@@ -130,22 +123,19 @@ fn move_slot(
     old: &[u8],
     to: Handle,
     name: &[u8],
-) -> u8
+) -> Result<(), Reason>
     requires kept { Kept arena.old chains.old mem.old }
     requires slot_len { (length slot.old ≡ 264) × ((length table.now ≡ 4402) × (table_in mem.old ≡ table_of table.now)) }
-    ensures ended { Ended (call_move arena.old (table_in mem.old) who h old.now to name.now) arena.old arena.new (table_in mem.new) result }
+    ensures ended { Ended (call_move arena.old (table_in mem.old) who h old.now to name.now) arena.old arena.new (table_in mem.new) (code result) }
     ensures chained { Chained arena.new chains.new }
 {
     let c = &chains[..];
     let first = &c[..4096];
     let next = &c[4096..8192];
-    let p = plan_led(&arena[..], first, next, mem, slot, who, h, old, to, name);
-    if p.reason != 0 {
-        return p.reason;
-    }
-    if p.way == 0 {
+    let p = plan_led(&arena[..], first, next, mem, slot, who, h, old, to, name)?;
+    if p.way == Way::Same {
         begin(mem, table);
-        return 0;
+        return Ok(());
     }
     let r = move_rows(arena, mem, slot, p, old, name);
     chain_all(&arena[..], chains);
@@ -162,10 +152,10 @@ pub fn move_on(
     old: &[u8],
     to: Handle,
     name: &[u8],
-) -> u8
+) -> Result<(), Reason>
     requires kept { Kept arena.old chains.old mem.old }
     requires table_len { (length table.now ≡ 4402) × (table_in mem.old ≡ table_of table.now) }
-    ensures ended { Ended (call_move arena.old (table_in mem.old) who h old.now to name.now) arena.old arena.new (table_in mem.new) result }
+    ensures ended { Ended (call_move arena.old (table_in mem.old) who h old.now to name.now) arena.old arena.new (table_in mem.new) (code result) }
     ensures chained { Chained arena.new chains.new }
 {
     let mut slot = [0u8; 264];

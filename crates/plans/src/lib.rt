@@ -3,6 +3,7 @@
 #![tactic(auto)]
 
 ghost use Rattle.std.specs.Prelude.{◌≡◌, true, ◌+◌, ◌*◌, ◌/◌, ◌<◌, ◌≤◌, length};
+ghost use Rattle.base.specs.Told.{code};
 ghost use Rattle.base.specs.Out.{done};
 ghost use Rattle.base.specs.Parts.{tab};
 ghost use Rattle.arena.specs.Blocks.{blocks};
@@ -15,7 +16,7 @@ ghost use Rattle.chains.specs.Led.{Led, block_at};
 ghost use Rattle.plans.specs.Plan.{absent_to, Places, Decided, payload_by, byte_by, InArena};
 
 use arena::free_count;
-use base::{byte, clear, copy, index16, least, most, one};
+use base::{Reason, byte, clear, copy, index16, least, most, one};
 use chains::block_at;
 use inplace::{edit, next_free, write_new};
 
@@ -48,12 +49,10 @@ pub fn plan_blocks(
 {
     let q = pos / 480;
     let mut lacking: usize = 0;
-    let mut i: usize = 0;
-    while i < k {
+    for i in 0..k {
         let c = block_at(arena, first, next, which, name, (q + i) as u32);
         plan[i] = c as u16;
         lacking = lacking + byte(one(c == 0));
-        i = i + 1;
     }
     lacking
 }
@@ -68,20 +67,20 @@ pub fn decide(
     pos: usize,
     n: usize,
     plan: &mut [u16],
-) -> u8
+) -> Result<(), Reason>
     requires led { Led arena.now first.now next.now }
     requires plan_len { (length plan.old ≡ 4096) × ((pos + n ≤ 4294967295) × (there arena.now (file which name.now) ≡ true)) }
-    ensures { Decided arena.now (file which name.now) pos n plan.new result }
+    ensures { Decided arena.now (file which name.now) pos n plan.new (code result) }
 {
     let k = touched(pos, n);
     if k > arena.len() / 512 {
-        return 17;
+        return Err(Reason::NoDeviceSpace);
     }
     let lacking = plan_blocks(arena, first, next, which, name, pos, k, plan);
     if lacking > free_count(arena) {
-        return 17;
+        return Err(Reason::NoDeviceSpace);
     }
-    0
+    Ok(())
 }
 
 // ---- one block

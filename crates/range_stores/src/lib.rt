@@ -18,7 +18,6 @@ ghost use Rattle.chains.specs.Led.{block_at};
 ghost use Rattle.plans.specs.Plan.{Places, Planned, byte_by, InArena};
 ghost use Rattle.range_stores.specs.Moves.{Movable, Insertable, UpToDate, PieceMakable, Makable, Fillable};
 
-use base::{index16, least, most};
 use inplace::{next_free, raise, write_new};
 use plans::{put_bytes, read_places, touched};
 
@@ -42,8 +41,8 @@ fn zero_block(
     ensures { (put_block arena.old (file 1 name.now) pos (replicate n 0) q ≡ done arena.new) × (result ≤ free_of arena.old) }
 {
     let zeros = [0u8; 480];
-    let s = most(pos, 480 * q);
-    let e = least(pos + n, 480 * q + 480);
+    let s = pos.max(480 * q);
+    let e = (pos + n).min(480 * q + 480);
     let m = e - s;
     put_bytes(arena, 1, name, q, s - 480 * q, &zeros[..m], found, from)
 }
@@ -61,10 +60,8 @@ pub fn put_zeros(arena: &mut [u8], k: usize, name: &[u8; 16], pos: usize, n: usi
     let t = touched(pos, n);
     let q = pos / 480;
     let mut from: usize = 0;
-    let mut i: usize = 0;
-    while i < t {
-        from = zero_block(arena, name, pos, n, q + i, index16(plan[i]), from);
-        i = i + 1;
+    for i in 0..t {
+        from = zero_block(arena, name, pos, n, q + i, usize::from(plan[i]), from);
     }
 }
 
@@ -110,8 +107,8 @@ fn move_block(
     requires found_value { (found ≡ block_at arena.old (file 1 name.now) q) × ((from ≤ free_of arena.old) × (found ≡ 0 → free_of arena.old < blocks arena.old)) }
     ensures { (write_blk arena.old (file 1 name.now) q (lo dst q - 480 * q) (tab (byte_by arena.old source.now (src / 480)) (src + (lo dst q - dst)) (hi dst n q - lo dst q)) ≡ done arena.new) × (result ≤ free_of arena.old) }
 {
-    let s = most(dst, 480 * q);
-    let e = least(dst + n, 480 * q + 480);
+    let s = dst.max(480 * q);
+    let e = (dst + n).min(480 * q + 480);
     let m = e - s;
     let mut room = [0u8; 480];
     move_part(
@@ -147,8 +144,7 @@ pub fn move_down(
     let m = touched(src, n);
     let q = dst / 480;
     let mut from: usize = 0;
-    let mut i: usize = 0;
-    while i < t {
+    for i in 0..t {
         from = move_block(
             arena,
             name,
@@ -156,11 +152,10 @@ pub fn move_down(
             dst,
             n,
             q + i,
-            index16(plan[i]),
+            usize::from(plan[i]),
             from,
             &source[..m],
         );
-        i = i + 1;
     }
 }
 
@@ -171,10 +166,7 @@ fn falling(n: usize, k: usize) -> usize
     requires { (n ≤ 4294967295) × (k ≤ 4294967295) }
     ensures { result ≡ falling_by n k }
 {
-    if n < PIECE * (k + 1) {
-        return 0;
-    }
-    n - PIECE * (k + 1)
+    n.saturating_sub(PIECE * (k + 1))
 }
 
 // Block q is made of zeros alone where its place, entry i of the plan, is 0. No block below `from` is free, and none below the answer.
@@ -193,9 +185,8 @@ fn make_absent(
     if plan[i] > 0 {
         return from;
     }
-    let none = [0u8; 1];
     let k = next_free(&arena[..], from);
-    write_new(arena, k, 1, name, q as u32, 0, &none[..0]);
+    write_new(arena, k, 1, name, q as u32, 0, &[]);
     plan[i] = (k + 1) as u16;
     k
 }
@@ -224,15 +215,13 @@ fn make_blocks(arena: &mut [u8], name: &[u8; 16], dst: usize, n: usize, plan: &m
     requires { Makable arena.old (file 1 name.now) dst n plan.old }
     ensures { (made_to arena.old (file 1 name.now) dst n (pieces n) ≡ done arena.new) × Places arena.new (file 1 name.now) dst plan.new (touched_by dst n) }
 {
-    let p = (n + PIECE - 1) / PIECE;
+    let p = n.div_ceil(PIECE);
     let first = dst / 480;
     let mut from: usize = 0;
-    let mut k: usize = 0;
-    while k < p {
+    for k in 0..p {
         let s = falling(n, k);
         let e = n - PIECE * k;
         from = make_piece(arena, name, dst + s, e - s, plan, first, from);
-        k = k + 1;
     }
 }
 
@@ -251,9 +240,8 @@ fn fill_down(
 {
     let m = touched(src, n);
     let q = dst / 480;
-    let mut i = touched(dst, n);
-    while i > 0 {
-        i = i - 1;
+    let t = touched(dst, n);
+    for i in (0..t).rev() {
         move_block(
             arena,
             name,
@@ -261,7 +249,7 @@ fn fill_down(
             dst,
             n,
             q + i,
-            index16(plan[i]),
+            usize::from(plan[i]),
             0,
             &source[..m],
         );

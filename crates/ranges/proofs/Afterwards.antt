@@ -8,7 +8,7 @@ use native.Mathlib.Omega.{arith}
 use lib.ListN.{replicate}
 use Rattle.base.specs.Out.{Out, done, bind}
 use Rattle.base.specs.Parts.{tab}
-use Rattle.base.specs.declared.Found.TheVariants.{At}
+use Rattle.std.specs.Prelude.{Some}
 use Rattle.base.proofs.Numbers.{lt-or-le}
 use Rattle.base.proofs.Lists.{tab-cong}
 use Rattle.le.specs.Le.{Bytes}
@@ -42,7 +42,7 @@ module _ {a : List ℕ} {t : Table} {i n : ℕ} {dirty : Bool} {x : After} (O : 
       ∙ sym (reads a t w h i old room A.asked O.was)
 
   -- another file reads as it did
-  reads-else : (v : ℕ) (g : Handle) (j at room : ℕ) → live_row t v g ≡ At j → file_at t i ≢ file_at t j → call_read x.arena x.table v g at room ≡ call_read a t v g at room
+  reads-else : (v : ℕ) (g : Handle) (j at room : ℕ) → live_row t v g ≡ Some j → file_at t i ≢ file_at t j → call_read x.arena x.table v g at room ≡ call_read a t v g at room
   reads-else v g j at room l d =
       reads_at x.arena x.table v g j at room (asked-after O w h A.asked).admits (live_same t x.table v g O.holds ∙ l)
       ∙ ap (λ (r : Row). bind (has_contents r.rec) (λ _. read_bytes x.arena (node_file r.rec) at (read_count r.rec.size at room))) (O.rows j (λ z. d (ap (file_at t) (sym z))))

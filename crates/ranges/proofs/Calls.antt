@@ -8,7 +8,7 @@ use lib.Dec.{ltb, leb}
 use borrow.Author.Tests.{lt-ltb, leb-true}
 use Rattle.base.specs.Out.{Out, done, refused, ensure, bind}
 use Rattle.base.specs.Search.{pick}
-use Rattle.base.specs.declared.Found.TheVariants.{At}
+use Rattle.std.specs.Prelude.{Some}
 use Rattle.base.proofs.Outs.{bind_assoc}
 use Rattle.structs.specs.Constants.{type_file}
 use Rattle.structs.specs.declared.DiskINode.{DiskINode}
@@ -38,7 +38,7 @@ asks kind a t w h end steps =
     bind (admit a t) (λ _. bind (by_handle t w h) (λ i. bind (kind (row_at t i).rec) (λ _. bind (not_too_big end) (λ _. bind (steps i) (λ s. done (after s))))))
 
 -- of a file both ask the same, so the steps decide
-same-call : (a : List ℕ) (t : Table) (w : ℕ) (h : Handle) (i end : ℕ) (S T : ℕ → Out Fs) → live_row t w h ≡ At i → (row_at t i).rec.kind ≡ type_file → (end ≤ longest → S i ≡ T i)
+same-call : (a : List ℕ) (t : Table) (w : ℕ) (h : Handle) (i end : ℕ) (S T : ℕ → Out Fs) → live_row t w h ≡ Some i → (row_at t i).rec.kind ≡ type_file → (end ≤ longest → S i ≡ T i)
     → asks plain_file a t w h end S ≡ asks has_contents a t w h end T
 unfolding plain_file by_handle
 same-call a t w h i end S T l k e = rw l (go (admit a t) (an_owner w))

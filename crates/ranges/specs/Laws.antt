@@ -1,9 +1,8 @@
 -- What each mode does to a node's bytes, one by one, and as those who read see it. Said of any arena and table, any place and length, as order 1's
 -- laws are: a call that is done has asked the rest. w asks; i is the row of the handle, x what the call left.
-use Rattle.std.specs.Prelude.{◌≡◌, Bool, true, false, ◌||◌, List, ◌≢◌, ◌⊎◌, ℕ, ◌+◌, ◌-◌, ◌≤◌, ◌<◌, max, replicate, ltb}
+use Rattle.std.specs.Prelude.{◌≡◌, Bool, true, false, ◌||◌, List, ◌≢◌, ◌⊎◌, ℕ, ◌+◌, ◌-◌, ◌≤◌, ◌<◌, max, replicate, ltb, Some}
 use Rattle.base.specs.Out.{done}
 use Rattle.base.specs.Parts.{Outside}
-use Rattle.base.specs.declared.Found.TheVariants.{At}
 use Rattle.le.specs.Le.{Bytes}
 use Rattle.structs.specs.Constants.{type_file}
 use Rattle.table.specs.declared.Table.{Table}
@@ -21,7 +20,7 @@ use Rattle.ranges.specs.declared.FallocateMode.TheVariants.{Allocate, PunchHoleK
 -- in that mode a call that is done has done what P says
 abbrev pub InMode : FallocateMode → (List ℕ → Table → ℕ → ℕ → ℕ → After → Type 0) → Type 0
 InMode mode P = (a : List ℕ) (t : Table) (w : ℕ) (h : Handle) (i from len : ℕ) (x : After) → Bytes a
-    → live_row t w h ≡ At i → call_fallocate a t w h mode from len ≡ done x → P a t i from len x
+    → live_row t w h ≡ Some i → call_fallocate a t w h mode from len ≡ done x → P a t i from len x
 
 -- ---- insert: "bytes from the start on move up unchanged and the hole reads zero"
 
@@ -116,7 +115,7 @@ pub record ZeroReads (a : List ℕ) (t : Table) (w : ℕ) (h : Handle) (i from l
       → call_read x.arena x.table w h at room ≡ call_read a t w h at room
 
 unfoldable pub ReadZeroed : Type 0
-ReadZeroed = (a : List ℕ) (t : Table) (w : ℕ) (h : Handle) (i from len : ℕ) (x : After) → Bytes a → live_row t w h ≡ At i → there a (file_at t i) ≡ true
+ReadZeroed = (a : List ℕ) (t : Table) (w : ℕ) (h : Handle) (i from len : ℕ) (x : After) → Bytes a → live_row t w h ≡ Some i → there a (file_at t i) ≡ true
     → call_fallocate a t w h ZeroRange from len ≡ done x → ZeroReads a t w h i from len x
 
 -- after a punched hole: in it zeros up to the size; elsewhere as before
@@ -125,13 +124,13 @@ pub record PunchReads (a : List ℕ) (t : Table) (w : ℕ) (h : Handle) (i from 
   pub outside : (at room : ℕ) → ((k : ℕ) → k < room → Outside (at + k) from len) → call_read x.arena x.table w h at room ≡ call_read a t w h at room
 
 unfoldable pub ReadPunched : Type 0
-ReadPunched = (a : List ℕ) (t : Table) (w : ℕ) (h : Handle) (i from len : ℕ) (x : After) → Bytes a → live_row t w h ≡ At i → there a (file_at t i) ≡ true
+ReadPunched = (a : List ℕ) (t : Table) (w : ℕ) (h : Handle) (i from len : ℕ) (x : After) → Bytes a → live_row t w h ≡ Some i → there a (file_at t i) ≡ true
     → call_fallocate a t w h PunchHoleKeepSize from len ≡ done x → PunchReads a t w h i from len x
 
 -- collapse after insert of the same range gives back the bytes: where the insert was done, the collapse is, and whatever is read is what was read
 pub record Back (a : List ℕ) (t : Table) (w : ℕ) (h : Handle) (y : After) : Type 0 where
   pub reads : (at room : ℕ) → call_read y.arena y.table w h at room ≡ call_read a t w h at room
-  pub size : (i : ℕ) → live_row t w h ≡ At i → size_at y.table i ≡ size_at t i
+  pub size : (i : ℕ) → live_row t w h ≡ Some i → size_at y.table i ≡ size_at t i
 
 unfoldable pub GivesBack : Type 0
 GivesBack = (a : List ℕ) (t : Table) (w : ℕ) (h : Handle) (from len : ℕ) (x y : After) → Bytes a
@@ -144,15 +143,15 @@ CanGoBack = (a : List ℕ) (t : Table) (w : ℕ) (h : Handle) (from len : ℕ) (
 -- other files: in every mode, through anybody's handle g on a row j with another file
 unfoldable pub ReadOthers : Type 0
 ReadOthers = (mode : FallocateMode) (a : List ℕ) (t : Table) (v w : ℕ) (h g : Handle) (i j from len : ℕ) (x : After) (at room : ℕ) → Bytes a
-    → live_row t w h ≡ At i → live_row t v g ≡ At j → file_at t i ≢ file_at t j → call_fallocate a t w h mode from len ≡ done x
+    → live_row t w h ≡ Some i → live_row t v g ≡ Some j → file_at t i ≢ file_at t j → call_fallocate a t w h mode from len ≡ done x
     → call_read x.arena x.table v g at room ≡ call_read a t v g at room
 
 -- ---- modes that are calls of order 1, byte for byte of the arena: of a file (type 1)
 
 unfoldable pub AllocateIsResize : Type 0
-AllocateIsResize = (a : List ℕ) (t : Table) (w : ℕ) (h : Handle) (i from len : ℕ) → live_row t w h ≡ At i → (row_at t i).rec.kind ≡ type_file → size_at t i < from + len
+AllocateIsResize = (a : List ℕ) (t : Table) (w : ℕ) (h : Handle) (i from len : ℕ) → live_row t w h ≡ Some i → (row_at t i).rec.kind ≡ type_file → size_at t i < from + len
     → call_fallocate a t w h (Allocate false) from len ≡ call_resize a t w h (from + len)
 
 unfoldable pub ZeroIsWrite : Type 0
-ZeroIsWrite = (a : List ℕ) (t : Table) (w : ℕ) (h : Handle) (i from len : ℕ) → live_row t w h ≡ At i → (row_at t i).rec.kind ≡ type_file → 0 < len
+ZeroIsWrite = (a : List ℕ) (t : Table) (w : ℕ) (h : Handle) (i from len : ℕ) → live_row t w h ≡ Some i → (row_at t i).rec.kind ≡ type_file → 0 < len
     → call_fallocate a t w h ZeroRange from len ≡ call_write a t w h from (replicate len 0)

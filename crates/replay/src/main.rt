@@ -15,7 +15,8 @@ fn play(
     requires { 512 ≤ length text.old }
 {
     replay_lib::begin(desk, arena);
-    while !replay_lib::ended(&desk[..]) {
+    // A while: the desk says when the script has ended.
+    while !replay_lib::ended(desk) {
         let n = replay_lib::run(script, desk, arena, text);
         rt.write_all(&text[..n])?;
     }

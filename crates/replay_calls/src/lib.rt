@@ -7,7 +7,8 @@ pub mod reads;
 ghost use Rattle.std.specs.Prelude.{◌≡◌, ◌+◌, ◌≤◌, length};
 ghost use Rattle.mem.specs.Mem.{Whole};
 
-use answers::say_handed;
+use answers::{say_done, say_handed};
+use base::{Reason, code};
 use calls_create::New;
 use calls_move::Course;
 use le::{u16_at, u32_at, u64_at};
@@ -19,7 +20,7 @@ use script::record::KEPT;
 
 // ---- format, open: the empty table
 
-fn start(command: &[u8], arena: &mut [u8]) -> u8
+fn start(command: &[u8], arena: &mut [u8]) -> Result<(), Reason>
     requires { length command.now ≡ 8218 }
 {
     if command[0] == 17 {
@@ -30,12 +31,12 @@ fn start(command: &[u8], arena: &mut [u8]) -> u8
     calls_format::format_on(arena, time, file)
 }
 
-fn start_empty(command: &[u8], arena: &mut [u8], mem: &mut [u8]) -> u8
+fn start_empty(command: &[u8], arena: &mut [u8], mem: &mut [u8]) -> Result<(), Reason>
     requires command_len { length command.now ≡ 8218 }
     requires whole { Whole mem.old }
 {
     let r = start(command, arena);
-    if r == 0 {
+    if r.is_ok() {
         put_empty(mem);
     }
     r
@@ -73,12 +74,12 @@ pub fn make(command: &[u8], arena: &mut [u8], mem: &mut [u8], answer: &mut [u8])
     if command[0] == 20 {
         return create(command, arena, mem, answer);
     }
-    start_empty(command, arena, mem)
+    code(start_empty(command, arena, mem))
 }
 
 // ---- those that answer a reason alone: link, move, remove-file and remove-folder
 
-fn link(command: &[u8], arena: &mut [u8], mem: &mut [u8]) -> u8
+fn link(command: &[u8], arena: &mut [u8], mem: &mut [u8]) -> Result<(), Reason>
     requires command_len { length command.now ≡ 8218 }
     requires whole { Whole mem.old }
 {
@@ -89,11 +90,11 @@ fn link(command: &[u8], arena: &mut [u8], mem: &mut [u8]) -> u8
 }
 
 // Where both names are one node's, memory's table says nothing.
-fn say_course(c: Course) -> u8 {
-    match c {
-        Course::Made => 0,
-        Course::Same => KEPT,
-        Course::Refused(r) => r,
+fn say_course(r: Result<Course, Reason>) -> u8 {
+    match r {
+        Ok(Course::Made) => 0,
+        Ok(Course::Same) => KEPT,
+        Err(reason) => reason.number(),
     }
 }
 
@@ -106,11 +107,10 @@ fn move_node(command: &[u8], arena: &mut [u8], mem: &mut [u8]) -> u8
     let at = 16 + old.len();
     let target = handle_at(command, at);
     let name = name_at(command, at + 12, 1024);
-    let c = calls_move::move_on(arena, mem, command[1], h, old, target, name);
-    say_course(c)
+    say_course(calls_move::move_on(arena, mem, command[1], h, old, target, name))
 }
 
-fn remove(command: &[u8], arena: &mut [u8], mem: &mut [u8]) -> u8
+fn remove(command: &[u8], arena: &mut [u8], mem: &mut [u8]) -> Result<(), Reason>
     requires command_len { length command.now ≡ 8218 }
     requires whole { Whole mem.old }
 {
@@ -125,15 +125,15 @@ fn rename(command: &[u8], arena: &mut [u8], mem: &mut [u8]) -> u8
     requires whole { Whole mem.old }
 {
     match command[0] {
-        21 => link(command, arena, mem),
+        21 => code(link(command, arena, mem)),
         23 => move_node(command, arena, mem),
-        _ => remove(command, arena, mem),
+        _ => code(remove(command, arena, mem)),
     }
 }
 
 // ---- and close, write, resize, fallocate, sync, set metadata
 
-fn close(command: &[u8], arena: &mut [u8], mem: &mut [u8]) -> u8
+fn close(command: &[u8], arena: &mut [u8], mem: &mut [u8]) -> Result<(), Reason>
     requires command_len { length command.now ≡ 8218 }
     requires whole { Whole mem.old }
 {
@@ -141,7 +141,7 @@ fn close(command: &[u8], arena: &mut [u8], mem: &mut [u8]) -> u8
     calls_close::close_on(arena, mem, command[1], h)
 }
 
-fn write(command: &[u8], arena: &mut [u8], mem: &mut [u8]) -> u8
+fn write(command: &[u8], arena: &mut [u8], mem: &mut [u8]) -> Result<(), Reason>
     requires command_len { length command.now ≡ 8218 }
     requires whole { Whole mem.old }
 {
@@ -151,7 +151,7 @@ fn write(command: &[u8], arena: &mut [u8], mem: &mut [u8]) -> u8
     calls_write::write_on(arena, mem, command[1], h, place, bytes)
 }
 
-fn resize(command: &[u8], arena: &mut [u8], mem: &mut [u8]) -> u8
+fn resize(command: &[u8], arena: &mut [u8], mem: &mut [u8]) -> Result<(), Reason>
     requires command_len { length command.now ≡ 8218 }
     requires whole { Whole mem.old }
 {
@@ -160,7 +160,7 @@ fn resize(command: &[u8], arena: &mut [u8], mem: &mut [u8]) -> u8
     calls_resize::resize_on(arena, mem, command[1], h, n)
 }
 
-fn fallocate(command: &[u8], arena: &mut [u8], mem: &mut [u8]) -> u8
+fn fallocate(command: &[u8], arena: &mut [u8], mem: &mut [u8]) -> Result<(), Reason>
     requires command_len { length command.now ≡ 8218 }
     requires whole { Whole mem.old }
 {
@@ -176,12 +176,12 @@ pub fn change(command: &[u8], arena: &mut [u8], mem: &mut [u8]) -> u8
     requires whole { Whole mem.old }
 {
     match command[0] {
-        25 => set(command, &arena[..], mem),
-        28 => calls_sync::sync_on(arena, mem),
-        29 => close(command, arena, mem),
-        33 => write(command, arena, mem),
-        34 => resize(command, arena, mem),
-        40 => fallocate(command, arena, mem),
+        25 => code(set(command, &arena[..], mem)),
+        28 => code(calls_sync::sync_on(arena, mem)),
+        29 => code(close(command, arena, mem)),
+        33 => code(write(command, arena, mem)),
+        34 => code(resize(command, arena, mem)),
+        40 => code(fallocate(command, arena, mem)),
         _ => rename(command, arena, mem),
     }
 }
@@ -191,9 +191,5 @@ pub fn change(command: &[u8], arena: &mut [u8], mem: &mut [u8]) -> u8
 pub fn mend(arena: &mut [u8], mem: &mut [u8]) -> u8
     requires { Whole mem.old }
 {
-    let r = calls_mend::mend_on(arena, mem);
-    if r != 0 {
-        return r;
-    }
-    KEPT
+    say_done(calls_mend::mend_on(arena, mem))
 }

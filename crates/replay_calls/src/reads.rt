@@ -3,14 +3,15 @@
 ghost use Rattle.std.specs.Prelude.{◌≡◌, length};
 ghost use Rattle.mem.specs.Mem.{Whole};
 
-use answers::{say_done, say_handed, say_listed, say_pass, say_taken, say_told};
-use calls::Handed;
+use answers::{say_count, say_done, say_handed, say_pass, say_told};
+use base::Reason;
 use calls_list::Moved;
 use fsck::Verdict;
 use le::{u16_at, u64_at};
 use mem::table_at;
 use script::args::{handle_at, length_at, name_at, time_at};
 use script::record::say;
+use table::Handle;
 
 // ---- those that change nothing but the answer: metadata, get entry, listing, read
 
@@ -42,7 +43,7 @@ fn read(command: &[u8], arena: &[u8], mem: &[u8], answer: &mut [u8]) -> u8
     let place = u64_at(command, 14);
     let n = length_at(command, 22, 8192);
     let t = calls_read::read_on(arena, mem, command[1], h, place, &mut answer[0..n]);
-    say_taken(answer, t)
+    say_count(answer, t)
 }
 
 // The call as Rattle has it, with the table by value: it says the next slot too.
@@ -64,7 +65,7 @@ fn listing(command: &[u8], arena: &[u8], mem: &[u8], answer: &mut [u8]) -> u8
     let m = list(command, arena, mem, &mut answer[0..n]);
     let l = m.answer;
     say(answer, 1, m.next);
-    say_listed(answer, l)
+    say_count(answer, l)
 }
 
 pub fn look(command: &[u8], arena: &[u8], mem: &[u8], answer: &mut [u8]) -> u8
@@ -81,7 +82,7 @@ pub fn look(command: &[u8], arena: &[u8], mem: &[u8], answer: &mut [u8]) -> u8
 
 // ---- those that answer a handle: root, find, walk
 
-fn find(command: &[u8], arena: &[u8], mem: &mut [u8]) -> Handed
+fn find(command: &[u8], arena: &[u8], mem: &mut [u8]) -> Result<Handle, Reason>
     requires command_len { length command.now ≡ 8218 }
     requires whole { Whole mem.old }
 {
@@ -91,7 +92,7 @@ fn find(command: &[u8], arena: &[u8], mem: &mut [u8]) -> Handed
 }
 
 // The output is the links'.
-fn walk(command: &[u8], arena: &[u8], mem: &mut [u8], answer: &mut [u8]) -> Handed
+fn walk(command: &[u8], arena: &[u8], mem: &mut [u8], answer: &mut [u8]) -> Result<Handle, Reason>
     requires command_len { (length command.now ≡ 8218) × (length answer.old ≡ 8320) }
     requires whole { Whole mem.old }
 {
@@ -101,7 +102,7 @@ fn walk(command: &[u8], arena: &[u8], mem: &mut [u8], answer: &mut [u8]) -> Hand
     calls_walk::walk_on(arena, mem, command[1], h, path, &mut answer[0..n])
 }
 
-fn hold(command: &[u8], arena: &[u8], mem: &mut [u8], answer: &mut [u8]) -> Handed
+fn hold(command: &[u8], arena: &[u8], mem: &mut [u8], answer: &mut [u8]) -> Result<Handle, Reason>
     requires command_len { (length command.now ≡ 8218) × (length answer.old ≡ 8320) }
     requires whole { Whole mem.old }
 {
@@ -129,12 +130,12 @@ pub fn path(command: &[u8], arena: &[u8], mem: &mut [u8], answer: &mut [u8]) -> 
     let h = handle_at(command, 2);
     let n = length_at(command, 14, 8192);
     let t = calls_path::path_on(arena, mem, command[1], h, &mut answer[0..n]);
-    say_taken(answer, t)
+    say_count(answer, t)
 }
 
 // ---- set metadata
 
-pub fn set(command: &[u8], arena: &[u8], mem: &mut [u8]) -> u8
+pub fn set(command: &[u8], arena: &[u8], mem: &mut [u8]) -> Result<(), Reason>
     requires command_len { length command.now ≡ 8218 }
     requires whole { Whole mem.old }
 {
@@ -176,5 +177,5 @@ pub fn inventory(command: &[u8], arena: &[u8], answer: &mut [u8]) -> u8
 {
     let n = length_at(command, 1, 8192);
     let t = calls_inventory::inventory(arena, &mut answer[0..n]);
-    say_taken(answer, t)
+    say_count(answer, t)
 }

@@ -15,14 +15,12 @@ pub fn next_row(mem: &[u8], after: u32) -> usize
 {
     let mut best: usize = 34;
     let mut least: u32 = 0;
-    let mut i: usize = 0;
-    while i < 34 {
+    for i in 0..34 {
         let id = id_at(mem, i);
         if (after < id) & ((best == 34) | (id < least)) {
             best = i;
             least = id;
         }
-        i = i + 1;
     }
     best
 }

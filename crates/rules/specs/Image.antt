@@ -1,10 +1,8 @@
 -- What an image is: an arena a, and a table t of open nodes. The words in which the checker's rules are said.
-use Rattle.std.specs.Prelude.{Bool, not, ◌&&◌, List, [], ◌++◌, ℕ, zero, suc, ◌+◌, ◌*◌, ◌-◌, ◌%◌, eqb, ltb}
+use Rattle.std.specs.Prelude.{Bool, not, ◌&&◌, List, [], ◌++◌, ℕ, zero, suc, ◌+◌, ◌*◌, ◌-◌, ◌%◌, eqb, ltb, Option, Some, None}
 use Rattle.base.specs.Count.{sum_to, count_to}
 use Rattle.base.specs.Parts.{tab}
 use Rattle.base.specs.Search.{pick}
-use Rattle.base.specs.declared.Found.{Found}
-use Rattle.base.specs.declared.Found.TheVariants.{At, Nothing}
 use Rattle.structs.specs.Layout.{super_of, record_of, entry_of}
 use Rattle.structs.specs.Types.{is_folder}
 use Rattle.structs.specs.declared.SuperBlock.{SuperBlock}
@@ -50,9 +48,9 @@ unfoldable pub stored_bytes : List ℕ → ℕ → List ℕ
 stored_bytes a id = run a meta_file (128 * id) 112
 
 -- "Records are the cached ones where a row exists."
-abbrev pub rec_by : List ℕ → Table → ℕ → Found → DiskINode
-rec_by a t id (At i) = (row_at t i).rec
-rec_by a t id Nothing = record_of (stored_bytes a id)
+abbrev pub rec_by : List ℕ → Table → ℕ → Option ℕ → DiskINode
+rec_by a t id (Some i) = (row_at t i).rec
+rec_by a t id None = record_of (stored_bytes a id)
 
 unfoldable pub rec_of : List ℕ → Table → ℕ → DiskINode
 rec_of a t id = rec_by a t id (row_of t id)

@@ -1,10 +1,8 @@
 -- What a call asks before its steps: the reasons that every call can give, in document 01's order, and those about folders and names.
-use Rattle.std.specs.Prelude.{not, List, ℕ, length, eqb, ltb, leb}
+use Rattle.std.specs.Prelude.{not, List, ℕ, length, eqb, ltb, leb, Option, Some, None}
 use Rattle.structs.specs.Types.{is_folder, is_type}
 use Rattle.base.specs.Out.{Out, done, refused, ensure, ◌>>=◌}
 use Rattle.base.specs.Reasons.{bad_arena, damaged, bad_table, bad_handle, bad_name, invalid_param, not_dir, dir_removed, name_too_long, stuck, entry_exist, is_dir}
-use Rattle.base.specs.declared.Found.{Found}
-use Rattle.base.specs.declared.Found.TheVariants.{At, Nothing}
 use Rattle.structs.specs.declared.DiskINode.{DiskINode}
 use Rattle.utf8.specs.Names.{name_verdict, early_reason, new_reason, is_special}
 use Rattle.table.specs.declared.Table.{Table}
@@ -33,9 +31,9 @@ abbrev pub an_owner : ℕ → Out Unit
 an_owner w = ensure (is_owner w) invalid_param
 
 -- reason 4: "not a live hold with that stamp"; else its row
-abbrev pub or_bad_handle : Found → Out ℕ
-or_bad_handle (At i) = done i
-or_bad_handle Nothing = refused bad_handle
+abbrev pub or_bad_handle : Option ℕ → Out ℕ
+or_bad_handle (Some i) = done i
+or_bad_handle None = refused bad_handle
 
 -- order 5: "Every call that takes or makes a handle says who asks": w, and so "4 for another's handle"
 unfoldable pub by_handle : Table → ℕ → Handle → Out ℕ
@@ -83,9 +81,9 @@ live_folder r = do
   not_removed r
 
 -- none was found, or 12
-abbrev pub or_exists : Found → Out Unit
-or_exists (At k) = refused entry_exist
-or_exists Nothing = done tt
+abbrev pub or_exists : Option ℕ → Out Unit
+or_exists (Some k) = refused entry_exist
+or_exists None = done tt
 
 -- the state at a call's start
 abbrev pub start : List ℕ → Table → Fs

@@ -1,9 +1,7 @@
 -- sync and close.
-use Rattle.std.specs.Prelude.{Bool, List, ℕ, zero, suc}
+use Rattle.std.specs.Prelude.{Bool, List, ℕ, zero, suc, Option, Some, None}
 use Rattle.base.specs.Out.{Out, done, ◌>>=◌}
 use Rattle.base.specs.Search.{pick}
-use Rattle.base.specs.declared.Found.{Found}
-use Rattle.base.specs.declared.Found.TheVariants.{At, Nothing}
 use Rattle.table.specs.declared.Table.{Table}
 use Rattle.table.specs.declared.Handle.{Handle}
 use Rattle.table.specs.Table.{next_row, close_hold}
@@ -15,9 +13,9 @@ use Rattle.sefs.specs.Create.{After, after}
 -- ---- sync: dirty rows by rising id, as 000's map of open nodes is ordered
 
 -- what is done with the row that was found; nothing where there is none
-abbrev pub with_next : Found → Fs → (ℕ → Out Fs) → Out Fs
-with_next (At i) s f = f i
-with_next Nothing s f = done s
+abbrev pub with_next : Option ℕ → Fs → (ℕ → Out Fs) → Out Fs
+with_next (Some i) s f = f i
+with_next None s f = done s
 
 -- the rows with ids above `low`, at most n of them
 unfoldable pub sync_from : Fs → ℕ → ℕ → Out Fs

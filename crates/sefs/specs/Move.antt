@@ -1,10 +1,8 @@
 -- move (000's move_).
-use Rattle.std.specs.Prelude.{not, ◌&&◌, List, ℕ, zero, suc, ◌*◌, eqb, leb}
+use Rattle.std.specs.Prelude.{not, ◌&&◌, List, ℕ, zero, suc, ◌*◌, eqb, leb, Option, Some, None}
 use Rattle.base.specs.Out.{Out, done, refused, guard, ◌>>=◌}
 use Rattle.base.specs.Reasons.{invalid_param, not_dir, is_dir, dir_not_empty, stuck}
 use Rattle.base.specs.Search.{pick}
-use Rattle.base.specs.declared.Found.{Found}
-use Rattle.base.specs.declared.Found.TheVariants.{At, Nothing}
 use Rattle.structs.specs.Layout.{record_of, entry_of, entry_bytes}
 use Rattle.structs.specs.Types.{is_folder, move_verdict_of}
 use Rattle.structs.specs.declared.DiskINode.{DiskINode}
@@ -41,9 +39,9 @@ judge IfEmpty s d = guard (leb (rec_at s d).blocks 2) dir_not_empty (read_slots 
 -- ---- order 2: "a folder can't go into itself or below". The climb takes no row and changes nothing
 
 -- a folder's record: that of its row, or the stored one
-abbrev pub record_by : Fs → ℕ → Found → Out DiskINode
-record_by s id (At i) = done (rec_at s i)
-record_by s id Nothing = do
+abbrev pub record_by : Fs → ℕ → Option ℕ → Out DiskINode
+record_by s id (Some i) = done (rec_at s i)
+record_by s id None = do
   l ← read_file s.arena meta_file (128 * id) 112
   done (record_of l)
 
@@ -159,9 +157,9 @@ move_free s i j old name = pick (eqb (id_at s i) (id_at s j)) (move_steps s i j 
   _ ← not_below c.state i j c.row
   move_steps c.state i j old name none)
 
-abbrev pub move_to : Fs → ℕ → ℕ → List ℕ → List ℕ → Found → Out After
-move_to s i j old name (At k) = replace s i j old name k
-move_to s i j old name Nothing = move_free s i j old name
+abbrev pub move_to : Fs → ℕ → ℕ → List ℕ → List ℕ → Option ℕ → Out After
+move_to s i j old name (Some k) = replace s i j old name k
+move_to s i j old name None = move_free s i j old name
 
 -- ---- the order of reasons: source 7, 8; 9 for either name; 10; target 7, 8; then as above
 

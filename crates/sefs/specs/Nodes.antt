@@ -1,10 +1,8 @@
 -- Nodes: opened, made, stored and dropped (000's SEFS and INodeImpl's Drop). A node in use has a row in the table of open nodes.
-use Rattle.std.specs.Prelude.{Bool, true, false, not, ◌&&◌, List, ℕ, ◌*◌, eqb, leb}
+use Rattle.std.specs.Prelude.{Bool, true, false, not, ◌&&◌, List, ℕ, ◌*◌, eqb, leb, Option, Some, None}
 use Rattle.base.specs.Out.{Out, done, refused, guard, ◌>>=◌}
 use Rattle.base.specs.Reasons.{stuck}
 use Rattle.base.specs.Search.{pick}
-use Rattle.base.specs.declared.Found.{Found}
-use Rattle.base.specs.declared.Found.TheVariants.{At, Nothing}
 use Rattle.structs.specs.Layout.{record_of, record_bytes}
 use Rattle.structs.specs.declared.DiskINode.{DiskINode}
 use Rattle.structs.specs.declared.Timespec.{Timespec}
@@ -40,9 +38,9 @@ abbrev pub opened : Fs → ℕ → Opened
 opened s i = record { state = s; row = i }
 
 -- a node takes the lowest free row. (There is one: an operation's own openings are two at the most.)
-abbrev pub open_in : Fs → ℕ → DiskINode → Bool → Found → Out Opened
-open_in s id r dirty (At i) = done (opened (with_table s (take_row s.table i id r dirty)) i)
-open_in s id r dirty Nothing = refused stuck
+abbrev pub open_in : Fs → ℕ → DiskINode → Bool → Option ℕ → Out Opened
+open_in s id r dirty (Some i) = done (opened (with_table s (take_row s.table i id r dirty)) i)
+open_in s id r dirty None = refused stuck
 
 -- ---- 000's get_inode: it asserts that the id's bit is clear, then takes the row that the id has, or loads the record and finds its file.
 -- "Stuck is .. a type above 4 read, .. opening id 0 or an id beyond the maps"
@@ -53,9 +51,9 @@ load_node s id = do
   guard (leb (record_of l).kind 4) stuck (guard (there s.arena (node_file (record_of l))) stuck
       (open_in s id (record_of l) false (free_row s.table)))
 
-abbrev pub open_at : Fs → ℕ → Found → Out Opened
-open_at s id (At i) = done (opened s i)
-open_at s id Nothing = load_node s id
+abbrev pub open_at : Fs → ℕ → Option ℕ → Out Opened
+open_at s id (Some i) = done (opened s i)
+open_at s id None = load_node s id
 
 unfoldable pub get_node : Fs → ℕ → Out Opened
 get_node s id = do
@@ -64,9 +62,9 @@ get_node s id = do
 
 -- ---- 000's new_inode: an id, a file, and a row with a dirty record. An id of 0 or one that has a row sticks before the file is made
 
-abbrev pub no_row : Found → Bool
-no_row (At i) = false
-no_row Nothing = true
+abbrev pub no_row : Option ℕ → Bool
+no_row (Some i) = false
+no_row None = true
 
 unfoldable pub new_node : Fs → ℕ → ℕ → Timespec → List ℕ → Out Opened
 new_node s kind mode time name = do

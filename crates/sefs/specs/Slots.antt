@@ -1,10 +1,8 @@
 -- A folder's slots, read (000's read_direntry and the lookups).
-use Rattle.std.specs.Prelude.{Bool, true, false, List, ℕ, zero, suc, ◌*◌, ltb, leb}
+use Rattle.std.specs.Prelude.{Bool, true, false, List, ℕ, zero, suc, ◌*◌, ltb, leb, Option, Some, None}
 use Rattle.base.specs.Out.{Out, done, refused, guard, ◌>>=◌}
 use Rattle.base.specs.Reasons.{stuck, entry_not_found}
 use Rattle.base.specs.Search.{pick, found_below}
-use Rattle.base.specs.declared.Found.{Found}
-use Rattle.base.specs.declared.Found.TheVariants.{At, Nothing}
 use Rattle.structs.specs.Layout.{entry_of}
 use Rattle.structs.specs.declared.DiskEntry.{DiskEntry}
 use Rattle.structs.specs.declared.DiskINode.{DiskINode}
@@ -40,7 +38,7 @@ look_to a r name (suc n) = do
     e ← slot_at a r n
     done (pick (is_named e.name name) n (suc n)))
 
-unfoldable pub lookup : List ℕ → DiskINode → List ℕ → Out Found
+unfoldable pub lookup : List ℕ → DiskINode → List ℕ → Out (Option ℕ)
 lookup a r name = do
   k ← look_to a r name r.blocks
   done (found_below k r.blocks)
@@ -51,9 +49,9 @@ pub record Slot : Type 0 where
   pub entry : DiskEntry
 
 -- the place that a lookup found, or 11
-abbrev pub or_not_found : Found → Out ℕ
-or_not_found (At k) = done k
-or_not_found Nothing = refused entry_not_found
+abbrev pub or_not_found : Option ℕ → Out ℕ
+or_not_found (Some k) = done k
+or_not_found None = refused entry_not_found
 
 -- the first slot with that name; 11 where there is none
 unfoldable pub find_slot : List ℕ → DiskINode → List ℕ → Out Slot

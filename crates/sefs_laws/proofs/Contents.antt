@@ -11,7 +11,7 @@ use borrow.Author.Tests.{lt-ltb, le-ltb, ltb-true, ltb-false}
 use Rattle.base.specs.Out.{Out, done, refused, bind, Ok, went, said}
 use Rattle.base.specs.Parts.{tab}
 use Rattle.base.specs.Search.{pick, found_below}
-use Rattle.base.specs.declared.Found.TheVariants.{At, Nothing}
+use Rattle.std.specs.Prelude.{Some, None}
 use Rattle.base.proofs.Numbers.{lt-or-le}
 use Rattle.base.proofs.Lists.{tab-cong, tab-get_or, tab-zeros}
 use Rattle.base.proofs.Outs.{ok-bind, ok-weaken, ok-done}
@@ -75,7 +75,7 @@ asks (done tt) = went refl
 asks (refused n) = said tt
 
 -- a read through a handle on row j
-pub reads_at : (a : List ℕ) (t : Table) (w : ℕ) (g : Handle) (j at room : ℕ) → Admitted a t → live_row t w g ≡ At j
+pub reads_at : (a : List ℕ) (t : Table) (w : ℕ) (g : Handle) (j at room : ℕ) → Admitted a t → live_row t w g ≡ Some j
     → call_read a t w g at room ≡ bind (has_contents (row_at t j).rec) (λ _. read_bytes a (file_at t j) at (read_count (size_at t j) at room))
 unfolding call_read admit admit_arena
 reads_at a t w g j at room A e =
@@ -113,14 +113,14 @@ tab-zero f at n z = tab-cong f (λ _. 0) at at n z ∙ tab-zeros at n
 
 -- ---- a row with another size
 
-pub one-row : (t : Table) (w : ℕ) (h : Handle) (i j : ℕ) → live_row t w h ≡ At i → live_row t w h ≡ At j → i ≡ j
+pub one-row : (t : Table) (w : ℕ) (h : Handle) (i j : ℕ) → live_row t w h ≡ Some i → live_row t w h ≡ Some j → i ≡ j
 one-row t w h i j e f = sym ((live-means t w h i).0 e).names ∙ ((live-means t w h j).0 f).names
 
 -- the holds alone say which row a handle has
 pub live_same : (t u : Table) (w : ℕ) (h : Handle) → u.holds ≡ t.holds → live_row u w h ≡ live_row t w h
 unfolding live_row
 live_same t u w h e =
-    ap (λ (l : List Hold). pick ((ltb h.hold 32 && (not (eqb h.stamp 0) && eqb (get_or l h.hold zero_hold).stamp h.stamp)) && eqb (get_or l h.hold zero_hold).owner w) (found_below (get_or l h.hold zero_hold).row 34) Nothing) e
+    ap (λ (l : List Hold). pick ((ltb h.hold 32 && (not (eqb h.stamp 0) && eqb (get_or l h.hold zero_hold).stamp h.stamp)) && eqb (get_or l h.hold zero_hold).owner w) (found_below (get_or l h.hold zero_hold).row 34) None) e
 
 contents-same : (r : DiskINode) (n : ℕ) → has_contents (with_size r n) ≡ has_contents r
 unfolding has_contents

@@ -2,8 +2,7 @@
 use mathlib.Core.Path.{◌≡◌, refl, sym, ◌∙◌, subst}
 use Prim.Native.Nat.{ℕ}
 use Rattle.base.specs.Out.{done, refused, Ok, went, said}
-use Rattle.base.specs.declared.Found.{Found}
-use Rattle.base.specs.declared.Found.TheVariants.{At, Nothing}
+use Rattle.std.specs.Prelude.{Option, Some, None}
 use Rattle.base.proofs.Outs.{ok-bind, ok-weaken}
 use Rattle.table.specs.declared.Table.{Table}
 use Rattle.table.specs.declared.Handle.{Handle}
@@ -17,10 +16,10 @@ use Rattle.sefs_laws.proofs.Says.{Says, ensure-asks}
 -- w is an owner, and the handle is live and his, on row i
 pub record Owns (t : Table) (w : ℕ) (h : Handle) (i : ℕ) : Type 0 where
   pub owner : Owner w
-  pub live : live_row t w h ≡ At i
+  pub live : live_row t w h ≡ Some i
 
 -- in a well-formed table nobody but an owner has a live handle
-pub live-owns : {own : ℕ → Type 0} (t : Table) (w : ℕ) (h : Handle) (i : ℕ) → Formed own t → live_row t w h ≡ At i → Owns t w h i
+pub live-owns : {own : ℕ → Type 0} (t : Table) (w : ℕ) (h : Handle) (i : ℕ) → Formed own t → live_row t w h ≡ Some i → Owns t w h i
 live-owns t w h i f e =
     let l = (live-means t w h i).0 e in
     record { owner = subst Owner l.owner (f.owned h.hold l.is-hold (λ z. l.given (sym l.stamp ∙ z))); live = e }
@@ -32,9 +31,9 @@ pub handle-asks : {R : ℕ → Type 0} → R 6 → R 4 → (t : Table) (w : ℕ)
 unfolding by_handle
 handle-asks {R} six four t w h = ok-bind (owner-asks {R = R} six w) λ _ o. go o (live_row t w h) refl
   where
-    go : Owner w → (f : Found) → live_row t w h ≡ f → Ok (Owns t w h) R (or_bad_handle f)
-    go o (At i) e = went (record { owner = o; live = e })
-    go o Nothing e = said four
+    go : Owner w → (f : Option ℕ) → live_row t w h ≡ f → Ok (Owns t w h) R (or_bad_handle f)
+    go o (Some i) e = went (record { owner = o; live = e })
+    go o None e = said four
 
 pub says-handle : {R : ℕ → Type 0} → R 6 → R 4 → (t : Table) (w : ℕ) (h : Handle) → Says R (by_handle t w h)
 says-handle {R} six four t w h = ok-weaken (λ _ _. tt) (λ n r. r) (handle-asks {R = R} six four t w h)
@@ -43,6 +42,6 @@ pub handle-done : (t : Table) (w : ℕ) (h : Handle) (i : ℕ) → Owns t w h i 
 unfolding by_handle
 handle-done t w h i o = rw (of_owner w o.owner, o.live) refl
 
-pub handle-not : (t : Table) (w : ℕ) (h : Handle) → Owner w → live_row t w h ≡ Nothing → by_handle t w h ≡ refused 4
+pub handle-not : (t : Table) (w : ℕ) (h : Handle) → Owner w → live_row t w h ≡ None → by_handle t w h ≡ refused 4
 unfolding by_handle
 handle-not t w h o e = rw (of_owner w o, e) refl

@@ -16,8 +16,7 @@ use Rattle.base.proofs.Bools.{true-false}
 use Rattle.base.proofs.Numbers.{lt-or-le}
 use Rattle.base.proofs.Lists.{tab-cong}
 use Rattle.base.specs.Search.{pick}
-use Rattle.base.specs.declared.Found.{Found}
-use Rattle.base.specs.declared.Found.TheVariants.{At, Nothing}
+use Rattle.std.specs.Prelude.{Option, Some, None}
 use Rattle.structs.specs.Layout.{record_of, record_bytes, super_bytes}
 use Rattle.structs.proofs.Layouts.{length-super_bytes}
 use Rattle.structs.specs.Types.{is_folder, is_type, move_verdict_of}
@@ -90,7 +89,7 @@ Changes P = (a : List ℕ) (t : Table) (i : ℕ) (r : Row) → r.id ≡ (row_at 
 
 -- a free row is taken for a node that has none, and is as stored
 abbrev pub Loads : (List ℕ → Table → Type 0) → Type 0
-Loads P = (a : List ℕ) (t : Table) (i id : ℕ) → (row_at t i).id ≡ 0 → row_of t id ≡ Nothing → P a t → P a (with_row t i (record { id = id; dirty = false; rec = record_of (stored_bytes a id) }))
+Loads P = (a : List ℕ) (t : Table) (i id : ℕ) → (row_at t i).id ≡ 0 → row_of t id ≡ None → P a t → P a (with_row t i (record { id = id; dirty = false; rec = record_of (stored_bytes a id) }))
 
 -- a clean row that no live hold names is freed
 abbrev pub Frees : (List ℕ → Table → Type 0) → Type 0
@@ -299,17 +298,17 @@ unfolding read_file stored_bytes
 read-stored a id = any-guard (there a meta_file) 19 (λ _. any-guard (leb (128 * id + 112) (length_of a meta_file)) 19 (λ _. went refl))
 
 module _ (P : List ℕ → Table → Type 0) (loads : Loads P) where
-  leaves-load : (s : Fs) (id : ℕ) → row_of s.table id ≡ Nothing → P s.arena s.table → LeavesOpen P (open_in s id (record_of (stored_bytes s.arena id)) false (free_row s.table))
+  leaves-load : (s : Fs) (id : ℕ) → row_of s.table id ≡ None → P s.arena s.table → LeavesOpen P (open_in s id (record_of (stored_bytes s.arena id)) false (free_row s.table))
   leaves-load s id new h = go (free_row s.table) refl
     where
-      go : (f : Found) → free_row s.table ≡ f → LeavesOpen P (open_in s id (record_of (stored_bytes s.arena id)) false f)
-      go (At i) e = went (loads s.arena s.table i id (row-found s.table 0 i e).1 new h)
-      go Nothing e = said tt
+      go : (f : Option ℕ) → free_row s.table ≡ f → LeavesOpen P (open_in s id (record_of (stored_bytes s.arena id)) false f)
+      go (Some i) e = went (loads s.arena s.table i id (row-found s.table 0 i e).1 new h)
+      go None e = said tt
 
-  leaves_at : (s : Fs) (id : ℕ) (f : Found) → row_of s.table id ≡ f → P s.arena s.table → LeavesOpen P (open_at s id f)
+  leaves_at : (s : Fs) (id : ℕ) (f : Option ℕ) → row_of s.table id ≡ f → P s.arena s.table → LeavesOpen P (open_at s id f)
   unfolding load_node
-  leaves_at s id (At i) e h = went h
-  leaves_at s id Nothing e h =
+  leaves_at s id (Some i) e h = went h
+  leaves_at s id None e h =
       ok-bind (read-stored s.arena id) λ l q.
       any-guard (leb (record_of l).kind 4) 19 (λ _. any-guard (there s.arena (node_file (record_of l))) 19
       (λ _. subst (λ (x : List ℕ). LeavesOpen P (open_in s id (record_of x) false (free_row s.table))) (sym q) (leaves-load s id e h)))
@@ -328,9 +327,9 @@ leaves-new P takes s kind mode time name h =
     ok-bind (any (make_file x.state.arena (file 1 name))) λ a _.
     go (with_arena x.state a) x.id (subst P (sym e) h) (free_row x.state.table) refl)
   where
-    go : (u : Fs) (id : ℕ) → P u.table → (f : Found) → free_row u.table ≡ f → LeavesOpen (λ a t. P t) (open_in u id (new_record kind mode time name) true f)
-    go u id k (At i) e = went (takes u.table i _ (row-found u.table 0 i e).1 k)
-    go u id k Nothing e = said tt
+    go : (u : Fs) (id : ℕ) → P u.table → (f : Option ℕ) → free_row u.table ≡ f → LeavesOpen (λ a t. P t) (open_in u id (new_record kind mode time name) true f)
+    go u id k (Some i) e = went (takes u.table i _ (row-found u.table 0 i e).1 k)
+    go u id k None e = said tt
 
 -- ---- a row's file is filled
 
@@ -432,9 +431,9 @@ module _ (P : List ℕ → Table → Type 0) (stores : Stores P) where
   leaves-sync-all s low zero h = went h
   leaves-sync-all s low (suc n) h = go (next_row s.table low) (λ u m k. leaves-sync-all u m n k)
     where
-      go : (f : Found) → ((u : Fs) (m : ℕ) → P u.arena u.table → Leaves P (sync_from u m n)) → Leaves P (with_next f s (λ i. bind (sync_row s i) (λ d. sync_from d (id_at s i) n)))
-      go (At i) rest = ok-bind (leaves-sync s i h) λ d k. rest d (id_at s i) k
-      go Nothing rest = went h
+      go : (f : Option ℕ) → ((u : Fs) (m : ℕ) → P u.arena u.table → Leaves P (sync_from u m n)) → Leaves P (with_next f s (λ i. bind (sync_row s i) (λ d. sync_from d (id_at s i) n)))
+      go (Some i) rest = ok-bind (leaves-sync s i h) λ d k. rest d (id_at s i) k
+      go None rest = went h
 
   pub leaves-link : Changes P → (s : Fs) (i : ℕ) → Fills P i → (name : List ℕ) (c : ℕ) → P s.arena s.table → LeavesAfter P (link_steps s i name c)
   unfolding link_steps
@@ -547,6 +546,6 @@ module _ (P : List ℕ → Table → Type 0) (K : Bears P) where
         ok-bind (says-ensure (leb (rec_at c.state c.row).kind 4) 19 tt) λ _ _.
         ok-bind (any (not_below c.state i j c.row)) λ _ _. leaves-move-steps c.state old name none g
 
-    pub leaves-move : (s : Fs) (old name : List ℕ) (f : Found) → P s.arena s.table → LeavesAfter P (move_to s i j old name f)
-    leaves-move s old name (At k) h = leaves-replace s old name k h
-    leaves-move s old name Nothing h = leaves-move-free s old name h
+    pub leaves-move : (s : Fs) (old name : List ℕ) (f : Option ℕ) → P s.arena s.table → LeavesAfter P (move_to s i j old name f)
+    leaves-move s old name (Some k) h = leaves-replace s old name k h
+    leaves-move s old name None h = leaves-move-free s old name h

@@ -12,8 +12,7 @@ use Rattle.utf8.specs.Names.{stored_name, is_named}
 use Rattle.base.specs.Out.{Out, done, bind, guard, ensure, Ok, went, said}
 use Rattle.base.proofs.Outs.{ok-bind, ok-weaken}
 use Rattle.base.specs.Search.{pick}
-use Rattle.base.specs.declared.Found.{Found}
-use Rattle.base.specs.declared.Found.TheVariants.{At, Nothing}
+use Rattle.std.specs.Prelude.{Option, Some, None}
 use Rattle.structs.specs.declared.DiskINode.{DiskINode}
 use Rattle.structs.specs.declared.DiskEntry.{DiskEntry}
 use Rattle.structs.specs.declared.Timespec.{Timespec}
@@ -105,9 +104,9 @@ module _ (R : ℕ → Type 0) (stuck : R 19) where
       says_then (says-read a _ _ _) λ l.
       says-guard (ltb 0 (super_of l).groups && ltb (super_of l).groups 5) 19 stuck (says_then (says-maps a _) λ m. says-done)
 
-  pub says-open : (s : Fs) (id : ℕ) (r : DiskINode) (dirty : Bool) (f : Found) → Says R (open_in s id r dirty f)
-  says-open s id r dirty (At i) = says-done
-  says-open s id r dirty Nothing = said stuck
+  pub says-open : (s : Fs) (id : ℕ) (r : DiskINode) (dirty : Bool) (f : Option ℕ) → Says R (open_in s id r dirty f)
+  says-open s id r dirty (Some i) = says-done
+  says-open s id r dirty None = said stuck
 
   says-load : (s : Fs) (id : ℕ) → Says R (load_node s id)
   unfolding load_node
@@ -116,9 +115,9 @@ module _ (R : ℕ → Type 0) (stuck : R 19) where
       says-guard (leb (record_of l).kind 4) 19 stuck
       (says-guard (there s.arena (node_file (record_of l))) 19 stuck (says-open s id (record_of l) false (free_row s.table)))
 
-  says_at : (s : Fs) (id : ℕ) (f : Found) → Says R (open_at s id f)
-  says_at s id (At i) = says-done
-  says_at s id Nothing = says-load s id
+  says_at : (s : Fs) (id : ℕ) (f : Option ℕ) → Says R (open_at s id f)
+  says_at s id (Some i) = says-done
+  says_at s id None = says-load s id
 
   pub says-node : (s : Fs) (id : ℕ) → Says R s.meta → Says R (get_node s id)
   unfolding get_node
@@ -137,9 +136,9 @@ module _ (R : ℕ → Type 0) (stuck : R 19) where
   unfolding record_on
   says-record s id h = says_then h λ m. says-guard (is_used m id) 19 stuck (go (row_of s.table id))
     where
-      go : (f : Found) → Says R (record_by s id f)
-      go (At i) = says-done
-      go Nothing = says_then (says-read _ _ _ _) λ l. says-done
+      go : (f : Option ℕ) → Says R (record_by s id f)
+      go (Some i) = says-done
+      go None = says_then (says-read _ _ _ _) λ l. says-done
 
   pub says-dots : (s : Fs) (r : DiskINode) → Says R (dots_of s r)
   unfolding dots_of
@@ -157,9 +156,9 @@ module _ (R : ℕ → Type 0) (stuck : R 19) where
   unfolding lookup
   says-lookup a r name = says_then (says-look a r name _) λ k. says-done
 
-  says-found : R 11 → (f : Found) → Says R (or_not_found f)
-  says-found none (At k) = says-done
-  says-found none Nothing = said none
+  says-found : R 11 → (f : Option ℕ) → Says R (or_not_found f)
+  says-found none (Some k) = says-done
+  says-found none None = said none
 
   pub says-find : R 11 → (a : List ℕ) (r : DiskINode) (name : List ℕ) → Says R (find_slot a r name)
   unfolding find_slot
@@ -241,9 +240,9 @@ module _ (R : ℕ → Type 0) (space : R 17) (stuck : R 19) where
 
   -- ---- nodes
 
-  goes-open : (s : Fs) (id : ℕ) (r : DiskINode) (dirty : Bool) (f : Found) → Sane R s → Opens R (open_in s id r dirty f)
-  goes-open s id r dirty (At i) h = went h
-  goes-open s id r dirty Nothing h = said stuck
+  goes-open : (s : Fs) (id : ℕ) (r : DiskINode) (dirty : Bool) (f : Option ℕ) → Sane R s → Opens R (open_in s id r dirty f)
+  goes-open s id r dirty (Some i) h = went h
+  goes-open s id r dirty None h = said stuck
 
   goes_load : (s : Fs) (id : ℕ) → Sane R s → Opens R (load_node s id)
   unfolding load_node
@@ -252,9 +251,9 @@ module _ (R : ℕ → Type 0) (space : R 17) (stuck : R 19) where
       goes-guard (leb (record_of l).kind 4) 19 stuck
       (goes-guard (there s.arena (node_file (record_of l))) 19 stuck (goes-open s id (record_of l) false (free_row s.table) h))
 
-  goes_at : (s : Fs) (id : ℕ) (f : Found) → Sane R s → Opens R (open_at s id f)
-  goes_at s id (At i) h = went h
-  goes_at s id Nothing h = goes_load s id h
+  goes_at : (s : Fs) (id : ℕ) (f : Option ℕ) → Sane R s → Opens R (open_at s id f)
+  goes_at s id (Some i) h = went h
+  goes_at s id None h = goes_load s id h
 
   pub goes-node : (s : Fs) (id : ℕ) → Sane R s → Opens R (get_node s id)
   unfolding get_node
@@ -383,6 +382,6 @@ says-live stuck seven eight r =
     says_then (says-ensure (is_type r.kind) 19 stuck) λ _.
     says_then (says-ensure (is_folder r.kind) 7 seven) λ _. says-ensure (ltb 0 r.nlinks) 8 eight
 
-pub says-exists : {R : ℕ → Type 0} → R 12 → (f : Found) → Says R (or_exists f)
-says-exists twelve (At k) = said twelve
-says-exists twelve Nothing = says-done
+pub says-exists : {R : ℕ → Type 0} → R 12 → (f : Option ℕ) → Says R (or_exists f)
+says-exists twelve (Some k) = said twelve
+says-exists twelve None = says-done

@@ -1,8 +1,7 @@
 -- Order 1, as those who write and read see it: "Both ways are wanted: what was written is what is read, all other bytes stay." Said of any
 -- arena and table, any place and any bytes: a call that is done has asked the rest. w asks; i is the row of the handle, x what the call left.
-use Rattle.std.specs.Prelude.{◌≡◌, Bool, true, ◌||◌, List, ◌≢◌, ◌⊎◌, ℕ, ◌+◌, ◌-◌, ◌≤◌, ◌<◌, min, max, length, get_or, replicate, ltb}
+use Rattle.std.specs.Prelude.{◌≡◌, Bool, true, ◌||◌, List, ◌≢◌, ◌⊎◌, ℕ, ◌+◌, ◌-◌, ◌≤◌, ◌<◌, min, max, length, get_or, replicate, ltb, Some}
 use Rattle.base.specs.Out.{done}
-use Rattle.base.specs.declared.Found.TheVariants.{At}
 use Rattle.le.specs.Le.{Bytes}
 use Rattle.table.specs.declared.Table.{Table}
 use Rattle.table.specs.declared.Row.{Row}
@@ -61,7 +60,7 @@ pub record Written (a : List ℕ) (t : Table) (i place : ℕ) (src : List ℕ) (
 
 unfoldable pub IsWritten : Type 0
 IsWritten = (a : List ℕ) (t : Table) (w : ℕ) (h : Handle) (i place : ℕ) (src : List ℕ) (x : After) → Bytes a → Bytes src
-    → live_row t w h ≡ At i → call_write a t w h place src ≡ done x → Written a t i place src x
+    → live_row t w h ≡ Some i → call_write a t w h place src ≡ done x → Written a t i place src x
 
 -- "what was written is what is read"
 unfoldable pub WrittenRead : Type 0
@@ -71,20 +70,20 @@ WrittenRead = (a : List ℕ) (t : Table) (w : ℕ) (h : Handle) (place : ℕ) (s
 -- "all other bytes stay": a read of a part that the write doesn't touch, below the old size or where the size didn't change
 unfoldable pub ReadSame : Type 0
 ReadSame = (a : List ℕ) (t : Table) (w : ℕ) (h : Handle) (i place : ℕ) (src : List ℕ) (x : After) (at room : ℕ) → Bytes a → Bytes src
-    → live_row t w h ≡ At i → call_write a t w h place src ≡ done x
+    → live_row t w h ≡ Some i → call_write a t w h place src ≡ done x
     → (at < place + length src → at + room ≤ place) → (at + room ≤ size_at t i) ⊎ (place + length src ≤ size_at t i)
     → call_read x.arena x.table w h at room ≡ call_read a t w h at room
 
 -- and what other files hold: through anybody's handle g on a row j with another file
 unfoldable pub ReadOther : Type 0
 ReadOther = (a : List ℕ) (t : Table) (v w : ℕ) (h g : Handle) (i j place : ℕ) (src : List ℕ) (x : After) (at room : ℕ) → Bytes a → Bytes src
-    → live_row t w h ≡ At i → live_row t v g ≡ At j → file_at t i ≢ file_at t j → call_write a t w h place src ≡ done x
+    → live_row t w h ≡ Some i → live_row t v g ≡ Some j → file_at t i ≢ file_at t j → call_write a t w h place src ≡ done x
     → call_read x.arena x.table v g at room ≡ call_read a t v g at room
 
 -- a read between the old end and the place of a write past it
 unfoldable pub HoleZero : Type 0
 HoleZero = (a : List ℕ) (t : Table) (w : ℕ) (h : Handle) (i place : ℕ) (src : List ℕ) (x : After) (at room : ℕ) → Bytes a → Bytes src
-    → live_row t w h ≡ At i → Exact a t i → call_write a t w h place src ≡ done x
+    → live_row t w h ≡ Some i → Exact a t i → call_write a t w h place src ≡ done x
     → size_at t i ≤ at → at + room ≤ place → call_read x.arena x.table w h at room ≡ done (replicate room 0)
 
 -- ---- resize
@@ -97,7 +96,7 @@ pub record Resized (a : List ℕ) (t : Table) (i n : ℕ) (x : After) : Type 0 w
   pub only : Only a t i n true x
 
 unfoldable pub IsResized : Type 0
-IsResized = (a : List ℕ) (t : Table) (w : ℕ) (h : Handle) (i n : ℕ) (x : After) → Bytes a → live_row t w h ≡ At i → call_resize a t w h n ≡ done x → Resized a t i n x
+IsResized = (a : List ℕ) (t : Table) (w : ℕ) (h : Handle) (i n : ℕ) (x : After) → Bytes a → live_row t w h ≡ Some i → call_resize a t w h n ≡ done x → Resized a t i n x
 
 -- what a resize to n cut off is read by nobody, whatever the size is made afterwards
 unfoldable pub CutOff : Type 0

@@ -11,8 +11,7 @@ use lib.ListN.{length}
 use borrow.Author.Tests.{ltb-true}
 use Rattle.base.specs.Out.{Ok}
 use Rattle.base.proofs.Outs.{ok-bind, ok-weaken}
-use Rattle.base.specs.declared.Found.{Found}
-use Rattle.base.specs.declared.Found.TheVariants.{Nothing}
+use Rattle.std.specs.Prelude.{Option, None}
 use Rattle.le.specs.Le.{Bytes}
 use Rattle.structs.specs.Types.{is_folder}
 use Rattle.structs.specs.declared.DiskINode.{DiskINode}
@@ -41,7 +40,7 @@ live-folder a t A i u =
 
 -- a name that is not there yet
 pub new-law : (a : List ℕ) (t : Table) (A : Allowed a t) → Bytes a → (i : ℕ) → Used t i → is_folder (row_at t i).rec.kind ≡ true → (name : List ℕ) → NewGood name → length name ≤ 255
-    → Ok (λ (f : Found). f ≡ Nothing → NewName a (rec_of a t (row_at t i).id) name) Clear (lookup a (row_at t i).rec name)
+    → Ok (λ (f : Option ℕ). f ≡ None → NewName a (rec_of a t (row_at t i).id) name) Clear (lookup a (row_at t i).rec name)
 new-law a t A b i u f name g s =
     ok-weaken (λ x q z. new-name a t (row_at t i).id (A.rule6.folder (row_at t i).id (row-folder a t A i u f)) name g s (sym q ∙ z)) (λ n r. r)
     (ok-is (ap (λ (r : DiskINode). lookup a r name) (sym (row-rec a t A i u)) ∙ lookup-is a t A b (row_at t i).id (row-folder a t A i u f) name))

@@ -11,8 +11,7 @@ use Rattle.base.specs.Out.{Out, kept, Ok, went, said}
 use Rattle.base.proofs.Outs.{ok-bind, ok-weaken}
 use Rattle.base.proofs.Bools.{bool_cases, true-false}
 use Rattle.base.proofs.Lists.{tab-cong}
-use Rattle.base.specs.declared.Found.{Found}
-use Rattle.base.specs.declared.Found.TheVariants.{At, Nothing}
+use Rattle.std.specs.Prelude.{Option, Some, None}
 use Rattle.structs.specs.Layout.{record_of}
 use Rattle.structs.proofs.Layouts.{record_of-record_bytes}
 use Rattle.structs.specs.Types.{is_folder}
@@ -154,8 +153,8 @@ module _ (p : Pair) (y : Passed p) where
           let q : (row_at t j).rec ≡ rec_of a t m = sym (row-rec a t A j u) ∙ ap (rec_of a t) e in
           record { kind = ap (λ (r : DiskINode). r.kind) q; file = ap (λ (r : DiskINode). r.file) q }
 
-      by : (x : Found) → row_of p.table m ≡ x → As (K m) (F m) (record_of (stored_bytes p.arena m)) ⊎ Dirty m p.table
-      by (At j) e =
+      by : (x : Option ℕ) → row_of p.table m ≡ x → As (K m) (F m) (record_of (stored_bytes p.arena m)) ⊎ Dirty m p.table
+      by (Some j) e =
           let w = row-found t m j e in
           let u = used-row j (λ z. some_of m N (sym w.1 ∙ z)) in
           ⊎_elim
@@ -164,7 +163,7 @@ module _ (p : Pair) (y : Passed p) where
           (sym (record_of-record_bytes (row_at t j).rec (y.typed.fits.rows j w.0).rec) ∙ ap record_of (A.rule4.clean j w.0 u.node d) ∙ ap (λ (x : ℕ). record_of (stored_bytes a x)) w.1)
           (of j u w.1)))
           (bool_cases (row_at t j).dirty)
-      by Nothing e =
+      by None e =
           let q : rec_of a t m ≡ record_of (stored_bytes a m) = ap (rec_by a t m) e in
           inl (record { kind = ap (λ (r : DiskINode). r.kind) (sym q); file = ap (λ (r : DiskINode). r.file) (sym q) })
 

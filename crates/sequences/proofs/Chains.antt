@@ -10,7 +10,7 @@ use Rattle.base.specs.Out.{Out, done, refused, bind, ensure, answer, kept, Ok, w
 use Rattle.base.proofs.Outs.{ok-bind, ok-weaken, ok-done, ok-does}
 use Rattle.base.proofs.Tests.{decides-leb}
 use Rattle.base.proofs.Sames.{decided-yes}
-use Rattle.base.specs.declared.Found.TheVariants.{At}
+use Rattle.std.specs.Prelude.{Some}
 use Rattle.structs.specs.Types.{is_folder}
 use Rattle.structs.specs.declared.DiskINode.{DiskINode}
 use Rattle.utf8.specs.Names.{is_dots, name_verdict, early_reason}
@@ -63,7 +63,7 @@ module _ (a : List ℕ) (t : Table) (w : ℕ) where
   -- a find has given a handle on the spot's node
   pub record Gives (x : Added) (n : Spot) : Type 0 where
     pub row : ℕ
-    pub live : live_row x.table w x.handle ≡ At row
+    pub live : live_row x.table w x.handle ≡ Some row
     pub is : row_spot x.table row ≡ n
     pub follows : Follows x.table
 
@@ -115,7 +115,7 @@ module _ (a : List ℕ) (t : Table) (w : ℕ) where
     alike-good true k = k
     alike-good false k = bad
 
-    pub alike-find : (h : Handle) (i : ℕ) → live_row u w h ≡ At i → (name : List ℕ) → Alike (call_find a u w h name) (part_in (start a t) (row_at u i).rec name)
+    pub alike-find : (h : Handle) (i : ℕ) → live_row u w h ≡ Some i → (name : List ℕ) → Alike (call_find a u w h name) (part_in (start a t) (row_at u i).rec name)
     unfolding call_find part_in
     alike-find h i l name =
         let o : Owns u w h i = live-owns u w h i (formed a u A) l in
@@ -150,11 +150,11 @@ module _ (a : List ℕ) (t : Table) (w : ℕ) where
   -- where a chain of finds has led
   pub record Reaches (at : Spot) (ps : List (List ℕ)) (v : Table) (g : Handle) : Type 0 where
     row : ℕ
-    live : live_row v w g ≡ At row
+    live : live_row v w g ≡ Some row
     chain : Chain (start a t) at ps (row_spot v row)
     pub follows : Follows v
 
-  pub reaches : Passed (pair a t) → {u v : Table} {h g : Handle} {ps : List (List ℕ)} → Finds a w u h ps v g → Follows u → (i : ℕ) → live_row u w h ≡ At i → Reaches (row_spot u i) ps v g
+  pub reaches : Passed (pair a t) → {u v : Table} {h g : Handle} {ps : List (List ℕ)} → Finds a w u h ps v g → Follows u → (i : ℕ) → live_row u w h ≡ Some i → Reaches (row_spot u i) ps v g
   reaches y none F i l = record { row = i; live = l; chain = here; follows = F }
   reaches y (next {t = u} {h = h} {x = x} {p = p} e k c) F i l =
       let B = by-done (alike-find y u F h i l p) x e in

@@ -8,7 +8,7 @@ use Rattle.base.proofs.Outs.{ok-bind, ok-done}
 use Rattle.table.specs.declared.Table.{Table}
 use Rattle.table.specs.declared.Handle.{Handle}
 use Rattle.table.specs.Table.{live_row, add_hold, close_hold}
-use Rattle.base.specs.declared.Found.TheVariants.{Nothing}
+use Rattle.std.specs.Prelude.{None}
 use Rattle.table_laws.specs.Rules.{Live}
 use Rattle.table_laws.proofs.Handles.{dead-nothing, live_below, add-dead, close-dead, close-ends}
 use Rattle.table_laws.proofs.Holds.{add-cases, close-cases}
@@ -76,5 +76,5 @@ ended p [] h s = ends
 ended p (c ∷ l) h s = goes (spent-does h c p s) (ended (next c p) l h (spent-does h c p s))
 
 -- it is live nowhere, so every owner's call with it is refused with 4
-pub spent-dead : (t : Table) (w : ℕ) (h : Handle) → Spent t h → live_row t w h ≡ Nothing
+pub spent-dead : (t : Table) (w : ℕ) (h : Handle) → Spent t h → live_row t w h ≡ None
 spent-dead t w h s = dead-nothing t w h (λ v e. s.gone e)

@@ -13,8 +13,7 @@ use Rattle.base.proofs.Bools.{true-T}
 use Rattle.base.proofs.Finds.{search-at}
 use Rattle.base.proofs.Tests.{decides-leb}
 use Rattle.base.specs.Search.{lowest, found_below}
-use Rattle.base.specs.declared.Found.{Found}
-use Rattle.base.specs.declared.Found.TheVariants.{At, Nothing}
+use Rattle.std.specs.Prelude.{Option, Some, None}
 use Rattle.le.specs.Le.{Bytes}
 use Rattle.structs.specs.Types.{is_folder}
 use Rattle.structs.specs.declared.DiskINode.{DiskINode}
@@ -45,9 +44,9 @@ use Rattle.image.proofs.Moving.{LiveFolder}
 use Rattle.sequences.proofs.MoveSteps.{none-law, node_law}
 
 -- what a lookup tells
-pub data Looked (a : List ℕ) (r : DiskINode) (name : List ℕ) : Found → Type 0 where
-  here : (k : ℕ) → k < r.blocks → is_named (slot_in a r k).name name ≡ true → Looked a r name (At k)
-  new : NewName a r name → Looked a r name Nothing
+pub data Looked (a : List ℕ) (r : DiskINode) (name : List ℕ) : Option ℕ → Type 0 where
+  here : (k : ℕ) → k < r.blocks → is_named (slot_in a r k).name name ≡ true → Looked a r name (Some k)
+  new : NewName a r name → Looked a r name None
 
 pub look-law : (a : List ℕ) (t : Table) (A : Allowed a t) → Bytes a → (j : ℕ) → Used t j → is_folder (row_at t j).rec.kind ≡ true → (name : List ℕ) → NewGood name → length name ≤ 255
     → Ok (Looked a (row_at t j).rec name) Clear (lookup a (row_at t j).rec name)
@@ -55,11 +54,11 @@ look-law a t A b j u f name g s =
     subst (λ (r : DiskINode). Ok (Looked a r name) Clear (lookup a r name)) (row-rec a t A j u)
     (ok-weaken (λ x q. by x q) (λ n q. q) (ok-is (lookup-is a t A b (row_at t j).id (row-folder a t A j u f) name)))
   where
-    by : (x : Found)
+    by : (x : Option ℕ)
         → x ≡ found_below (lowest (λ k. is_named (slot_in a (rec_of a t (row_at t j).id) k).name name) (rec_of a t (row_at t j).id).blocks) (rec_of a t (row_at t j).id).blocks
         → Looked a (rec_of a t (row_at t j).id) name x
-    by (At k) e = let h = search-at (λ k. is_named (slot_in a (rec_of a t (row_at t j).id) k).name name) (rec_of a t (row_at t j).id).blocks k (sym e) in here k h.0 h.1
-    by Nothing e = new (new-name a t (row_at t j).id (A.rule6.folder (row_at t j).id (row-folder a t A j u f)) name g s (sym e))
+    by (Some k) e = let h = search-at (λ k. is_named (slot_in a (rec_of a t (row_at t j).id) k).name name) (rec_of a t (row_at t j).id).blocks k (sym e) in here k h.0 h.1
+    by None e = new (new-name a t (row_at t j).id (A.rule6.folder (row_at t j).id (row-folder a t A j u f)) name g s (sym e))
 
 -- P holds of arena and table through all of it
 pub move-call : {style : Spelling} (P : List ℕ → Table → Type 0) → Bears P → (p : Pair) → Spelled style p → FillsFolders P p.table → Turns P p.arena p.table → P p.arena p.table
@@ -96,7 +95,7 @@ move-call {style = style} P K p y fills turns start-p w h old target name nb =
     is-short e = (decides-leb (length name) 255).right (true-T (leb (length name) 255) e)
 
     goes : (i j : ℕ) → LiveFolder (start p.arena p.table) i → LiveFolder (start p.arena p.table) j
-        → is_special old ≡ false → NewGood name → is_special name ≡ false → length name ≤ 255 → Fills P i → Fills P j → (f : Found) → Looked p.arena (row_at p.table j).rec name f
+        → is_special old ≡ false → NewGood name → is_special name ≡ false → length name ≤ 255 → Fills P i → Fills P j → (f : Option ℕ) → Looked p.arena (row_at p.table j).rec name f
         → Ok (λ (x : After). Spelled style (pair x.arena x.table) × P x.arena x.table) Clear (move_to (start p.arena p.table) i j old name f)
     goes i j from to plain-old good plain short fills-i fills-j f (here k l e) =
         node_law p.arena p.table A y i j from to old name plain-old good plain short nb P K fills-i fills-j turns start-p k l e

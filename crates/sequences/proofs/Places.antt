@@ -7,8 +7,7 @@ use Prim.Native.Nat.{ℕ}
 use lib.Dec.{ltb}
 use Rattle.base.specs.Out.{Out, done, refused, bind, Ok}
 use Rattle.base.proofs.Outs.{bind-is-done, ok-done}
-use Rattle.base.specs.declared.Found.{Found}
-use Rattle.base.specs.declared.Found.TheVariants.{At, Nothing}
+use Rattle.std.specs.Prelude.{Option, Some, None}
 use Rattle.table.specs.declared.Table.{Table}
 use Rattle.table.specs.declared.Handle.{Handle}
 use Rattle.table.specs.Table.{row_at, live_row, can_hold}
@@ -77,7 +76,7 @@ module _ (a : List ℕ) (t u : Table) (w : ℕ) (ft : well_formed t ≡ true) (f
   unfolding by_handle
   same-handle h = rw (S.handles h) refl
 
-  live-by : (h : Handle) (i : ℕ) → by_handle t w h ≡ done i → live_row t w h ≡ At i
+  live-by : (h : Handle) (i : ℕ) → by_handle t w h ≡ done i → live_row t w h ≡ Some i
   live-by h i e = (ok-done (subst (Ok (Owns t w h) Any) e (handle-asks {R = Any} tt tt t w h))).live
 
   -- the row's record, of a handle that was taken
@@ -102,7 +101,7 @@ module _ (a : List ℕ) (t u : Table) (w : ℕ) (ft : well_formed t ≡ true) (f
 
   -- both come to the check, if on different ways
   also-walk : (h : Handle) (path : List ℕ) (room id : ℕ) → walk_to a t w h path room ≡ done id
-      → ((i : ℕ) → live_row u w h ≡ At i → (at : Spot) × ((walk_in (start a u) (spot (row_at u i).id (row_at u i).rec) path room).end ≡ done at))
+      → ((i : ℕ) → live_row u w h ≡ Some i → (at : Spot) × ((walk_in (start a u) (spot (row_at u i).id (row_at u i).rec) path room).end ≡ done at))
       → ReachesCheck (pair a u) (walk w h path room)
   unfolding walk_to
   also-walk h path room id e arrives =
@@ -127,29 +126,29 @@ full-by-own a t u c ft fu S arrives e =
 -- ---- a handle works for its owner alone
 
 -- what is live for w is live for nobody else
-not-his : (t : Table) (v w : ℕ) (h : Handle) (i : ℕ) → live_row t w h ≡ At i → v ≢ w → live_row t v h ≡ Nothing
+not-his : (t : Table) (v w : ℕ) (h : Handle) (i : ℕ) → live_row t w h ≡ Some i → v ≢ w → live_row t v h ≡ None
 not-his t v w h i e d = go (live_row t v h) refl
   where
-    go : (f : Found) → live_row t v h ≡ f → live_row t v h ≡ Nothing
-    go (At j) q = absurd (d (sym ((live-means t v h j).0 q).owner ∙ ((live-means t w h i).0 e).owner))
-    go Nothing q = q
+    go : (f : Option ℕ) → live_row t v h ≡ f → live_row t v h ≡ None
+    go (Some j) q = absurd (d (sym ((live-means t v h j).0 q).owner ∙ ((live-means t w h i).0 e).owner))
+    go None q = q
 
-module _ (p : Pair) (v w : ℕ) (h : Handle) (i : ℕ) (live : live_row p.table w h ≡ At i) (o : Owner v) (d : v ≢ w) where
+module _ (p : Pair) (v w : ℕ) (h : Handle) (i : ℕ) (live : live_row p.table w h ≡ Some i) (o : Owner v) (d : v ≢ w) where
   his : by_handle p.table v h ≡ refused 4
   his = handle-not p.table v h o (not-his p.table v w h i live d)
 
   -- as the second handle: the first one may be refused, for the same reason
-  link-refused : (g : Handle) (name : List ℕ) → Passed p → (f : Found) → live_row p.table v g ≡ f → reason_of (link v g name h) p ≡ 4
+  link-refused : (g : Handle) (name : List ℕ) → Passed p → (f : Option ℕ) → live_row p.table v g ≡ f → reason_of (link v g name h) p ≡ 4
   unfolding does call_link
-  link-refused g name y (At j) e = rw (enter p y, handle-done p.table v g j (record { owner = o; live = e }), his) refl
-  link-refused g name y Nothing e = rw (enter p y, handle-not p.table v g o e) refl
+  link-refused g name y (Some j) e = rw (enter p y, handle-done p.table v g j (record { owner = o; live = e }), his) refl
+  link-refused g name y None e = rw (enter p y, handle-not p.table v g o e) refl
 
-  move-refused : (g : Handle) (old name : List ℕ) → Passed p → (f : Found) → live_row p.table v g ≡ f → reason_of (move v g old h name) p ≡ 4
+  move-refused : (g : Handle) (old name : List ℕ) → Passed p → (f : Option ℕ) → live_row p.table v g ≡ f → reason_of (move v g old h name) p ≡ 4
   unfolding does call_move
-  move-refused g old name y (At j) e = rw (enter p y, handle-done p.table v g j (record { owner = o; live = e }), his) refl
-  move-refused g old name y Nothing e = rw (enter p y, handle-not p.table v g o e) refl
+  move-refused g old name y (Some j) e = rw (enter p y, handle-done p.table v g j (record { owner = o; live = e }), his) refl
+  move-refused g old name y None e = rw (enter p y, handle-not p.table v g o e) refl
 
-names-refused : (p : Pair) (c : Call) (w : ℕ) (h : Handle) (i : ℕ) → Passed p → live_row p.table w h ≡ At i → Owner (asker c) → asker c ≢ w → Names h c → reason_of c p ≡ 4
+names-refused : (p : Pair) (c : Call) (w : ℕ) (h : Handle) (i : ℕ) → Passed p → live_row p.table w h ≡ Some i → Owner (asker c) → asker c ≢ w → Names h c → reason_of c p ≡ 4
 unfolding does call_find call_walk call_create call_link call_remove call_move call_metadata call_set call_entry call_listing call_path call_read call_write call_resize call_fallocate call_close
 names-refused p c w h i y l o d (Places.finds {v = v}) = rw (enter p y, his p v w h i l o d) refl
 names-refused p c w h i y l o d (Places.walks {v = v}) = rw (enter p y, his p v w h i l o d) refl

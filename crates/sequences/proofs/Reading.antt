@@ -14,7 +14,7 @@ use Rattle.base.proofs.Bools.{bool_cases, true-false}
 use Rattle.base.proofs.Lists.{length-tab}
 use Rattle.base.proofs.Tests.{decides-leb}
 use Rattle.base.proofs.Sames.{decided-yes}
-use Rattle.base.specs.declared.Found.TheVariants.{At}
+use Rattle.std.specs.Prelude.{Some}
 use Rattle.structs.specs.Types.{is_folder, is_type}
 use Rattle.structs.specs.declared.DiskINode.{DiskINode}
 use Rattle.arena.specs.Fields.{file}
@@ -126,7 +126,7 @@ module _ (p : Pair) (y : Passed p) {w : ℕ} {h : Handle} {n : ℕ} {f : List �
         ∙ ap (λ (m : ℕ). done (tab (byte_at a (file 1 f)) at (read_count m at room))) (sym long-is)
 
 -- the row of a handle that was read through
-read-row : (a : List ℕ) (t : Table) (w : ℕ) (h : Handle) (at room : ℕ) (l : List ℕ) → call_read a t w h at room ≡ done l → (i : ℕ) × (live_row t w h ≡ At i)
+read-row : (a : List ℕ) (t : Table) (w : ℕ) (h : Handle) (at room : ℕ) (l : List ℕ) → call_read a t w h at room ≡ done l → (i : ℕ) × (live_row t w h ≡ Some i)
 unfolding call_read
 read-row a t w h at room l e =
     let d = bind-is-done (admit a t) _ l e in
@@ -143,7 +143,7 @@ read-no-folder p y {n = n} o at room bytes e = ⊎_elim (λ dir. absurd (never (
 -- w's handle h is on a row whose file holds `old`, and no more; it is no folder's
 pub record WholeFile (p : Pair) (w : ℕ) (h : Handle) (old : List ℕ) : Type 0 where
   pub row : ℕ
-  pub live : live_row p.table w h ≡ At row
+  pub live : live_row p.table w h ≡ Some row
   pub no-dir : is_folder (rec_of p.arena p.table (row_at p.table row).id).kind ≡ false
   pub exact : Exact p.arena p.table row
   pub size : length old ≡ size_at p.table row

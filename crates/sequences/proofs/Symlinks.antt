@@ -9,7 +9,7 @@ use lib.Dec.{eqb}
 use lib.ListN.{length}
 use borrow.Author.Tests.{eqb-false}
 use Rattle.base.specs.Out.{Out, done, refused, bind, ensure, answer, Ok, went, said}
-use Rattle.base.specs.declared.Found.TheVariants.{At}
+use Rattle.std.specs.Prelude.{Some}
 use Rattle.structs.specs.declared.DiskINode.{DiskINode}
 use Rattle.table.specs.declared.Table.{Table}
 use Rattle.table.specs.declared.Handle.{Handle}
@@ -35,7 +35,7 @@ use Rattle.sequences.proofs.Reasons.{says-hold, says-root-look, says-part, says-
 -- ---- a link is followed
 
 -- the call from a live handle: the walk of its path from the handle's row, and the hold
-walk-text : (x : Pair) (w : ℕ) (h : Handle) (i room : ℕ) (path : List ℕ) → Passed x → live_row x.table w h ≡ At i
+walk-text : (x : Pair) (w : ℕ) (h : Handle) (i room : ℕ) (path : List ℕ) → Passed x → live_row x.table w h ≡ Some i
     → call_walk x.arena x.table w h path room ≡ hold_end x.arena x.table w (walk_text (start x.arena x.table) room most_links [] (row_spot x.table i) path)
 unfolding call_walk walk_in
 walk-text x w h i room path y live =

@@ -9,8 +9,7 @@ use Rattle.base.specs.Out.{bind, Ok, went}
 use Rattle.base.proofs.Outs.{ok-bind, ok-weaken}
 use Rattle.base.proofs.Bools.{and_parts}
 use Rattle.base.proofs.Finds.{search-at}
-use Rattle.base.specs.declared.Found.{Found}
-use Rattle.base.specs.declared.Found.TheVariants.{At, Nothing}
+use Rattle.std.specs.Prelude.{Option, Some, None}
 use Rattle.table.specs.declared.Table.{Table}
 use Rattle.table.specs.Table.{row_at, is_next, next_row}
 use Rattle.sefs.specs.State.{Fs}
@@ -33,7 +32,7 @@ sync-law s p i u = ok-weaken (λ d S. midway-spelled d.arena d.table S.mid) (λ 
 
 -- ---- sync
 
-next-used : (t : Table) (low i : ℕ) → next_row t low ≡ At i → Used t i
+next-used : (t : Table) (low i : ℕ) → next_row t low ≡ Some i → Used t i
 unfolding next_row is_next
 next-used t low i e =
     let h = search-at (is_next t low) 34 i e in
@@ -48,10 +47,10 @@ from-law {style = style} s low (suc n) p = go (next_row s.table low) refl (λ u 
     Q : Fs → Type 0
     Q d = Spelled style (pair d.arena d.table)
 
-    go : (f : Found) → next_row s.table low ≡ f → ((u : Fs) (m : ℕ) → Spelled style (pair u.arena u.table) → Ok (λ (d : Fs). Spelled style (pair d.arena d.table)) (λ r. r ≡ 17) (sync_from u m n))
+    go : (f : Option ℕ) → next_row s.table low ≡ f → ((u : Fs) (m : ℕ) → Spelled style (pair u.arena u.table) → Ok (λ (d : Fs). Spelled style (pair d.arena d.table)) (λ r. r ≡ 17) (sync_from u m n))
         → Ok (λ (d : Fs). Spelled style (pair d.arena d.table)) (λ r. r ≡ 17) (with_next f s (λ i. bind (sync_row s i) (λ d. sync_from d (id_at s i) n)))
-    go (At i) e rest = ok-bind (sync-law s p i (next-used s.table low i e)) λ d q. rest d (id_at s i) q
-    go Nothing e rest = went p
+    go (Some i) e rest = ok-bind (sync-law s p i (next-used s.table low i e)) λ d q. rest d (id_at s i) q
+    go None e rest = went p
 
 sync-call : {style : Spelling} (p : Pair) → Spelled style p → Ok (λ (x : After). Spelled style (pair x.arena x.table)) Clear (call_sync p.arena p.table)
 unfolding call_sync

@@ -11,8 +11,7 @@ use Rattle.base.specs.Parts.{part}
 use Rattle.base.proofs.Bools.{true-false}
 use Rattle.base.proofs.Finds.{eq-cases}
 use Rattle.base.proofs.Lists.{length-tab, length_part}
-use Rattle.base.specs.declared.Found.{Found}
-use Rattle.base.specs.declared.Found.TheVariants.{At, Nothing}
+use Rattle.std.specs.Prelude.{Option, Some, None}
 use Rattle.le.specs.Le.{le_bytes}
 use Rattle.structs.specs.Layout.{join, time_fields, time_bytes, record_of, record_fields, record_bytes}
 use Rattle.structs.proofs.Joins.{field}
@@ -77,9 +76,9 @@ pub tracks-rec : (n k : ℕ) (f a : List ℕ) (t : Table) → Tracks n k f a t �
 unfolding rec_of
 tracks-rec n k f a t T = go (row_of t n) refl
   where
-    go : (x : Found) → row_of t n ≡ x → As k f (rec_by a t n x)
-    go (At j) e = T.rows j (row-found t n j e).1
-    go Nothing e = ⊎_elim (λ s. s) (λ (D : Dirty n t). absurd (row-missing t n e D.at D.below D.id)) T.stored
+    go : (x : Option ℕ) → row_of t n ≡ x → As k f (rec_by a t n x)
+    go (Some j) e = T.rows j (row-found t n j e).1
+    go None e = ⊎_elim (λ s. s) (λ (D : Dirty n t). absurd (row-missing t n e D.at D.below D.id)) T.stored
 
 -- the rows alone count
 pub tracks-rows : (n k : ℕ) (f a : List ℕ) (t u : Table) → u.rows ≡ t.rows → Tracks n k f a t → Tracks n k f a u

@@ -1,8 +1,7 @@
 -- Order 5, "Places reserved for each editor": "each owner may have 8", and "a handle works only for its owner".
-use Rattle.std.specs.Prelude.{◌≡◌, true, false, List, ◌≢◌, ◌↔◌, ℕ}
+use Rattle.std.specs.Prelude.{◌≡◌, true, false, List, ◌≢◌, ◌↔◌, ℕ, Some}
 use Rattle.base.specs.Out.{done}
 use Rattle.base.specs.Reasons.{bad_handle, table_full}
-use Rattle.base.specs.declared.Found.TheVariants.{At}
 use Rattle.structs.specs.declared.Timespec.{Timespec}
 use Rattle.table.specs.declared.Table.{Table}
 use Rattle.table.specs.declared.Handle.{Handle}
@@ -47,12 +46,12 @@ pub record SameFor (w : ℕ) (t u : Table) : Type 0 where
   pub own : own_holds t w ≡ own_holds u w
   pub supply : t.next ≡ u.next
   pub handles : (h : Handle) → live_row t w h ≡ live_row u w h
-  pub records : (h : Handle) (i : ℕ) → live_row t w h ≡ At i → (row_at t i).rec ≡ (row_at u i).rec
+  pub records : (h : Handle) (i : ℕ) → live_row t w h ≡ Some i → (row_at t i).rec ≡ (row_at u i).rec
 
 -- walk reaches the check where the path comes to its end. It goes by the records of the nodes on its way, and of an open node that is the record
 -- in memory, which another may have changed
 abbrev pub Arrives : List ℕ → Table → Call → Type 0
-Arrives a u c = (w : ℕ) (h : Handle) (path : List ℕ) (room i : ℕ) → c ≡ walk w h path room → live_row u w h ≡ At i
+Arrives a u c = (w : ℕ) (h : Handle) (path : List ℕ) (room i : ℕ) → c ≡ walk w h path room → live_row u w h ≡ Some i
     → (at : Spot) × ((walk_in (start a u) (spot (row_at u i).id (row_at u i).rec) path room).end ≡ done at)
 
 -- then his call meets TableFull with both or with neither
@@ -86,7 +85,7 @@ pub data Names (h : Handle) : Call → Type 0 where
 
 -- "4 for another's handle": w's live handle in a call of another owner
 unfoldable pub Refused : Type 0
-Refused = (p : Pair) (c : Call) (w : ℕ) (h : Handle) (i : ℕ) → Passed p → live_row p.table w h ≡ At i → Owner (asker c) → asker c ≢ w → Names h c
+Refused = (p : Pair) (c : Call) (w : ℕ) (h : Handle) (i : ℕ) → Passed p → live_row p.table w h ≡ Some i → Owner (asker c) → asker c ≢ w → Names h c
     → reason_of c p ≡ bad_handle
 
 -- and whatever the others call, they neither close her handle nor change its node: no premise about closes

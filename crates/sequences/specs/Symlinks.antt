@@ -1,8 +1,7 @@
 -- Order 7, where a symlink is met, said of the calls; and "23 SymLoop at the ninth link".
-use Rattle.std.specs.Prelude.{◌≡◌, true, false, List, [], ◌∷◌, ◌++◌, ◌≢◌, ◌↔◌, ℕ, suc, ◌-◌, length}
+use Rattle.std.specs.Prelude.{◌≡◌, true, false, List, [], ◌∷◌, ◌++◌, ◌≢◌, ◌↔◌, ℕ, suc, ◌-◌, length, Some}
 use Rattle.base.specs.Out.{done, refused}
 use Rattle.base.specs.Reasons.{sym_loop}
-use Rattle.base.specs.declared.Found.TheVariants.{At}
 use Rattle.structs.specs.declared.DiskINode.{DiskINode}
 use Rattle.table.specs.declared.Table.{Table}
 use Rattle.table.specs.declared.Handle.{Handle}
@@ -22,13 +21,13 @@ use Rattle.sequences.specs.Chains.{Finds, row_spot}
 -- from a passed pair: where w's finds lead from h to g along the parts of d, and none of them to a link, `d/` is the front of a path from h's folder
 -- to g's
 unfoldable pub FrontByFinds : Type 0
-FrontByFinds = (a : List ℕ) (t u : Table) (w : ℕ) (h g : Handle) (i j : ℕ) (d : List ℕ) → Passed (pair a t) → live_row t w h ≡ At i → live_row u w g ≡ At j
+FrontByFinds = (a : List ℕ) (t u : Table) (w : ℕ) (h g : Handle) (i j : ℕ) (d : List ℕ) → Passed (pair a t) → live_row t w h ≡ Some i → live_row u w g ≡ Some j
     → good_text d ≡ true → from_root d ≡ false → Finds a w t h (parts_of d) u g
     → Front (start a t) (row_spot t i) (d ++ (slash ∷ [])) (row_spot u j)
 
 -- and a slash is one to the folder that root gives
 unfoldable pub FrontByRoot : Type 0
-FrontByRoot = (a : List ℕ) (t : Table) (w : ℕ) (g : Added) (i j : ℕ) → Passed (pair a t) → call_root a t w ≡ done g → live_row g.table w g.handle ≡ At j
+FrontByRoot = (a : List ℕ) (t : Table) (w : ℕ) (g : Added) (i j : ℕ) → Passed (pair a t) → call_root a t w ≡ done g → live_row g.table w g.handle ≡ Some j
     → Front (start a t) (row_spot t i) (slash ∷ []) (row_spot g.table j)
 
 -- ---- a link is followed
@@ -36,7 +35,7 @@ FrontByRoot = (a : List ℕ) (t : Table) (w : ℕ) (g : Added) (i j : ℕ) → P
 -- from a passed pair: a walk of `l/q`, `/l/q` or `d/l/q` from the folder of a live handle is the walk of `t/q` from the link's folder, with one link
 -- less and t in the buffer, and the hold on where it ends
 unfoldable pub FollowsCall : Type 0
-FollowsCall = (x : Pair) (w : ℕ) (h : Handle) (i room : ℕ) (at : Spot) (p l q target : List ℕ) → Passed x → live_row x.table w h ≡ At i
+FollowsCall = (x : Pair) (w : ℕ) (h : Handle) (i room : ℕ) (at : Spot) (p l q target : List ℕ) → Passed x → live_row x.table w h ≡ Some i
     → Front (start x.arena x.table) (row_spot x.table i) p at → LinkAt (start x.arena x.table) room [] at l target → IsPart l
     → good_text (p ++ (l ++ (slash ∷ q))) ≡ true → good_text target ≡ true → target ≢ slash ∷ []
     → call_walk x.arena x.table w h (p ++ (l ++ (slash ∷ q))) room
@@ -44,7 +43,7 @@ FollowsCall = (x : Pair) (w : ℕ) (h : Handle) (i room : ℕ) (at : Spot) (p l 
 
 -- where the target is a lone slash, it is the walk of `/q`
 unfoldable pub FollowsRootCall : Type 0
-FollowsRootCall = (x : Pair) (w : ℕ) (h : Handle) (i room : ℕ) (at : Spot) (p l q : List ℕ) → Passed x → live_row x.table w h ≡ At i
+FollowsRootCall = (x : Pair) (w : ℕ) (h : Handle) (i room : ℕ) (at : Spot) (p l q : List ℕ) → Passed x → live_row x.table w h ≡ Some i
     → Front (start x.arena x.table) (row_spot x.table i) p at → LinkAt (start x.arena x.table) room [] at l (slash ∷ []) → IsPart l
     → good_text (p ++ (l ++ (slash ∷ q))) ≡ true
     → call_walk x.arena x.table w h (p ++ (l ++ (slash ∷ q))) room
@@ -52,7 +51,7 @@ FollowsRootCall = (x : Pair) (w : ℕ) (h : Handle) (i room : ℕ) (at : Spot) (
 
 -- "The final symlink is followed": a walk of `l`, `/l` or `d/l` is the walk of t
 unfoldable pub FollowsNameCall : Type 0
-FollowsNameCall = (x : Pair) (w : ℕ) (h : Handle) (i room : ℕ) (at : Spot) (p l target : List ℕ) → Passed x → live_row x.table w h ≡ At i
+FollowsNameCall = (x : Pair) (w : ℕ) (h : Handle) (i room : ℕ) (at : Spot) (p l target : List ℕ) → Passed x → live_row x.table w h ≡ Some i
     → Front (start x.arena x.table) (row_spot x.table i) p at → LinkAt (start x.arena x.table) room [] at l target → IsPart l
     → good_text (p ++ l) ≡ true
     → call_walk x.arena x.table w h (p ++ l) room
@@ -88,5 +87,5 @@ NinthLink = (a : List ℕ) (t : Table) (at : Spot) (path : List ℕ) (room : ℕ
 
 -- the call: from a passed pair and a live handle, 23 is answered exactly there
 unfoldable pub NinthLinkCall : Type 0
-NinthLinkCall = (x : Pair) (w : ℕ) (h : Handle) (i : ℕ) (path : List ℕ) (room : ℕ) → Passed x → live_row x.table w h ≡ At i
+NinthLinkCall = (x : Pair) (w : ℕ) (h : Handle) (i : ℕ) (path : List ℕ) (room : ℕ) → Passed x → live_row x.table w h ≡ Some i
     → ((call_walk x.arena x.table w h path room).end ≡ refused sym_loop) ↔ MeetsNinth (start x.arena x.table) (row_spot x.table i) path room

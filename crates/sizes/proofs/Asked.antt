@@ -112,7 +112,3 @@ end-split {A} a t who h end k none = go (admit a t) (by_handle t who h)
     go (refused n) p = refl
     go (done u) (refused n) = refl
     go (done u) (done i) = last i (has_contents (row_at t i).rec) (leb end longest) (there a (node_file (row_at t i).rec)) (none i)
-
--- an answer by its number
-pub went-reason : {A : Type 0} {o : Out A} {v : A} {P : Type 0} {m n : ℕ} → m ≡ n → Went o v P n → Went o v P m
-went-reason e g = rw e g

@@ -15,6 +15,7 @@ use Rattle.sefs.specs.Nodes.{node_file}
 use Rattle.sefs.specs.Ask.{admit, by_handle}
 use Rattle.sefs.specs.Contents.{has_contents, not_too_big}
 use Rattle.mem.specs.Mem.{table_in, Whole}
+use Rattle.sizes.specs.declared.Sizing.{Sizing}
 
 -- 21 and 22, of a node's record and an end
 unfoldable pub ask_record : DiskINode → ℕ → Out Unit
@@ -30,6 +31,10 @@ ask_end a t w h end = do
   _ ← ask_record (row_at t i).rec end
   _ ← ensure (there a (node_file (row_at t i).rec)) stuck
   done i
+
+-- what stands for a sizing where none is given
+abbrev pub no_sizing : Sizing
+no_sizing = record { row = 0; head = 0 }
 
 -- then this is known: the row i, and the block k that is the head of its file
 pub record Reached (a : List ℕ) (t : Table) (i k end : ℕ) : Type 0 where

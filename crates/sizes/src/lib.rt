@@ -2,6 +2,8 @@
 #![tactic(auto)]
 
 ghost use Rattle.std.specs.Prelude.{◌≡◌, true, ◌+◌, ◌≤◌};
+ghost use Rattle.std.specs.Result.{result_unwrap_or};
+ghost use Rattle.base.specs.Told.{code};
 ghost use Rattle.base.specs.Out.{Went, answer, done};
 ghost use Rattle.arena.specs.Fields.{file};
 ghost use Rattle.arena.specs.Places.{head_of};
@@ -11,9 +13,9 @@ ghost use Rattle.files.specs.Store.{cut_file};
 ghost use Rattle.sefs.specs.Contents.{not_too_big};
 ghost use Rattle.mem.specs.Mem.{table_in, Whole};
 ghost use Rattle.calls.specs.Asked.{Admitted};
-ghost use Rattle.sizes.specs.Sizes.{ask_record, ask_end, Reached, Sized};
+ghost use Rattle.sizes.specs.Sizes.{ask_record, ask_end, no_sizing, Reached, Sized};
 
-use base::index;
+use base::{Reason, index};
 use calls::{by_handle, has_contents};
 use chains::head_at;
 use inplace::{free_past, set_length, zero_tail};
@@ -23,16 +25,16 @@ use structs::DiskINode;
 use table::Handle;
 
 // 22: the end of n bytes from `place` on passes the longest length. The sum never overflows.
-pub fn not_too_big(place: u64, n: u64) -> u8
-    ensures { result ≡ answer (not_too_big (place + n)) }
+pub fn not_too_big(place: u64, n: u64) -> Result<(), Reason>
+    ensures { code result ≡ answer (not_too_big (place + n)) }
 {
     if n > 4294967295 {
-        return 22;
+        return Err(Reason::FileTooBig);
     }
     if place > 4294967295 - n {
-        return 22;
+        return Err(Reason::FileTooBig);
     }
-    0
+    Ok(())
 }
 
 // ---- the stores, once nothing can refuse them
@@ -66,31 +68,17 @@ pub fn set_size(arena: &mut [u8], mem: &mut [u8], i: usize, k: usize, n: usize)
 
 // ---- before the first store
 
-// What is known where the reason is 0: the handle's row, and the head of its file.
+// The handle's row, and the head of its file.
 #[derive(Clone, Copy)]
 pub struct Sizing {
-    pub reason: u8,
     pub row: usize,
     pub head: usize,
 }
 
-pub fn not_sized(reason: u8) -> Sizing
-    ensures { result.reason ≡ reason }
+fn ask_record(rec: DiskINode, place: u64, n: u64) -> Result<(), Reason>
+    ensures { code result ≡ answer (ask_record rec (place + n)) }
 {
-    Sizing {
-        reason: reason,
-        row: 0,
-        head: 0,
-    }
-}
-
-fn ask_record(rec: DiskINode, place: u64, n: u64) -> u8
-    ensures { result ≡ answer (ask_record rec (place + n)) }
-{
-    let r = has_contents(rec);
-    if r != 0 {
-        return r;
-    }
+    has_contents(rec)?;
     not_too_big(place, n)
 }
 
@@ -104,27 +92,17 @@ pub fn reach_file(
     h: Handle,
     place: u64,
     n: u64,
-) -> Sizing
+) -> Result<Sizing, Reason>
     requires { Admitted arena.now first.now next.now mem.now }
-    ensures { Went (ask_end arena.now (table_in mem.now) who h (place + n)) result.row (Reached arena.now (table_in mem.now) result.row result.head (place + n)) result.reason }
+    ensures { Went (ask_end arena.now (table_in mem.now) who h (place + n)) (result_unwrap_or result no_sizing).row (Reached arena.now (table_in mem.now) (result_unwrap_or result no_sizing).row (result_unwrap_or result no_sizing).head (place + n)) (code result) }
 {
-    let b = by_handle(mem, who, h);
-    if b.reason != 0 {
-        return not_sized(b.reason);
-    }
-    let rec = rec_at(mem, b.row);
-    let r = ask_record(rec, place, n);
-    if r != 0 {
-        return not_sized(r);
-    }
+    let row = by_handle(mem, who, h)?;
+    let rec = rec_at(mem, row);
+    ask_record(rec, place, n)?;
     let name = rec.file;
     let c = head_at(arena, first, next, 1, &name);
     if c == 0 {
-        return not_sized(19);
+        return Err(Reason::Stuck);
     }
-    Sizing {
-        reason: 0,
-        row: b.row,
-        head: c - 1,
-    }
+    Ok(Sizing { row, head: c - 1 })
 }

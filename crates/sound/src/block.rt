@@ -4,7 +4,9 @@ ghost use Rattle.sound.specs.Sound.{all_zero, layout, within};
 ghost use Rattle.arena.specs.Fields.{tag_of, which_of, name_of};
 ghost use Rattle.base.specs.Parts.{part as part_of};
 
-use arena::block_check;
+use arena::{
+    CHECK_AT, DATA, NAME_AT, NODE_FILE, NUMBER_AT, PAYLOAD, PAYLOAD_AT, PAYLOAD_END, block_check,
+};
 use base::index;
 use le::u32_at;
 
@@ -12,60 +14,40 @@ use le::u32_at;
 pub fn all_zero(part: &[u8]) -> bool
     ensures { result ≡ all_zero part.now }
 {
-    let n = part.len();
-    let mut x: u8 = 0;
-    let mut i: usize = 0;
-    while i < n {
-        x = x | part[i];
-        i = i + 1;
+    let mut joined: u8 = 0;
+    for byte in part {
+        joined |= *byte;
     }
-    x == 0
+    joined == 0
 }
 
 fn name_ok(part: &[u8]) -> bool
     requires { length part.now ≡ 512 }
     ensures { result ≡ (eqb (which_of part.now) 1 || all_zero (name_of part.now)) }
 {
-    if part[1] == 1 {
-        return true;
-    }
-    all_zero(&part[4..20])
+    part[1] == NODE_FILE || all_zero(&part[NAME_AT..NUMBER_AT])
 }
 
 fn payload_ok(part: &[u8]) -> bool
     requires { length part.now ≡ 512 }
     ensures { result ≡ (eqb (tag_of part.now) 2 || all_zero (part_of part.now 24 504)) }
 {
-    if part[0] == 2 {
-        return true;
-    }
-    all_zero(&part[24..504])
+    part[0] == DATA || all_zero(&part[PAYLOAD_AT..PAYLOAD_END])
 }
 
 // A block's layout.
+#[tactic(auto, unfolding(crate::specs::Sound::layout))]
 pub fn layout_ok(part: &[u8]) -> bool
     requires { length part.now ≡ 512 }
     ensures { result ≡ layout part.now }
 {
-    if part[0] >= 3 {
-        return false;
-    }
-    if part[1] >= 2 {
-        return false;
-    }
-    if !all_zero(&part[2..4]) {
-        return false;
-    }
-    if !name_ok(part) {
-        return false;
-    }
-    if !payload_ok(part) {
-        return false;
-    }
-    if !all_zero(&part[504..508]) {
-        return false;
-    }
-    u32_at(part, 508) == block_check(part)
+    part[0] <= DATA
+        && part[1] <= NODE_FILE
+        && all_zero(&part[2..NAME_AT])
+        && name_ok(part)
+        && payload_ok(part)
+        && all_zero(&part[PAYLOAD_END..CHECK_AT])
+        && u32_at(part, CHECK_AT) == block_check(part)
 }
 
 // A data block against the length of its file.
@@ -74,14 +56,10 @@ pub fn within_ok(part: &[u8], len: u32) -> bool
     ensures { result ≡ within part.now len }
 {
     let to = index(len);
-    let from = 480 * index(u32_at(part, 20));
+    let from = PAYLOAD * index(u32_at(part, 20));
     if from >= to {
         return false;
     }
     let left = to - from;
-    if left >= 480 {
-        return true;
-    }
-    let s = 24 + left;
-    all_zero(&part[s..504])
+    left >= PAYLOAD || all_zero(&part[PAYLOAD_AT + left..PAYLOAD_END])
 }

@@ -41,9 +41,10 @@ fn hash_key(head: bool, which: u8, name: &[u8], number: u32) -> usize
 {
     let f = file_hash(which, name);
     if head {
-        return bucket(f);
+        bucket(f)
+    } else {
+        bucket(f + (wide(number) * 331804471 + 268435399))
     }
-    bucket(f + (wide(number) * 331804471 + 268435399))
 }
 
 fn is_key(part: &[u8], head: bool, which: u8, name: &[u8], number: u32) -> bool
@@ -51,9 +52,10 @@ fn is_key(part: &[u8], head: bool, which: u8, name: &[u8], number: u32) -> bool
     ensures { result ≡ is_key head (file which name.now) number part.now }
 {
     if head {
-        return is_head(part, which, name);
+        is_head(part, which, name)
+    } else {
+        is_data(part, which, name, number)
     }
-    is_data(part, which, name, number)
 }
 
 // One more than the latest of the first k blocks that has that key, or 0. The chain of its hash begins at start.
@@ -73,6 +75,7 @@ fn find_key(
     ensures { result ≡ last (λ j. is_key head (file which name.now) number (blk arena.now j)) k }
 {
     let mut c = start;
+    // A while: the next place comes from the chain, not from a counter.
     while c > 0 {
         let j = c - 1;
         let o = 512 * j;

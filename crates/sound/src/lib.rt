@@ -26,12 +26,10 @@ fn all_alone(arena: &[u8], chains: &mut [u16]) -> bool
     ensures chains { result ≡ true → Chains arena.now (firsts chains.new) (nexts chains.new) (blocks arena.now) }
 {
     let n = arena.len() / 512;
-    let mut k: usize = 0;
-    while k < n {
+    for k in 0..n {
         if !add_block(arena, chains, k) {
             return false;
         }
-        k = k + 1;
     }
     true
 }
@@ -41,11 +39,7 @@ fn unchain(chains: &mut [u16])
     requires { length chains.old ≡ 8192 }
     ensures { (h : ℕ) → h < 4096 → get_or chains.new h 0 ≡ 0 }
 {
-    let mut h: usize = 0;
-    while h < 4096 {
-        chains[h] = 0;
-        h = h + 1;
-    }
+    chains[..BUCKETS].fill(0);
 }
 
 // The chains of all blocks, for an arena that its owner knows to be sound: no block is tested.
@@ -55,10 +49,8 @@ pub fn chain_all(arena: &[u8], chains: &mut [u16])
 {
     unchain(chains);
     let n = arena.len() / 512;
-    let mut k: usize = 0;
-    while k < n {
+    for k in 0..n {
         join(arena, chains, k);
-        k = k + 1;
     }
 }
 
@@ -70,12 +62,10 @@ fn all_under(arena: &[u8], first: &[u16], next: &[u16]) -> bool
     ensures { result ≡ all_to (under arena.now) (blocks arena.now) }
 {
     let n = arena.len() / 512;
-    let mut k: usize = 0;
-    while k < n {
+    for k in 0..n {
         if !under_at(arena, first, next, k) {
             return false;
         }
-        k = k + 1;
     }
     true
 }
@@ -91,8 +81,8 @@ pub fn sound_in(arena: &[u8], chains: &mut [u16]) -> bool
     if !all_alone(arena, chains) {
         return false;
     }
-    let c = &chains[..];
-    all_under(arena, &c[..4096], &c[4096..])
+    let (first, next) = chains.split_at(BUCKETS);
+    all_under(arena, first, next)
 }
 
 // Whether the arena is sound. A caller has tested that its length is legal.

@@ -5,7 +5,10 @@ use mathlib.Core.List.{List}
 use Prim.Native.Nat.{ℕ, ◌*◌, ◌≤◌}
 use native.Mathlib.Omega.{arith}
 use lib.ListN.{replicate}
-use Rattle.base.specs.Out.{Out, done, refused, bind, answer, Went, ill}
+use Rattle.base.specs.Out.{Out, done, refused, bind, Went, ill}
+use Rattle.std.specs.Prelude.{Result}
+use Rattle.base.specs.Told.{code}
+use Rattle.base.specs.declared.reasons.Reason.{Reason}
 use Rattle.base.proofs.Outs.{went-is, went-not, went-weaken, above_zero}
 use Rattle.arena.specs.Blocks.{legal}
 use Rattle.arena.proofs.Blocks.{legal-is}
@@ -20,8 +23,8 @@ use Rattle.mem.specs.Mem.{table_in, meta_in, Whole}
 use Rattle.mem.specs.State.{fs_of, fs_at}
 use Rattle.chains.specs.Led.{Led}
 use Rattle.calls.specs.declared.Reply as answered
-use Rattle.calls.specs.Answers.{after_of}
-use Rattle.calls.proofs.Answers.{after-done, after-refused}
+use Rattle.calls.specs.Answers.{after_of, said}
+use Rattle.calls.proofs.Answers.{said-done, said-refused, said-one}
 use Rattle.steps.specs.Ends.{Begun, Rest, on, off, ending, Ended, went, stopped, Returned}
 
 -- ---- the start
@@ -99,19 +102,22 @@ ended_is e g = rw e g
 pub ended-refused : {o : Out After} {a b : List ℕ} {u : Table} {n : ℕ} → (n ≡ 0 → ⊥) → o ≡ refused n → b ≡ a → Ended o a b u n
 ended-refused z e k = stopped (above_zero _ z) e k
 
--- what the call returns, by the number that its steps answered
-pub returned-ended : (t : Table) {o : Out After} {a b : List ℕ} {u : Table} {n : ℕ} {r : answered.Reply} → Ended o a b u n → r ≡ after_of t u n → Returned t o a b r
-returned-ended t {u = u} (went e) q = record { answer = q ∙ sym (after-done t u 0 refl) ∙ rw e; arena = rw e }
-returned-ended t {u = u} (stopped {r = n} l e k) q = record { answer = q ∙ sym (after-refused t u n (λ z. omega arith)) ∙ rw e; arena = k ∙ rw e }
+-- what the call returns, by what its steps answered
+pub returned-ended : (t : Table) {o : Out After} {a b : List ℕ} {u : Table} (n : Result Unit Reason) {r : answered.Reply} → Ended o a b u (code n) → r ≡ after_of t u n → Returned t o a b r
+returned-ended t {o = o} {a = a} {b = b} {u = u} n {r = r} g q = go (code n) refl g
+  where
+    go : (k : ℕ) → code n ≡ k → Ended o a b u k → Returned t o a b r
+    go k z (went e) = record { answer = ap said q ∙ said-done t u n z ∙ rw e; arena = rw e }
+    go k z (stopped l e f) = record { answer = ap said q ∙ said-refused t u n k z (λ y. omega arith) ∙ rw e; arena = f ∙ rw e }
 
 -- the same, where the table that memory was given is known by another name
-pub returned-table : (f : Table → Out After) (t : Table) {x y : Table} {a b : List ℕ} {u : Table} {n : ℕ} {r : answered.Reply} → x ≡ y → Ended (f x) a b u n → r ≡ after_of t u n → Returned t (f y) a b r
-returned-table f t q g e = rw (← q) (returned-ended t g e)
+pub returned-table : (f : Table → Out After) (t : Table) {x y : Table} {a b : List ℕ} {u : Table} (n : Result Unit Reason) {r : answered.Reply} → x ≡ y → Ended (f x) a b u (code n) → r ≡ after_of t u n → Returned t (f y) a b r
+returned-table f t n q g e = rw (← q) (returned-ended t n g e)
 
 -- ---- two results that satisfy a contract are the same
 
 pub returned-one : (t : Table) (o : Out After) {a b c : List ℕ} {r s : answered.Reply} → Returned t o a b r → Returned t o a c s → (r ≡ s) × (b ≡ c)
-returned-one t o p q = (p.answer ∙ sym q.answer, p.arena ∙ sym q.arena)
+returned-one t o p q = (said-one _ _ (p.answer ∙ sym q.answer), p.arena ∙ sym q.arena)
 
 -- ---- how a call begins: the handles' rows, and then superblock and maps
 

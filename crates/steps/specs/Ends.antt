@@ -8,7 +8,7 @@ use Rattle.sefs.specs.Meta.{load_meta}
 use Rattle.sefs.specs.Create.{After, after}
 use Rattle.mem.specs.Mem.{table_in, meta_in, Whole}
 use Rattle.calls.specs.declared.Reply as answered
-use Rattle.calls.specs.Answers.{done_with, refused_with}
+use Rattle.calls.specs.Answers.{said}
 
 -- ---- before the first store
 
@@ -31,9 +31,10 @@ abbrev pub arena_after : List ℕ → Out After → List ℕ
 arena_after a (done x) = x.arena
 arena_after a (refused n) = a
 
-abbrev pub after_as : Table → Out After → answered.Reply
-after_as t (done x) = done_with x.table
-after_as t (refused n) = refused_with t n
+-- what the call says: that it was done, and its table; or the reason, and the table that it was given
+abbrev pub after_as : Table → Out After → Out Unit × Table
+after_as t (done x) = (done tt, x.table)
+after_as t (refused n) = (refused n, t)
 
 -- what is left once the steps are done
 abbrev pub ending : Out Fs → Out After
@@ -46,5 +47,5 @@ pub data Ended (o : Out After) (a b : List ℕ) (u : Table) : ℕ → Type 0 whe
 
 -- the call, that its definition sends to o, returns r: t is the table that it was given, the arena was a and is b
 pub record Returned (t : Table) (o : Out After) (a b : List ℕ) (r : answered.Reply) : Type 0 where
-  pub answer : r ≡ after_as t o
+  pub answer : said r ≡ after_as t o
   pub arena : b ≡ arena_after a o

@@ -2,6 +2,8 @@
 #![tactic(auto)]
 
 ghost use Rattle.std.specs.Prelude.{◌<◌, ◌≤◌, length};
+ghost use Rattle.std.specs.Result.{result_unwrap_or};
+ghost use Rattle.base.specs.Told.{code};
 ghost use Rattle.base.specs.Out.{Went};
 ghost use Rattle.overlay.specs.View.{left};
 ghost use Rattle.sefs.specs.Ask.{by_handle};
@@ -14,8 +16,8 @@ ghost use Rattle.calls.specs.Asked.{Admitted, by_two};
 ghost use Rattle.steps.specs.Ends.{Begun};
 ghost use Rattle.steps.specs.Steps.{no_slot, sync_two};
 
-use base::index;
-use calls::{ByHandle, ByTwo, by_handle, by_two};
+use base::{Reason, index};
+use calls::{by_handle, by_two};
 use chains::slots::lookup;
 use folders::{dirent_append, put_entry};
 use mem::id_at;
@@ -34,16 +36,13 @@ pub fn reach_read(
     mem: &mut [u8],
     who: u8,
     h: Handle,
-) -> ByHandle
+) -> Result<usize, Reason>
     requires { Admitted arena.now first.now next.now mem.old }
-    ensures { Went (by_handle (table_in mem.old) who h) result.row (Begun arena.now first.now next.now mem.old mem.new × (result.row < 34)) result.reason }
+    ensures { Went (by_handle (table_in mem.old) who h) (result_unwrap_or result 0) (Begun arena.now first.now next.now mem.old mem.new × (result_unwrap_or result 0 < 34)) (code result) }
 {
-    let b = by_handle(&mem[..], who, h);
-    if b.reason != 0 {
-        return b;
-    }
+    let row = by_handle(&mem[..], who, h)?;
     load_meta(arena, first, next, mem);
-    b
+    Ok(row)
 }
 
 // The same with two handles.
@@ -55,32 +54,32 @@ pub fn reach_two_read(
     who: u8,
     h: Handle,
     k: Handle,
-) -> ByTwo
+) -> Result<(usize, usize), Reason>
     requires { Admitted arena.now first.now next.now mem.old }
-    ensures { Went (by_two (table_in mem.old) who h k) (result.row, result.other) (Begun arena.now first.now next.now mem.old mem.new × ((result.row < 34) × (result.other < 34))) result.reason }
+    ensures { Went (by_two (table_in mem.old) who h k) (result_unwrap_or result (0, 0)) (Begun arena.now first.now next.now mem.old mem.new × (((result_unwrap_or result (0, 0)).0 < 34) × ((result_unwrap_or result (0, 0)).1 < 34))) (code result) }
 {
-    let b = by_two(&mem[..], who, h, k);
-    if b.reason != 0 {
-        return b;
-    }
+    let rows = by_two(&mem[..], who, h, k)?;
     load_meta(arena, first, next, mem);
-    b
+    Ok(rows)
 }
 
 // 12, where a slot has the name.
-pub fn no_slot(arena: &[u8], first: &[u16], next: &[u16], rec: DiskINode, name: &[u8]) -> u8
+pub fn no_slot(
+    arena: &[u8],
+    first: &[u16],
+    next: &[u16],
+    rec: DiskINode,
+    name: &[u8],
+) -> Result<(), Reason>
     requires { Led arena.now first.now next.now }
-    ensures { Went (no_slot arena.now rec name.now) tt Unit result }
+    ensures { Went (no_slot arena.now rec name.now) tt Unit (code result) }
 {
     let mut slot = [0u8; 264];
-    let l = lookup(arena, first, next, rec, name, &mut slot);
-    if l.reason != 0 {
-        return l.reason;
+    let place = lookup(arena, first, next, rec, name, &mut slot)?;
+    if place < index(rec.blocks) {
+        return Err(Reason::EntryExist);
     }
-    if l.place < index(rec.blocks) {
-        return 12;
-    }
-    0
+    Ok(())
 }
 
 // ---- steps
@@ -94,9 +93,9 @@ pub fn append_named(
     c: usize,
     name: &[u8],
     kind: u32,
-) -> u8
+) -> Result<(), Reason>
     requires { Ready arena.now work.old mem.old × ((3 ≤ left work.old) × ((i < 34) × ((c < 34) × (length name.now ≤ 255)))) }
-    ensures { Stepped (dirent_append (fs_of arena.now work.old mem.old) i (entry (id_at (fs_of arena.now work.old mem.old) c) name.now kind)) arena.now work.old work.new mem.new 3 result }
+    ensures { Stepped (dirent_append (fs_of arena.now work.old mem.old) i (entry (id_at (fs_of arena.now work.old mem.old) c) name.now kind)) arena.now work.old work.new mem.new 3 (code result) }
 {
     let mut slot = [0u8; 264];
     put_entry(&mut slot, id_at(&mem[..], c), name, kind);
@@ -104,13 +103,16 @@ pub fn append_named(
 }
 
 // Row c, then row i.
-pub fn sync_two(arena: &[u8], work: &mut [u8], mem: &mut [u8], i: usize, c: usize) -> u8
+pub fn sync_two(
+    arena: &[u8],
+    work: &mut [u8],
+    mem: &mut [u8],
+    i: usize,
+    c: usize,
+) -> Result<(), Reason>
     requires { Ready arena.now work.old mem.old × ((6 ≤ left work.old) × ((i < 34) × (c < 34))) }
-    ensures { Stepped (sync_two (fs_of arena.now work.old mem.old) i c) arena.now work.old work.new mem.new 6 result }
+    ensures { Stepped (sync_two (fs_of arena.now work.old mem.old) i c) arena.now work.old work.new mem.new 6 (code result) }
 {
-    let r = sync_row(arena, work, mem, c);
-    if r != 0 {
-        return r;
-    }
+    sync_row(arena, work, mem, c)?;
     sync_row(arena, work, mem, i)
 }

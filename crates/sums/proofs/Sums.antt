@@ -14,6 +14,6 @@ module _ (l : List ℕ) (i : ℕ) where
   pub sum_more : (h b : ℕ) → h ≡ sum_of l i → b ≡ get_or l i 0 → (h * 257 + b + 1) % 4294967291 ≡ sum_of l (i + 1)
   sum_more h b p q = ap₂ (λ (x y : ℕ). (x * 257 + y + 1) % 4294967291) p q ∙ sym at_more
 
-pub sum-none : (l : List ℕ) → ◌≡◌ {A = ℕ} 0 (sum_of l 0)
+pub sum_none : (l : List ℕ) → ◌≡◌ {A = ℕ} 0 (sum_of l 0)
 unfolding sum_of
-sum-none l = refl
+sum_none l = refl

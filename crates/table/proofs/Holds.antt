@@ -6,8 +6,7 @@ use native.Mathlib.Omega.{arith}
 use lib.Dec.{eqb, ltb}
 use borrow.Author.Tests.{lt-ltb, le-ltb, ltb-true}
 use Rattle.base.specs.Search.{found_below}
-use Rattle.base.specs.declared.Found.{Found}
-use Rattle.base.specs.declared.Found.TheVariants.{At, Nothing}
+use Rattle.std.specs.Prelude.{Option, Some, None}
 use Rattle.base.proofs.Bools.{and_parts}
 use Rattle.base.proofs.Searches.{at-found}
 use Rattle.table.specs.Zero.{zero_hold}
@@ -21,11 +20,11 @@ module _ (t : Table) (w : ℕ) (h : Handle) (n : ℕ) where
   abbrev stamped : Bool
   stamped = (not (eqb h.stamp 0) && eqb (hold_at t n).stamp h.stamp) && eqb (hold_at t n).owner w
 
-  pub live-past : n ≡ h.hold → 32 ≤ n → Nothing ≡ live_row t w h
+  pub live-past : n ≡ h.hold → 32 ≤ n → None ≡ live_row t w h
   unfolding live_row
   live-past e l = let b : ltb h.hold 32 ≡ false = le-ltb h.hold 32 (omega arith) in rw b
 
-  pub live-not : n ≡ h.hold → n < 32 → stamped ≡ false → Nothing ≡ live_row t w h
+  pub live-not : n ≡ h.hold → n < 32 → stamped ≡ false → None ≡ live_row t w h
   unfolding live_row
   live-not e l s = let b : ltb h.hold 32 ≡ true = lt-ltb h.hold 32 (omega arith) in rw (b, rw e at s)
 
@@ -34,11 +33,11 @@ unfolding live_row
 live-found t w h n m e l s r = let b : ltb h.hold 32 ≡ true = lt-ltb h.hold 32 (omega arith) in rw (b, rw e at s, r, e)
 
 -- what a search found is a row, or a hold
-pub row_below : (t : Table) (id i : ℕ) → row_of t id ≡ At i → i < 34
+pub row_below : (t : Table) (id i : ℕ) → row_of t id ≡ Some i → i < 34
 unfolding row_of
 row_below t id i e = (at-found _ 34 i e).1
 
-pub hold-below : (t : Table) (stamp i : ℕ) → hold_of t stamp ≡ At i → i < 32
+pub hold-below : (t : Table) (stamp i : ℕ) → hold_of t stamp ≡ Some i → i < 32
 unfolding hold_of
 hold-below t stamp i e = (at-found _ 32 i e).1
 
@@ -49,11 +48,11 @@ can-next t w e = ltb-true _ _ (and_parts (ltb (own_holds t w) 8) (ltb t.next 184
 
 -- a hold added, case by case
 module _ (t : Table) (w row : ℕ) where
-  pub add-full : can_hold t w ≡ false → add_at t w row Nothing ≡ add_hold t w row
+  pub add-full : can_hold t w ≡ false → add_at t w row None ≡ add_hold t w row
   unfolding add_hold
   add-full e = rw e
 
-  pub add-found : (f : Found) → can_hold t w ≡ true → free_hold t ≡ f → add_at t w row f ≡ add_hold t w row
+  pub add-found : (f : Option ℕ) → can_hold t w ≡ true → free_hold t ≡ f → add_at t w row f ≡ add_hold t w row
   unfolding add_hold
   add-found f e q = rw (e, q)
 

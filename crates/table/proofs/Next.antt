@@ -16,12 +16,12 @@ use Rattle.table.specs.Table.{row_at, between, is_next, next_row}
 use Rattle.table.specs.declared.Table.{Table}
 
 -- of the first n numbers, none is above `after`
-pub record None (f : ℕ → ℕ) (after n best : ℕ) : Type 0 where
+pub record NoneAbove (f : ℕ → ℕ) (after n best : ℕ) : Type 0 where
   pub is : best ≡ 34
   pub all : (j : ℕ) → j < n → f j ≤ after
 
 -- or `least` is the lowest above it, and first stands at `best`
-pub record Some (f : ℕ → ℕ) (after n best least : ℕ) : Type 0 where
+pub record Nearest (f : ℕ → ℕ) (after n best least : ℕ) : Type 0 where
   pub in34 : best < 34
   pub in-n : best < n
   pub is : f best ≡ least
@@ -30,8 +30,8 @@ pub record Some (f : ℕ → ℕ) (after n best least : ℕ) : Type 0 where
   pub first : (j : ℕ) → j < best → after < f j → least < f j
 
 pub data Best (f : ℕ → ℕ) (after n best least : ℕ) : Type 0 where
-  none : None f after n best → Best f after n best least
-  some : Some f after n best least → Best f after n best least
+  none : NoneAbove f after n best → Best f after n best least
+  some : Nearest f after n best least → Best f after n best least
 
 module _ (f : ℕ → ℕ) (after : ℕ) where
   pub best_none : (least : ℕ) → Best f after 0 34 least

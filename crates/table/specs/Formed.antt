@@ -1,18 +1,16 @@
 -- "The table is well formed when live holds name rows in use, every used row has a hold, no id has two rows, free rows and holds are
 -- all zero, live stamps differ and are below the next, itself at least 1"; order 5 "adds owners 1 to 4 with at most 8 each": as a test of any table.
-use Rattle.std.specs.Prelude.{ℕ, suc, Bool, false, not, ◌&&◌, length, ltb, leb, eqb}
+use Rattle.std.specs.Prelude.{ℕ, suc, Bool, false, not, ◌&&◌, length, ltb, leb, eqb, Option, Some, None}
 use Rattle.base.specs.Count.{all_to}
 use Rattle.base.specs.Search.{pick}
-use Rattle.base.specs.declared.Found.{Found}
-use Rattle.base.specs.declared.Found.TheVariants.{At, Nothing}
 use Rattle.table.specs.Zero.{record_zero}
 use Rattle.table.specs.Table.{row_at, hold_at, row_of, hold_of, row_used, is_owner, own_holds}
 use Rattle.table.specs.declared.Table.{Table}
 
 -- a search found i
-abbrev pub is_at : Found → ℕ → Bool
-is_at (At j) i = eqb j i
-is_at Nothing i = false
+abbrev pub is_at : Option ℕ → ℕ → Bool
+is_at (Some j) i = eqb j i
+is_at None i = false
 
 -- a live hold names a row in use, its stamp is below the next, no lower hold has the stamp, and its owner is one
 unfoldable pub live_ok : Table → ℕ → Bool

@@ -1,9 +1,7 @@
 -- The table of open nodes (document 01, "Open nodes"): what is found in it, and how it changes.
-use Rattle.std.specs.Prelude.{ℕ, ◌+◌, Bool, false, not, ◌&&◌, [], get_or, set, replicate, ltb, eqb}
+use Rattle.std.specs.Prelude.{ℕ, ◌+◌, Bool, false, not, ◌&&◌, [], get_or, set, replicate, ltb, eqb, Option, Some, None}
 use Rattle.base.specs.Count.{all_to, count_to}
 use Rattle.base.specs.Search.{lowest, pick, found_below}
-use Rattle.base.specs.declared.Found.{Found}
-use Rattle.base.specs.declared.Found.TheVariants.{At, Nothing}
 use Rattle.structs.specs.declared.DiskINode.{DiskINode}
 use Rattle.table.specs.Zero.{zero_time, zero_row, zero_hold}
 use Rattle.table.specs.declared.Row.{Row}
@@ -59,11 +57,11 @@ abbrev pub is_row : Table → ℕ → ℕ → Bool
 is_row t id i = eqb (row_at t i).id id
 
 -- the lowest row with that id
-unfoldable pub row_of : Table → ℕ → Found
+unfoldable pub row_of : Table → ℕ → Option ℕ
 row_of t id = found_below (lowest (is_row t id) 34) 34
 
 -- "The lowest free row [is] taken"; "id 0 means free"
-abbrev pub free_row : Table → Found
+abbrev pub free_row : Table → Option ℕ
 free_row t = row_of t 0
 
 -- a node is opened: a row with its id, its record and the dirty mark
@@ -87,7 +85,7 @@ unfoldable pub is_next : Table → ℕ → ℕ → Bool
 is_next t after i = ltb after (row_at t i).id && all_to (λ j. not (between after (row_at t i).id (row_at t j).id)) 34
 
 -- the row that comes next by rising id: sync stores in that order, as 000's map of open nodes is ordered by id
-unfoldable pub next_row : Table → ℕ → Found
+unfoldable pub next_row : Table → ℕ → Option ℕ
 next_row t after = found_below (lowest (is_next t after) 34) 34
 
 -- ---- holds
@@ -97,11 +95,11 @@ abbrev pub is_hold : Table → ℕ → ℕ → Bool
 is_hold t stamp i = eqb (hold_at t i).stamp stamp
 
 -- the lowest hold with that stamp
-unfoldable pub hold_of : Table → ℕ → Found
+unfoldable pub hold_of : Table → ℕ → Option ℕ
 hold_of t stamp = found_below (lowest (is_hold t stamp) 32) 32
 
 -- "The lowest free [..] hold [is] taken"; "stamp 0 means free"
-abbrev pub free_hold : Table → Found
+abbrev pub free_hold : Table → Option ℕ
 free_hold t = hold_of t 0
 
 -- "A handle is hold number and stamp": it is live where that hold has that stamp. A hold number of 32 or more, or stamp 0, is not.
@@ -113,8 +111,8 @@ abbrev pub is_own : Table → ℕ → Handle → Bool
 is_own t w h = is_live t h && eqb (hold_at t h.hold).owner w
 
 -- the row of a live handle of w's; none for a hold whose row is no row
-unfoldable pub live_row : Table → ℕ → Handle → Found
-live_row t w h = pick (is_own t w h) (found_below (hold_at t h.hold).row 34) Nothing
+unfoldable pub live_row : Table → ℕ → Handle → Option ℕ
+live_row t w h = pick (is_own t w h) (found_below (hold_at t h.hold).row 34) None
 
 -- "an owner from 1 to 4"
 abbrev pub is_owner : ℕ → Bool
@@ -137,16 +135,16 @@ unfoldable pub can_hold : Table → ℕ → Bool
 can_hold t w = ltb (own_holds t w) 8 && ltb t.next 18446744073709551615
 
 -- "Each successful root, find or create makes its own hold with the next stamp": a hold of w's on the row, at the place that was found
-abbrev pub add_at : Table → ℕ → ℕ → Found → Added
-add_at t w row (At i) = record {
+abbrev pub add_at : Table → ℕ → ℕ → Option ℕ → Added
+add_at t w row (Some i) = record {
   handle = record { hold = i; stamp = t.next };
   table = record { rows = t.rows; holds = set t.holds i (record { row = row; stamp = t.next; owner = w }); next = t.next + 1 };
 }
-add_at t w row Nothing = record { handle = record { hold = 0; stamp = 0 }; table = t }
+add_at t w row None = record { handle = record { hold = 0; stamp = 0 }; table = t }
 
 -- the lowest free hold, where one can be given; else a handle that is never live, and the same table
 unfoldable pub add_hold : Table → ℕ → ℕ → Added
-add_hold t w row = add_at t w row (pick (can_hold t w) (free_hold t) Nothing)
+add_hold t w row = add_at t w row (pick (can_hold t w) (free_hold t) None)
 
 -- the hold at i is live and names the row
 abbrev pub names_row : Table → ℕ → ℕ → Bool

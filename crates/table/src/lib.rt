@@ -89,67 +89,70 @@ pub fn zero_record() -> DiskINode
 fn zero_row() -> Row
     ensures { result ≡ zero_row }
 {
-    let rec = zero_record();
     Row {
         id: 0,
         dirty: false,
-        rec: rec,
+        rec: zero_record(),
     }
 }
 
+#[tactic(auto, using(crate::proofs::Bytes::zero_bytes))]
 fn bytes_zero(b: [u8; 16]) -> bool
     ensures { result ≡ bytes_zero b }
 {
-    let mut i: usize = 0;
-    while i < 16 {
-        if b[i] != 0 {
-            return false;
-        }
-        i += 1;
-    }
-    true
+    b == [0; 16]
 }
 
+#[tactic(auto, unfolding(crate::specs::Zero::time_zero), using(crate::proofs::Signs::zero_z))]
 fn time_zero(s: Timespec) -> bool
     ensures { result ≡ time_zero s }
 {
-    (s.sec == 0) & (s.nsec == 0)
+    s.sec == 0 && s.nsec == 0
 }
 
+#[tactic(auto, unfolding(crate::specs::Zero::numbers_zero))]
 fn numbers_zero(r: DiskINode) -> bool
     ensures { result ≡ numbers_zero r }
 {
-    (r.size == 0)
-        & ((r.kind == 0)
-            & ((r.mode == 0)
-                & ((r.nlinks == 0)
-                    & ((r.blocks == 0) & ((r.uid == 0) & ((r.gid == 0) & (r.pad == 0)))))))
+    matches!(
+        r,
+        DiskINode {
+            size: 0,
+            kind: 0,
+            mode: 0,
+            nlinks: 0,
+            blocks: 0,
+            uid: 0,
+            gid: 0,
+            pad: 0,
+            ..
+        }
+    )
 }
 
+#[tactic(auto, unfolding(crate::specs::Zero::record_zero))]
 pub fn record_zero(r: DiskINode) -> bool
     ensures { result ≡ record_zero r }
 {
-    let a = r.atime;
-    let m = r.mtime;
-    let c = r.ctime;
-    let f = r.file;
-    let k = r.mac;
     numbers_zero(r)
-        & (time_zero(a) & (time_zero(m) & (time_zero(c) & (bytes_zero(f) & bytes_zero(k)))))
+        && time_zero(r.atime)
+        && time_zero(r.mtime)
+        && time_zero(r.ctime)
+        && bytes_zero(r.file)
+        && bytes_zero(r.mac)
 }
 
 pub fn empty() -> Table
     ensures { result ≡ empty_table }
 {
-    let r = zero_row();
-    let h = Hold {
+    let hold = Hold {
         row: 0,
         stamp: 0,
         owner: 0,
     };
     Table {
-        rows: [r; 34],
-        holds: [h; 32],
+        rows: [zero_row(); 34],
+        holds: [hold; 32],
         next: 1,
     }
 }

@@ -32,13 +32,9 @@ pub fn row_in(s: &[u8], at: usize) -> Row
     ensures { result ≡ row_from (part s.now at (at + 117)) }
 {
     let id = le::u32_at(s, at);
-    let mark = s[at + 4];
-    let rec = structs::disk_inode_at(s, at + 5);
-    Row {
-        id: id,
-        dirty: mark != 0,
-        rec: rec,
-    }
+    let dirty = s[at + MARK_AT] != 0;
+    let rec = structs::disk_inode_at(s, at + RECORD_AT);
+    Row { id, dirty, rec }
 }
 
 fn put_byte(out: &mut [u8], at: usize, b: u8)
@@ -53,11 +49,10 @@ pub fn put_row(out: &mut [u8], at: usize, r: Row)
     requires { at + 117 ≤ length out.old }
     ensures { (out.new ≡ paste out.old at (row_bytes r)) × (length (row_bytes r) ≡ 117) }
 {
-    let rec = r.rec;
     let mark = base::one(r.dirty);
     le::put_u32(out, at, r.id);
-    put_byte(out, at + 4, mark);
-    structs::put_disk_inode(out, at + 5, rec);
+    put_byte(out, at + MARK_AT, mark);
+    structs::put_disk_inode(out, at + RECORD_AT, r.rec);
 }
 
 // A hold, 13 bytes.
@@ -65,11 +60,10 @@ pub fn hold_in(s: &[u8], at: usize) -> Hold
     requires { at + 13 ≤ length s.now }
     ensures { result ≡ hold_from (part s.now at (at + 13)) }
 {
-    let owner = s[at + 12];
     Hold {
         row: le::u32_at(s, at),
         stamp: le::u64_at(s, at + 4),
-        owner: owner,
+        owner: s[at + 12],
     }
 }
 
@@ -92,11 +86,8 @@ fn rows_in(s: &[u8]) -> [Row; 34]
         rec: table::zero_record(),
     };
     let mut rows = [z; 34];
-    let mut i: usize = 0;
-    while i < 34 {
-        let o = 117 * i;
-        rows[i] = row_in(s, o);
-        i += 1;
+    for (i, row) in rows.iter_mut().enumerate() {
+        *row = row_in(s, ROW * i);
     }
     rows
 }
@@ -105,12 +96,8 @@ fn put_rows(out: &mut [u8], rows: [Row; 34])
     requires { 4402 ≤ length out.old }
     ensures { (out.new ≡ paste out.old 0 (run_to (λ i. row_bytes (get_or rows i off_row)) 34)) × ((i : ℕ) → i < 34 → length (row_bytes (get_or rows i off_row)) ≡ 117) }
 {
-    let mut i: usize = 0;
-    while i < 34 {
-        let o = 117 * i;
-        let row = rows[i];
-        put_row(out, o, row);
-        i += 1;
+    for (i, row) in rows.iter().enumerate() {
+        put_row(out, ROW * i, *row);
     }
 }
 
@@ -124,11 +111,8 @@ fn holds_in(s: &[u8]) -> [Hold; 32]
         owner: 0,
     };
     let mut holds = [z; 32];
-    let mut i: usize = 0;
-    while i < 32 {
-        let o = 3978 + 13 * i;
-        holds[i] = hold_in(s, o);
-        i += 1;
+    for (i, hold) in holds.iter_mut().enumerate() {
+        *hold = hold_in(s, HOLDS_AT + HOLD * i);
     }
     holds
 }
@@ -137,12 +121,8 @@ fn put_holds(out: &mut [u8], holds: [Hold; 32])
     requires { 4402 ≤ length out.old }
     ensures { out.new ≡ paste out.old 3978 (run_to (λ i. hold_bytes (get_or holds i zero_hold)) 32) }
 {
-    let mut i: usize = 0;
-    while i < 32 {
-        let o = 3978 + 13 * i;
-        let hold = holds[i];
-        put_hold(out, o, hold);
-        i += 1;
+    for (i, hold) in holds.iter().enumerate() {
+        put_hold(out, HOLDS_AT + HOLD * i, *hold);
     }
 }
 
@@ -152,23 +132,17 @@ pub fn read_table(s: &[u8]) -> Table
 {
     let rows = rows_in(s);
     let holds = holds_in(s);
-    let next = le::u64_at(s, 4394);
-    Table {
-        rows: rows,
-        holds: holds,
-        next: next,
-    }
+    let next = le::u64_at(s, NEXT_AT);
+    Table { rows, holds, next }
 }
 
 pub fn write_table(out: &mut [u8], t: Table)
     requires { 4402 ≤ length out.old }
     ensures { out.new ≡ paste out.old 0 (bytes_of_table t) }
 {
-    let rows = t.rows;
-    let holds = t.holds;
-    put_rows(out, rows);
-    put_holds(out, holds);
-    le::put_u64(out, 4394, t.next);
+    put_rows(out, t.rows);
+    put_holds(out, t.holds);
+    le::put_u64(out, NEXT_AT, t.next);
 }
 
 // The bytes as they are written: a mark that is neither 0 nor 1 reads as dirty, and becomes 1. No table by value is made for it.
@@ -176,13 +150,10 @@ pub fn settle_marks(table: &mut [u8])
     requires { length table.old ≡ 4402 }
     ensures { table.new ≡ bytes_of_table (table_of table.old) }
 {
-    let mut i: usize = 0;
-    while i < 34 {
-        let at = 117 * i + 4;
+    for i in 0..table::ROWS {
+        let at = ROW * i + MARK_AT;
         let dirty = table[at] != 0;
-        let mark = base::one(dirty);
-        put_byte(table, at, mark);
-        i += 1;
+        table[at] = base::one(dirty);
     }
 }
 
@@ -191,6 +162,6 @@ pub fn put_empty(out: &mut [u8])
     requires { 4402 ≤ length out.old }
     ensures { out.new ≡ paste out.old 0 (bytes_of_table empty_table) }
 {
-    base::clear(&mut out[0..4394]);
-    le::put_u64(out, 4394, 1);
+    base::clear(&mut out[..NEXT_AT]);
+    le::put_u64(out, NEXT_AT, 1);
 }

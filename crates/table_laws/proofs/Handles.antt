@@ -10,7 +10,7 @@ use lib.Dec.{eqb, ltb}
 use borrow.Author.Tests.{eqb-true, eqb-false, ltb-true, not-true, lt-ltb, eq-eqb, ne_eqb}
 use Rattle.base.proofs.Finds.{eq-cases}
 use Rattle.base.specs.Search.{found_below}
-use Rattle.base.specs.declared.Found.TheVariants.{At, Nothing}
+use Rattle.std.specs.Prelude.{Some, None}
 use Rattle.base.proofs.Bools.{and_parts, and_both, bool_cases}
 use Rattle.base.proofs.Numbers.{lt-or-le}
 use Rattle.base.proofs.Searches.{at-found, found_at}
@@ -24,7 +24,7 @@ use Rattle.table_laws.proofs.Holds.{hold-here, hold-apart, held_as, new, add-giv
 
 -- ---- what the code's answer means
 
-live-yes : (t : Table) (w : ℕ) (h : Handle) (r : ℕ) → is_own t w h ≡ true → found_below (hold_at t h.hold).row 34 ≡ At r → Live t w h r
+live-yes : (t : Table) (w : ℕ) (h : Handle) (r : ℕ) → is_own t w h ≡ true → found_below (hold_at t h.hold).row 34 ≡ Some r → Live t w h r
 live-yes t w h r y e =
     let o = and_parts (is_live t h) (eqb (hold_at t h.hold).owner w) y in
     let a = and_parts (ltb h.hold 32) (not (eqb h.stamp 0) && eqb (hold_at t h.hold).stamp h.stamp) o.0 in
@@ -39,15 +39,15 @@ live-yes t w h r y e =
       is_row = f.1;
     }
 
-live_of : (t : Table) (w : ℕ) (h : Handle) (r : ℕ) → live_row t w h ≡ At r → Live t w h r
+live_of : (t : Table) (w : ℕ) (h : Handle) (r : ℕ) → live_row t w h ≡ Some r → Live t w h r
 unfolding live_row
 live_of t w h r e =
     ⊎_elim
     (λ y. live-yes t w h r y (rw y at e))
-    (λ n. let z : Nothing ≡ At r = rw n at e in absurd (let k : ◌≡◌ {A = ℕ} 0 1 = cc in omega arith))
+    (λ n. let z : None ≡ Some r = rw n at e in absurd (let k : ◌≡◌ {A = ℕ} 0 1 = cc in omega arith))
     (bool_cases (is_own t w h))
 
-of_live : (t : Table) (w : ℕ) (h : Handle) (r : ℕ) → Live t w h r → live_row t w h ≡ At r
+of_live : (t : Table) (w : ℕ) (h : Handle) (r : ℕ) → Live t w h r → live_row t w h ≡ Some r
 unfolding live_row
 of_live t w h r v =
     let x : is_live t h ≡ true = and_both (lt-ltb _ _ v.is-hold) (and_both (ap not (ne_eqb _ _ v.given)) (eq-eqb _ _ v.stamp)) in
@@ -55,14 +55,14 @@ of_live t w h r v =
     rw y (ap (λ (m : ℕ). found_below m 34) v.names ∙ found_at r 34 v.is_row)
 
 -- the code's answer is a row exactly where the handle is live on it, and w's
-pub live-means : (t : Table) (w : ℕ) (h : Handle) (r : ℕ) → (live_row t w h ≡ At r) ↔ Live t w h r
+pub live-means : (t : Table) (w : ℕ) (h : Handle) (r : ℕ) → (live_row t w h ≡ Some r) ↔ Live t w h r
 live-means t w h r = (live_of t w h r, of_live t w h r)
 
 -- a hold that has not the handle's stamp: the handle is dead
 abbrev pub Dead : Table → Handle → Type 0
 Dead t h = (h.stamp ≡ 0 → ⊥) → (hold_at t h.hold).stamp ≡ h.stamp → ⊥
 
-pub dead-nothing : (t : Table) (w : ℕ) (h : Handle) → Dead t h → live_row t w h ≡ Nothing
+pub dead-nothing : (t : Table) (w : ℕ) (h : Handle) → Dead t h → live_row t w h ≡ None
 unfolding live_row
 dead-nothing t w h d =
     ⊎_elim

@@ -11,8 +11,7 @@ use borrow.Author.Tests.{eqb-true, lt-ltb, le-ltb, ltb-true, not-true, not-false
 use Rattle.base.proofs.Counts.{count_to-change, bit_le}
 use Rattle.base.proofs.Finds.{eq-cases, search-at, search-finds, test-no}
 use Rattle.base.specs.Count.{bit, count_to}
-use Rattle.base.specs.declared.Found.{Found}
-use Rattle.base.specs.declared.Found.TheVariants.{At, Nothing}
+use Rattle.std.specs.Prelude.{Option, Some, None}
 use Rattle.base.proofs.Bools.{and_parts, and_both, and-false, true-false, bool_cases}
 use Rattle.base.proofs.Numbers.{lt-or-le}
 use Rattle.table.specs.declared.Table.{Table}
@@ -98,9 +97,9 @@ pub record Gives (t : Table) (w row : ℕ) : Type 0 where
   pub at : ℕ
   pub is-hold : at < 32
   pub was_free : (hold_at t at).stamp ≡ 0
-  pub lowest-free : free_hold t ≡ At at
+  pub lowest-free : free_hold t ≡ Some at
   pub can : can_hold t w ≡ true
-  pub is : add_hold t w row ≡ add_at t w row (At at)
+  pub is : add_hold t w row ≡ add_at t w row (Some at)
 
 -- an owner who can be given a hold has fewer than 8
 room : (t : Table) (w : ℕ) → can_hold t w ≡ true → own_holds t w < 8
@@ -108,7 +107,7 @@ unfolding can_hold
 room t w e = ltb-true _ _ (and_parts (ltb (own_holds t w) 8) (ltb t.next 18446744073709551615) e).0
 
 -- the search for a free hold has found one
-given : (t : Table) (w row i : ℕ) → can_hold t w ≡ true → free_hold t ≡ At i → Gives t w row
+given : (t : Table) (w row i : ℕ) → can_hold t w ≡ true → free_hold t ≡ Some i → Gives t w row
 unfolding add_hold hold_of
 given t w row i e f =
     let s = search-at (is_hold t 0) 32 _ f in
@@ -126,7 +125,7 @@ unfolding can_hold own_holds
 can-row t i r w = refl
 
 -- where none can be given, nothing changes
-pub add-refuses : (t : Table) (w row : ℕ) → can_hold t w ≡ false → add_hold t w row ≡ add_at t w row Nothing
+pub add-refuses : (t : Table) (w row : ℕ) → can_hold t w ≡ false → add_hold t w row ≡ add_at t w row None
 unfolding add_hold
 add-refuses t w row e = rw e
 
@@ -198,9 +197,9 @@ add-cases P t w row a b =
     (λ n. rw (add-refuses t w row n) a)
     (bool_cases (can_hold t w))
   where
-    by-search : can_hold t w ≡ true → (f : Found) → free_hold t ≡ f → P (add_hold t w row).table
-    by-search y (At i) e = let g = given t w row i y e in rw g.is (b g)
-    by-search y Nothing e = rw (y, e) a
+    by-search : can_hold t w ≡ true → (f : Option ℕ) → free_hold t ≡ f → P (add_hold t w row).table
+    by-search y (Some i) e = let g = given t w row i y e in rw g.is (b g)
+    by-search y None e = rw (y, e) a
 
 -- ---- a hold closed
 

@@ -8,8 +8,7 @@ use lib.ListN.{length}
 use lib.Dec.{eqb, ltb, leb}
 use borrow.Author.Tests.{eqb-true, eqb-false, ltb-true, leb-true, not-true, eq-eqb, ne_eqb, lt-ltb, le-leb}
 use Rattle.base.proofs.Finds.{search-one, test-yes, test_at}
-use Rattle.base.specs.declared.Found.{Found}
-use Rattle.base.specs.declared.Found.TheVariants.{At, Nothing}
+use Rattle.std.specs.Prelude.{Option, Some, None}
 use Rattle.base.proofs.Bools.{true-false, and_parts, and_both, bool_cases}
 use Rattle.base.proofs.Counts.{all_to-true, all_to-all}
 use Rattle.table.specs.declared.Table.{Table}
@@ -19,9 +18,9 @@ use Rattle.table.specs.Formed.{is_at, hold_ok, live_ok, row_ok, holds_ok, rows_o
 use Rattle.table_laws.specs.Rules.{Owner, Holder, Formed, WellFormed}
 use Rattle.table_laws.proofs.Zeros.{record-zero, zero-passes}
 
-at-is : (f : Found) (i : ℕ) → is_at f i ≡ true → f ≡ At i
-at-is (At j) i e = ap At (eqb-true j i e)
-at-is Nothing i e = absurd (true-false e refl)
+at-is : (f : Option ℕ) (i : ℕ) → is_at f i ≡ true → f ≡ Some i
+at-is (Some j) i e = ap Some (eqb-true j i e)
+at-is None i e = absurd (true-false e refl)
 
 -- an owner, as the test has it
 pub owner_of : (w : ℕ) → is_owner w ≡ true → Owner w
@@ -35,7 +34,7 @@ record Named (t : Table) (i : ℕ) : Type 0 where
   row : (hold_at t i).row < 34
   used : (row_at t (hold_at t i).row).id ≡ 0 → ⊥
   below : (hold_at t i).stamp < t.next
-  first : hold_of t (hold_at t i).stamp ≡ At i
+  first : hold_of t (hold_at t i).stamp ≡ Some i
   owner : Owner (hold_at t i).owner
 
 named-of : (t : Table) (i : ℕ) → hold_ok t i ≡ true → ((hold_at t i).stamp ≡ 0 → ⊥) → Named t i
@@ -88,7 +87,7 @@ module _ (t : Table) (e : well_formed t ≡ true) where
   named : (i : ℕ) → i < 32 → ((hold_at t i).stamp ≡ 0 → ⊥) → Named t i
   named i h n = named-of t i (hold i h) n
 
-  used : (i : ℕ) → i < 34 → ((row_at t i).id ≡ 0 → ⊥) → (row_of t (row_at t i).id ≡ At i) × (row_used t i ≡ true)
+  used : (i : ℕ) → i < 34 → ((row_at t i).id ≡ 0 → ⊥) → (row_of t (row_at t i).id ≡ Some i) × (row_used t i ≡ true)
   unfolding row_ok
   used i h n =
       let e0 = rw (ne_eqb (row_at t i).id 0 n) at (row i h) in
@@ -115,16 +114,16 @@ module _ (t : Table) (e : well_formed t ≡ true) where
 
   one-row : (i j : ℕ) → i < 34 → j < 34 → ((row_at t i).id ≡ 0 → ⊥) → (row_at t i).id ≡ (row_at t j).id → i ≡ j
   one-row i j hi hj n same =
-      let a : row_of t (row_at t i).id ≡ At i = (used i hi n).0 in
-      let b : row_of t (row_at t j).id ≡ At j = (used j hj (λ z. n (same ∙ z))).0 in
-      let c : At i ≡ At j = sym a ∙ ap (row_of t) same ∙ b in
+      let a : row_of t (row_at t i).id ≡ Some i = (used i hi n).0 in
+      let b : row_of t (row_at t j).id ≡ Some j = (used j hj (λ z. n (same ∙ z))).0 in
+      let c : Some i ≡ Some j = sym a ∙ ap (row_of t) same ∙ b in
       cc
 
   one-stamp : (i j : ℕ) → i < 32 → j < 32 → ((hold_at t i).stamp ≡ 0 → ⊥) → (hold_at t i).stamp ≡ (hold_at t j).stamp → i ≡ j
   one-stamp i j hi hj n same =
       let a = (named i hi n).first in
       let b = (named j hj (λ z. n (same ∙ z))).first in
-      let c : At i ≡ At j = sym a ∙ ap (hold_of t) same ∙ b in
+      let c : Some i ≡ Some j = sym a ∙ ap (hold_of t) same ∙ b in
       cc
 
   few : (w : ℕ) → Owner w → own_holds t w ≤ 8
@@ -158,13 +157,13 @@ module _ (t : Table) (e : well_formed t ≡ true) where
 
 -- a used row is the one found by its id, and a live hold by its stamp
 module _ {own : ℕ → Type 0} (t : Table) (w : Formed own t) where
-  pub row_is : (i : ℕ) → i < 34 → ((row_at t i).id ≡ 0 → ⊥) → row_of t (row_at t i).id ≡ At i
+  pub row_is : (i : ℕ) → i < 34 → ((row_at t i).id ≡ 0 → ⊥) → row_of t (row_at t i).id ≡ Some i
   unfolding row_of
   row_is i h n =
       search-one (is_row t (row_at t i).id) 34 i h (eq-eqb (row_at t i).id (row_at t i).id refl)
       (λ j l e. sym (w.one-row i j h l n (sym (eqb-true _ _ e))))
 
-  pub hold-is : (i : ℕ) → i < 32 → ((hold_at t i).stamp ≡ 0 → ⊥) → hold_of t (hold_at t i).stamp ≡ At i
+  pub hold-is : (i : ℕ) → i < 32 → ((hold_at t i).stamp ≡ 0 → ⊥) → hold_of t (hold_at t i).stamp ≡ Some i
   unfolding hold_of
   hold-is i h n =
       search-one (is_hold t (hold_at t i).stamp) 32 i h (eq-eqb (hold_at t i).stamp (hold_at t i).stamp refl)
@@ -189,7 +188,7 @@ module _ (t : Table) (w : WellFormed t) where
       ⊎_elim
       (λ z. rw z (let f = w.free-row i h (eqb-true s 0 z) in rw f zero-passes))
       (λ z. let n = eqb-false s 0 z in
-      rw z (and_both (ap (λ (f : Found). is_at f i) (row_is t w i h n) ∙ eq-eqb i i refl) (⊎_elim (λ b. absurd b) (λ o. of-holder t i o) (w.held i h n))))
+      rw z (and_both (ap (λ (f : Option ℕ). is_at f i) (row_is t w i h n) ∙ eq-eqb i i refl) (⊎_elim (λ b. absurd b) (λ o. of-holder t i o) (w.held i h n))))
       (bool_cases (eqb s 0))
 
   pub means-well-formed : well_formed t ≡ true

@@ -7,7 +7,7 @@ use mathlib.Core.Logic.{◌⊎◌, inl, inr, ⊎_elim}
 use lib.Dec.{eqb, ltb}
 use borrow.Author.Tests.{eqb-true, eqb-false, not-true, lt-ltb, le-ltb, eq-eqb, ne_eqb}
 use Rattle.base.specs.Search.{lowest}
-use Rattle.base.specs.declared.Found.TheVariants.{At}
+use Rattle.std.specs.Prelude.{Some}
 use Rattle.base.proofs.Bools.{and_parts, and_both, true-false}
 use Rattle.base.proofs.Counts.{pigeon}
 use Rattle.base.proofs.Numbers.{lt-or-le}
@@ -81,9 +81,9 @@ free-apart {own} t k w only = ⊎_elim (λ l. yes l) (λ g. absurd (too_many t k
         ⊎_elim (λ o. absurd (d (only j o))) (λ h. h) (w.held j l n)
 
 -- while a call has at most one row of its own, the search for a free row finds one
-pub spare-row : {own : ℕ → Type 0} (t : Table) (k : ℕ) → Formed own t → ((j : ℕ) → own j → j ≡ k) → (i : ℕ) × (free_row t ≡ At i)
+pub spare-row : {own : ℕ → Type 0} (t : Table) (k : ℕ) → Formed own t → ((j : ℕ) → own j → j ≡ k) → (i : ℕ) × (free_row t ≡ Some i)
 spare-row t k w only = let f = free-apart t k w only in row-there t 0 f.at f.is_row f.free
 
 -- so it does between calls
-pub first-spare : (t : Table) → WellFormed t → (i : ℕ) × (free_row t ≡ At i)
+pub first-spare : (t : Table) → WellFormed t → (i : ℕ) × (free_row t ≡ Some i)
 first-spare t w = spare-row t 0 w (λ j o. absurd o)

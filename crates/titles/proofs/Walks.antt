@@ -8,7 +8,7 @@ use lib.Dec.{leb}
 use lib.ListN.{length}
 use Rattle.base.specs.Out.{Out, done, guard, kept, Ok}
 use Rattle.base.specs.Reasons.{out_full}
-use Rattle.base.specs.declared.Found.TheVariants.{At}
+use Rattle.std.specs.Prelude.{Some}
 use Rattle.base.proofs.Outs.{ensure-guard, ok-weaken, ok-done, ok-does}
 use Rattle.base.proofs.Sames.{decided-yes}
 use Rattle.base.proofs.Tests.{decides-leb}
@@ -63,12 +63,12 @@ module _ (p : Pair) (y : Passed p) where
   A : Allowed p.arena p.table
   A = allowed p y
 
-  by_row : (w : ℕ) (h : Handle) (i : ℕ) → live_row t w h ≡ At i → by_handle t w h ≡ done i
+  by_row : (w : ℕ) (h : Handle) (i : ℕ) → live_row t w h ≡ Some i → by_handle t w h ≡ done i
   by_row w h i e = handle-done t w h i (live-owns t w h i (formed a t A) e)
 
   -- ---- the call's answers
 
-  module _ (w : ℕ) (h : Handle) (i : ℕ) (live : live_row p.table w h ≡ At i) where
+  module _ (w : ℕ) (h : Handle) (i : ℕ) (live : live_row p.table w h ≡ Some i) where
     used : Used t i
     used = live-row p y w h i ((live-means t w h i).0 live)
 
@@ -120,7 +120,7 @@ module _ (p : Pair) (y : Passed p) where
   pub shown-way : (w : ℕ) (h : Handle) (room : ℕ) (l : List ℕ) (S : Shown p.arena p.table w h room l) → Way p y (row_at p.table S.row).id (names_at p S.row)
   shown-way w h room l S = row-way p y S.row (found-used w h S.row S.by) S.folder (some-links (row_at t S.row).rec.nlinks S.links)
 
-  module _ (w : ℕ) (h : Handle) (i out : ℕ) (l : List ℕ) (live : live_row p.table w h ≡ At i) (e : call_path p.arena p.table w h out ≡ done l) where
+  module _ (w : ℕ) (h : Handle) (i out : ℕ) (l : List ℕ) (live : live_row p.table w h ≡ Some i) (e : call_path p.arena p.table w h out ≡ done l) where
     S : Shown a t w h out l
     S = path-shows a t w h out l e
 
@@ -147,11 +147,11 @@ module _ (p : Pair) (y : Passed p) where
       back at room = ap (λ (x : List ℕ). walk_in (start a t) at x room) path-is ∙ leads-back at (row_at t i).id room (names_at p i) W (each_at W.names (bare W.names W.is))
 
       -- and the call gives a hold on its node, as root and find give one
-      held : (g : Handle) (j room : ℕ) → live_row t w g ≡ At j → can_hold t w ≡ true → call_walk a t w g l room ≡ walked [] most_links (hold_node (start a t) w (row_at t i).id)
+      held : (g : Handle) (j room : ℕ) → live_row t w g ≡ Some j → can_hold t w ≡ true → call_walk a t w g l room ≡ walked [] most_links (hold_node (start a t) w (row_at t i).id)
       unfolding call_walk hold_end
       held g j room at can = rw (admitted a t A, by_row w g j at, back (spot (row_at t j).id (row_at t j).rec) room, can) refl
 
-      opens : (g : Handle) (j room : ℕ) → live_row t w g ≡ At j → can_hold t w ≡ true → OpensSame p w g l room (row_at t i).id (row_at t i).rec.file
+      opens : (g : Handle) (j room : ℕ) → live_row t w g ≡ Some j → can_hold t w ≡ true → OpensSame p w g l room (row_at t i).id (row_at t i).rec.file
       opens g j room at can =
           let u = used w h i live in
           let H = ok-does (hold-gives a t w t (begins a t w y) (live-owns t w g j (formed a t A) at).owner can (row_at t i).id (row-node a t A i u)) (λ _ z. z) in

@@ -1,8 +1,7 @@
 -- Order 14 "on a pair that the checker passes": when a path is given, what it is, and that "walking the answer by order 7 opens the same folder".
-use Rattle.std.specs.Prelude.{◌≡◌, true, false, List, [], ◌≢◌, ℕ, ◌*◌, ◌/◌, ◌≤◌, ◌<◌, leb, length, get_or}
+use Rattle.std.specs.Prelude.{◌≡◌, true, false, List, [], ◌≢◌, ℕ, ◌*◌, ◌/◌, ◌≤◌, ◌<◌, leb, length, get_or, Some}
 use Rattle.base.specs.Out.{Out, done, refused, guard}
 use Rattle.base.specs.Reasons.{not_dir, dir_removed, out_full}
-use Rattle.base.specs.declared.Found.TheVariants.{At}
 use Rattle.structs.specs.Types.{is_folder}
 use Rattle.utf8.specs.Names.{NoSlash}
 use Rattle.table.specs.declared.Handle.{Handle}
@@ -31,7 +30,7 @@ pub record PathAnswered (p : Pair) (w : ℕ) (h : Handle) (i : ℕ) : Type 0 whe
       × ((room : ℕ) → call_path p.arena p.table w h room ≡ guard (leb (length (path_of names)) room) out_full (done (path_of names)))
 
 unfoldable pub PathAnswers : Type 0
-PathAnswers = (p : Pair) (w : ℕ) (h : Handle) (i : ℕ) → Passed p → live_row p.table w h ≡ At i → PathAnswered p w h i
+PathAnswers = (p : Pair) (w : ℕ) (h : Handle) (i : ℕ) → Passed p → live_row p.table w h ≡ Some i → PathAnswered p w h i
 
 -- slashes or not: the path is that of names which lead from root to the folder, each looked up in the folder that the one before has led to, as a
 -- walk looks up a part (`Chain`), and none of them leads to a link
@@ -41,7 +40,7 @@ pub record WayDown (p : Pair) (i : ℕ) (l : List ℕ) : Type 0 where
   pub chain : Chain (start p.arena p.table) (spot 2 (rec_of p.arena p.table 2)) names (spot (row_at p.table i).id (row_at p.table i).rec)
 
 unfoldable pub NamedWay : Type 0
-NamedWay = (p : Pair) (w : ℕ) (h : Handle) (i : ℕ) (l : List ℕ) (room : ℕ) → Passed p → live_row p.table w h ≡ At i
+NamedWay = (p : Pair) (w : ℕ) (h : Handle) (i : ℕ) (l : List ℕ) (room : ℕ) → Passed p → live_row p.table w h ≡ Some i
     → call_path p.arena p.table w h room ≡ done l → WayDown p i l
 
 -- "no name on it has a slash"
@@ -57,13 +56,13 @@ pub record OpensSame (p : Pair) (w : ℕ) (g : Handle) (path : List ℕ) (room n
 -- "walking the answer by order 7 opens the same folder if no name on it has a slash and the asker has a hold and a stamp free". The walk may begin at
 -- any live handle of the asker, and its link buffer may have any room: the path has a leading slash
 unfoldable pub WalksBack : Type 0
-WalksBack = (p : Pair) (w : ℕ) (h g : Handle) (i j : ℕ) (l : List ℕ) (out room : ℕ) → Passed p → live_row p.table w h ≡ At i → live_row p.table w g ≡ At j
+WalksBack = (p : Pair) (w : ℕ) (h g : Handle) (i j : ℕ) (l : List ℕ) (out room : ℕ) → Passed p → live_row p.table w h ≡ Some i → live_row p.table w g ≡ Some j
     → call_path p.arena p.table w h out ≡ done l → Slashfree p i → can_hold p.table w ≡ true
     → OpensSame p w g l room (row_at p.table i).id (row_at p.table i).rec.file
 
 -- "two weights both have an `a`": paths of two folders differ, whoever asks. (Not so where a name has a slash: a folder `a/b` in root, and `b` in `a`)
 unfoldable pub PathsApart : Type 0
-PathsApart = (p : Pair) (w v : ℕ) (h g : Handle) (i j : ℕ) (l : List ℕ) (m n : ℕ) → Passed p → live_row p.table w h ≡ At i → live_row p.table v g ≡ At j
+PathsApart = (p : Pair) (w v : ℕ) (h g : Handle) (i j : ℕ) (l : List ℕ) (m n : ℕ) → Passed p → live_row p.table w h ≡ Some i → live_row p.table v g ≡ Some j
     → call_path p.arena p.table w h m ≡ done l → call_path p.arena p.table v g n ≡ done l → Slashfree p i → Slashfree p j
     → (row_at p.table i).id ≡ (row_at p.table j).id
 

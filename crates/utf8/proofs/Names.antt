@@ -1,7 +1,11 @@
 -- The laws of names.
 use mathlib.Core.Path.{◌≡◌, refl, sym, ap, ◌∙◌, subst}
 use mathlib.Core.Logic.{⊎_elim}
-use mathlib.Core.Bool.{Bool, true, false}
+use mathlib.Core.Bool.{Bool, true, false, ◌&&◌}
+use Rattle.std.specs.Cmp.Lexicographic.{pointwise}
+use Rattle.std.specs.List.{position, position_or_len}
+use Rattle.std.specs.Prelude.{unwrap_or}
+use Rattle.std.proofs.lemmas.List.Sums.{position_or_len_is}
 use mathlib.Core.List.{List, [], ◌∷◌, ◌++◌, append-nil}
 use Prim.Native.Nat.{ℕ, ◌+◌, ◌-◌, ◌≤◌, ◌<◌}
 use native.Mathlib.Omega.{arith}
@@ -25,6 +29,16 @@ use Rattle.utf8.specs.Grammar.{Octets}
 use Rattle.utf8.specs.Names.{first_at, zero_at, has_zero, has_slash, name_of, name_verdict, GoodName, NoSlash, early_reason, new_reason, stored_name, EndedAt, asked, is_named, is_dot, is_dots, is_special, name_bytes}
 use Rattle.utf8.proofs.Grammar.{utf8-decides}
 
+-- ---- two names
+
+-- the tests of `==` and of the definition
+pub same_pointwise : (l m : List ℕ) → pointwise eqb l m ≡ same l m
+unfolding same
+same_pointwise [] [] = refl
+same_pointwise [] (y ∷ m) = refl
+same_pointwise (x ∷ l) [] = refl
+same_pointwise (x ∷ l) (y ∷ m) = ap (λ (b : Bool). eqb x y && b) (same_pointwise l m)
+
 -- ---- the first byte b
 
 pub first-here : (b : ℕ) (l : List ℕ) (i : ℕ) → i < length l → ((j : ℕ) → j < i → get_or l j 0 ≡ b → ⊥) → get_or l i 0 ≡ b → i ≡ first_at b l
@@ -36,6 +50,20 @@ first-none b l before = sym (lowest-none (λ j. eqb (get_or l j 0) b) (length l)
 -- no byte before it is b
 first-before : (b : ℕ) (l : List ℕ) (j : ℕ) → j < first_at b l → get_or l j 0 ≡ b → ⊥
 first-before b l j h = eqb-false (get_or l j 0) b ((lowest-first (λ j. eqb (get_or l j 0) b) (length l)).before j h)
+
+-- the search of `position`
+first-position : (b : ℕ) (l : List ℕ) → position_or_len (λ x. eqb x b) l ≡ first_at b l
+first-position b l =
+    let p : ℕ → Bool = λ j. eqb (get_or l j 0) b in
+    position_or_len_is (λ x. eqb x b) l (first_at b l) 0 (lowest-le p (length l)) (lowest-first p (length l)).before (lowest-hit p (length l))
+
+pub position-first : (b : ℕ) (l : List ℕ) → unwrap_or (position (λ x. eqb x b) l) (length l) ≡ first_at b l
+position-first b l =
+    rw (first-position b l)
+    (⊎_elim
+    (λ here. rw (lt-ltb (first_at b l) (length l) here))
+    (λ none. rw (le-ltb (first_at b l) (length l) none) (omega (arith, lowest-le (λ j. eqb (get_or l j 0) b) (length l))))
+    (lt-or-le (first_at b l) (length l)))
 
 -- ---- the first zero
 

@@ -2,9 +2,12 @@
 #![tactic(auto)]
 
 ghost use Rattle.std.specs.Prelude.{◌≡◌, ◌≤◌, length};
+ghost use Rattle.base.specs.Told.{code};
 ghost use Rattle.base.specs.Decides.{same};
 ghost use Rattle.utf8.specs.Names.{first_at, zero_at, name_verdict, early_reason, new_reason, is_dot, is_dots, is_special, stored_name, is_named, name_bytes};
 ghost use Rattle.utf8.specs.Utf8.{lead, step, tail, is_whole, utf8};
+
+use base::Reason;
 
 // The longest name: a slot has room for it and a zero.
 pub const MAX_FNAME_LEN: usize = 255;
@@ -13,7 +16,7 @@ pub const MAX_FNAME_LEN: usize = 255;
 pub const SLASH: u8 = 47;
 
 // Where a reader of UTF-8 stands.
-#[derive(Clone, Copy)]
+#[derive(Clone, Copy, PartialEq, Eq)]
 pub enum State {
     // Between two characters.
     Whole,
@@ -24,7 +27,7 @@ pub enum State {
 }
 
 // What a caller's name is: good, good but with a slash, or bad. One that is not bad may still be too long, which is looked at later.
-#[derive(Clone, Copy)]
+#[derive(Clone, Copy, PartialEq, Eq)]
 pub enum NameVerdict {
     Good { long: bool },
     Slashed { long: bool },
@@ -32,13 +35,14 @@ pub enum NameVerdict {
 }
 
 // What the name in a slot is: its length, or that it has no zero or is no UTF-8.
-#[derive(Clone, Copy)]
+#[derive(Clone, Copy, PartialEq, Eq)]
 pub enum StoredName {
     Ended(usize),
     Broken,
 }
 
 // What a lead byte asks to come after it.
+#[tactic(auto, unfolding(crate::specs::Utf8::lead, crate::specs::Utf8::within))]
 fn lead(b: u8) -> State
     ensures { result ≡ lead b }
 {
@@ -58,6 +62,7 @@ fn lead(b: u8) -> State
 }
 
 // One byte more.
+#[tactic(auto, unfolding(crate::specs::Utf8::step))]
 fn step(s: State, b: u8) -> State
     ensures { result ≡ step s b }
 {
@@ -69,41 +74,32 @@ fn step(s: State, b: u8) -> State
 }
 
 // One byte more inside a character.
+#[tactic(auto, unfolding(crate::specs::Utf8::tail, crate::specs::Utf8::within))]
 fn tail(low: u8, high: u8, more: u8, b: u8) -> State
     ensures { result ≡ tail low high more b }
 {
-    if b < low {
-        return State::Wrong;
+    if b < low || b > high {
+        State::Wrong
+    } else if more == 0 {
+        State::Whole
+    } else {
+        State::Wants(0x80, 0xBF, more - 1)
     }
-    if b > high {
-        return State::Wrong;
-    }
-    if more == 0 {
-        return State::Whole;
-    }
-    State::Wants(0x80, 0xBF, more - 1)
 }
 
 fn is_whole(s: State) -> bool
     ensures { result ≡ is_whole s }
 {
-    match s {
-        State::Whole => true,
-        State::Wants(_, _, _) => false,
-        State::Wrong => false,
-    }
+    matches!(s, State::Whole)
 }
 
 // Whether s is UTF-8.
 pub fn valid(s: &[u8]) -> bool
     ensures { result ≡ utf8 s.now }
 {
-    let n = s.len();
     let mut at = State::Whole;
-    let mut i: usize = 0;
-    while i < n {
-        at = step(at, s[i]);
-        i = i + 1;
+    for b in s {
+        at = step(at, *b);
     }
     is_whole(at)
 }
@@ -112,18 +108,11 @@ pub fn valid(s: &[u8]) -> bool
 pub fn first_of(s: &[u8], b: u8) -> usize
     ensures { result ≡ first_at b s.now }
 {
-    let n = s.len();
-    let mut i: usize = 0;
-    while i < n {
-        if s[i] == b {
-            return i;
-        }
-        i = i + 1;
-    }
-    i
+    s.iter().position(|x| *x == b).unwrap_or(s.len())
 }
 
 // The place of the first zero byte, or the length.
+#[tactic(auto, unfolding(crate::specs::Names::zero_at))]
 pub fn first_zero(s: &[u8]) -> usize
     ensures { result ≡ zero_at s.now }
 {
@@ -131,67 +120,57 @@ pub fn first_zero(s: &[u8]) -> usize
 }
 
 // Whether two slices have the same bytes.
+#[tactic(auto, using(crate::proofs::Names::same_pointwise))]
 pub fn equal(a: &[u8], b: &[u8]) -> bool
     ensures { result ≡ same a.now b.now }
 {
-    let n = a.len();
-    if n != b.len() {
-        return false;
-    }
-    let mut i: usize = 0;
-    while i < n {
-        if a[i] != b[i] {
-            return false;
-        }
-        i = i + 1;
-    }
-    true
+    a == b
 }
 
+#[tactic(auto, unfolding(crate::specs::Names::name_verdict, crate::specs::Names::has_zero, crate::specs::Names::has_slash))]
 pub fn name_verdict(name: &[u8]) -> NameVerdict
     ensures { result ≡ name_verdict name.now }
 {
     let long = name.len() > MAX_FNAME_LEN;
-    if first_zero(name) < name.len() {
+    if first_zero(name) < name.len() || !valid(name) {
         return NameVerdict::Bad;
     }
-    if valid(name) {
-        if first_of(name, SLASH) < name.len() {
-            return NameVerdict::Slashed { long: long };
-        }
-        return NameVerdict::Good { long: long };
+    if first_of(name, SLASH) < name.len() {
+        return NameVerdict::Slashed { long };
     }
-    NameVerdict::Bad
+    NameVerdict::Good { long }
 }
 
-// Document 01's number where names are looked at first, or 0.
-pub fn early_reason(v: NameVerdict) -> u8
-    ensures { result ≡ early_reason v }
+// Document 01's reason where names are looked at first.
+pub fn early_reason(v: NameVerdict) -> Result<(), Reason>
+    ensures { code result ≡ early_reason v }
 {
     match v {
-        NameVerdict::Good { long: _ } => 0,
-        NameVerdict::Slashed { long: _ } => 0,
-        NameVerdict::Bad => 5,
+        NameVerdict::Good { long: _ } => Ok(()),
+        NameVerdict::Slashed { long: _ } => Ok(()),
+        NameVerdict::Bad => Err(Reason::BadName),
     }
 }
 
 // The same where the name is a new one.
-pub fn new_reason(v: NameVerdict) -> u8
-    ensures { result ≡ new_reason v }
+pub fn new_reason(v: NameVerdict) -> Result<(), Reason>
+    ensures { code result ≡ new_reason v }
 {
     match v {
-        NameVerdict::Good { long: _ } => 0,
-        NameVerdict::Slashed { long: _ } => 5,
-        NameVerdict::Bad => 5,
+        NameVerdict::Good { long: _ } => Ok(()),
+        NameVerdict::Slashed { long: _ } => Err(Reason::BadName),
+        NameVerdict::Bad => Err(Reason::BadName),
     }
 }
 
+#[tactic(auto, unfolding(crate::specs::Names::is_dot))]
 pub fn is_dot(name: &[u8]) -> bool
     ensures { result ≡ is_dot name.now }
 {
     equal(name, b".")
 }
 
+#[tactic(auto, unfolding(crate::specs::Names::is_dots))]
 pub fn is_dots(name: &[u8]) -> bool
     ensures { result ≡ is_dots name.now }
 {
@@ -199,34 +178,34 @@ pub fn is_dots(name: &[u8]) -> bool
 }
 
 // The names that removals and move refuse.
+#[tactic(auto, unfolding(crate::specs::Names::is_special))]
 pub fn is_special(name: &[u8]) -> bool
     ensures { result ≡ is_special name.now }
 {
-    (name.len() == 0) | (is_dot(name) | is_dots(name))
+    name.is_empty() || is_dot(name) || is_dots(name)
 }
 
+#[tactic(auto, unfolding(crate::specs::Names::stored_name, crate::specs::Names::has_zero))]
 pub fn stored_name(s: &[u8]) -> StoredName
     ensures { result ≡ stored_name s.now }
 {
     let n = first_zero(s);
-    if n < s.len() {
-        if valid(&s[..n]) {
-            return StoredName::Ended(n);
-        }
-        return StoredName::Broken;
+    if n < s.len() && valid(&s[..n]) {
+        StoredName::Ended(n)
+    } else {
+        StoredName::Broken
     }
-    StoredName::Broken
 }
 
 // Whether the name in a slot is the one that is asked for. The empty name asks for `.`.
 pub fn is_named(s: &[u8], name: &[u8]) -> bool
     ensures { result ≡ is_named s.now name.now }
 {
-    let n = first_zero(s);
-    if name.len() == 0 {
-        return equal(&s[..n], b".");
+    let stored = &s[..first_zero(s)];
+    if name.is_empty() {
+        return equal(stored, b".");
     }
-    equal(&s[..n], name)
+    equal(stored, name)
 }
 
 // The name of a new slot, and zeros after it.
@@ -235,6 +214,6 @@ pub fn put_name(out: &mut [u8], name: &[u8])
     ensures { out.new ≡ name_bytes name.now }
 {
     let n = name.len();
-    base::copy(&mut out[..n], name);
-    base::clear(&mut out[n..]);
+    out[..n].copy_from_slice(name);
+    out[n..].fill(0);
 }

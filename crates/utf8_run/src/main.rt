@@ -4,9 +4,9 @@
 // how many inside a longer name, and a check over all answers in their order. tests/utf8/expected.py makes the blocks and the lines.
 #![tactic(auto)]
 
-ghost use Rattle.std.specs.Prelude.{◌≡◌, ◌<◌, ◌≤◌, length};
+ghost use Rattle.std.specs.Prelude.{◌<◌, ◌≤◌};
 
-use std::io;
+use std::{fmt, io};
 use utf8::{first_zero, valid};
 
 // Bytes on both sides of each border of what may come second, third or fourth: what comes where the lowest byte is above the highest.
@@ -22,27 +22,40 @@ struct Tally {
     check: u64,
 }
 
+impl fmt::Display for Tally {
+    fn fmt<W: fmt::Write>(&self, f: &mut fmt::Formatter<W>) -> fmt::Result {
+        let Tally {
+            count,
+            alone,
+            inside,
+            check,
+        } = *self;
+        write!(f, "{count} {alone} {inside} {check}")
+    }
+}
+
 // How many bytes come at a place, and one of them.
 fn choices(low: u8, high: u8) -> u64
     ensures { 0 < result }
 {
     if low > high {
-        return 12;
+        EDGES.len() as u64
+    } else {
+        u64::from(high - low) + 1
     }
-    (high - low) as u64 + 1
 }
 
 fn choice(low: u8, high: u8, k: u64) -> u8 {
     if low > high {
-        return EDGES[(k % 12) as usize];
+        EDGES[(k % 12) as usize]
+    } else {
+        low.wrapping_add((k % 256) as u8)
     }
-    std::num::wrapping_add_u8(low, (k % 256) as u8)
 }
 
 // Place i of the sequence with number n. What is left of the number is for the place before.
-fn place(name: &mut [u8], block: &[u8], i: usize, n: u64) -> u64
-    requires name_len { (length name.old ≡ 11) × (length block.now ≡ 24) }
-    requires i_bound { i < 4 }
+fn place(name: &mut [u8; 11], block: &[u8; 24], i: usize, n: u64) -> u64
+    requires { i < 4 }
 {
     let low = block[2 * i + 1];
     let high = block[2 * i + 2];
@@ -52,46 +65,37 @@ fn place(name: &mut [u8], block: &[u8], i: usize, n: u64) -> u64
 }
 
 // The last place goes fastest. Nothing is left of a sequence's number.
-fn sequence(name: &mut [u8], block: &[u8], n: u64) -> u64
-    requires { (length name.old ≡ 11) × (length block.now ≡ 24) }
-{
-    let d = place(name, block, 3, n);
-    let c = place(name, block, 2, d);
-    let b = place(name, block, 1, c);
-    place(name, block, 0, b)
+fn sequence(name: &mut [u8; 11], block: &[u8; 24], n: u64) -> u64 {
+    let mut left = n;
+    for i in (0..4).rev() {
+        left = place(name, block, i, left);
+    }
+    left
 }
 
-fn bit(b: bool) -> u64
-    ensures { result ≤ 1 }
-{
-    if b { 1 } else { 0 }
-}
-
-fn noted(t: Tally, alone: bool, inside: bool) -> Tally {
-    let a = bit(alone);
-    let i = bit(inside);
-    let c = t.check % 1000003;
-    Tally {
-        count: std::num::wrapping_add_u64(t.count, 1),
-        alone: std::num::wrapping_add_u64(t.alone, a),
-        inside: std::num::wrapping_add_u64(t.inside, i),
-        check: (31 * c + 2 * a + i) % 1000003,
+impl Tally {
+    fn note(&mut self, alone: bool, inside: bool) {
+        let a = u64::from(alone);
+        let i = u64::from(inside);
+        let c = self.check % 1000003;
+        self.count = self.count.wrapping_add(1);
+        self.alone = self.alone.wrapping_add(a);
+        self.inside = self.inside.wrapping_add(i);
+        self.check = (31 * c + 2 * a + i) % 1000003;
     }
 }
 
 // The sequence is the last of the four places; the name is all of it.
-fn judge(name: &[u8], size: usize, t: Tally) -> Tally
-    requires { (length name.now ≡ 11) × (size ≤ 4) }
+fn judge(name: &[u8; 11], size: usize, t: &mut Tally)
+    requires { size ≤ 4 }
 {
-    let from = 7 - size;
-    let alone = valid(&name[from..7]);
+    let alone = valid(&name[7 - size..7]);
     let inside = valid(name);
-    noted(t, alone, inside)
+    t.note(alone, inside);
 }
 
-fn judge_all(name: &mut [u8], block: &[u8], size: usize) -> Tally
-    requires name_len { (length name.old ≡ 11) × (length block.now ≡ 24) }
-    requires size_bound { size ≤ 4 }
+fn judge_all(name: &mut [u8; 11], block: &[u8; 24], size: usize) -> Tally
+    requires { size ≤ 4 }
 {
     let mut t = Tally {
         count: 0,
@@ -99,13 +103,11 @@ fn judge_all(name: &mut [u8], block: &[u8], size: usize) -> Tally
         inside: 0,
         check: 1,
     };
-    let mut n: u64 = 0;
-    while n < 4294967296 {
+    for n in 0..4294967296 {
         if sequence(name, block, n) > 0 {
-            return t;
+            break;
         }
-        t = judge(&name[..], size, t);
-        n = n + 1;
+        judge(name, size, &mut t);
     }
     t
 }
@@ -116,39 +118,20 @@ fn show_name(rt: &impl Print, name: &[u8]) -> io::Result<()> {
     rt.write_all(&name[..end])
 }
 
-fn show(rt: &impl Print, n: u64) -> io::Result<()> {
-    print!(rt; " {n}")
-}
-
-fn show_tally(rt: &impl Print, t: Tally) -> io::Result<()> {
-    show(rt, t.count)?;
-    show(rt, t.alone)?;
-    show(rt, t.inside)?;
-    show(rt, t.check)?;
-    rt.write_all(b"\n")
-}
-
-fn run_block(rt: &impl Print, block: &[u8]) -> io::Result<()>
-    requires { length block.now ≡ 24 }
-{
+fn run_block(rt: &impl Print, block: &[u8; 24]) -> io::Result<()> {
     // e with an accent, an a, four places, the euro sign, a z
     let mut name: [u8; 11] = [0xC3, 0xA9, 0x61, 0, 0, 0, 0, 0xE2, 0x82, 0xAC, 0x7A];
-    let t = judge_all(&mut name, block, (block[0] % 5) as usize);
-    show_name(rt, &block[9..24])?;
-    show_tally(rt, t)
-}
-
-fn run(rt: &impl Print, blocks: &[u8]) -> io::Result<()> {
-    let mut at: usize = 0;
-    while blocks.len() - at >= 24 {
-        run_block(rt, &blocks[at..at + 24])?;
-        at = at + 24;
-    }
-    Ok(())
+    let t = judge_all(&mut name, block, usize::from(block[0] % 5));
+    show_name(rt, &block[9..])?;
+    println!(rt; " {t}")
 }
 
 fn main(rt: HostRuntime) -> io::Result<()> {
-    let mut blocks = [0u8; 1024];
-    let n = cases::read_full(&mut rt.reader(), &mut blocks)?;
-    run(&rt, &blocks[..n])
+    let mut input = [0u8; 1024];
+    let n = cases::read_full(&mut rt.reader(), &mut input)?;
+    let (blocks, _) = input[..n].as_chunks::<24>();
+    for block in blocks {
+        run_block(&rt, block)?;
+    }
+    Ok(())
 }

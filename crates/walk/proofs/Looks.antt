@@ -7,8 +7,7 @@ use native.Mathlib.Omega.{arith}
 use lib.Dec.{leb}
 use Rattle.base.specs.Out.{Out, done, refused, bind, guard}
 use Rattle.base.specs.Reasons.{stuck}
-use Rattle.base.specs.declared.Found.{Found}
-use Rattle.base.specs.declared.Found.TheVariants.{At, Nothing}
+use Rattle.std.specs.Prelude.{Option, Some, None}
 use Rattle.structs.specs.Layout.{record_of}
 use Rattle.structs.specs.declared.DiskINode.{DiskINode}
 use Rattle.table.specs.Table.{row_of, free_row}
@@ -55,21 +54,21 @@ read-stop s id (refused i) k e f = as-other i k e
 read-stop s id (done l) k e f = absurd (let q : ◌≡◌ {A = ℕ} 0 1 = cc in omega arith)
 
 module _ (s : Fs) (id : ℕ) where
-  no_record : (f : Found) (k : ℕ) → record_by s id f ≡ refused k → bind (open_at s id f) noted ≡ refused k
+  no_record : (f : Option ℕ) (k : ℕ) → record_by s id f ≡ refused k → bind (open_at s id f) noted ≡ refused k
   unfolding load_node
-  no_record (At i) k e = absurd (let q : ◌≡◌ {A = ℕ} 0 1 = cc in omega arith)
-  no_record Nothing k e = ap (λ (o : Out Opened). bind o noted) (read-stop s id (read_file s.arena meta_file (128 * id) 112) k e _)
+  no_record (Some i) k e = absurd (let q : ◌≡◌ {A = ℕ} 0 1 = cc in omega arith)
+  no_record None k e = ap (λ (o : Out Opened). bind o noted) (read-stop s id (read_file s.arena meta_file (128 * id) 112) k e _)
 
   pub look_stop : {n : ℕ} → record_on s id ≡ refused n → look_at s id ≡ refused n
   unfolding record_on look_at get_node
   look_stop {n = n} e = both-stop (λ m. is_used m id) (record_by s id (row_of s.table id)) (open_at s id (row_of s.table id)) noted n s.meta (no_record (row_of s.table id)) e
 
   -- the node has a row
-  row-record : (f : Found) (r : DiskINode) (i : ℕ) → f ≡ At i → record_by s id f ≡ done r → bind (open_at s id f) noted ≡ done r
-  row-record (At j) r i q e = e
-  row-record Nothing r i q e = absurd (let z : ◌≡◌ {A = ℕ} 0 1 = cc in omega arith)
+  row-record : (f : Option ℕ) (r : DiskINode) (i : ℕ) → f ≡ Some i → record_by s id f ≡ done r → bind (open_at s id f) noted ≡ done r
+  row-record (Some j) r i q e = e
+  row-record None r i q e = absurd (let z : ◌≡◌ {A = ℕ} 0 1 = cc in omega arith)
 
-  pub look-row : {r : DiskINode} {i : ℕ} → record_on s id ≡ done r → row_of s.table id ≡ At i → look_at s id ≡ done r
+  pub look-row : {r : DiskINode} {i : ℕ} → record_on s id ≡ done r → row_of s.table id ≡ Some i → look_at s id ≡ done r
   unfolding record_on look_at get_node
   look-row {r = r} {i = i} e q = both_go (λ m. is_used m id) (record_by s id (row_of s.table id)) (open_at s id (row_of s.table id)) noted r (done r) s.meta (row-record (row_of s.table id) r i q) e
 
@@ -93,11 +92,11 @@ module _ (s : Fs) (id : ℕ) where
         let q : record_of l ≡ r = cc in
         tested (leb (record_of l).kind 4) (there s.arena (node_file (record_of l))) (record_of l) _ (taken (record_of l)) ∙ ap (λ (x : DiskINode). guard (leb x.kind 4) stuck (guard (there s.arena (node_file x)) stuck (done x))) q
 
-    stored-record : (f : Found) (r : DiskINode) → f ≡ Nothing → record_by s id f ≡ done r → bind (open_at s id f) noted ≡ guard (leb r.kind 4) stuck (guard (there s.arena (node_file r)) stuck (done r))
+    stored-record : (f : Option ℕ) (r : DiskINode) → f ≡ None → record_by s id f ≡ done r → bind (open_at s id f) noted ≡ guard (leb r.kind 4) stuck (guard (there s.arena (node_file r)) stuck (done r))
     unfolding load_node
-    stored-record (At j) r q e = absurd (let z : ◌≡◌ {A = ℕ} 0 1 = cc in omega arith)
-    stored-record Nothing r q e = loaded (read_file s.arena meta_file (128 * id) 112) r e
+    stored-record (Some j) r q e = absurd (let z : ◌≡◌ {A = ℕ} 0 1 = cc in omega arith)
+    stored-record None r q e = loaded (read_file s.arena meta_file (128 * id) 112) r e
 
-    pub look-stored : {r : DiskINode} → record_on s id ≡ done r → row_of s.table id ≡ Nothing → look_at s id ≡ guard (leb r.kind 4) stuck (guard (there s.arena (node_file r)) stuck (done r))
+    pub look-stored : {r : DiskINode} → record_on s id ≡ done r → row_of s.table id ≡ None → look_at s id ≡ guard (leb r.kind 4) stuck (guard (there s.arena (node_file r)) stuck (done r))
     unfolding record_on look_at get_node
     look-stored {r = r} e q = both_go (λ m. is_used m id) (record_by s id (row_of s.table id)) (open_at s id (row_of s.table id)) noted r _ s.meta (stored-record (row_of s.table id) r q) e

@@ -1,8 +1,8 @@
 -- Along what is left of a text: the part at a place, and what the turns so far leave.
 use mathlib.Core.Path.{◌≡◌, refl, sym, ◌∙◌, ap, ap₂, subst}
-use mathlib.Core.Bool.{true, false, not, ◌||◌}
+use mathlib.Core.Bool.{true, false}
 use mathlib.Core.List.{List, ◌∷◌}
-use mathlib.Core.Logic.{⊎_elim, ◌⊎◌}
+use mathlib.Core.Logic.{⊎_elim}
 use Prim.Native.Nat.{ℕ, suc, ◌+◌, ◌<◌, ◌≤◌}
 use native.Mathlib.Nat.{min-eq_left, min-eq_right}
 use native.Mathlib.Omega.{arith}
@@ -12,15 +12,17 @@ use lib.Dec.{eqb}
 use borrow.Author.Tests.{eq-eqb, ne_eqb}
 use Rattle.base.specs.Out.{Went}
 use Rattle.base.specs.Parts.{part}
-use Rattle.base.proofs.Bools.{true-false}
-use Rattle.base.proofs.Finds.{eq-cases}
 use Rattle.base.proofs.Numbers.{lt-or-le}
+use Rattle.std.specs.Prelude.{Ok, Err}
+use Rattle.base.specs.Told.{number}
+use Rattle.base.specs.declared.reasons.Reason.{Reason}
 use Rattle.base.proofs.Outs.{went-is, went-not}
+use Rattle.base.proofs.Tells.{number-ne}
 use Rattle.base.proofs.Parts.{part-size}
 use Rattle.structs.specs.declared.DiskINode.{DiskINode}
 use Rattle.utf8.specs.Names.{first_at}
 use Rattle.sefs.specs.State.{Fs}
-use Rattle.walk.specs.Walk.{cut, spot, part_in, along}
+use Rattle.walk.specs.Walk.{Spot, cut, spot, part_in, along}
 use Rattle.walk.proofs.Cuts.{cut-none, cut-first}
 use Rattle.walk.proofs.Walks.{along-none, along-stop, along-link, along-on}
 use Rattle.walk_parts.specs.Texts.{end_at, next_at}
@@ -62,7 +64,7 @@ pub passing-none : (s : Fs) (l : List ℕ) (id : ℕ) (rec : DiskINode) → Pass
 passing-none s l id rec = record { most = omega arith; same = refl }
 
 pub passed-all : (s : Fs) (l : List ℕ) (id : ℕ) (rec : DiskINode) (at : ℕ) (dir : DiskINode) (i : ℕ) (x : DiskINode) → Passing s l id rec at dir i → length l ≤ i
-    → (along s (spot id rec) (cut l) ≡ way_of l (record { reason = 0; link = false; id = at; rec = dir; node = x; place = i })) × (i ≤ length l)
+    → (along s (spot id rec) (cut l) ≡ way_of l (Ok (record { link = false; id = at; rec = dir; node = x; place = i }))) × (i ≤ length l)
 unfolding way_of
 passed-all s l id rec at dir i x g h = (g.same ∙ ap (λ (m : List ℕ). along s (spot at dir) (cut m)) (drop_of_length-le l h) ∙ ap (along s (spot at dir)) cut-none ∙ along-none s (spot at dir), g.most)
 
@@ -72,26 +74,22 @@ module _ (s : Fs) (l : List ℕ) (id : ℕ) (rec : DiskINode) (at : ℕ) (dir : 
   from = g.same ∙ ap (along s (spot at dir)) (cut_at l i e h q ∙ ap (λ (k : ℕ). part l i e ∷ cut (drop k l)) (sym y))
 
   abbrev here : Passed
-  here = record { reason = n; link = true; id = at; rec = dir; node = r; place = p }
+  here = record { link = true; id = at; rec = dir; node = r; place = p }
 
-  refused-here : (n ≡ 0 → ⊥) → along s (spot id rec) (cut l) ≡ way_of l here
+  link_here : n ≡ 0 → eqb r.kind 3 ≡ true → along s (spot id rec) (cut l) ≡ way_of l (Ok here)
   unfolding way_of
-  refused-here o = from ∙ along-stop s (spot at dir) (part l i e) (cut (drop p l)) (went-not w o) ∙ rw (ne_eqb n 0 o)
+  link_here o t = from ∙ along-link s (spot at dir) (part l i e) (cut (drop p l)) (went-is w o) t
 
-  link_here : n ≡ 0 → eqb r.kind 3 ≡ true → along s (spot id rec) (cut l) ≡ way_of l here
-  unfolding way_of
-  link_here o t = from ∙ along-link s (spot at dir) (part l i e) (cut (drop p l)) (went-is w o) t ∙ rw (eq-eqb n 0 o)
+  pub passed_here : n ≡ 0 → r.kind ≡ 3 → (along s (spot id rec) (cut l) ≡ way_of l (Ok (record { link = true; id = at; rec = dir; node = r; place = p }))) × (p ≤ length l)
+  passed_here o t = (link_here o (eq-eqb r.kind 3 t), z)
 
-  only-link : n ≡ 0 → (not (eqb n 0) || eqb r.kind 3) ≡ true → eqb r.kind 3 ≡ true
-  only-link o t = rw (eq-eqb n 0 o) at t
+  pub passing-more : n ≡ 0 → (r.kind ≡ 3 → ⊥) → Passing s l id rec x r p
+  passing-more o t = record { most = z; same = from ∙ along-on s (spot at dir) (part l i e) (cut (drop p l)) (went-is w o) (ne_eqb r.kind 3 t) }
 
-  pub passed_here : (not (eqb n 0) || eqb r.kind 3) ≡ true → (along s (spot id rec) (cut l) ≡ way_of l (record { reason = n; link = true; id = at; rec = dir; node = r; place = p })) × (p ≤ length l)
-  passed_here t = (⊎_elim (λ (o : n ≡ 0). link_here o (only-link o t)) refused-here (eq-cases n 0), z)
-
-  no-reason : (not (eqb n 0) || eqb r.kind 3) ≡ false → n ≡ 0
-  no-reason t = ⊎_elim (λ (o : n ≡ 0). o) (λ o. absurd (true-false {b = not (eqb n 0) || eqb r.kind 3} (rw (ne_eqb n 0 o)) t)) (eq-cases n 0)
-
-  pub passing-more : (not (eqb n 0) || eqb r.kind 3) ≡ false → Passing s l id rec x r p
-  passing-more t =
-      let o = no-reason t in
-      record { most = z; same = from ∙ along-on s (spot at dir) (part l i e) (cut (drop p l)) (went-is w o) (rw (eq-eqb n 0 o) at t) }
+-- the part at a place was refused
+pub passed-not : (s : Fs) (l : List ℕ) (id : ℕ) (rec : DiskINode) (at : ℕ) (dir : DiskINode) (i : ℕ) → Passing s l id rec at dir i → i < length l
+    → (e : ℕ) → e ≡ end_at l i → (x : Spot) (r : Reason) → Went (part_in s dir (part l i e)) x Unit (number r)
+    → (along s (spot id rec) (cut l) ≡ way_of l (Err r)) × (0 ≤ length l)
+unfolding way_of
+passed-not s l id rec at dir i g h e q x r w =
+    (g.same ∙ ap (along s (spot at dir)) (cut_at l i e h q) ∙ along-stop s (spot at dir) (part l i e) (cut (drop (next_at l e) l)) (went-not w (number-ne r)), omega arith)

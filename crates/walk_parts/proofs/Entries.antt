@@ -1,23 +1,28 @@
 -- A text is entered, or refused: the state that the walk has then.
-use mathlib.Core.Path.{refl, ap}
-use mathlib.Core.Bool.{not}
+use mathlib.Core.Path.{refl}
+use mathlib.Core.Bool.{true, false}
 use Prim.Native.Nat.{ℕ}
-use native.Mathlib.Omega.{arith}
-use lib.Dec.{eqb}
-use borrow.Author.Tests.{ne_eqb}
-use Rattle.base.specs.Out.{Out, Went, well, ill}
+use Rattle.std.specs.Prelude.{Ok, Err}
+use Rattle.base.specs.Out.{Out, Went}
+use Rattle.base.specs.Told.{number}
+use Rattle.base.specs.declared.reasons.Reason.{Reason}
 use Rattle.base.proofs.Bools.{true-false}
+use Rattle.base.proofs.Outs.{went-is, went-not}
+use Rattle.base.proofs.Tells.{number-ne, number-pos}
 use Rattle.structs.specs.declared.DiskINode.{DiskINode}
 use Rattle.walk.specs.Walk.{Spot, spot}
 use Rattle.walk_parts.specs.States.{Entered}
 
-pub entered : {o : Out Spot} {id n : ℕ} {rec : DiskINode} → Went o (spot id rec) Unit n → (k u d f e : ℕ)
-    → Entered (record { over = not (eqb n 0); reason = n; id = id; rec = rec; left = k; used = u; depth = d; from = f; to = e }) o k u d f e
-entered (well q p) k u d f e = record { goes = λ _. q; ends = λ t. absurd (true-false t refl); left = refl; used = refl; depth = refl; from = refl; to = refl }
-entered (ill {r = n} l q) k u d f e =
+pub entered : {o : Out Spot} {id : ℕ} {rec : DiskINode} → Went o (spot id rec) Unit 0 → (k u d f e : ℕ)
+    → Entered (record { over = false; ended = Ok tt; id = id; rec = rec; left = k; used = u; depth = d; from = f; to = e }) o k u d f e
+entered w k u d f e = record { goes = λ _. went-is w refl; ends = λ t. absurd (true-false t refl); left = refl; used = refl; depth = refl; from = refl; to = refl }
+
+pub not-entered : {o : Out Spot} {at : Spot} (r : Reason) → Went o at Unit (number r) → (id : ℕ) (rec : DiskINode) (k u d f e : ℕ)
+    → Entered (record { over = true; ended = Err r; id = id; rec = rec; left = k; used = u; depth = d; from = f; to = e }) o k u d f e
+not-entered r w id rec k u d f e =
     record {
-      goes = λ t. absurd (true-false (ap not (ne_eqb n 0 (λ z. omega (arith, l, z)))) t);
-      ends = λ _. (q, l);
+      goes = λ t. absurd (true-false refl t);
+      ends = λ _. (went-not w (number-ne r), number-pos r);
       left = refl;
       used = refl;
       depth = refl;

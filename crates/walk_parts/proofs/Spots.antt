@@ -6,9 +6,9 @@ use Prim.Native.Nat.{ℕ, ◌<◌, ◌≤◌}
 use native.Mathlib.Omega.{arith}
 use lib.Dec.{leb}
 use borrow.Author.Tests.{le-leb, lt-leb}
-use Rattle.base.specs.Out.{Out, done, refused, bind, guard, ensure, answer, Went, well, ill}
+use Rattle.base.specs.Out.{Out, done, bind, guard, ensure, answer, Went, well, ill}
 use Rattle.base.specs.Reasons.{stuck}
-use Rattle.base.specs.declared.Found.TheVariants.{At, Nothing}
+use Rattle.std.specs.Prelude.{Some, None}
 use Rattle.base.proofs.Outs.{went-is, went-not, above_zero}
 use Rattle.structs.specs.declared.DiskINode.{DiskINode}
 use Rattle.table.specs.Table.{row_of}
@@ -47,10 +47,10 @@ module _ (s : Fs) (id : ℕ) {v : DiskINode} {n : ℕ} (g : Went (record_on s id
   look-not z = ill (above_zero n z) (look_stop s id (went-not g z))
 
   module _ (z : n ≡ 0) where
-    pub look-has : {i : ℕ} → row_of s.table id ≡ At i → Went (look_at s id) v Unit n
+    pub look-has : {i : ℕ} → row_of s.table id ≡ Some i → Went (look_at s id) v Unit n
     look-has e = rw z (well (look-row s id (went-is g z) e) tt)
 
-    pub look-reads : {w : DiskINode} {q : ℕ} → well_formed s.table ≡ true → row_of s.table id ≡ Nothing → Went (tested s.arena v) w Unit q → Went (look_at s id) w Unit q
+    pub look-reads : {w : DiskINode} {q : ℕ} → well_formed s.table ≡ true → row_of s.table id ≡ None → Went (tested s.arena v) w Unit q → Went (look_at s id) w Unit q
     look-reads f e h = rw (look-stored s id ((well-formed s.table).0 f) (went-is g z) e) h
 
 pub root-went : (s : Fs) {v : DiskINode} {n : ℕ} → Went (look_at s 2) v Unit n → Went (at_root s) (spot 2 v) Unit n

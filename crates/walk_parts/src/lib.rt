@@ -5,22 +5,25 @@
 pub mod texts;
 
 ghost use Rattle.std.specs.Prelude.{◌≡◌, ◌+◌, ◌-◌, ◌<◌, ◌≤◌, length, leb};
+ghost use Rattle.std.specs.Result.{result_unwrap_or};
+ghost use Rattle.base.specs.Told.{code};
 ghost use Rattle.base.specs.Count.{bit};
 ghost use Rattle.base.specs.Out.{Out, Went, guard, done};
 ghost use Rattle.base.specs.Reasons.{stuck};
 ghost use Rattle.files.specs.Read.{there};
 ghost use Rattle.sefs.specs.Nodes.{node_file};
+ghost use Rattle.table.specs.Zero.{zero_record};
 ghost use Rattle.chains.specs.Led.{Led};
 ghost use Rattle.mem.specs.State.{fs_at};
 ghost use Rattle.calls.specs.Asked.{Admitted};
 ghost use Rattle.walk.specs.Walk.{from_root, look_at, Spot, spot, at_root, part_in, cut, along as along_parts, enter as enter_text};
-ghost use Rattle.walk_parts.specs.States.{stand_on, way_of, Entered};
+ghost use Rattle.walk_parts.specs.States.{no_stand, stand_on, no_passed, way_of, Entered};
 
-use base::Found;
+use base::Reason;
 use chains::exists;
 use finds::{find_folder, find_id};
 use mem::find_row;
-use nodes_read::{Noted, record_on};
+use nodes_read::record_on;
 use structs::DiskINode;
 use table::zero_record;
 use texts::{end_at, from_root, good_text, next_at, skip};
@@ -30,94 +33,58 @@ const TYPE_SYMLINK: u32 = 3;
 // ---- a node on the way
 
 // A record that was read: an opening looks at its type, and for its file.
-fn stored(arena: &[u8], first: &[u16], next: &[u16], rec: DiskINode) -> Noted
+fn stored(arena: &[u8], first: &[u16], next: &[u16], rec: DiskINode) -> Result<DiskINode, Reason>
     requires { Led arena.now first.now next.now }
-    ensures { Went (guard (leb rec.kind 4) stuck (guard (there arena.now (node_file rec)) stuck (done rec))) result.rec Unit result.reason }
+    ensures { Went (guard (leb rec.kind 4) stuck (guard (there arena.now (node_file rec)) stuck (done rec))) (result_unwrap_or result zero_record) Unit (code result) }
 {
     if rec.kind > 4 {
-        return Noted {
-            reason: 19,
-            rec: rec,
-        };
+        return Err(Reason::Stuck);
     }
     let file = rec.file;
     if !exists(arena, first, next, 1, &file) {
-        return Noted {
-            reason: 19,
-            rec: rec,
-        };
+        return Err(Reason::Stuck);
     }
-    Noted {
-        reason: 0,
-        rec: rec,
-    }
+    Ok(rec)
 }
 
 // The record of a node, as an opening would have it; nothing is opened.
-fn look(arena: &[u8], first: &[u16], next: &[u16], mem: &[u8], id: u32) -> Noted
+fn look(arena: &[u8], first: &[u16], next: &[u16], mem: &[u8], id: u32) -> Result<DiskINode, Reason>
     requires { Admitted arena.now first.now next.now mem.now }
-    ensures { Went (look_at (fs_at arena.now mem.now) id) result.rec Unit result.reason }
+    ensures { Went (look_at (fs_at arena.now mem.now) id) (result_unwrap_or result zero_record) Unit (code result) }
 {
-    let n = record_on(arena, first, next, mem, id);
-    if n.reason != 0 {
-        return n;
-    }
+    let rec = record_on(arena, first, next, mem, id)?;
     let f = find_row(mem, id);
     match f {
-        Found::At(_) => n,
-        Found::Nothing => stored(arena, first, next, n.rec),
+        Some(_) => Ok(rec),
+        None => stored(arena, first, next, rec),
     }
 }
 
-// Where the walk stands, where the reason is 0.
+// Where the walk stands.
 #[derive(Clone, Copy)]
 pub struct Stand {
-    pub reason: u8,
     pub id: u32,
     pub rec: DiskINode,
 }
 
-fn nowhere(reason: u8) -> Stand
-    ensures { result.reason ≡ reason }
-{
-    Stand {
-        reason: reason,
-        id: 0,
-        rec: zero_record(),
-    }
-}
-
-fn at_root(arena: &[u8], first: &[u16], next: &[u16], mem: &[u8]) -> Stand
+fn at_root(arena: &[u8], first: &[u16], next: &[u16], mem: &[u8]) -> Result<Stand, Reason>
     requires { Admitted arena.now first.now next.now mem.now }
-    ensures { Went (at_root (fs_at arena.now mem.now)) (spot result.id result.rec) Unit result.reason }
+    ensures { Went (at_root (fs_at arena.now mem.now)) (spot (result_unwrap_or result no_stand).id (result_unwrap_or result no_stand).rec) Unit (code result) }
 {
-    let n = look(arena, first, next, mem, 2);
-    let rec = n.rec;
-    Stand {
-        reason: n.reason,
-        id: 2,
-        rec: rec,
-    }
+    let rec = look(arena, first, next, mem, 2)?;
+    Ok(Stand { id: 2, rec })
 }
 
 // The node of a slot; its type is looked at.
-fn stand_on(arena: &[u8], first: &[u16], next: &[u16], mem: &[u8], id: u32) -> Stand
+fn stand_on(arena: &[u8], first: &[u16], next: &[u16], mem: &[u8], id: u32) -> Result<Stand, Reason>
     requires { Admitted arena.now first.now next.now mem.now }
-    ensures { Went (stand_on (fs_at arena.now mem.now) id) (spot result.id result.rec) Unit result.reason }
+    ensures { Went (stand_on (fs_at arena.now mem.now) id) (spot (result_unwrap_or result no_stand).id (result_unwrap_or result no_stand).rec) Unit (code result) }
 {
-    let n = look(arena, first, next, mem, id);
-    if n.reason != 0 {
-        return nowhere(n.reason);
-    }
-    let rec = n.rec;
+    let rec = look(arena, first, next, mem, id)?;
     if rec.kind > 4 {
-        return nowhere(19);
+        return Err(Reason::Stuck);
     }
-    Stand {
-        reason: 0,
-        id: id,
-        rec: rec,
-    }
+    Ok(Stand { id, rec })
 }
 
 fn part_in(
@@ -127,27 +94,20 @@ fn part_in(
     mem: &[u8],
     rec: DiskINode,
     name: &[u8],
-) -> Stand
+) -> Result<Stand, Reason>
     requires { Admitted arena.now first.now next.now mem.now }
-    ensures { Went (part_in (fs_at arena.now mem.now) rec name.now) (spot result.id result.rec) Unit result.reason }
+    ensures { Went (part_in (fs_at arena.now mem.now) rec name.now) (spot (result_unwrap_or result no_stand).id (result_unwrap_or result no_stand).rec) Unit (code result) }
 {
-    let r = find_folder(rec, name);
-    if r != 0 {
-        return nowhere(r);
-    }
-    let n = find_id(arena, first, next, rec, name);
-    if n.reason != 0 {
-        return nowhere(n.reason);
-    }
-    stand_on(arena, first, next, mem, n.id)
+    find_folder(rec, name)?;
+    let id = find_id(arena, first, next, rec, name)?;
+    stand_on(arena, first, next, mem, id)
 }
 
 // ---- along a text, to its end or to the first link
 
-// Where the reason is 0: the node at the end; or the folder in which a link was met, the link's record, and the place after its part.
+// The node at the end; or the folder in which a link was met, the link's record, and the place after its part.
 #[derive(Clone, Copy)]
 pub struct Passed {
-    pub reason: u8,
     pub link: bool,
     pub id: u32,
     pub rec: DiskINode,
@@ -163,39 +123,38 @@ pub fn along(
     id: u32,
     rec: DiskINode,
     text: &[u8],
-) -> Passed
+) -> Result<Passed, Reason>
     requires { Admitted arena.now first.now next.now mem.now }
-    ensures { (along_parts (fs_at arena.now mem.now) (spot id rec) (cut text.now) ≡ way_of text.now result) × (result.place ≤ length text.now) }
+    ensures { (along_parts (fs_at arena.now mem.now) (spot id rec) (cut text.now) ≡ way_of text.now result) × ((result_unwrap_or result no_passed).place ≤ length text.now) }
 {
     let mut at = id;
     let mut dir = rec;
     let mut i: usize = 0;
+    // A while: the next place comes from the slash that is found, not from a counter.
     while i < text.len() {
         let e = end_at(text, i);
-        let n = part_in(arena, first, next, mem, dir, &text[i..e]);
+        let n = part_in(arena, first, next, mem, dir, &text[i..e])?;
         i = next_at(text, e);
         let rec = n.rec;
-        if (n.reason != 0) | (rec.kind == TYPE_SYMLINK) {
-            return Passed {
-                reason: n.reason,
+        if rec.kind == TYPE_SYMLINK {
+            return Ok(Passed {
                 link: true,
                 id: at,
                 rec: dir,
                 node: rec,
                 place: i,
-            };
+            });
         }
         at = n.id;
         dir = rec;
     }
-    Passed {
-        reason: 0,
+    Ok(Passed {
         link: false,
         id: at,
         rec: dir,
         node: dir,
         place: i,
-    }
+    })
 }
 
 // ---- a text is entered
@@ -209,22 +168,15 @@ pub fn enter(
     id: u32,
     rec: DiskINode,
     text: &[u8],
-) -> Stand
+) -> Result<Stand, Reason>
     requires { Admitted arena.now first.now next.now mem.now }
-    ensures { Went (enter_text (fs_at arena.now mem.now) (spot id rec) text.now) (spot result.id result.rec) Unit result.reason }
+    ensures { Went (enter_text (fs_at arena.now mem.now) (spot id rec) text.now) (spot (result_unwrap_or result no_stand).id (result_unwrap_or result no_stand).rec) Unit (code result) }
 {
-    let r = good_text(text);
-    if r != 0 {
-        return nowhere(r);
-    }
+    good_text(text)?;
     if from_root(text) {
         return at_root(arena, first, next, mem);
     }
-    Stand {
-        reason: 0,
-        id: id,
-        rec: rec,
-    }
+    Ok(Stand { id, rec })
 }
 
 // Between two texts. What is left of the one at hand is `from..to` of the path, or of the link buffer where a link was followed; `depth` rests
@@ -232,7 +184,7 @@ pub fn enter(
 #[derive(Clone, Copy)]
 pub struct Going {
     pub over: bool,
-    pub reason: u8,
+    pub ended: Result<(), Reason>,
     pub id: u32,
     pub rec: DiskINode,
     pub left: usize,
@@ -243,20 +195,39 @@ pub struct Going {
 }
 
 // A text was entered at e, or not.
-pub fn entry(e: Stand, left: usize, used: usize, depth: usize, from: usize, to: usize) -> Going
-    ensures { (o : Out Spot) → Went o (spot e.id e.rec) Unit e.reason → Entered result o left used depth from to }
+pub fn entry(
+    e: Result<Stand, Reason>,
+    left: usize,
+    used: usize,
+    depth: usize,
+    from: usize,
+    to: usize,
+) -> Going
+    ensures { (o : Out Spot) → Went o (spot (result_unwrap_or e no_stand).id (result_unwrap_or e no_stand).rec) Unit (code e) → Entered result o left used depth from to }
 {
-    let rec = e.rec;
-    Going {
-        over: e.reason != 0,
-        reason: e.reason,
-        id: e.id,
-        rec: rec,
-        left: left,
-        used: used,
-        depth: depth,
-        from: from,
-        to: to,
+    match e {
+        Ok(at) => Going {
+            over: false,
+            ended: Ok(()),
+            id: at.id,
+            rec: at.rec,
+            left,
+            used,
+            depth,
+            from,
+            to,
+        },
+        Err(reason) => Going {
+            over: true,
+            ended: Err(reason),
+            id: 0,
+            rec: zero_record(),
+            left,
+            used,
+            depth,
+            from,
+            to,
+        },
     }
 }
 

@@ -1,11 +1,13 @@
 // A text that is walked: the caller's path, or a link's target.
 ghost use Rattle.std.specs.Prelude.{◌≡◌, ◌≤◌, length};
+ghost use Rattle.base.specs.Told.{code};
 ghost use Rattle.base.specs.Count.{bit};
 ghost use Rattle.base.specs.Out.{answer, ensure};
 ghost use Rattle.base.specs.Reasons.{bad_name};
 ghost use Rattle.walk.specs.Walk.{from_root, part_at, split as split_text, good_text};
 ghost use Rattle.walk_parts.specs.Texts.{end_at, next_at, left_of, bound_of};
 
+use base::Reason;
 use calls::good_name;
 use utf8::{SLASH, equal, first_of};
 
@@ -44,32 +46,27 @@ fn split(text: &[u8]) -> bool
         return false;
     }
     let n = text.len();
-    let mut i: usize = 0;
-    while i < n {
+    for i in 0..n {
         if (text[i] == SLASH) & !part_at(text, i + 1) {
             return false;
         }
-        i = i + 1;
     }
     true
 }
 
-// 5, or 0.
-pub fn good_text(text: &[u8]) -> u8
-    ensures { result ≡ answer (ensure (good_text text.now) bad_name) }
+// 5 where it is not good.
+pub fn good_text(text: &[u8]) -> Result<(), Reason>
+    ensures { code result ≡ answer (ensure (good_text text.now) bad_name) }
 {
-    let r = good_name(text);
-    if r != 0 {
-        return r;
-    }
+    good_name(text)?;
     if equal(text, b"/") {
-        return 0;
+        return Ok(());
     }
     let s = skip(text);
     if split(&text[s..]) {
-        return 0;
+        return Ok(());
     }
-    5
+    Err(Reason::BadName)
 }
 
 // The part that begins at i ends there.

@@ -6,5 +6,5 @@ use Rattle.base.proofs.found_below.Goals as goal
 pub returns-then-k-bound : goal.returns-then-k-bound
 returns-then-k-bound c = sym (found_at _ _ c.if-k-bound.true)
 
-pub returns : goal.returns
-returns c = sym (found_nothing _ _ c.if-k-bound.false)
+pub returns-else-k-bound : goal.returns-else-k-bound
+returns-else-k-bound c = sym (found_nothing _ _ c.if-k-bound.false)

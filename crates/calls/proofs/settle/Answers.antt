@@ -1,14 +1,12 @@
--- `calls::settle`: by the reason.
+-- `calls::settle`: by what the steps answered.
 use mathlib.Core.Path.{◌∙◌, ap}
-use Rattle.calls.proofs.Answers.{after-done, after-refused}
+use Rattle.mem.specs.Mem.{table_in}
 use Rattle.calls.specs.Answers.{done_with}
+use Rattle.calls.proofs.Answers.{after-done, after-refused}
 use Rattle.calls.proofs.settle.Goals as goal
 
-pub returns-then-reason-ne0 : goal.returns-then-reason-ne0
-returns-then-reason-ne0 c = c.refused.ensures ∙ after-refused _ _ _ c.if-reason-ne0.true
+pub returns-in-Ok : goal.returns-in-Ok
+returns-in-Ok c = rw c.in-Ok.is (c.done.ensures ∙ ap done_with c.table_at.ensures ∙ after-done c.args.t (table_in c.args.mem.now))
 
-pub returns : goal.returns
-returns c =
-    c.done.ensures
-    ∙ ap done_with c.table_at.ensures
-    ∙ after-done _ _ _ c.if-reason-ne0.false
+pub returns-in-Err : goal.returns-in-Err
+returns-in-Err c = rw c.in-Err.is (c.refused.ensures ∙ after-refused c.args.t (table_in c.args.mem.now) c.in-Err.reason)

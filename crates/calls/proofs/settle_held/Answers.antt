@@ -1,14 +1,13 @@
--- `calls::settle_held`: by the reason.
-use mathlib.Core.Path.{◌∙◌, ap}
-use Rattle.table.specs.declared.Table.{Table}
-use Rattle.calls.specs.Answers.{held_with, added_as}
-use Rattle.calls.proofs.Answers.{given-held, given-refused}
+-- `calls::settle_held`: by what the steps answered.
+use mathlib.Core.Path.{refl, sym, ◌∙◌}
+use Rattle.base.proofs.Tells.{done-is}
+use Rattle.calls.specs.Answers.{given_of}
 use Rattle.calls.proofs.settle_held.Goals as goal
 
-pub returns-then-h-ne0 : goal.returns-then-h-ne0
-returns-then-h-ne0 c = c.not_given.ensures ∙ given-refused _ _ _ c.if-h-ne0.true
+pub returns-then-is_ok : goal.returns-then-is_ok
+unfolding given_of
+returns-then-is_ok c = rw (c.table_at-table.ensures, sym (done-is c.args.r) ∙ sym c.is_ok.ensures.value ∙ c.if-is_ok.true) refl
 
-pub returns : goal.returns
-returns c =
-    ap (λ (u : Table). held_with (added_as c.args.h.handle u)) c.table_at-u.ensures
-    ∙ given-held _ _ _ c.if-h-ne0.false
+pub returns-else-is_ok : goal.returns-else-is_ok
+unfolding given_of
+returns-else-is_ok c = rw (sym (done-is c.args.r) ∙ sym c.is_ok.ensures.value ∙ c.if-is_ok.false) refl

@@ -1,4 +1,7 @@
 -- `calls_create::create_asked`: arena and table, then the rest by the chains that were left.
+use Rattle.std.proofs.lemmas.Result.{err_from_is_err_and}
+use Rattle.base.proofs.Tells.{number-ne}
+use mathlib.Core.Path.{refl}
 use mathlib.Core.Path.{sym}
 use Rattle.base.proofs.Outs.{went-has, went-not}
 use Rattle.sound.proofs.Chains.{length-firsts}
@@ -8,16 +11,17 @@ use Rattle.steps.proofs.Ends.{rest-off}
 use Rattle.calls_create.proofs.Creates.{create-refused}
 use Rattle.calls_create.proofs.create_asked.Goals as goal
 
-pub admit-r-requires : goal.admit-r-requires
-admit-r-requires c = (blank, c.requires)
+pub admit-requires : goal.admit-requires
+admit-requires c = (blank, c.requires)
 
-pub returns-then-r-ne0 : goal.returns-then-r-ne0
-returns-then-r-ne0 c =
-    let s = c.args in
-    rest-off c.if-r-ne0.true (create-refused s.arena.now (table_in s.mem.now) s.who s.h s.name.now s.new.kind s.new.mode s.new.time s.new.file (went-not c.admit-r.ensures c.if-r-ne0.true))
+pub returns-in_err-admit : goal.returns-in_err-admit
+returns-in_err-admit c =
+    let p = err_from_is_err_and c.from_residual.result c.from_residual.ensures.1 in
+    rw (p.1, p.2) (let s = c.args in
+    rest-off (number-ne c.in_err-admit.field-0.0) (create-refused s.arena.now (table_in s.mem.now) s.who s.h s.name.now s.new.kind s.new.mode s.new.time s.new.file (went-not c.in_err-admit.ensures (number-ne c.in_err-admit.field-0.0))))
 
 pub slice_bounds-create_led-end : goal.slice_bounds-create_led-end
-slice_bounds-create_led-end c = sym (length-firsts c.admit-r.new.chains c.admit-r.auto.chains)
+slice_bounds-create_led-end c = sym (length-firsts c.admit.new.chains c.admit.auto.chains)
 
 pub create_led-requires : goal.create_led-requires
-create_led-requires c = went-has c.admit-r.ensures c.if-r-ne0.false
+create_led-requires c = went-has c.in_ok-admit.ensures refl

@@ -3,7 +3,7 @@ use Rattle.calls_create.proofs.Held.{opens-has, handed}
 use Rattle.calls_create.proofs.create_rows.Goals as goal
 
 pub hand-requires : goal.hand-requires
-hand-requires c = λ z. opens-has c.create_begin-o.ensures z
+hand-requires c = λ z. opens-has c.create_begin-opened.ensures z
 
 pub returns : goal.returns
-returns c = handed _ c.hand.ensures.0 c.hand.ensures.1 c.create_begin-o.ensures
+returns c = handed _ c.hand.ensures.0 c.hand.ensures.1 c.create_begin-opened.ensures

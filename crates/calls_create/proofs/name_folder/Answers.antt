@@ -1,17 +1,21 @@
 -- `calls_create::name_folder`: one count, then the other.
+use Rattle.std.proofs.lemmas.Result.{err_from_is_err_and}
+use Rattle.base.proofs.Tells.{number-ne}
+use mathlib.Core.Path.{refl}
 use mathlib.Core.List.{[]}
 use Rattle.base.proofs.Outs.{went-has}
 use Rattle.calls_create.proofs.Creates.{folder-stop, folder-done}
 use Rattle.calls_create.proofs.name_folder.Goals as goal
 
-pub returns-then-r-ne0 : goal.returns-then-r-ne0
-returns-then-r-ne0 c =
-    λ a w. folder-stop _ c.args.i c.args.c (c.nlinks_inc-r.ensures a w) _ _ c.if-r-ne0.true
+pub returns-in_err-nlinks_inc : goal.returns-in_err-nlinks_inc
+returns-in_err-nlinks_inc c =
+    let p = err_from_is_err_and c.from_residual.result c.from_residual.ensures.1 in
+    rw (p.1, p.2) (λ a w. folder-stop _ c.args.i c.args.c (c.in_err-nlinks_inc.ensures a w) _ _ (number-ne c.in_err-nlinks_inc.field-0.0))
 
-pub nlinks_inc-requires : goal.nlinks_inc-requires
-nlinks_inc-requires c =
-    (went-has (c.nlinks_inc-r.ensures [] []) c.if-r-ne0.false, c.requires.1.0)
+pub nlinks_inc-requires-2 : goal.nlinks_inc-requires-2
+nlinks_inc-requires-2 c =
+    (went-has (c.in_ok-nlinks_inc.ensures [] []) refl, c.requires.1.0)
 
 pub returns : goal.returns
 returns c =
-    λ a w. folder-done _ c.args.i c.args.c (c.nlinks_inc-r.ensures a w) c.if-r-ne0.false (c.nlinks_inc.ensures a w)
+    λ a w. folder-done _ c.args.i c.args.c (c.in_ok-nlinks_inc.ensures a w) refl (c.nlinks_inc-2.ensures a w)

@@ -1,21 +1,25 @@
 -- `calls_create::name_node`: the node, and by its kind the folder.
+use Rattle.std.proofs.lemmas.Result.{err_from_is_err_and}
+use Rattle.base.proofs.Tells.{number-ne}
+use mathlib.Core.Path.{refl}
 use mathlib.Core.List.{[]}
 use Rattle.base.proofs.Outs.{went-has}
 use Rattle.calls_create.proofs.Creates.{named-stop, named-folder, named_other}
 use Rattle.calls_create.proofs.name_node.Goals as goal
 
-pub returns-then-r-ne0 : goal.returns-then-r-ne0
-returns-then-r-ne0 c =
-    λ a w. named-stop _ c.args.i c.args.c (c.nlinks_inc-r.ensures a w) c.args.kind _ _ c.if-r-ne0.true
+pub returns-in_err-nlinks_inc : goal.returns-in_err-nlinks_inc
+returns-in_err-nlinks_inc c =
+    let p = err_from_is_err_and c.from_residual.result c.from_residual.ensures.1 in
+    rw (p.1, p.2) (λ a w. named-stop _ c.args.i c.args.c (c.in_err-nlinks_inc.ensures a w) c.args.kind _ _ (number-ne c.in_err-nlinks_inc.field-0.0))
 
 pub name_folder-requires : goal.name_folder-requires
 name_folder-requires c =
-    (went-has (c.nlinks_inc-r.ensures [] []) c.if-r-ne0.false, c.requires.1)
+    (went-has (c.in_ok-nlinks_inc.ensures [] []) refl, c.requires.1)
 
 pub returns-then-kind-eq2 : goal.returns-then-kind-eq2
 returns-then-kind-eq2 c =
-    λ a w. named-folder _ c.args.i c.args.c (c.nlinks_inc-r.ensures a w) c.args.kind c.if-r-ne0.false c.if-kind-eq2.true (c.name_folder.ensures a w)
+    λ a w. named-folder _ c.args.i c.args.c (c.in_ok-nlinks_inc.ensures a w) c.args.kind refl c.if-kind-eq2.true (c.name_folder.ensures a w)
 
 pub returns : goal.returns
 returns c =
-    λ a w. named_other _ c.args.i c.args.c (c.nlinks_inc-r.ensures a w) c.args.kind c.if-r-ne0.false c.if-kind-eq2.false
+    λ a w. named_other _ c.args.i c.args.c (c.in_ok-nlinks_inc.ensures a w) c.args.kind refl c.if-kind-eq2.false

@@ -1,29 +1,32 @@
 -- `calls_entry::entry_on`: arena and table, then the rest by the chains that were left.
-use mathlib.Core.Path.{sym, ◌∙◌, ap}
+use mathlib.Core.Path.{refl, sym, ap}
+use Rattle.std.proofs.lemmas.Result.{err_from_is_err_and}
+use Rattle.base.proofs.Tells.{number-ne}
 use lib.ListN.{length}
 use Rattle.base.proofs.Outs.{went-has, went-not}
 use Rattle.sound.proofs.Chains.{length-firsts}
 use Rattle.mem.specs.Mem.{table_in}
 use Rattle.calls.specs.Answers.{answer_of, laid}
 use Rattle.calls.proofs.Asks.{blank}
-use Rattle.calls.proofs.Outputs.{laid_out}
-use Rattle.calls_entry.proofs.Entries.{laid-answer, entry-refused}
+use Rattle.calls.proofs.Outputs.{lays-answer}
+use Rattle.calls_entry.proofs.Entries.{entry-refused}
 use Rattle.calls_entry.proofs.entry_on.Goals as goal
 
-pub admit-r-requires : goal.admit-r-requires
-admit-r-requires c = (blank, c.requires)
+pub admit-requires : goal.admit-requires
+admit-requires c = (blank, c.requires)
 
-pub returns-then-r-ne0 : goal.returns-then-r-ne0
-returns-then-r-ne0 c =
+pub returns-in_err-admit : goal.returns-in_err-admit
+returns-in_err-admit c =
     let s = c.args in
-    let e = entry-refused s.arena.now (table_in s.mem.now) s.who s.h s.k (length s.out.now) (went-not c.admit-r.ensures c.if-r-ne0.true) in
-    (sym (ap answer_of e), sym (ap (laid s.out.now) e))
+    let e = entry-refused s.arena.now (table_in s.mem.now) s.who s.h s.k (length s.out.now) (went-not c.in_err-admit.ensures (number-ne c.in_err-admit.field-0.0)) in
+    let p = err_from_is_err_and c.from_residual.result c.from_residual.ensures.1 in
+    rw (p.1, p.2) (sym (ap answer_of e), sym (ap (laid s.out.now) e))
 
 pub slice_bounds-entry_led-end : goal.slice_bounds-entry_led-end
-slice_bounds-entry_led-end c = sym (length-firsts c.admit-r.new.chains c.admit-r.auto.chains)
+slice_bounds-entry_led-end c = sym (length-firsts c.admit.new.chains c.admit.auto.chains)
 
 pub entry_led-requires : goal.entry_led-requires
-entry_led-requires c = went-has c.admit-r.ensures c.if-r-ne0.false
+entry_led-requires c = went-has c.in_ok-admit.ensures refl
 
 pub returns : goal.returns
-returns c = (c.as_answer.ensures ∙ laid-answer c.entry_led.ensures, laid_out c.entry_led.ensures)
+returns c = lays-answer c.entry_led.result c.entry_led.ensures

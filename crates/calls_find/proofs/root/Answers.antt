@@ -6,4 +6,4 @@ use Rattle.calls_find.proofs.root.Goals as goal
 pub returns : goal.returns
 returns c =
     let s = c.args in
-    given-table (λ u. call_root s.arena.now u s.who) _ c.put_table.ensures.0 c.root_on-h.ensures c.settle_held.ensures
+    given-table (λ u. call_root s.arena.now u s.who) _ _ c.put_table.ensures.0 c.root_on-h.ensures c.settle_held.ensures

@@ -1,23 +1,28 @@
 -- `calls_find::root_on`: arena and table, then the call by the chains that were left.
+use Rattle.std.proofs.lemmas.Result.{err_from_is_err_and}
+use Rattle.base.specs.Out.{ill}
+use Rattle.base.proofs.Tells.{number-ne, number-pos}
+use mathlib.Core.Path.{refl}
 use mathlib.Core.Path.{sym}
-use Rattle.base.proofs.Outs.{went-has, went-not, above_zero}
+use Rattle.base.proofs.Outs.{went-has, went-not}
 use Rattle.sound.proofs.Chains.{length-firsts}
 use Rattle.mem.specs.Mem.{table_in}
 use Rattle.calls.proofs.Asks.{blank}
-use Rattle.calls_find.proofs.Finds.{not-handed, root-refused}
+use Rattle.calls_find.proofs.Finds.{root-refused}
 use Rattle.calls_find.proofs.root_on.Goals as goal
 
-pub admit-r-requires : goal.admit-r-requires
-admit-r-requires c = (blank, c.requires)
+pub admit-requires : goal.admit-requires
+admit-requires c = (blank, c.requires)
 
-pub returns-then-r-ne0 : goal.returns-then-r-ne0
-returns-then-r-ne0 c =
+pub returns-in_err-admit : goal.returns-in_err-admit
+returns-in_err-admit c =
+    let p = err_from_is_err_and c.from_residual.result c.from_residual.ensures.1 in
     let s = c.args in
-    let n = c.if-r-ne0.true in
-    not-handed (above_zero _ n) (root-refused s.arena.now (table_in s.mem.now) s.who (went-not c.admit-r.ensures n)) c.not_handed.ensures
+    let e = c.in_err-admit.field-0.0 in
+    rw (p.1, p.2) (ill (number-pos e) (root-refused s.arena.now (table_in s.mem.now) s.who (went-not c.in_err-admit.ensures (number-ne e))))
 
 pub slice_bounds-root_led-end : goal.slice_bounds-root_led-end
-slice_bounds-root_led-end c = sym (length-firsts c.admit-r.new.chains c.admit-r.auto.chains)
+slice_bounds-root_led-end c = sym (length-firsts c.admit.new.chains c.admit.auto.chains)
 
 pub root_led-requires : goal.root_led-requires
-root_led-requires c = went-has c.admit-r.ensures c.if-r-ne0.false
+root_led-requires c = went-has c.in_ok-admit.ensures refl

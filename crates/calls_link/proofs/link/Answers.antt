@@ -5,4 +5,4 @@ use Rattle.calls_link.proofs.link.Goals as goal
 
 pub returns : goal.returns
 returns c =
-    returned-table (λ u. call_link c.args.arena.now u c.args.who c.args.h c.args.name.now c.args.child) _ c.put_table.ensures.0 c.link_on-r.ensures c.settle.ensures
+    returned-table (λ u. call_link c.args.arena.now u c.args.who c.args.h c.args.name.now c.args.child) _ _ c.put_table.ensures.0 c.link_on-r.ensures c.settle.ensures

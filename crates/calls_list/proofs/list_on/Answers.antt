@@ -35,19 +35,20 @@ found s = told s (start_of s.args.dots s.args.next)
 pub overflow_add-result : goal.overflow_add-result
 overflow_add-result c =
     let from = c.start_of-from.result in
-    let m = listed-slots _ (told (goal.at.overflow_add-result c).Start from) _ c.list_from-l.ensures.0 c.in-Slots.is in
+    let E = rw c.in-Ok.is at c.list_from.ensures in
+    let m = listed-slots _ (told (goal.at.overflow_add-result c).Start from) E.0 in
     let f = listing-left c.args.arena.now c.args.t c.args.who c.args.h from (length c.args.out.now) m.0 m.1 in
     omega (arith, m.2, f.2, blocks-fit (goal.at.overflow_add-result c).Start f.0 f.1)
 
-pub returns-in-Slots : goal.returns-in-Slots
-returns-in-Slots c =
+pub returns-in-Ok : goal.returns-in-Ok
+returns-in-Ok c =
     let f = c.start_of-from.ensures in
-    let E = c.list_from-l.ensures in
-    let e = ap (told (goal.at.returns-in-Slots c).Start) f in
-    (slots-moved c.args.dots c.args.next _ _ (found (goal.at.returns-in-Slots c).Start) _ f (E.0 ∙ ap listed_of e) c.in-Slots.is, E.1 ∙ ap (laid c.args.out.now) e)
+    let E = rw c.in-Ok.is at c.list_from.ensures in
+    let e = ap (told (goal.at.returns-in-Ok c).Start) f in
+    (slots-moved c.args.dots c.args.next _ _ (found (goal.at.returns-in-Ok c).Start) f (E.0 ∙ ap listed_of e), (E.0 ∙ ap listed_of e, E.1 ∙ ap (laid c.args.out.now) e))
 
-pub returns-in-Refused : goal.returns-in-Refused
-returns-in-Refused c =
-    let E = c.list_from-l.ensures in
-    let e = ap (told (goal.at.returns-in-Refused c).Start) c.start_of-from.ensures in
-    (refused-moved c.args.dots c.args.next _ (found (goal.at.returns-in-Refused c).Start) _ (E.0 ∙ ap listed_of e) c.in-Refused.is, E.1 ∙ ap (laid c.args.out.now) e)
+pub returns-in-Err : goal.returns-in-Err
+returns-in-Err c =
+    let E = rw c.in-Err.is at c.list_from.ensures in
+    let e = ap (told (goal.at.returns-in-Err c).Start) c.start_of-from.ensures in
+    (refused-moved c.args.dots c.args.next _ (found (goal.at.returns-in-Err c).Start) (E.0 ∙ ap listed_of e), (E.0 ∙ ap listed_of e, E.1 ∙ ap (laid c.args.out.now) e))

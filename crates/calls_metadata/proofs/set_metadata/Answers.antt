@@ -10,4 +10,4 @@ set_on-r-requires c = c.put_table.ensures.1
 pub returns : goal.returns
 returns c =
     let a = c.args in
-    settled (λ (u : Table). call_set a.arena.now u a.who a.h a.mode a.uid a.gid a.atime a.mtime a.ctime) c.put_table.ensures.0 c.set_on-r.ensures c.settle.ensures
+    settled (λ (u : Table). call_set a.arena.now u a.who a.h a.mode a.uid a.gid a.atime a.mtime a.ctime) _ c.put_table.ensures.0 c.set_on-r.ensures c.settle.ensures

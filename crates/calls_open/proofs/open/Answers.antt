@@ -1,6 +1,7 @@
 -- `calls_open::open`: the answer by the reason.
-use mathlib.Core.Path.{ap, ◌∙◌}
+use mathlib.Core.Path.{refl, ap, ◌∙◌}
 use Rattle.base.proofs.Outs.{went-is, went-not}
+use Rattle.base.proofs.Tells.{number-ne}
 use Rattle.table.specs.declared.Table.{Table}
 use Rattle.table.specs.Table.{empty_table}
 use Rattle.sefs.specs.Open.{call_open}
@@ -8,8 +9,11 @@ use Rattle.calls.specs.Answers.{done_with, refused_with}
 use Rattle.calls.proofs.Answers.{done-after, refused-after}
 use Rattle.calls_open.proofs.open.Goals as goal
 
-pub returns-then-r-ne0 : goal.returns-then-r-ne0
-returns-then-r-ne0 c = refused-after empty_table (call_open c.args.arena.now) _ _ (went-not c.open_on-r.ensures c.if-r-ne0.true) (c.refused.ensures ∙ ap (λ (t : Table). refused_with t c.open_on-r.result) c.empty-t.ensures)
+pub returns-in-Ok : goal.returns-in-Ok
+returns-in-Ok c =
+    done-after empty_table (call_open c.args.arena.now) _ empty_table (went-is (rw c.in-Ok.is at c.open_on.ensures) refl) (c.done.ensures ∙ ap done_with c.empty-t.ensures)
 
-pub returns : goal.returns
-returns c = done-after empty_table (call_open c.args.arena.now) _ empty_table (went-is c.open_on-r.ensures c.if-r-ne0.false) (c.done.ensures ∙ ap done_with c.empty-t.ensures)
+pub returns-in-Err : goal.returns-in-Err
+returns-in-Err c =
+    let e = c.in-Err.reason in
+    refused-after empty_table (call_open c.args.arena.now) _ e (went-not (rw c.in-Err.is at c.open_on.ensures) (number-ne e)) (c.refused.ensures ∙ ap (λ (t : Table). refused_with t e) c.empty-t.ensures)

@@ -1,4 +1,7 @@
 -- `calls_remove::pick_asked`: arena and table, then the rest by the chains that were left.
+use Rattle.std.proofs.lemmas.Result.{err_from_is_err_and}
+use Rattle.base.proofs.Tells.{number-ne}
+use mathlib.Core.Path.{refl}
 use mathlib.Core.Path.{sym}
 use Rattle.base.proofs.Outs.{went-has, went-not}
 use Rattle.sound.proofs.Chains.{length-firsts}
@@ -8,16 +11,17 @@ use Rattle.steps.proofs.Ends.{rest-off}
 use Rattle.calls_remove.proofs.Removes.{remove-refused}
 use Rattle.calls_remove.proofs.pick_asked.Goals as goal
 
-pub admit-r-requires : goal.admit-r-requires
-admit-r-requires c = (blank, c.requires)
+pub admit-requires : goal.admit-requires
+admit-requires c = (blank, c.requires)
 
-pub returns-then-r-ne0 : goal.returns-then-r-ne0
-returns-then-r-ne0 c =
-    let s = c.args in
-    rest-off c.if-r-ne0.true (remove-refused s.folder s.arena.now (table_in s.mem.now) s.who s.h s.name.now (went-not c.admit-r.ensures c.if-r-ne0.true))
+pub returns-in_err-admit : goal.returns-in_err-admit
+returns-in_err-admit c =
+    let p = err_from_is_err_and c.from_residual.result c.from_residual.ensures.1 in
+    rw (p.1, p.2) (let s = c.args in
+    rest-off (number-ne c.in_err-admit.field-0.0) (remove-refused s.folder s.arena.now (table_in s.mem.now) s.who s.h s.name.now (went-not c.in_err-admit.ensures (number-ne c.in_err-admit.field-0.0))))
 
 pub slice_bounds-pick_led-end : goal.slice_bounds-pick_led-end
-slice_bounds-pick_led-end c = sym (length-firsts c.admit-r.new.chains c.admit-r.auto.chains)
+slice_bounds-pick_led-end c = sym (length-firsts c.admit.new.chains c.admit.auto.chains)
 
 pub pick_led-requires : goal.pick_led-requires
-pick_led-requires c = went-has c.admit-r.ensures c.if-r-ne0.false
+pick_led-requires c = went-has c.in_ok-admit.ensures refl

@@ -5,4 +5,4 @@ use Rattle.calls_resize.proofs.resize.Goals as goal
 
 pub returns : goal.returns
 returns c =
-    returned-table (λ u. call_resize c.args.arena.now u c.args.who c.args.h c.args.n) _ c.put_table.ensures.0 c.resize_on-r.ensures c.settle.ensures
+    returned-table (λ u. call_resize c.args.arena.now u c.args.who c.args.h c.args.n) _ _ c.put_table.ensures.0 c.resize_on-r.ensures c.settle.ensures

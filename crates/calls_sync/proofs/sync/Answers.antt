@@ -9,4 +9,4 @@ sync_on-r-requires c = c.put_table.ensures.1
 
 pub returns : goal.returns
 returns c =
-    returned-table (λ (u : Table). call_sync c.args.arena.now u) _ c.put_table.ensures.0 c.sync_on-r.ensures c.settle.ensures
+    returned-table (λ (u : Table). call_sync c.args.arena.now u) _ _ c.put_table.ensures.0 c.sync_on-r.ensures c.settle.ensures

@@ -2,7 +2,7 @@
 use mathlib.Core.Path.{◌≡◌}
 use mathlib.Core.Bool.{true}
 use mathlib.Core.List.{List}
-use Prim.Native.Nat.{ℕ, ◌+◌, ◌-◌, ◌≤◌}
+use Prim.Native.Nat.{ℕ, ◌+◌, ◌≤◌}
 use lib.ListN.{length}
 use Rattle.base.specs.Out.{done}
 use Rattle.arena.specs.Fields.{file}
@@ -14,9 +14,6 @@ use Rattle.calls_write.proofs.put_blocks.Given as goal
 
 abbrev pub invariant-loop-i : goal.invariant-loop-i
 invariant-loop-i l =
-    (l.i ≤ l.n) × (length l.arena ≡ length l.initial.arena)
+    (length l.arena ≡ length l.initial.arena)
     × ((a : List ℕ) → there a (file 1 l.name) ≡ true → l.pos + length l.src ≤ longest → Planned a (file 1 l.name) l.pos (length l.src) l.plan → put_to a (file 1 l.name) l.pos l.src 0 ≡ done l.initial.arena
     → (put_to a (file 1 l.name) l.pos l.src l.i ≡ done l.arena) × (l.from ≤ free_of l.arena))
-
-abbrev pub decreases-loop-i : goal.decreases-loop-i
-decreases-loop-i l = l.n - l.i

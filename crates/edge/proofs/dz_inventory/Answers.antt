@@ -8,4 +8,4 @@ returns-then-count-ne-LENGTH_WORDS c =
 
 pub returns : goal.returns
 returns c =
-    by-taken (sized-is 1 c.args.count.now _ c.if-count-ne-LENGTH_WORDS.false) c.inventory-t.ensures c.end_taken.ensures
+    by-taken _ (sized-is 1 c.args.count.now _ c.if-count-ne-LENGTH_WORDS.false) c.inventory-t.ensures c.end_taken.ensures

@@ -10,4 +10,4 @@ returns-then-table-ne-TABLE c =
 
 pub returns : goal.returns
 returns c =
-    by-mend (sized-is 4402 c.args.table.now _ c.if-table-ne-TABLE.false ∙ (λ x. call_mend c.args.arena.now (sym c.begin.ensures.0 x))) c.mend_on-r.ensures refl
+    by-mend (sized-is 4402 c.args.table.now _ c.if-table-ne-TABLE.false ∙ (λ x. call_mend c.args.arena.now (sym c.begin.ensures.0 x))) c.mend_on-r.ensures c.number.ensures

@@ -18,4 +18,4 @@ metadata_on-t-requires c =
 
 pub returns : goal.returns
 returns c =
-    by-told (sized-is 4402 c.args.table.now _ c.if-table-ne-TABLE.false ∙ sized-is 14 c.args.out.now _ c.if-out-ne-METADATA_WORDS.false ∙ (λ x. call_metadata c.args.arena.now (sym c.begin.ensures.0 x) c.args.owner (sym c.handle.ensures x))) c.metadata_on-t.ensures c.end_told.ensures
+    by-told _ (sized-is 4402 c.args.table.now _ c.if-table-ne-TABLE.false ∙ sized-is 14 c.args.out.now _ c.if-out-ne-METADATA_WORDS.false ∙ (λ x. call_metadata c.args.arena.now (sym c.begin.ensures.0 x) c.args.owner (sym c.handle.ensures x))) c.metadata_on-t.ensures c.end_told.ensures

@@ -15,4 +15,4 @@ entry_on-a-requires c =
 
 pub returns : goal.returns
 returns c =
-    by-laid (sized-is 4402 c.args.table.now _ c.if-table-ne-TABLE.false ∙ (λ x. call_entry c.args.arena.now (sym c.begin.ensures.0 x) c.args.owner (sym c.handle.ensures x) c.args.slot (length c.args.out.now))) c.entry_on-a.ensures c.number.ensures
+    by-laid _ (sized-is 4402 c.args.table.now _ c.if-table-ne-TABLE.false ∙ (λ x. call_entry c.args.arena.now (sym c.begin.ensures.0 x) c.args.owner (sym c.handle.ensures x) c.args.slot (length c.args.out.now))) c.entry_on-a.ensures c.number.ensures

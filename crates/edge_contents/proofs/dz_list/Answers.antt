@@ -25,7 +25,7 @@ end_listed-requires c =
 
 pub returns : goal.returns
 returns c =
-    by-listed c.start_of-from.result (start_in c.args.dots c.args.next.now) c.start_of-from.ensures
+    by-listed _ c.start_of-from.result (start_in c.args.dots c.args.next.now) c.start_of-from.ensures
     (sized-is 4402 c.args.table.now _ c.if-table-ne-TABLE.false ∙ sized-is 1 c.args.next.now _ c.if-next-ne-NEXT_WORDS.false
     ∙ (λ x. call_listing c.args.arena.now (sym c.begin.ensures.0 x) c.args.owner (sym c.handle.ensures x) (sym c.start_of-from.ensures x) (length c.args.out.now)))
     c.listing_on-l.ensures c.end_listed.ensures

@@ -17,7 +17,7 @@ path_on-t-requires c = c.begin.ensures.1
 
 pub returns : goal.returns
 returns c =
-    by-taken
+    by-taken _
     (sized-is 4402 c.args.table.now _ c.if-table-ne-TABLE.false ∙ sized-is 1 c.args.count.now _ c.if-count-ne-LENGTH_WORDS.false
     ∙ (λ x. call_path c.args.arena.now (sym c.begin.ensures.0 x) c.args.owner (sym c.handle.ensures x) (length c.args.out.now)))
     c.path_on-t.ensures.lays c.end_taken.ensures

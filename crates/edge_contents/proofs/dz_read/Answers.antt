@@ -19,6 +19,6 @@ read_on-t-requires c =
 
 pub returns : goal.returns
 returns c =
-    by-taken
+    by-taken _
     (sized-is 4402 c.args.table.now _ c.if-table-ne-TABLE.false ∙ sized-is 1 c.args.count.now _ c.if-count-ne-LENGTH_WORDS.false ∙ (λ x. call_read c.args.arena.now (sym c.begin.ensures.0 x) c.args.owner (sym c.handle.ensures x) c.args.place (length c.args.out.now)))
     c.read_on-t.ensures c.end_taken.ensures

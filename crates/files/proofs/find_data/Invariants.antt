@@ -1,13 +1,10 @@
 -- `files::find_data`: no block below k has it.
 use mathlib.Core.Path.{◌≡◌}
 use mathlib.Core.Bool.{false}
-use Prim.Native.Nat.{ℕ, ◌-◌, ◌≤◌, ◌<◌}
+use Prim.Native.Nat.{ℕ, ◌<◌}
 use Rattle.arena.specs.Fields.{file, is_data}
 use Rattle.overlay.specs.View.{blk_of}
 use Rattle.files.proofs.find_data.Given as goal
 
 abbrev pub invariant-loop-k : goal.invariant-loop-k
-invariant-loop-k l = (l.k ≤ l.n) × ((j : ℕ) → j < l.k → is_data (file l.which l.name) l.number (blk_of l.arena l.work j) ≡ false)
-
-abbrev pub decreases-loop-k : goal.decreases-loop-k
-decreases-loop-k l = l.n - l.k
+invariant-loop-k l = ((j : ℕ) → j < l.k → is_data (file l.which l.name) l.number (blk_of l.arena l.work j) ≡ false)

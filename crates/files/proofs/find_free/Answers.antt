@@ -10,7 +10,7 @@ use Rattle.files.proofs.Finds.{tested, seek-here, seek-none}
 use Rattle.files.proofs.find_free.Goals as goal
 
 pub loop-k-init : goal.loop-k-init
-loop-k-init c = (omega arith, λ j l. absurd (omega arith))
+loop-k-init c = (λ j l. absurd (omega arith))
 
 pub block-requires : goal.block-requires
 block-requires c = (c.loop-k-test.true, c.requires)
@@ -22,13 +22,13 @@ is_free-requires c =
 pub returns-then-is_free : goal.returns-then-is_free
 unfolding free_of
 returns-then-is_free c =
-    seek-here _ _ c.requires is_free c.loop-k.k c.loop-k-test.true c.loop-k.invariant.1 (tested is_free c.is_free.ensures c.block.ensures c.if-is_free.true)
+    seek-here _ _ c.requires is_free c.loop-k.k c.loop-k-test.true c.loop-k.invariant (tested is_free c.is_free.ensures c.block.ensures c.if-is_free.true)
 
 pub loop-k-preserved : goal.loop-k-preserved
 loop-k-preserved c =
-    (omega arith, below_more _ c.loop-k.k c.loop-k.invariant.1 (tested is_free c.is_free.ensures c.block.ensures c.if-is_free.false))
+    (below_more _ c.loop-k.k c.loop-k.invariant (tested is_free c.is_free.ensures c.block.ensures c.if-is_free.false))
 
 pub returns : goal.returns
 unfolding free_of
 returns c =
-    seek-none _ _ c.requires is_free c.loop-k.k c.loop-k-test.false c.loop-k.invariant.1
+    seek-none _ _ c.requires is_free c.loop-k.k c.loop-k-test.false c.loop-k.invariant

@@ -10,7 +10,7 @@ use Rattle.files.proofs.Finds.{tested, seek-here, seek-none}
 use Rattle.files.proofs.find_head.Goals as goal
 
 pub loop-k-init : goal.loop-k-init
-loop-k-init c = (omega arith, λ j l. absurd (omega arith))
+loop-k-init c = (λ j l. absurd (omega arith))
 
 pub block-requires : goal.block-requires
 block-requires c = (c.loop-k-test.true, c.requires.0)
@@ -22,13 +22,13 @@ is_head-requires c =
 pub returns-then-is_head : goal.returns-then-is_head
 unfolding head_of
 returns-then-is_head c =
-    seek-here _ _ c.requires.0 (is_head (file c.args.which c.args.name.now)) c.loop-k.k c.loop-k-test.true c.loop-k.invariant.1 (tested (is_head (file c.args.which c.args.name.now)) c.is_head.ensures c.block.ensures c.if-is_head.true)
+    seek-here _ _ c.requires.0 (is_head (file c.args.which c.args.name.now)) c.loop-k.k c.loop-k-test.true c.loop-k.invariant (tested (is_head (file c.args.which c.args.name.now)) c.is_head.ensures c.block.ensures c.if-is_head.true)
 
 pub loop-k-preserved : goal.loop-k-preserved
 loop-k-preserved c =
-    (omega arith, below_more _ c.loop-k.k c.loop-k.invariant.1 (tested (is_head (file c.args.which c.args.name.now)) c.is_head.ensures c.block.ensures c.if-is_head.false))
+    (below_more _ c.loop-k.k c.loop-k.invariant (tested (is_head (file c.args.which c.args.name.now)) c.is_head.ensures c.block.ensures c.if-is_head.false))
 
 pub returns : goal.returns
 unfolding head_of
 returns c =
-    seek-none _ _ c.requires.0 (is_head (file c.args.which c.args.name.now)) c.loop-k.k c.loop-k-test.false c.loop-k.invariant.1
+    seek-none _ _ c.requires.0 (is_head (file c.args.which c.args.name.now)) c.loop-k.k c.loop-k-test.false c.loop-k.invariant

@@ -1,16 +1,21 @@
 -- `folders::unlink_folder`: two steps, whatever the arena.
+use Rattle.std.proofs.lemmas.Result.{err_from_is_err_and}
+use Rattle.base.proofs.Tells.{number-ne}
+use mathlib.Core.Path.{refl}
 use Rattle.base.proofs.Outs.{went-is, went-has, went-next, went-stop}
 use Rattle.sefs.specs.Folders.{unlink_folder}
 use mathlib.Core.List.{[]}
 use Rattle.folders.proofs.unlink_folder.Goals as goal
 
-pub returns-then-r-ne0 : goal.returns-then-r-ne0
+pub returns-in_err-nlinks_dec : goal.returns-in_err-nlinks_dec
 unfolding unlink_folder
-returns-then-r-ne0 c = λ a w. went-stop _ _ c.if-r-ne0.true (c.nlinks_dec-r.ensures a w)
+returns-in_err-nlinks_dec c =
+    let p = err_from_is_err_and c.from_residual.result c.from_residual.ensures.1 in
+    rw (p.1, p.2) (λ a w. went-stop _ _ (number-ne c.in_err-nlinks_dec.field-0.0) (c.in_err-nlinks_dec.ensures a w))
 
-pub nlinks_dec-requires : goal.nlinks_dec-requires
-nlinks_dec-requires c = (went-has (c.nlinks_dec-r.ensures [] []) c.if-r-ne0.false, c.requires.1.0)
+pub nlinks_dec-requires-2 : goal.nlinks_dec-requires-2
+nlinks_dec-requires-2 c = (went-has (c.in_ok-nlinks_dec.ensures [] []) refl, c.requires.1.0)
 
 pub returns : goal.returns
 unfolding unlink_folder
-returns c = λ a w. went-next _ (went-is (c.nlinks_dec-r.ensures a w) c.if-r-ne0.false) (c.nlinks_dec.ensures a w)
+returns c = λ a w. went-next _ (went-is (c.in_ok-nlinks_dec.ensures a w) refl) (c.nlinks_dec-2.ensures a w)

@@ -1,24 +1,11 @@
 -- `fsck_climb::children_ok`: slot after slot.
-use mathlib.Core.Path.{sym, ◌∙◌}
-use mathlib.Core.Bool.{true}
-use native.Mathlib.Omega.{arith}
-use Rattle.base.proofs.Counts.{all_to-more}
-use Rattle.fsck_links.proofs.Nodes.{all_none}
-use Rattle.fsck_climb.proofs.Ways.{children-not, children-all}
+use Rattle.std.proofs.Common.{◌+◌, ◌-◌, arith, refl, rules, tests}
+use Rattle.fsck_read.proofs.Ranges.{all-range}
+use Rattle.fsck_climb.specs.Way.{child_fine, children_fine}
 use Rattle.fsck_climb.proofs.children_ok.Goals as goal
 
-pub loop-j-init : goal.loop-j-init
-loop-j-init c =
-    (omega arith, all_none _)
-
-pub returns-then-not-child_ok : goal.returns-then-not-child_ok
-returns-then-not-child_ok c =
-    children-not c.args.arena.now c.args.parents.now c.args.rec c.args.id c.index-n.result c.loop-j.j c.index-n.ensures (omega arith) (sym c.child_ok.ensures ∙ c.if-not-child_ok.true)
-
-pub loop-j-preserved : goal.loop-j-preserved
-loop-j-preserved c =
-    (omega arith, all_to-more _ c.loop-j.j c.loop-j.invariant.1 (sym c.child_ok.ensures ∙ c.if-not-child_ok.false))
-
 pub returns : goal.returns
+unfolding children_fine
 returns c =
-    children-all c.args.arena.now c.args.parents.now c.args.rec c.args.id c.index-n.result c.loop-j.j c.index-n.ensures (omega arith) (omega arith) c.loop-j.invariant.1
+    all-range (λ j. child_fine c.args.arena.now c.args.parents.now c.args.rec c.args.id (2 + j)) (child_fine c.args.arena.now c.args.parents.now c.args.rec c.args.id) 2 (c.args.rec.blocks - 2) (λ _. refl)
+    _ _ _ _ c.all.ensures.ran c.index.result refl (omega (arith, c.index.ensures)) (λ x q k. search (rules, tests)) (λ x q k. search (rules, tests))

@@ -1,5 +1,4 @@
 -- `fsck_links::count_all`: id after id.
-use mathlib.Core.Path.{refl, sym, ◌∙◌}
 use native.Mathlib.Omega.{arith}
 use Rattle.mem.specs.Mem.{table_in}
 use Rattle.fsck_links.specs.Counts.{named_to}
@@ -7,20 +6,15 @@ use Rattle.fsck_links.proofs.Counts.{all_none, all_more, all_done}
 use Rattle.fsck_links.proofs.count_all.Goals as goal
 
 pub loop-id-init : goal.loop-id-init
-loop-id-init c =
-    (omega arith, (refl, all_none c.args.arena.now (table_in c.args.mem.now) c.args.counts.now c.requires.loaded.1))
+loop-id-init c = all_none c.args.arena.now (table_in c.args.mem.now) c.args.counts.now c.requires.loaded.1
 
 pub count_node-requires : goal.count_node-requires
-count_node-requires c = record { led = c.requires.led; loaded = (c.requires.loaded.0, (c.loop-id.invariant.1.1.size, omega (arith, c.ids-n.ensures.value.1.1))); mem_value = c.requires.mem_value }
+count_node-requires c = record { led = c.requires.led; loaded = (c.requires.loaded.0, (c.loop-id.invariant.size, omega (arith, c.ids-id-end.ensures.value.1.1))); mem_value = c.requires.mem_value }
 
 pub loop-id-preserved : goal.loop-id-preserved
 loop-id-preserved c =
-    let a = c.args.arena.now in
-    let t = table_in c.args.mem.now in
-    let H = c.count_node.ensures (named_to a t c.loop-id.id) c.loop-id.invariant.1.1 in
-    (omega arith, (H.size ∙ sym c.requires.loaded.1.size, all_more a t _ c.loop-id.id H))
+    all_more c.args.arena.now (table_in c.args.mem.now) _ c.loop-id.id (c.count_node.ensures (named_to c.args.arena.now (table_in c.args.mem.now) c.loop-id.id) c.loop-id.invariant)
 
 pub returns : goal.returns
 returns c =
-    let a = c.args.arena.now in
-    all_done a (table_in c.args.mem.now) c.loop-id.counts c.loop-id.id c.ids-n.result (c.ids-n.ensures.by_index a c.requires.loaded.0.1) c.loop-id.invariant.0 (omega arith) c.loop-id.invariant.1.1
+    all_done c.args.arena.now (table_in c.args.mem.now) c.loop-id.counts c.loop-id.id c.ids-id-end.result (c.ids-id-end.ensures.by_index c.args.arena.now c.requires.loaded.0.1) (omega arith) (omega arith) c.loop-id.invariant

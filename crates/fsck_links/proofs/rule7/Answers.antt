@@ -1,34 +1,14 @@
 -- `fsck_links::rule7`: id after id.
-use mathlib.Core.Path.{sym, ◌∙◌}
-use mathlib.Core.Bool.{true}
-use Prim.Native.Nat.{◌<◌}
-use native.Mathlib.Omega.{arith}
-use Rattle.base.proofs.Counts.{all_to-more}
+use Rattle.std.proofs.Common.{refl, ap, ◌∙◌, rules, tests}
+use Rattle.base.specs.Count.{all_to}
 use Rattle.mem.specs.Mem.{table_in}
-use Rattle.rules.specs.Image.{ids_in}
+use Rattle.fsck_read.proofs.Ranges.{all-below}
 use Rattle.fsck_links.specs.Counts.{links_at}
-use Rattle.fsck_links.proofs.Nodes.{all_none, all-not, all_done, seven_is}
+use Rattle.fsck_links.proofs.Nodes.{seven_is}
 use Rattle.fsck_links.proofs.rule7.Goals as goal
-
-pub loop-id-init : goal.loop-id-init
-loop-id-init c = (omega arith, all_none _)
-
-pub node_ok-requires : goal.node_ok-requires
-node_ok-requires c =
-    let below : c.loop-id.id < 4096 = omega (arith, c.ids-n.ensures.value.1.1) in record { led = c.requires.led; loaded = (c.requires.loaded, below); named_value = c.requires.counted.each c.loop-id.id below }
-
-pub returns-then-not-node_ok : goal.returns-then-not-node_ok
-returns-then-not-node_ok c =
-    let a = c.args.arena.now in
-    all-not (links_at a (table_in c.args.mem.now)) c.ids-n.result (ids_in a) c.loop-id.id (c.ids-n.ensures.by_index a c.requires.loaded.1) (omega arith) (sym c.node_ok.ensures ∙ c.if-not-node_ok.true)
-    ∙ seven_is a (table_in c.args.mem.now)
-
-pub loop-id-preserved : goal.loop-id-preserved
-loop-id-preserved c =
-    (omega arith, all_to-more _ c.loop-id.id c.loop-id.invariant.1 (sym c.node_ok.ensures ∙ c.if-not-node_ok.false))
 
 pub returns : goal.returns
 returns c =
-    let a = c.args.arena.now in
-    all_done (links_at a (table_in c.args.mem.now)) c.ids-n.result (ids_in a) c.loop-id.id (c.ids-n.ensures.by_index a c.requires.loaded.1) c.loop-id.invariant.0 (omega arith) c.loop-id.invariant.1
-    ∙ seven_is a (table_in c.args.mem.now)
+    all-below (links_at c.args.arena.now (table_in c.args.mem.now)) c.ids.result _ _ _ _ c.all.ensures.ran refl (λ x q k. search (rules, tests)) (λ x q k. search (rules, tests))
+    ∙ ap (all_to (links_at c.args.arena.now (table_in c.args.mem.now))) (c.ids.ensures.by_index c.args.arena.now c.requires.loaded.1)
+    ∙ seven_is c.args.arena.now (table_in c.args.mem.now)

@@ -8,7 +8,4 @@ use Rattle.rules.specs.Image.{later_slot}
 use Rattle.fsck_links.proofs.subfolders.Given as goal
 
 abbrev pub invariant-loop-k : goal.invariant-loop-k
-invariant-loop-k l = ((2 ≤ l.k) × (l.k - 2 ≤ l.n - 2)) × ((l.c ≤ l.k) × ((length l.slot ≡ 264) × (l.c ≡ count_to (λ j. is_folder (later_slot l.arena l.rec j).kind) (l.k - 2))))
-
-abbrev pub decreases-loop-k : goal.decreases-loop-k
-decreases-loop-k l = l.n - l.k
+invariant-loop-k l = (l.k - 2 ≤ l.k-end - 2) × ((l.c ≤ l.k) × ((length l.slot ≡ 264) × (l.c ≡ count_to (λ j. is_folder (later_slot l.arena l.rec j).kind) (l.k - 2))))

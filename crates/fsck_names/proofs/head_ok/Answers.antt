@@ -1,11 +1,16 @@
--- `fsck_names::head_ok`: the tag, the byte of the file, and the byte of the claim.
-use Rattle.fsck_names.proofs.Names.{head-set, head-none}
+-- `fsck_names::head_ok`: the definition.
+use Rattle.std.proofs.Common.{arith}
+use Rattle.std.proofs.lemmas.Bool.Decides.{nat_tests}
+use Rattle.fsck_names.specs.Names.{head_claimed}
+use Rattle.fsck_names.proofs.Names.{tag_is, which-is}
 use Rattle.fsck_names.proofs.head_ok.Goals as goal
 
-pub returns-then-arena-o : goal.returns-then-arena-o
-returns-then-arena-o c =
-    head-set c.args.arena.now c.args.claimed.now c.args.k c.if-arena-o.true
+pub returns-then-arena-o-eq1-2 : goal.returns-then-arena-o-eq1-2
+unfolding head_claimed
+returns-then-arena-o-eq1-2 c =
+    grind (arith, nat_tests, tag_is c.args.arena.now c.args.claimed.now c.args.k, which-is c.args.arena.now c.args.claimed.now c.args.k)
 
 pub returns : goal.returns
+unfolding head_claimed
 returns c =
-    head-none c.args.arena.now c.args.claimed.now c.args.k c.if-arena-o.false
+    grind (arith, nat_tests, tag_is c.args.arena.now c.args.claimed.now c.args.k, which-is c.args.arena.now c.args.claimed.now c.args.k)

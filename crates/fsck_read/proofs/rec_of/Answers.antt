@@ -7,12 +7,12 @@ use Rattle.fsck_read.proofs.rec_of.Goals as goal
 
 pub rec_at-requires : goal.rec_at-requires
 rec_at-requires c =
-    (c.requires.loaded.0.whole, row_below (table_in c.args.mem.now) c.args.id c.in-At.i (sym c.find_row-f.ensures ∙ c.in-At.is))
+    (c.requires.loaded.0.whole, row_below (table_in c.args.mem.now) c.args.id c.in-Some.i (sym c.find_row-f.ensures ∙ c.in-Some.is))
 
-pub returns-in-At : goal.returns-in-At
-returns-in-At c =
-    c.rec_at.ensures ∙ rec-row (table_in c.args.mem.now) c.args.id c.args.arena.now c.in-At.i (sym c.find_row-f.ensures ∙ c.in-At.is)
+pub returns-in-Some : goal.returns-in-Some
+returns-in-Some c =
+    c.rec_at.ensures ∙ rec-row (table_in c.args.mem.now) c.args.id c.args.arena.now c.in-Some.i (sym c.find_row-f.ensures ∙ c.in-Some.is)
 
-pub returns-in-Nothing : goal.returns-in-Nothing
-returns-in-Nothing c =
-    c.stored_rec.ensures ∙ rec-stored (table_in c.args.mem.now) c.args.id c.args.arena.now (sym c.find_row-f.ensures ∙ c.in-Nothing.is)
+pub returns-in-None : goal.returns-in-None
+returns-in-None c =
+    c.stored_rec.ensures ∙ rec-stored (table_in c.args.mem.now) c.args.id c.args.arena.now (sym c.find_row-f.ensures ∙ c.in-None.is)

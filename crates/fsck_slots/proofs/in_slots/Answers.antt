@@ -2,11 +2,8 @@
 use mathlib.Core.Path.{sym, ◌∙◌}
 use native.Mathlib.Omega.{arith}
 use Rattle.fsck_slots.specs.Slots.{bears}
-use Rattle.fsck_slots.proofs.Names.{hashed-less, found-one, found_none, none_more}
+use Rattle.fsck_slots.proofs.Names.{hashed-less, found-one, found_none}
 use Rattle.fsck_slots.proofs.in_slots.Goals as goal
-
-pub loop-j-init : goal.loop-j-init
-loop-j-init c = (omega arith, λ i l. absurd (omega arith))
 
 pub has_name-requires : goal.has_name-requires
 has_name-requires c = record { led = c.requires.led; j_bound = (omega (arith, c.requires.n_bound.0), (c.requires.n_bound.1.0, hashed-less c.args.arena.now c.args.rec c.args.hashes.now c.args.n c.loop-j.j (omega arith) c.requires.n_bound.1.1)) }
@@ -15,10 +12,6 @@ pub returns-then-has_name : goal.returns-then-has_name
 returns-then-has_name c =
     found-one (bears c.args.arena.now c.args.rec c.args.name.now) c.args.n c.loop-j.j (omega arith) (sym c.has_name.ensures ∙ c.if-has_name.true)
 
-pub loop-j-preserved : goal.loop-j-preserved
-loop-j-preserved c =
-    (omega arith, none_more (bears c.args.arena.now c.args.rec c.args.name.now) c.loop-j.j c.loop-j.invariant.1 (sym c.has_name.ensures ∙ c.if-has_name.false))
-
 pub returns : goal.returns
 returns c =
-    found_none (bears c.args.arena.now c.args.rec c.args.name.now) c.args.n c.loop-j.j (omega arith) c.loop-j.invariant.1
+    found_none (bears c.args.arena.now c.args.rec c.args.name.now) c.args.n c.loop-j.j (omega arith) c.loop-j.invariant

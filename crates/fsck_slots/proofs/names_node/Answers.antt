@@ -1,18 +1,14 @@
 -- `fsck_slots::names_node`: a node's id is the maps'; then its record tells.
-use mathlib.Core.Path.{sym, ◌∙◌}
-use Rattle.mem.specs.Mem.{table_in}
-use Rattle.fsck_slots.proofs.Slots.{names-not, names-kind}
+use Rattle.std.proofs.Common.{arith}
+use Rattle.std.proofs.lemmas.Bool.Decides.{nat_tests}
+use Rattle.structs.specs.Layout.{entry_of}
+use Rattle.fsck_slots.specs.Slots.{names_node}
 use Rattle.fsck_slots.proofs.names_node.Goals as goal
 
-pub returns-then-not-is_node : goal.returns-then-not-is_node
-returns-then-not-is_node c =
-    names-not c.args.slot.now c.args.arena.now (table_in c.args.mem.now) c.index-id.result (c.index-id.ensures ∙ c.u32_at.ensures)
-    (sym c.if-not-is_node.true ∙ c.is_node.ensures.by_index c.args.arena.now c.requires.loaded.0.1)
+pub returns-then-is_node : goal.returns-then-is_node
+unfolding names_node entry_of
+returns-then-is_node c = grind (arith, nat_tests, c.is_node.ensures.by_index c.args.arena.now c.requires.loaded.0.1)
 
-pub rec_of-requires : goal.rec_of-requires
-rec_of-requires c = record { led = c.requires.led; loaded = (c.requires.loaded.0.0, c.is_node.ensures.id_bound c.if-not-is_node.false) }
-
-pub returns : goal.returns
-returns c =
-    names-kind c.args.slot.now c.args.arena.now (table_in c.args.mem.now) c.index-id.result (c.index-id.ensures ∙ c.u32_at.ensures) c.u32_at-2.result c.rec_of.result
-    (sym c.if-not-is_node.false ∙ c.is_node.ensures.by_index c.args.arena.now c.requires.loaded.0.1) c.rec_of.ensures c.u32_at-2.ensures
+pub returns-else-is_node : goal.returns-else-is_node
+unfolding names_node entry_of
+returns-else-is_node c = grind (arith, nat_tests, c.is_node.ensures.by_index c.args.arena.now c.requires.loaded.0.1)

@@ -1,25 +1,15 @@
--- `holds::holds_ok`: each hold that the loop passed is as it should be.
-use mathlib.Core.Path.{sym, ◌∙◌}
-use mathlib.Core.Bool.{true}
-use native.Mathlib.Omega.{arith}
-use borrow.Author.Count.{below_none, below_more}
-use Rattle.base.proofs.Counts.{all_to-false, all_to-all}
+-- `holds::holds_ok`: the test of each hold, one after the other.
+use mathlib.Core.Path.{refl, ◌∙◌}
+use Rattle.std.proofs.Common.{rules, tests}
+use Rattle.std.proofs.lemmas.Iterator.{YieldsList-from_range}
+use Rattle.std.proofs.lemmas.Iterator.Search.{all_from_yields_List}
 use Rattle.table.specs.Formed.{hold_ok, holds_ok}
+use Rattle.mem.specs.Mem.{table_in}
+use Rattle.holds.proofs.Ranges.{all_below}
 use Rattle.holds.proofs.holds_ok.Goals as goal
-
-pub loop-n-init : goal.loop-n-init
-loop-n-init c = (omega arith, below_none _)
-
-pub hold_ok-requires : goal.hold_ok-requires
-hold_ok-requires c = (c.requires, c.loop-n-test.true)
-
-pub returns-then-not-hold_ok : goal.returns-then-not-hold_ok
-unfolding holds_ok
-returns-then-not-hold_ok c = sym (all_to-false _ 32 _ c.loop-n-test.true (sym c.hold_ok.ensures ∙ c.if-not-hold_ok.true))
-
-pub loop-n-preserved : goal.loop-n-preserved
-loop-n-preserved c = (omega arith, below_more _ _ c.loop-n.invariant.1 (sym c.hold_ok.ensures ∙ c.if-not-hold_ok.false))
 
 pub returns : goal.returns
 unfolding holds_ok
-returns c = sym (all_to-all _ 32 (λ j l. c.loop-n.invariant.1 j (omega arith)))
+returns c =
+    let t = table_in c.args.mem.now in
+    all_from_yields_List (hold_ok t) _ _ _ c.all.ensures.ran (YieldsList-from_range 0 32 32 refl refl) (λ x b q k. search (rules, tests)) ∙ all_below (hold_ok t) 32

@@ -12,20 +12,17 @@ use Rattle.holds.proofs.own_holds.Goals as goal
 use Rattle.holds.proofs.own_holds.Goals.{then-h-who, else-h-who}
 
 pub loop-n-init : goal.loop-n-init
-loop-n-init c = (omega arith, sym (count_to-none _ 0 (λ j l. absurd (omega arith))))
-
-pub hold_at-h-requires : goal.hold_at-h-requires
-hold_at-h-requires c = (c.requires, c.loop-n-test.true)
+loop-n-init c = sym (count_to-none _ 0 (λ j l. absurd (omega arith)))
 
 pub overflow_add-own : goal.overflow_add-own
 overflow_add-own c = omega (arith, count_to-le (own_at (table_in c.args.mem.now) c.args.who) c.loop-n.n)
 
 pub loop-n-preserved : goal.loop-n-preserved
 loop-n-preserved c =
-    let i = c.loop-n.invariant.1 in
+    let i = c.loop-n.invariant in
     let e = ap (λ (h : Hold). not (eqb h.stamp 0) && eqb h.owner c.args.who) (sym c.hold_at-h.ensures) in
-    (omega arith, elim c.if-h-who.branch [ then-h-who w ↦ count_yes _ _ _ _ i (e ∙ w.if-h-who.true) w.own-is | else-h-who w ↦ count_no _ _ _ _ i (e ∙ w.if-h-who.false) w.own-is ])
+    elim c.if-h-who.branch [ then-h-who w ↦ count_yes _ _ _ _ i (e ∙ w.if-h-who.true) w.own-is | else-h-who w ↦ count_no _ _ _ _ i (e ∙ w.if-h-who.false) w.own-is ]
 
 pub returns : goal.returns
 unfolding own_holds
-returns c = let e : c.loop-n.n ≡ 32 = omega arith in rw e at c.loop-n.invariant.1
+returns c = let e : c.loop-n.n ≡ 32 = omega arith in rw e at c.loop-n.invariant

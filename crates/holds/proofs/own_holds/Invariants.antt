@@ -1,5 +1,4 @@
 -- `holds::own_holds`: `own` counts the live holds of who's that the loop passed.
-use Prim.Native.Nat.{◌≤◌, ◌-◌}
 use mathlib.Core.Path.{◌≡◌}
 use Rattle.base.specs.Count.{count_to}
 use Rattle.table.specs.Table.{own_at}
@@ -7,7 +6,4 @@ use Rattle.mem.specs.Mem.{table_in}
 use Rattle.holds.proofs.own_holds.Given as goal
 
 abbrev pub invariant-loop-n : goal.invariant-loop-n
-invariant-loop-n l = (l.n ≤ 32) × (l.own ≡ count_to (own_at (table_in l.mem) l.who) l.n)
-
-abbrev pub decreases-loop-n : goal.decreases-loop-n
-decreases-loop-n l = 32 - l.n
+invariant-loop-n l = l.own ≡ count_to (own_at (table_in l.mem) l.who) l.n

@@ -13,30 +13,26 @@ use Rattle.inplace.proofs.drop_file.Goals as goal
 
 pub loop-k-init : goal.loop-k-init
 unfolding clear_to
-loop-k-init c = (omega arith, refl)
+loop-k-init c = refl
 
 pub slice_bounds-is_of-end : goal.slice_bounds-is_of-end
 slice_bounds-is_of-end c =
-    omega (arith, ap length c.loop-k.invariant.1, length-clear_to (is_of (file c.args.which c.args.name.now)) c.args.arena.now c.loop-k.k (omega arith))
+    omega (arith, ap length c.loop-k.invariant, length-clear_to (is_of (file c.args.which c.args.name.now)) c.args.arena.now c.loop-k.k (omega arith))
 
 pub is_of-yes-requires : goal.is_of-yes-requires
 is_of-yes-requires c =
-    length_part c.loop-k.arena (512 * c.loop-k.k) (512 * c.loop-k.k + 512) (omega arith) (omega (arith, ap length c.loop-k.invariant.1, length-clear_to (is_of (file c.args.which c.args.name.now)) c.args.arena.now c.loop-k.k (omega arith))) ∙ omega arith
-
-pub free_at-requires : goal.free_at-requires
-free_at-requires c =
-    omega (arith, ap length c.loop-k.invariant.1, length-clear_to (is_of (file c.args.which c.args.name.now)) c.args.arena.now c.loop-k.k (omega arith))
+    length_part c.loop-k.arena (512 * c.loop-k.k) (512 * c.loop-k.k + 512) (omega arith) (omega (arith, ap length c.loop-k.invariant, length-clear_to (is_of (file c.args.which c.args.name.now)) c.args.arena.now c.loop-k.k (omega arith))) ∙ omega arith
 
 pub loop-k-preserved : goal.loop-k-preserved
 unfolding blk
 loop-k-preserved c =
-    (omega arith, clear-turn (is_of (file c.args.which c.args.name.now)) c.args.arena.now c.loop-k.arena _ c.loop-k.k c.is_of-yes.result (omega arith) c.loop-k.invariant.1 c.is_of-yes.ensures c.free_at.ensures)
+    clear-turn (is_of (file c.args.which c.args.name.now)) c.args.arena.now c.loop-k.arena _ c.loop-k.k c.is_of-yes.result (omega arith) c.loop-k.invariant c.is_of-yes.ensures c.free_at.ensures
 
 pub shape_of-arena : goal.shape_of-arena
-shape_of-arena c = ap length c.loop-k.invariant.1 ∙ length-clear_to (is_of (file c.args.which c.args.name.now)) c.args.arena.now c.loop-k.k (omega arith)
+shape_of-arena c = ap length c.loop-k.invariant ∙ length-clear_to (is_of (file c.args.which c.args.name.now)) c.args.arena.now c.loop-k.k (omega arith)
 
 pub returns : goal.returns
 unfolding clear_all
 returns c =
     let e : c.loop-k.k ≡ blocks c.args.arena.now = omega arith in
-    c.loop-k.invariant.1 ∙ ap (clear_to (is_of (file c.args.which c.args.name.now)) c.args.arena.now) e
+    c.loop-k.invariant ∙ ap (clear_to (is_of (file c.args.which c.args.name.now)) c.args.arena.now) e

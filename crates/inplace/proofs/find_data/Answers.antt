@@ -11,9 +11,6 @@ use Rattle.arena.specs.Fields.{file, is_data}
 use Rattle.arena.specs.Places.{data_of}
 use Rattle.inplace.proofs.find_data.Goals as goal
 
-pub loop-k-init : goal.loop-k-init
-loop-k-init c = (omega arith, λ j l. absurd (omega arith))
-
 pub is_data-requires : goal.is_data-requires
 is_data-requires c =
     (length_part c.args.arena.now (512 * c.loop-k.k) (512 * c.loop-k.k + 512) (omega arith) (omega arith) ∙ omega arith, search rules)
@@ -21,14 +18,14 @@ is_data-requires c =
 pub returns-then-is_data : goal.returns-then-is_data
 unfolding blk data_of
 returns-then-is_data c =
-    lowest-here (λ j. is_data (file c.args.which c.args.name.now) c.args.number (blk c.args.arena.now j)) _ c.loop-k.k (omega arith) c.loop-k.invariant.1 (sym c.is_data.ensures ∙ c.if-is_data.true)
+    lowest-here (λ j. is_data (file c.args.which c.args.name.now) c.args.number (blk c.args.arena.now j)) _ c.loop-k.k (omega arith) c.loop-k.invariant (sym c.is_data.ensures ∙ c.if-is_data.true)
 
 pub loop-k-preserved : goal.loop-k-preserved
 unfolding blk
 loop-k-preserved c =
-    (omega arith, below_more _ c.loop-k.k c.loop-k.invariant.1 (sym c.is_data.ensures ∙ c.if-is_data.false))
+    below_more _ c.loop-k.k c.loop-k.invariant (sym c.is_data.ensures ∙ c.if-is_data.false)
 
 pub returns : goal.returns
 unfolding data_of
 returns c =
-    lowest-none (λ j. is_data (file c.args.which c.args.name.now) c.args.number (blk c.args.arena.now j)) _ (λ j h. c.loop-k.invariant.1 j (omega arith))
+    lowest-none (λ j. is_data (file c.args.which c.args.name.now) c.args.number (blk c.args.arena.now j)) _ (λ j h. c.loop-k.invariant j (omega arith))

@@ -7,12 +7,12 @@ use Rattle.files.specs.Store.{is_past}
 use Rattle.files.proofs.Finds.{tested}
 use Rattle.inplace.proofs.is_past.Goals as goal
 
-pub returns-then-not-is_data : goal.returns-then-not-is_data
+pub returns-else-is_data : goal.returns-else-is_data
 unfolding is_past
-returns-then-not-is_data c =
-    rw (tested (λ (q : ℕ). is_data (file c.args.which c.args.name.now) q c.args.b.now) c.is_data.ensures c.u32_at-q.ensures c.if-not-is_data.true)
+returns-else-is_data c =
+    rw (tested (λ (q : ℕ). is_data (file c.args.which c.args.name.now) q c.args.b.now) c.is_data.ensures c.u32_at-q.ensures c.if-is_data.false) c.if-is_data.false
 
-pub returns : goal.returns
+pub returns-then-is_data : goal.returns-then-is_data
 unfolding is_past
-returns c =
-    rw (tested (λ (q : ℕ). is_data (file c.args.which c.args.name.now) q c.args.b.now) c.is_data.ensures c.u32_at-q.ensures c.if-not-is_data.false) (ap (λ (q : ℕ). leb c.args.len (480 * q)) (c.index.ensures ∙ c.u32_at-q.ensures))
+returns-then-is_data c =
+    rw (tested (λ (q : ℕ). is_data (file c.args.which c.args.name.now) q c.args.b.now) c.is_data.ensures c.u32_at-q.ensures c.if-is_data.true) (ap (λ (q : ℕ). leb c.args.len (480 * q)) (c.index.ensures ∙ c.u32_at-q.ensures))

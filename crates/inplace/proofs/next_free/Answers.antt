@@ -1,18 +1,9 @@
 -- `inplace::next_free`: no block below k is free.
 use mathlib.Core.Path.{sym, ◌∙◌}
-use Prim.Native.Nat.{◌+◌, ◌*◌}
 use native.Mathlib.Omega.{arith}
-use Rattle.base.proofs.Lists.{length_part}
 use Rattle.arena.specs.Blocks.{blk}
 use Rattle.inplace.proofs.Searches.{free-here, free-later, free-none}
 use Rattle.inplace.proofs.next_free.Goals as goal
-
-pub loop-k-init : goal.loop-k-init
-loop-k-init c = c.requires
-
-pub is_free-requires : goal.is_free-requires
-is_free-requires c =
-    length_part c.args.arena.now (512 * c.loop-k.k) (512 * c.loop-k.k + 512) (omega arith) (omega arith) ∙ omega arith
 
 pub returns-then-is_free : goal.returns-then-is_free
 unfolding blk

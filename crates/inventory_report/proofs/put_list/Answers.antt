@@ -2,10 +2,10 @@
 use Rattle.inventory_report.proofs.Printed.{list_written, list_left}
 use Rattle.inventory_report.proofs.put_list.Goals as goal
 
-pub returns-in-Bytes : goal.returns-in-Bytes
-returns-in-Bytes c =
-    list_written c.args.arena.now c.args.out.now _ c.requires.arena_len_bound.0 c.requires.out_len c.inventory-t.result c.inventory-t.ensures _ c.in-Bytes.is
+pub returns-in-Ok : goal.returns-in-Ok
+returns-in-Ok c =
+    list_written c.args.arena.now c.args.out.now _ c.requires.arena_len_bound.0 c.requires.out_len c.inventory.result c.inventory.ensures _ c.in-Ok.is
 
-pub returns-in-Refused : goal.returns-in-Refused
-returns-in-Refused c =
-    list_left c.args.arena.now c.args.out.now _ c.requires.arena_len_bound.0 c.requires.out_len c.inventory-t.result c.inventory-t.ensures _ _ _ c.requires.arena_len_bound.1 c.in-Refused.is c.put_too_long.ensures
+pub returns-in-Err : goal.returns-in-Err
+returns-in-Err c =
+    list_left c.args.arena.now c.args.out.now _ c.requires.arena_len_bound.0 c.requires.out_len c.inventory.result c.inventory.ensures _ _ _ c.requires.arena_len_bound.1 c.in-Err.is c.put_too_long.ensures

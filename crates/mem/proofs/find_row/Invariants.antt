@@ -1,5 +1,5 @@
 -- `mem::find_row`: no row that the loop passed has the id.
-use Prim.Native.Nat.{ℕ, ◌<◌, ◌≤◌, ◌-◌}
+use Prim.Native.Nat.{ℕ, ◌<◌}
 use mathlib.Core.Path.{◌≡◌}
 use mathlib.Core.Bool.{false}
 use Rattle.table.specs.Table.{is_row}
@@ -7,7 +7,4 @@ use Rattle.mem.specs.Mem.{table_in}
 use Rattle.mem.proofs.find_row.Given as goal
 
 abbrev pub invariant-loop-i : goal.invariant-loop-i
-invariant-loop-i l = (l.i ≤ 34) × ((j : ℕ) → j < l.i → is_row (table_in l.mem) l.id j ≡ false)
-
-abbrev pub decreases-loop-i : goal.decreases-loop-i
-decreases-loop-i l = 34 - l.i
+invariant-loop-i l = (j : ℕ) → j < l.i → is_row (table_in l.mem) l.id j ≡ false

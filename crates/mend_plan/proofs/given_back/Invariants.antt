@@ -1,11 +1,8 @@
 -- `mend_plan::given_back`: the head of a file that goes names the file.
 use mathlib.Core.Path.{◌≡◌}
-use Prim.Native.Nat.{◌*◌, ◌-◌, ◌≤◌}
+use Prim.Native.Nat.{◌*◌, ◌≤◌}
 use Rattle.mending.specs.Room.{given_back_to}
 use Rattle.mend_plan.proofs.given_back.Given as goal
 
 abbrev pub invariant-loop-id : goal.invariant-loop-id
-invariant-loop-id l = (l.id ≤ l.n) × (l.c ≤ 4096 * l.id) × (l.c ≡ given_back_to l.arena l.id)
-
-abbrev pub decreases-loop-id : goal.decreases-loop-id
-decreases-loop-id l = l.n - l.id
+invariant-loop-id l = (l.c ≤ 4096 * l.id) × (l.c ≡ given_back_to l.arena l.id)

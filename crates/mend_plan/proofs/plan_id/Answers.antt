@@ -1,11 +1,12 @@
 -- `mend_plan::plan_id`: what the first half has of the id becomes its fate.
-use mathlib.Core.Path.{◌≡◌, sym, ap, ◌∙◌}
+use mathlib.Core.Path.{◌≡◌, refl, sym, ap, ◌∙◌}
 use mathlib.Core.Bool.{true, false, not, ◌&&◌}
 use Prim.Native.Nat.{◌+◌, ◌<◌}
 use native.Mathlib.Omega.{arith}
 use lib.Dec.{eqb}
 use lib.ListN.{get_or, length-set}
-use Rattle.base.proofs.Bools.{true-false}
+use borrow.Author.Tests.{eq-eqb, ne_eqb}
+use Rattle.base.proofs.Bools.{true-false, and_both, and-false}
 use Rattle.structs.specs.declared.DiskINode.{DiskINode}
 use Rattle.table.specs.declared.Table.{Table}
 use Rattle.sefs.specs.Nodes.{node_file}
@@ -16,7 +17,7 @@ use Rattle.mending.specs.Mend.{lost}
 use Rattle.mend_plan.proofs.Records.{can-mend, ids-most}
 use Rattle.mend_plan.proofs.Fates.{no_node, lost-asked, lost-fate, stays-fate, head-range, fate-put, node-put}
 use Rattle.mend_plan.proofs.plan_id.Goals as goal
-use Rattle.mend_plan.proofs.plan_id.Goals.{After-head_at-head}
+use Rattle.mend_plan.proofs.plan_id.Goals.{After-head_at-head, Joined-else-id-ne2, else-id-ne2-via-then-id-ne2+else-named-eq0, else-id-ne2-via-else-id-ne2}
 
 -- ---- what is known of a node
 node : (c : After-head_at-head) → is_node c.args.arena.now c.args.id ≡ true
@@ -33,6 +34,16 @@ head c = c.head_at-head.ensures ∙ ap (λ (r : DiskINode). head_at c.args.arena
 
 told : (c : After-head_at-head) → (not (eqb c.args.id 2) && eqb (get_or c.args.work.now c.args.id 0) 0) ≡ lost c.args.arena.now c.args.id
 told c = lost-asked c.args.arena.now c.args.id (node c) _ (c.requires.arena_value.1.named c.args.id (omega arith) (small c))
+
+is-lost : (c : After-head_at-head) → (c.args.id ≡ 2 → ⊥) → get_or c.args.work.now c.args.id 0 ≡ 0 → lost c.args.arena.now c.args.id ≡ true
+is-lost c d e = sym (told c) ∙ and_both (ap not (ne_eqb c.args.id 2 d)) (eq-eqb (get_or c.args.work.now c.args.id 0) 0 e)
+
+not-both : (c : Joined-else-id-ne2) → (not (eqb c.args.id 2) && eqb (get_or c.args.work.now c.args.id 0) 0) ≡ false
+not-both c =
+    elim c.else-id-ne2.branch [
+      | else-id-ne2-via-then-id-ne2+else-named-eq0 w ↦ rw (ne_eqb (get_or c.args.work.now c.args.id 0) 0 w.if-named-eq0.false) (and-false (not (eqb c.args.id 2)))
+      | else-id-ne2-via-else-id-ne2 w ↦ rw (eq-eqb c.args.id 2 w.if-id-ne2.false) refl
+    ]
 
 pub offset_bounds-work-id : goal.offset_bounds-work-id
 offset_bounds-work-id c = omega (arith, c.requires.loaded.1.1, ids-most c.args.arena.now c.requires.arena_value.0)
@@ -68,18 +79,18 @@ offset_bounds-work-id-3 c = omega (arith, small (goal.at.offset_bounds-work-id-3
 pub bounds-work-id-3 : goal.bounds-work-id-3
 bounds-work-id-3 c = omega (arith, small (goal.at.bounds-work-id-3 c).After-head_at-head, c.requires.arena_value.1.size)
 
-pub offset_bounds-work-id-then-id-named : goal.offset_bounds-work-id-then-id-named
-offset_bounds-work-id-then-id-named c = omega (arith, small (goal.at.offset_bounds-work-id-then-id-named c).After-head_at-head)
+pub offset_bounds-work-id-then-named-eq0 : goal.offset_bounds-work-id-then-named-eq0
+offset_bounds-work-id-then-named-eq0 c = omega (arith, small (goal.at.offset_bounds-work-id-then-named-eq0 c).After-head_at-head)
 
-pub bounds-work-id-then-id-named : goal.bounds-work-id-then-id-named
-bounds-work-id-then-id-named c = omega (arith, small (goal.at.bounds-work-id-then-id-named c).After-head_at-head, c.requires.arena_value.1.size, length-set c.args.work.now (4096 + c.args.id) c.head_at-head.result)
+pub bounds-work-id-then-named-eq0 : goal.bounds-work-id-then-named-eq0
+bounds-work-id-then-named-eq0 c = omega (arith, small (goal.at.bounds-work-id-then-named-eq0 c).After-head_at-head, c.requires.arena_value.1.size, length-set c.args.work.now (4096 + c.args.id) c.head_at-head.result)
 
-pub returns-then-id-named : goal.returns-then-id-named
-returns-then-id-named c =
-    node-put c.args.arena.now c.args.work.now c.args.id (small (goal.at.returns-then-id-named c).After-head_at-head) c.requires.arena_value.1 _ 65535 (head (goal.at.returns-then-id-named c).After-head_at-head) (sym (lost-fate c.args.arena.now c.args.id (sym (told (goal.at.returns-then-id-named c).After-head_at-head) ∙ c.if-id-named.true)))
+pub returns-then-named-eq0 : goal.returns-then-named-eq0
+returns-then-named-eq0 c =
+    node-put c.args.arena.now c.args.work.now c.args.id (small (goal.at.returns-then-named-eq0 c).After-head_at-head) c.requires.arena_value.1 _ 65535 (head (goal.at.returns-then-named-eq0 c).After-head_at-head) (sym (lost-fate c.args.arena.now c.args.id (is-lost (goal.at.returns-then-named-eq0 c).After-head_at-head c.if-id-ne2.true c.if-named-eq0.true)))
 
 pub fate_of-requires : goal.fate_of-requires
-fate_of-requires c = record { led = c.requires.led; arena_value = (c.requires.arena_value.0, (node (goal.at.fate_of-requires c).After-head_at-head, own (goal.at.fate_of-requires c).After-head_at-head)); id_value = (sym (told (goal.at.fate_of-requires c).After-head_at-head) ∙ c.if-id-named.false, (c.requires.arena_value.1.named c.args.id (omega arith) (small (goal.at.fate_of-requires c).After-head_at-head), c.head_at-head.ensures)) }
+fate_of-requires c = record { led = c.requires.led; arena_value = (c.requires.arena_value.0, (node (goal.at.fate_of-requires c).After-head_at-head, own (goal.at.fate_of-requires c).After-head_at-head)); id_value = (sym (told (goal.at.fate_of-requires c).After-head_at-head) ∙ not-both (goal.at.fate_of-requires c).Joined-else-id-ne2, (c.requires.arena_value.1.named c.args.id (omega arith) (small (goal.at.fate_of-requires c).After-head_at-head), c.head_at-head.ensures)) }
 
 pub offset_bounds-work-id-4 : goal.offset_bounds-work-id-4
 offset_bounds-work-id-4 c = omega (arith, small (goal.at.offset_bounds-work-id-4 c).After-head_at-head)
@@ -89,4 +100,4 @@ bounds-work-id-4 c = omega (arith, small (goal.at.bounds-work-id-4 c).After-head
 
 pub returns : goal.returns
 returns c =
-    node-put c.args.arena.now c.args.work.now c.args.id (small (goal.at.returns c).After-head_at-head) c.requires.arena_value.1 _ c.fate_of.result (head (goal.at.returns c).After-head_at-head) (stays-fate c.args.arena.now c.args.id (sym (told (goal.at.returns c).After-head_at-head) ∙ c.if-id-named.false) _ c.fate_of.ensures)
+    node-put c.args.arena.now c.args.work.now c.args.id (small (goal.at.returns c).After-head_at-head) c.requires.arena_value.1 _ c.fate_of.result (head (goal.at.returns c).After-head_at-head) (stays-fate c.args.arena.now c.args.id (sym (told (goal.at.returns c).After-head_at-head) ∙ not-both (goal.at.returns c).Joined-else-id-ne2) _ c.fate_of.ensures)

@@ -2,17 +2,16 @@
 use mathlib.Core.Path.{◌≡◌, ◌∙◌, subst}
 use Prim.Native.Nat.{◌<◌}
 use native.Mathlib.Omega.{arith}
-use Rattle.table.specs.Table.{empty_table}
 use Rattle.rules.specs.Image.{ids_in}
 use Rattle.mending.proofs.Fates.{lost-says}
 use Rattle.mend_plan.proofs.Records.{can-mend}
 use Rattle.mend_stores.specs.Stores.{FreedTo}
-use Rattle.mend_stores.proofs.Frees.{ids-few, plan-goes, plan-stays, freed-none, freed-is, groups-same, freed-skip, frees, gone-some, gone-below, freed-more}
+use Rattle.mend_stores.proofs.Frees.{ids-few, plan-goes, plan-stays, freed-none, groups-same, freed-skip, frees, gone-some, gone-below, freed-more}
 use Rattle.mend_stores.proofs.free_nodes.Goals as goal
 use Rattle.mend_stores.proofs.free_nodes.Goals.{then-work-id, else-work-id}
 
 pub loop-id-init : goal.loop-id-init
-loop-id-init c = (omega arith, freed-none c.args.arena.now (can-mend c.args.arena.now c.requires.arena_value.0) c.args.mem.now c.requires.loaded.0 c.requires.loaded.1)
+loop-id-init c = freed-none c.args.arena.now (can-mend c.args.arena.now c.requires.arena_value.0) c.args.mem.now c.requires.loaded.0 c.requires.loaded.1
 
 pub offset_bounds-work-id : goal.offset_bounds-work-id
 offset_bounds-work-id c = omega (arith, ids-few c.args.arena.now c.args.n (can-mend c.args.arena.now c.requires.arena_value.0) c.requires.arena_value.1.0)
@@ -29,17 +28,14 @@ offset_bounds-work-id-then-work-id c = omega (arith, ids-few c.args.arena.now c.
 pub bounds-work-id-then-work-id : goal.bounds-work-id-then-work-id
 bounds-work-id-then-work-id c = omega (arith, ids-few c.args.arena.now c.args.n (can-mend c.args.arena.now c.requires.arena_value.0) c.requires.arena_value.1.0, c.requires.arena_value.1.1.size)
 
-pub index16-requires : goal.index16-requires
-index16-requires c = tt
-
-pub overflow_sub-index16 : goal.overflow_sub-index16
-overflow_sub-index16 c =
+pub overflow_sub-from : goal.overflow_sub-from
+overflow_sub-from c =
     let a = c.args.arena.now in
     let M = can-mend a c.requires.arena_value.0 in
     let i = c.loop-id.id in
     let e = plan-goes a c.args.work.now c.args.n i M c.requires.arena_value.1.1 (omega arith) c.if-work-id.true in
-    let k = c.index16.ensures ∙ c.requires.arena_value.1.1.head i (omega arith) (lost-says a i e).0 in
-    gone-some a M i c.loop-id.arena c.loop-id.mem c.loop-id.invariant.1 (omega (arith, c.requires.arena_value.1.0)) e c.index16.result k
+    let k = c.from.ensures ∙ c.requires.arena_value.1.1.head i (omega arith) (lost-says a i e).0 in
+    gone-some a M i c.loop-id.arena c.loop-id.mem c.loop-id.invariant (omega (arith, c.requires.arena_value.1.0)) e c.from.result k
 
 pub free_node-requires : goal.free_node-requires
 free_node-requires c =
@@ -47,32 +43,23 @@ free_node-requires c =
     let M = can-mend a c.requires.arena_value.0 in
     let i = c.loop-id.id in
     let e = plan-goes a c.args.work.now c.args.n i M c.requires.arena_value.1.1 (omega arith) c.if-work-id.true in
-    let k = c.index16.ensures ∙ c.requires.arena_value.1.1.head i (omega arith) (lost-says a i e).0 in
-    let b : i < ids_in a = omega (arith, c.requires.arena_value.1.0) in record { k_bound = (gone-below a M i c.loop-id.arena c.loop-id.mem c.loop-id.invariant.1 b e c.index16.result k, c.loop-id.invariant.1.loaded); id_bound = (omega (arith, groups-same a M i c.loop-id.arena c.loop-id.mem c.loop-id.invariant.1 (omega arith)), (frees a M i c.loop-id.arena c.loop-id.mem c.loop-id.invariant.1 b e).room) }
+    let k = c.from.ensures ∙ c.requires.arena_value.1.1.head i (omega arith) (lost-says a i e).0 in
+    let b : i < ids_in a = omega (arith, c.requires.arena_value.1.0) in record { k_bound = (gone-below a M i c.loop-id.arena c.loop-id.mem c.loop-id.invariant b e c.from.result k, c.loop-id.invariant.loaded); id_bound = (omega (arith, groups-same a M i c.loop-id.arena c.loop-id.mem c.loop-id.invariant (omega arith)), (frees a M i c.loop-id.arena c.loop-id.mem c.loop-id.invariant b e).room) }
 
 pub loop-id-preserved : goal.loop-id-preserved
 loop-id-preserved c =
     let a = c.args.arena.now in
     let M = can-mend a c.requires.arena_value.0 in
-    let i = c.loop-id.id in (
-      omega arith,
-      elim c.if-work-id.branch [
-        | then-work-id w ↦
-            let e = plan-goes a c.args.work.now c.args.n i M c.requires.arena_value.1.1 (omega arith) w.if-work-id.true in
-            let k = w.index16.ensures ∙ c.requires.arena_value.1.1.head i (omega arith) (lost-says a i e).0 in
-            rw (w.arena-is, w.mem-is) (freed-more a M i c.loop-id.arena c.loop-id.mem c.loop-id.invariant.1 (omega (arith, c.requires.arena_value.1.0)) e w.index16.result k _ _ w.free_node.ensures.arena_after w.free_node.ensures.mapped)
-        | else-work-id w ↦ rw (w.arena-is, w.mem-is) (freed-skip a M i c.loop-id.arena c.loop-id.mem c.loop-id.invariant.1 (plan-stays a c.args.work.now c.args.n i M c.requires.arena_value.1.1 (omega arith) w.if-work-id.false))
-      ],
-    )
-
-pub shape_of-arena : goal.shape_of-arena
-shape_of-arena c =
-    (freed-is c.args.arena.now (can-mend c.args.arena.now c.requires.arena_value.0) c.loop-id.id c.loop-id.arena c.loop-id.mem c.loop-id.invariant.1 (omega (arith, c.requires.arena_value.1.0)) empty_table).size
-
-pub shape_of-mem : goal.shape_of-mem
-shape_of-mem c = omega (arith, c.loop-id.invariant.1.loaded.whole.size, c.requires.loaded.0.whole.size)
+    let i = c.loop-id.id in
+    elim c.if-work-id.branch [
+      | then-work-id w ↦
+          let e = plan-goes a c.args.work.now c.args.n i M c.requires.arena_value.1.1 (omega arith) w.if-work-id.true in
+          let k = w.from.ensures ∙ c.requires.arena_value.1.1.head i (omega arith) (lost-says a i e).0 in
+          rw (w.arena-is, w.mem-is) (freed-more a M i c.loop-id.arena c.loop-id.mem c.loop-id.invariant (omega (arith, c.requires.arena_value.1.0)) e w.from.result k _ _ w.free_node.ensures.arena_after w.free_node.ensures.mapped)
+      | else-work-id w ↦ rw (w.arena-is, w.mem-is) (freed-skip a M i c.loop-id.arena c.loop-id.mem c.loop-id.invariant (plan-stays a c.args.work.now c.args.n i M c.requires.arena_value.1.1 (omega arith) w.if-work-id.false))
+    ]
 
 pub returns : goal.returns
 returns c =
     let e : c.loop-id.id ≡ c.args.n = omega arith in
-    subst (FreedTo c.args.arena.now c.loop-id.arena c.loop-id.mem) e c.loop-id.invariant.1
+    subst (FreedTo c.args.arena.now c.loop-id.arena c.loop-id.mem) e c.loop-id.invariant

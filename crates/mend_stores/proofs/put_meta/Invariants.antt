@@ -1,7 +1,6 @@
 -- `mend_stores::put_meta`: after i turns the first i blocks.
 use mathlib.Core.Path.{◌≡◌}
-use Prim.Native.Nat.{◌-◌, ◌≤◌}
-use lib.ListN.{length}
+use Prim.Native.Nat.{◌≤◌}
 use Rattle.base.specs.Out.{done}
 use Rattle.arena.specs.Fields.{File}
 use Rattle.arena.specs.Places.{free_of}
@@ -13,12 +12,7 @@ use Rattle.mend_stores.proofs.put_meta.Given as goal
 
 abbrev pub invariant-loop-i : goal.invariant-loop-i
 invariant-loop-i l =
-    (l.i ≤ l.n)
-    × (length l.arena ≡ length l.initial.arena)
-    × (put_to l.initial.arena meta_file l.pos l.src l.i ≡ done l.arena)
+    (put_to l.initial.arena meta_file l.pos l.src l.i ≡ done l.arena)
     × (l.at ≤ free_of l.arena)
     × Placed l.arena l.places
     × ((g : File) → head_at l.arena g ≡ head_at l.initial.arena g)
-
-abbrev pub decreases-loop-i : goal.decreases-loop-i
-decreases-loop-i l = l.n - l.i

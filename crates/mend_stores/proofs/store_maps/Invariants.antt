@@ -1,7 +1,5 @@
 -- `mend_stores::store_maps`: after g turns the maps of the first g groups are stored.
 use mathlib.Core.Path.{◌≡◌}
-use Prim.Native.Nat.{◌-◌, ◌≤◌}
-use lib.ListN.{length}
 use Rattle.base.specs.Out.{done}
 use Rattle.sefs.specs.Meta.{store_maps}
 use Rattle.mem.specs.Mem.{maps_in}
@@ -10,7 +8,4 @@ use Rattle.mend_stores.proofs.store_maps.Given as goal
 
 abbrev pub invariant-loop-g : goal.invariant-loop-g
 invariant-loop-g l =
-    (l.g ≤ l.groups) × (length l.arena ≡ length l.initial.arena) × (store_maps l.initial.arena (maps_in l.mem) l.g ≡ done l.arena) × MetaHasBlocks l.arena l.mem l.places l.at
-
-abbrev pub decreases-loop-g : goal.decreases-loop-g
-decreases-loop-g l = l.groups - l.g
+    (store_maps l.initial.arena (maps_in l.mem) l.g ≡ done l.arena) × MetaHasBlocks l.arena l.mem l.places l.at

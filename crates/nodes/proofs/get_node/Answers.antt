@@ -25,16 +25,16 @@ returns-then-not-is_used c =
     let m = c.args.mem.now in
     ill {r = 19} (omega arith) (get-unused (view c.args.arena.now c.args.work.now) m c.args.id (eqb-true (get_or m 4402 0) 1 (sym c.has_meta.ensures ∙ c.if-not-has_meta.false)) (sym c.is_used.ensures ∙ c.if-not-is_used.true))
 
-pub returns-in-At : goal.returns-in-At
+pub returns-in-Some : goal.returns-in-Some
 unfolding fs_of
-returns-in-At c =
+returns-in-Some c =
     let m = c.args.mem.now in
-    let e = sym c.find_row-f.ensures ∙ c.in-At.is in
+    let e = sym c.find_row-f.ensures ∙ c.in-Some.is in
     rw (get-used (view c.args.arena.now c.args.work.now) m c.args.id (eqb-true (get_or m 4402 0) 1 (sym c.has_meta.ensures ∙ c.if-not-has_meta.false)) (sym c.is_used.ensures ∙ c.if-not-is_used.false), e)
-    (well refl (c.requires.whole, row_below (table_in m) c.args.id c.in-At.i e))
+    (well refl (c.requires.whole, row_below (table_in m) c.args.id c.in-Some.i e))
 
-pub returns-in-Nothing : goal.returns-in-Nothing
+pub returns-in-None : goal.returns-in-None
 unfolding fs_of
-returns-in-Nothing c =
+returns-in-None c =
     let m = c.args.mem.now in
-    rw (get-used (view c.args.arena.now c.args.work.now) m c.args.id (eqb-true (get_or m 4402 0) 1 (sym c.has_meta.ensures ∙ c.if-not-has_meta.false)) (sym c.is_used.ensures ∙ c.if-not-is_used.false), sym c.find_row-f.ensures ∙ c.in-Nothing.is) c.load_node.ensures
+    rw (get-used (view c.args.arena.now c.args.work.now) m c.args.id (eqb-true (get_or m 4402 0) 1 (sym c.has_meta.ensures ∙ c.if-not-has_meta.false)) (sym c.is_used.ensures ∙ c.if-not-is_used.false), sym c.find_row-f.ensures ∙ c.in-None.is) c.load_node.ensures

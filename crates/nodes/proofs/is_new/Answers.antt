@@ -6,8 +6,8 @@ use Rattle.nodes.proofs.is_new.Goals as goal
 pub returns-then-id-eq0 : goal.returns-then-id-eq0
 returns-then-id-eq0 c = rw (eq-eqb c.args.id 0 c.if-id-eq0.true)
 
-pub returns-in-At : goal.returns-in-At
-returns-in-At c = rw (ne_eqb c.args.id 0 c.if-id-eq0.false, sym c.find_row-f.ensures ∙ c.in-At.is)
+pub returns-in-Some : goal.returns-in-Some
+returns-in-Some c = rw (ne_eqb c.args.id 0 c.if-id-eq0.false, sym c.find_row-f.ensures ∙ c.in-Some.is)
 
-pub returns-in-Nothing : goal.returns-in-Nothing
-returns-in-Nothing c = rw (ne_eqb c.args.id 0 c.if-id-eq0.false, sym c.find_row-f.ensures ∙ c.in-Nothing.is)
+pub returns-in-None : goal.returns-in-None
+returns-in-None c = rw (ne_eqb c.args.id 0 c.if-id-eq0.false, sym c.find_row-f.ensures ∙ c.in-None.is)

@@ -1,4 +1,8 @@
 -- `nodes::make_node`: the test of the definition, the file, the row.
+use Rattle.std.proofs.lemmas.Result.{err_from_is_err_and}
+use Rattle.base.proofs.Tells.{number-ne}
+use Rattle.base.specs.Told.{number}
+use mathlib.Core.Path.{refl}
 use mathlib.Core.Path.{◌∙◌, sym}
 use native.Mathlib.Omega.{arith}
 use Rattle.overlay.specs.View.{view}
@@ -11,11 +15,12 @@ pub returns-then-not-is_new : goal.returns-then-not-is_new
 returns-then-not-is_new c =
     ill {r = 19} (omega arith) (made-not c.args.arena.now c.args.work.now c.args.mem.now c.args.id c.args.kind c.args.mode c.args.time c.args.file (sym c.is_new.ensures ∙ c.if-not-is_new.true))
 
-pub returns-then-r-ne0 : goal.returns-then-r-ne0
-returns-then-r-ne0 c =
-    made-stop c.args.arena.now c.args.work.now c.args.mem.now c.args.id c.args.kind c.args.mode c.args.time c.args.file (sym c.is_new.ensures ∙ c.if-not-is_new.false) c.make-r.new.work c.make-r.result c.make-r.ensures _ _ c.if-r-ne0.true
+pub returns-in_err-make : goal.returns-in_err-make
+returns-in_err-make c =
+    let p = err_from_is_err_and c.from_residual.result c.from_residual.ensures.1 in
+    rw (p.1, p.2) (made-stop c.args.arena.now c.args.work.now c.args.mem.now c.args.id c.args.kind c.args.mode c.args.time c.args.file (sym c.is_new.ensures ∙ c.if-not-is_new.false) c.make.new.work (number c.in_err-make.field-0.0) c.in_err-make.ensures _ _ (number-ne c.in_err-make.field-0.0))
 
 pub returns : goal.returns
 unfolding fs_of
 returns c =
-    made-next c.args.arena.now c.args.work.now c.args.mem.now c.args.id c.args.kind c.args.mode c.args.time c.args.file (sym c.is_new.ensures ∙ c.if-not-is_new.false) c.make-r.new.work c.make-r.result c.make-r.ensures c.open_in.new.mem _ _ c.if-r-ne0.false (rw c.new_record.ensures at (c.open_in.ensures (view c.args.arena.now c.make-r.new.work)))
+    made-next c.args.arena.now c.args.work.now c.args.mem.now c.args.id c.args.kind c.args.mode c.args.time c.args.file (sym c.is_new.ensures ∙ c.if-not-is_new.false) c.make.new.work 0 c.in_ok-make.ensures c.open_in.new.mem _ _ refl (rw c.new_record.ensures at (c.open_in.ensures (view c.args.arena.now c.make.new.work)))

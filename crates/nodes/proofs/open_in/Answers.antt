@@ -8,12 +8,12 @@ use Rattle.nodes.proofs.Ids.{row_below, opened_in}
 use Rattle.nodes.proofs.open_in.Goals as goal
 
 pub put_row-requires : goal.put_row-requires
-put_row-requires c = (c.requires, row_below (table_in c.args.mem.now) 0 c.in-At.i (sym c.find_row-f.ensures ∙ c.in-At.is))
+put_row-requires c = (c.requires, row_below (table_in c.args.mem.now) 0 c.in-Some.i (sym c.find_row-f.ensures ∙ c.in-Some.is))
 
-pub returns-in-At : goal.returns-in-At
-returns-in-At c =
-    opened_in c.args.mem.now c.put_row.new.mem c.in-At.i c.args.id c.args.rec c.args.dirty (sym c.find_row-f.ensures ∙ c.in-At.is) c.put_row.ensures
+pub returns-in-Some : goal.returns-in-Some
+returns-in-Some c =
+    opened_in c.args.mem.now c.put_row.new.mem c.in-Some.i c.args.id c.args.rec c.args.dirty (sym c.find_row-f.ensures ∙ c.in-Some.is) c.put_row.ensures
 
-pub returns-in-Nothing : goal.returns-in-Nothing
-returns-in-Nothing c =
-    λ a. ill {r = 19} (omega arith) (open_none c.args.mem.now c.args.id c.args.rec c.args.dirty (sym c.find_row-f.ensures ∙ c.in-Nothing.is) a)
+pub returns-in-None : goal.returns-in-None
+returns-in-None c =
+    λ a. ill {r = 19} (omega arith) (open_none c.args.mem.now c.args.id c.args.rec c.args.dirty (sym c.find_row-f.ensures ∙ c.in-None.is) a)

@@ -1,4 +1,9 @@
 -- `nodes::remove_node`: superblock and maps, then the file.
+use Rattle.std.proofs.lemmas.Result.{err_from_is_err_and}
+use Rattle.base.proofs.Tells.{number-ne}
+use Rattle.base.specs.Told.{code}
+use Rattle.base.specs.Told.{number}
+use mathlib.Core.Path.{refl}
 use mathlib.Core.List.{List}
 use Prim.Native.Nat.{ℕ}
 use mathlib.Core.Path.{subst}
@@ -10,15 +15,16 @@ use Rattle.files.specs.Store.{drop_file}
 use Rattle.nodes.proofs.Nodes.{remove-stop, remove-done}
 use Rattle.nodes.proofs.remove_node.Goals as goal
 
-pub returns-then-r-ne0 : goal.returns-then-r-ne0
-returns-then-r-ne0 c =
-    remove-stop c.args.arena.now c.args.work.now c.sync_meta-r.new.work c.args.mem.now c.args.i c.sync_meta-r.result c.sync_meta-r.ensures _ _ c.if-r-ne0.true
+pub returns-in_err-sync_meta : goal.returns-in_err-sync_meta
+returns-in_err-sync_meta c =
+    let p = err_from_is_err_and c.from_residual.result c.from_residual.ensures.1 in
+    rw (p.1, p.2) (remove-stop c.args.arena.now c.args.work.now c.sync_meta.new.work c.args.mem.now c.args.i (number c.in_err-sync_meta.field-0.0) c.in_err-sync_meta.ensures _ _ (number-ne c.in_err-sync_meta.field-0.0))
 
 pub drop-requires : goal.drop-requires
-drop-requires c = ((went-has c.sync_meta-r.ensures c.if-r-ne0.false).fine, c.file_at.ensures.1)
+drop-requires c = ((went-has c.in_ok-sync_meta.ensures refl).fine, c.file_at.ensures.1)
 
 pub returns : goal.returns
 returns c =
-    let u = c.sync_meta-r.new.work in
-    let d = subst (λ (x : List ℕ). Did (drop_file (view c.args.arena.now u) (file 1 x)) c.args.arena.now u c.drop.new.work 0 c.drop.result) c.file_at.ensures.0 c.drop.ensures in
-    remove-done c.args.arena.now c.args.work.now u c.args.mem.now c.args.i c.sync_meta-r.result c.sync_meta-r.ensures c.drop.new.work _ c.if-r-ne0.false d
+    let u = c.sync_meta.new.work in
+    let d = subst (λ (x : List ℕ). Did (drop_file (view c.args.arena.now u) (file 1 x)) c.args.arena.now u c.drop.new.work 0 (code c.drop.result)) c.file_at.ensures.0 c.drop.ensures in
+    remove-done c.args.arena.now c.args.work.now u c.args.mem.now c.args.i 0 c.in_ok-sync_meta.ensures c.drop.new.work _ refl d

@@ -21,14 +21,14 @@ returns-then-not-is_used c =
     let m = c.args.mem.now in
     ill {r = 19} (omega arith) (get-unused c.args.arena.now m c.args.id (eqb-true (get_or m 4402 0) 1 (sym c.has_meta.ensures ∙ c.if-not-has_meta.false)) (sym c.is_used.ensures ∙ c.if-not-is_used.true))
 
-pub returns-in-At : goal.returns-in-At
-returns-in-At c =
+pub returns-in-Some : goal.returns-in-Some
+returns-in-Some c =
     let m = c.args.mem.now in
-    let e = sym c.find_row-f.ensures ∙ c.in-At.is in
+    let e = sym c.find_row-f.ensures ∙ c.in-Some.is in
     rw (get-used c.args.arena.now m c.args.id (eqb-true (get_or m 4402 0) 1 (sym c.has_meta.ensures ∙ c.if-not-has_meta.false)) (sym c.is_used.ensures ∙ c.if-not-is_used.false), e)
-    (well refl (c.requires.whole, row_below (table_in m) c.args.id c.in-At.i e))
+    (well refl (c.requires.whole, row_below (table_in m) c.args.id c.in-Some.i e))
 
-pub returns-in-Nothing : goal.returns-in-Nothing
-returns-in-Nothing c =
+pub returns-in-None : goal.returns-in-None
+returns-in-None c =
     let m = c.args.mem.now in
-    rw (get-used c.args.arena.now m c.args.id (eqb-true (get_or m 4402 0) 1 (sym c.has_meta.ensures ∙ c.if-not-has_meta.false)) (sym c.is_used.ensures ∙ c.if-not-is_used.false), sym c.find_row-f.ensures ∙ c.in-Nothing.is) c.load_node.ensures
+    rw (get-used c.args.arena.now m c.args.id (eqb-true (get_or m 4402 0) 1 (sym c.has_meta.ensures ∙ c.if-not-has_meta.false)) (sym c.is_used.ensures ∙ c.if-not-is_used.false), sym c.find_row-f.ensures ∙ c.in-None.is) c.load_node.ensures

@@ -1,4 +1,7 @@
 -- `nodes_read::record_of`: the stored bytes.
+use Rattle.std.proofs.lemmas.Result.{err_from_is_err_and}
+use Rattle.base.proofs.Tells.{number-ne}
+use mathlib.Core.Path.{refl}
 use mathlib.Core.Path.{◌≡◌, ap, ◌∙◌}
 use Rattle.base.proofs.Parts.{part-whole}
 use Rattle.structs.specs.Layout.{record_of}
@@ -6,14 +9,15 @@ use Rattle.nodes_read.proofs.Records.{noted-stop, noted-done}
 use borrow.Author.Rules.{rules}
 use Rattle.nodes_read.proofs.record_of.Goals as goal
 
-pub returns-then-r-ne0 : goal.returns-then-r-ne0
-returns-then-r-ne0 c =
-    let g = rw c.index.ensures at c.read_meta-r.ensures in
-    rw c.not_noted.ensures (noted-stop c.args.arena.now c.args.id g _ c.if-r-ne0.true)
+pub returns-in_err-read_meta : goal.returns-in_err-read_meta
+returns-in_err-read_meta c =
+    let p = err_from_is_err_and c.from_residual.result c.from_residual.ensures.1 in
+    rw (p.1, p.2) (let g = rw c.index.ensures at c.in_err-read_meta.ensures in
+    noted-stop c.args.arena.now c.args.id g _ (number-ne c.in_err-read_meta.field-0.0))
 
 pub returns : goal.returns
 returns c =
-    let l = c.read_meta-r.new.out in
-    let g = rw c.index.ensures at c.read_meta-r.ensures in
+    let l = c.read_meta.new.out in
+    let g = rw c.index.ensures at c.in_ok-read_meta.ensures in
     let e : c.disk_inode_at.result ≡ record_of l = c.disk_inode_at.ensures ∙ ap record_of (part-whole l 112 (search rules)) in
-    noted-done c.args.arena.now c.args.id g _ c.if-r-ne0.false e
+    noted-done c.args.arena.now c.args.id g _ refl e

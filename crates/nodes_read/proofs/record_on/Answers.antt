@@ -11,7 +11,7 @@ use Rattle.nodes_read.proofs.record_on.Goals as goal
 
 pub returns-then-not-has_meta : goal.returns-then-not-has_meta
 returns-then-not-has_meta c =
-    rw c.not_noted.ensures (ill {r = 19} (omega arith) (record-none c.args.arena.now c.args.mem.now c.args.id (sym c.has_meta.ensures ∙ c.if-not-has_meta.true)))
+    ill {r = 19} (omega arith) (record-none c.args.arena.now c.args.mem.now c.args.id (sym c.has_meta.ensures ∙ c.if-not-has_meta.true))
 
 pub is_used-requires : goal.is_used-requires
 is_used-requires c =
@@ -20,18 +20,18 @@ is_used-requires c =
 pub returns-then-not-is_used : goal.returns-then-not-is_used
 returns-then-not-is_used c =
     let m = c.args.mem.now in
-    rw c.not_noted-then-not-is_used.ensures (ill {r = 19} (omega arith) (record-unused c.args.arena.now m c.args.id (eqb-true (get_or m 4402 0) 1 (sym c.has_meta.ensures ∙ c.if-not-has_meta.false)) (sym c.is_used.ensures ∙ c.if-not-is_used.true)))
+    ill {r = 19} (omega arith) (record-unused c.args.arena.now m c.args.id (eqb-true (get_or m 4402 0) 1 (sym c.has_meta.ensures ∙ c.if-not-has_meta.false)) (sym c.is_used.ensures ∙ c.if-not-is_used.true))
 
 pub rec_at-requires : goal.rec_at-requires
 rec_at-requires c =
-    (c.requires.whole, row_below (table_in c.args.mem.now) c.args.id c.in-At.i (sym c.find_row-f.ensures ∙ c.in-At.is))
+    (c.requires.whole, row_below (table_in c.args.mem.now) c.args.id c.in-Some.i (sym c.find_row-f.ensures ∙ c.in-Some.is))
 
-pub returns-in-At : goal.returns-in-At
-returns-in-At c =
+pub returns-in-Some : goal.returns-in-Some
+returns-in-Some c =
     let m = c.args.mem.now in
-    rw (record-used c.args.arena.now m c.args.id (eqb-true (get_or m 4402 0) 1 (sym c.has_meta.ensures ∙ c.if-not-has_meta.false)) (sym c.is_used.ensures ∙ c.if-not-is_used.false), sym c.find_row-f.ensures ∙ c.in-At.is, c.rec_at.ensures) (well refl tt)
+    rw (record-used c.args.arena.now m c.args.id (eqb-true (get_or m 4402 0) 1 (sym c.has_meta.ensures ∙ c.if-not-has_meta.false)) (sym c.is_used.ensures ∙ c.if-not-is_used.false), sym c.find_row-f.ensures ∙ c.in-Some.is, c.rec_at.ensures) (well refl tt)
 
-pub returns-in-Nothing : goal.returns-in-Nothing
-returns-in-Nothing c =
+pub returns-in-None : goal.returns-in-None
+returns-in-None c =
     let m = c.args.mem.now in
-    rw (record-used c.args.arena.now m c.args.id (eqb-true (get_or m 4402 0) 1 (sym c.has_meta.ensures ∙ c.if-not-has_meta.false)) (sym c.is_used.ensures ∙ c.if-not-is_used.false), sym c.find_row-f.ensures ∙ c.in-Nothing.is) c.record_of.ensures
+    rw (record-used c.args.arena.now m c.args.id (eqb-true (get_or m 4402 0) 1 (sym c.has_meta.ensures ∙ c.if-not-has_meta.false)) (sym c.is_used.ensures ∙ c.if-not-is_used.false), sym c.find_row-f.ensures ∙ c.in-None.is) c.record_of.ensures

@@ -9,21 +9,19 @@ use Rattle.overlay.proofs.commit.Goals as goal
 
 pub loop-k-init : goal.loop-k-init
 unfolding view_to
-loop-k-init c = (omega arith, refl)
+loop-k-init c = refl
 
 pub commit_block-requires : goal.commit_block-requires
 commit_block-requires c =
     let F = c.requires in
     let k = c.loop-k.k in
-    (omega (arith, ap length c.loop-k.invariant.1, length-view_to _ _ F k (omega arith)), (omega (arith, F.small, F.size, F.room, F.high), omega (arith, F.low k (omega (arith, F.small)), F.room)))
+    (omega (arith, ap length c.loop-k.invariant, length-view_to _ _ F k (omega arith)), (omega (arith, F.small, F.size, F.room, F.high), omega (arith, F.low k (omega (arith, F.small)), F.room)))
 
 pub loop-k-preserved : goal.loop-k-preserved
-loop-k-preserved c =
-    let F = c.requires in
-    (omega arith, c.commit_block.ensures ∙ commit-turn _ _ F _ c.loop-k.k (omega arith) c.loop-k.invariant.1)
+loop-k-preserved c = c.commit_block.ensures ∙ commit-turn _ _ c.requires _ c.loop-k.k (omega arith) c.loop-k.invariant
 
 pub returns : goal.returns
 unfolding view
 returns c =
     let e : c.loop-k.k ≡ blocks c.args.arena.now = omega arith in
-    c.loop-k.invariant.1 ∙ rw e
+    c.loop-k.invariant ∙ rw e

@@ -13,7 +13,7 @@ returns-then-out-ne-METADATA_WORDS c = answers-not (sized-not 14 c.args.out.now 
 pub returns : goal.returns
 returns c =
     let q = not-refused c.requires c.begin.ensures.0 c.begin.ensures.1 in
-    by-told
+    by-told _
     (sized-is 14 c.args.out.now _ c.if-out-ne-METADATA_WORDS.false ∙ (λ x. call_metadata c.args.arena.now (sym c.begin.ensures.0 x) c.args.owner (sym c.handle.ensures x))
     ∙ metadata-admitted c.args.arena.now (table_in c.begin.new.mem) c.args.owner c.handle.result q)
     c.metadata_in-t.ensures c.end_told.ensures

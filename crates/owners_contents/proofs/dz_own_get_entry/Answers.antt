@@ -15,4 +15,4 @@ entry_led-r-requires c = admitted c.requires c.begin.ensures.0 c.begin.ensures.1
 
 pub returns : goal.returns
 returns c =
-    own-laid (λ x. call_entry c.args.arena.now (sym c.begin.ensures.0 x) c.args.owner (sym c.handle.ensures x) c.args.slot (length c.args.out.now)) c.entry_led-r.ensures
+    rw c.number.ensures (own-laid (λ x. call_entry c.args.arena.now (sym c.begin.ensures.0 x) c.args.owner (sym c.handle.ensures x) c.args.slot (length c.args.out.now)) c.entry_led-r.ensures)

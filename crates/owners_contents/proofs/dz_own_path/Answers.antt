@@ -19,7 +19,7 @@ path_led-t-requires c =
 
 pub returns : goal.returns
 returns c =
-    by-taken
+    by-taken _
     (sized-is 1 c.args.count.now _ c.if-count-ne-LENGTH_WORDS.false
     ∙ (λ x. call_path c.args.arena.now (sym c.begin.ensures.0 x) c.args.owner (sym c.handle.ensures x) (length c.args.out.now)))
     c.path_led-t.ensures.lays c.end_taken.ensures

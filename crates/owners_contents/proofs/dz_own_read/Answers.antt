@@ -18,6 +18,6 @@ read_led-t-requires c = admitted c.requires c.begin.ensures.0 c.begin.ensures.1
 
 pub returns : goal.returns
 returns c =
-    by-taken
+    by-taken _
     (sized-is 1 c.args.count.now _ c.if-count-ne-LENGTH_WORDS.false ∙ (λ x. call_read c.args.arena.now (sym c.begin.ensures.0 x) c.args.owner (sym c.handle.ensures x) c.args.place (length c.args.out.now)))
     c.read_led-t.ensures c.end_taken.ensures

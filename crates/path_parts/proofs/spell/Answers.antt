@@ -1,5 +1,5 @@
 -- `path_parts::spell`: by the verdict on the name.
-use mathlib.Core.Path.{sym, ◌∙◌}
+use mathlib.Core.Path.{refl, sym, ◌∙◌}
 use Rattle.path_parts.proofs.Namers.{spelled-ended, spelled-broken}
 use Rattle.path_parts.proofs.spell.Goals as goal
 
@@ -9,4 +9,4 @@ returns-in-Ended c =
 
 pub returns-in-Broken : goal.returns-in-Broken
 returns-in-Broken c =
-    spelled-broken c.args.name.now _ _ (sym c.stored_name-s.ensures ∙ c.in-Broken.is) c.not_spelled.ensures
+    spelled-broken c.args.name.now _ _ (sym c.stored_name-s.ensures ∙ c.in-Broken.is) refl

@@ -1,5 +1,5 @@
 -- `range_stores::fill_down`: the blocks from block i on are one write of the last bytes.
-use mathlib.Core.Path.{◌≡◌, refl, sym, ◌∙◌, subst}
+use mathlib.Core.Path.{◌≡◌, sym, subst}
 use Prim.Native.Nat.{ℕ, ◌+◌, ◌-◌}
 use native.Mathlib.Omega.{arith}
 use Rattle.le.specs.Le.{Bytes}
@@ -15,28 +15,12 @@ pub touched-m-requires : goal.touched-m-requires
 touched-m-requires c =
     omega (arith, c.requires.long, c.requires.back, length-fits c.args.arena.now (file 1 c.args.name.now) (λ j. search rules))
 
-pub touched-i-requires : goal.touched-i-requires
-touched-i-requires c =
+pub touched-t-requires : goal.touched-t-requires
+touched-t-requires c =
     omega (arith, c.requires.long, length-fits c.args.arena.now (file 1 c.args.name.now) (λ j. search rules))
 
 pub loop-i-init : goal.loop-i-init
-loop-i-init c = (
-  omega arith,
-  refl,
-  fill_none c.requires (λ j. search rules) _ c.touched-i.ensures,
-)
-
-pub overflow_add-q : goal.overflow_add-q
-overflow_add-q c = omega (arith, c.requires.few, c.touched-i.ensures)
-
-pub offset_bounds-plan-i : goal.offset_bounds-plan-i
-offset_bounds-plan-i c = omega (arith, c.requires.few, c.touched-i.ensures)
-
-pub bounds-plan-i : goal.bounds-plan-i
-bounds-plan-i c = omega (arith, c.requires.few, c.touched-i.ensures)
-
-pub index16-requires : goal.index16-requires
-index16-requires c = tt
+loop-i-init c = fill_none c.requires (λ j. search rules) _ c.touched-t.ensures
 
 pub slice_bounds-move_block-end : goal.slice_bounds-move_block-end
 slice_bounds-move_block-end c =
@@ -47,38 +31,31 @@ move_block-requires c =
     let f = file 1 c.args.name.now in
     let i : c.loop-i.i ≡ c.loop-i.i - 1 + 1 = omega arith in
     let e = subst (λ (x : ℕ). FilledFrom c.args.arena.now f c.args.src c.args.dst c.args.n (falls_to c.args.dst c.args.n x) c.loop-i.arena) i
-    c.loop-i.invariant.2 in
-    let t = touched-lies c.args.dst c.args.n (c.loop-i.i - 1) (omega (arith, c.touched-i.ensures)) in
+    c.loop-i.invariant in
+    let t = touched-lies c.args.dst c.args.n (c.loop-i.i - 1) (omega (arith, c.touched-t.ensures)) in
     let bytes : Bytes c.args.arena.now = λ j. search rules in
-    let h = fill-found c.requires bytes (c.loop-i.i - 1) c.loop-i.arena (omega (arith, c.touched-i.ensures)) e _ c.index16.ensures in
+    let h = fill-found c.requires bytes (c.loop-i.i - 1) c.loop-i.arena (omega (arith, c.touched-t.ensures)) e _ c.from.ensures in
     let fits = length-fits c.args.arena.now f bytes in record {
       n_bound = (
         (omega (arith, c.requires.long, c.requires.back), omega (arith, c.requires.long)),
         (t.0, (t.1, source-covers c.requires.read c.touched-m.ensures c.requires.some)),
       );
-      in_arena = source_in c.requires.read c.touched-m.ensures c.loop-i.arena c.loop-i.invariant.1;
+      in_arena = source_in c.requires.read c.touched-m.ensures c.loop-i.arena c.loop-i.auto.arena;
       found_value = (h.0, (omega arith, h.1));
     }
 
 pub loop-i-preserved : goal.loop-i-preserved
 loop-i-preserved c =
     let f = file 1 c.args.name.now in
-    let t = c.loop-i-test.true in
     let bytes : Bytes c.args.arena.now = λ j. search rules in
     let i : c.loop-i.i ≡ c.loop-i.i - 1 + 1 = omega arith in
     let e = subst (λ (x : ℕ). FilledFrom c.args.arena.now f c.args.src c.args.dst c.args.n (falls_to c.args.dst c.args.n x) c.loop-i.arena) i
-    c.loop-i.invariant.2 in (
-      omega arith,
-      c.move_block.auto.arena ∙ c.loop-i.invariant.1,
-      fill-turn c.requires bytes (c.loop-i.i - 1) c.loop-i.arena (omega (arith, c.touched-i.ensures)) e c.touched-m.result c.touched-m.ensures _ c.move_block.ensures.0,
-    )
-
-pub shape_of-arena : goal.shape_of-arena
-shape_of-arena c = c.loop-i.invariant.1
+    c.loop-i.invariant in
+    fill-turn c.requires bytes (c.loop-i.i - 1) c.loop-i.arena (omega (arith, c.touched-t.ensures)) e c.touched-m.result c.touched-m.ensures _ c.move_block.ensures.0
 
 pub returns : goal.returns
 returns c =
     let f = file 1 c.args.name.now in
     let i : c.loop-i.i ≡ 0 = omega arith in
     fill-whole c.requires (λ j. search rules) c.loop-i.arena
-    (subst (λ (x : ℕ). FilledFrom c.args.arena.now f c.args.src c.args.dst c.args.n (falls_to c.args.dst c.args.n x) c.loop-i.arena) i c.loop-i.invariant.2)
+    (subst (λ (x : ℕ). FilledFrom c.args.arena.now f c.args.src c.args.dst c.args.n (falls_to c.args.dst c.args.n x) c.loop-i.arena) i c.loop-i.invariant)

@@ -11,21 +11,6 @@ returns-then-plan-i-gt0 c =
     let m = make-old c.args.arena.now (file 1 c.args.name.now) c.args.q c.args.plan.now c.args.i c.requires.i_value.0 c.if-plan-i-gt0.true in
     (m.0, (c.requires.i_value.1.0, m.1))
 
-pub write_new-requires : goal.write_new-requires
-write_new-requires c =
-    let z : get_or c.args.plan.now c.args.i 0 ≡ 0 = omega (arith, c.if-plan-i-gt0.false) in
-    (omega (arith, c.next_free-k.ensures, c.requires.i_value.1.1 (sym c.requires.i_value.0 ∙ z)), omega arith)
-
-pub overflow_add-plan : goal.overflow_add-plan
-overflow_add-plan c =
-    let z : get_or c.args.plan.now c.args.i 0 ≡ 0 = omega (arith, c.if-plan-i-gt0.false) in
-    omega (arith, c.next_free-k.ensures, c.requires.q_bound.1.1.0, c.requires.i_value.1.1 (sym c.requires.i_value.0 ∙ z))
-
-pub overflow_cast-plan : goal.overflow_cast-plan
-overflow_cast-plan c =
-    let z : get_or c.args.plan.now c.args.i 0 ≡ 0 = omega (arith, c.if-plan-i-gt0.false) in
-    omega (arith, c.next_free-k.ensures, c.requires.q_bound.1.1.0, c.requires.i_value.1.1 (sym c.requires.i_value.0 ∙ z))
-
 pub returns : goal.returns
 returns c =
     let z : get_or c.args.plan.now c.args.i 0 ≡ 0 = omega (arith, c.if-plan-i-gt0.false) in

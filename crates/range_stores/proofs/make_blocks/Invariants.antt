@@ -1,8 +1,7 @@
 -- `range_stores::make_blocks`: after k turns the blocks of the first k pieces.
 use mathlib.Core.Path.{◌≡◌}
 use mathlib.Core.Bool.{true}
-use Prim.Native.Nat.{◌-◌, ◌≤◌}
-use lib.ListN.{length}
+use Prim.Native.Nat.{◌≤◌}
 use Rattle.base.specs.Out.{done}
 use Rattle.arena.specs.Fields.{file}
 use Rattle.arena.specs.Places.{free_of}
@@ -14,8 +13,5 @@ use Rattle.range_stores.proofs.make_blocks.Given as goal
 
 abbrev pub invariant-loop-k : goal.invariant-loop-k
 invariant-loop-k l =
-    (l.k ≤ l.p) × (length l.arena ≡ length l.initial.arena) × (length l.plan ≡ length l.initial.plan) × (there l.arena (file 1 l.name) ≡ true) × (made_to l.initial.arena (file 1 l.name) l.dst l.n l.k ≡ done l.arena)
+    (there l.arena (file 1 l.name) ≡ true) × (made_to l.initial.arena (file 1 l.name) l.dst l.n l.k ≡ done l.arena)
     × Places l.arena (file 1 l.name) l.dst l.plan (touched l.dst l.n) × (l.from ≤ free_of l.arena)
-
-abbrev pub decreases-loop-k : goal.decreases-loop-k
-decreases-loop-k l = l.p - l.k

@@ -1,7 +1,6 @@
 -- `range_stores::move_down`: after i turns the first i blocks of one write.
 use mathlib.Core.Path.{◌≡◌}
-use Prim.Native.Nat.{◌-◌, ◌≤◌}
-use lib.ListN.{length}
+use Prim.Native.Nat.{◌≤◌}
 use Rattle.base.specs.Out.{done}
 use Rattle.base.specs.Parts.{tab}
 use Rattle.arena.specs.Fields.{file}
@@ -12,7 +11,4 @@ use Rattle.range_stores.proofs.move_down.Given as goal
 
 abbrev pub invariant-loop-i : goal.invariant-loop-i
 invariant-loop-i l =
-    (l.i ≤ l.t) × (length l.arena ≡ length l.initial.arena) × (put_to l.initial.arena (file 1 l.name) l.dst (tab (byte_at l.initial.arena (file 1 l.name)) l.src l.n) l.i ≡ done l.arena) × (l.from ≤ free_of l.arena)
-
-abbrev pub decreases-loop-i : goal.decreases-loop-i
-decreases-loop-i l = l.t - l.i
+    (put_to l.initial.arena (file 1 l.name) l.dst (tab (byte_at l.initial.arena (file 1 l.name)) l.src l.n) l.i ≡ done l.arena) × (l.from ≤ free_of l.arena)

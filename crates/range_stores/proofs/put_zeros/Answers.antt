@@ -1,5 +1,5 @@
 -- `range_stores::put_zeros`: the length first; after i turns the first i blocks.
-use mathlib.Core.Path.{◌≡◌, refl, ◌∙◌}
+use mathlib.Core.Path.{◌≡◌}
 use Prim.Native.Nat.{ℕ}
 use native.Mathlib.Omega.{arith}
 use lib.ListN.{length, replicate, length-replicate}
@@ -15,49 +15,30 @@ returns-then-n-eq0 c = zero-zeros c.args.arena.now (file 1 c.args.name.now) c.ar
 pub raise-requires : goal.raise-requires
 raise-requires c = omega (arith, there-at c.args.arena.now (file 1 c.args.name.now) c.requires.n_bound.1.0, c.requires.n_bound.1.1)
 
-pub touched-t-requires : goal.touched-t-requires
-touched-t-requires c = c.requires.n_bound.0
-
-pub loop-i-init : goal.loop-i-init
-loop-i-init c = (omega arith, refl, λ a w P e. (e, omega arith))
-
-pub bounds-plan-i : goal.bounds-plan-i
-bounds-plan-i c =
-    omega (arith, c.requires.planned.few, c.touched-t.ensures)
-
-pub index16-requires : goal.index16-requires
-index16-requires c = tt
-
 pub zero_block-from-requires : goal.zero_block-from-requires
 zero_block-from-requires c =
     let f = file 1 c.args.name.now in
     let a = c.args.arena.now in
     let z : length {A = ℕ} (replicate c.args.n 0) ≡ c.args.n = length-replicate {A = ℕ} c.args.n 0 in
-    let so = c.loop-i.invariant.2 a c.requires.n_bound.1.0 c.requires.planned
+    let so = c.loop-i.invariant a c.requires.n_bound.1.0 c.requires.planned
     (zeros-first a f c.args.pos c.args.n c.args.k _ c.requires.n_bound.1.0 c.requires.n_bound.1.1 c.raise.ensures) in
     let t = touched-lies c.args.pos c.args.n c.loop-i.i (omega (arith, c.touched-t.ensures)) in
     let h = run_holds a f c.args.pos c.args.n (replicate c.args.n 0) z c.requires.n_bound.1.0 c.requires.n_bound.0 c.args.plan.now c.requires.planned c.loop-i.i c.loop-i.arena
-    (omega (arith, c.touched-t.ensures)) so.0 _ c.index16.ensures in record { n_bound = (c.requires.n_bound.0, (t.0, t.1)); found_value = (h.0, (so.1, h.1)) }
+    (omega (arith, c.touched-t.ensures)) so.0 _ c.from.ensures in record { n_bound = (c.requires.n_bound.0, (t.0, t.1)); found_value = (h.0, (so.1, h.1)) }
 
 pub loop-i-preserved : goal.loop-i-preserved
 loop-i-preserved c =
     let f = file 1 c.args.name.now in
-    let z : length {A = ℕ} (replicate c.args.n 0) ≡ c.args.n = length-replicate {A = ℕ} c.args.n 0 in (
-      omega arith,
-      c.zero_block-from.auto.arena ∙ c.loop-i.invariant.1,
-      λ a w P e. run-turn a f c.args.pos c.args.n (replicate c.args.n 0) z w c.requires.n_bound.0 c.args.plan.now P c.loop-i.i c.loop-i.arena
-          (omega (arith, c.touched-t.ensures)) (c.loop-i.invariant.2 a w P e).0 _ _ c.zero_block-from.ensures.0 c.zero_block-from.ensures.1,
-    )
-
-pub shape_of-arena : goal.shape_of-arena
-shape_of-arena c = c.loop-i.invariant.1 ∙ c.raise.auto.arena
+    let z : length {A = ℕ} (replicate c.args.n 0) ≡ c.args.n = length-replicate {A = ℕ} c.args.n 0 in
+    λ a w P e. run-turn a f c.args.pos c.args.n (replicate c.args.n 0) z w c.requires.n_bound.0 c.args.plan.now P c.loop-i.i c.loop-i.arena
+    (omega (arith, c.touched-t.ensures)) (c.loop-i.invariant a w P e).0 _ _ c.zero_block-from.ensures.0 c.zero_block-from.ensures.1
 
 pub returns : goal.returns
 returns c =
     let f = file 1 c.args.name.now in
     let a = c.args.arena.now in
     let z : length {A = ℕ} (replicate c.args.n 0) ≡ c.args.n = length-replicate {A = ℕ} c.args.n 0 in
-    let so = c.loop-i.invariant.2 a c.requires.n_bound.1.0 c.requires.planned
+    let so = c.loop-i.invariant a c.requires.n_bound.1.0 c.requires.planned
     (zeros-first a f c.args.pos c.args.n c.args.k _ c.requires.n_bound.1.0 c.requires.n_bound.1.1 c.raise.ensures) in
     zeros-whole a f c.args.pos c.args.n c.args.plan.now c.requires.n_bound.1.0 c.requires.n_bound.0 c.if-n-eq0.false c.requires.planned
     c.loop-i.i c.loop-i.arena (omega (arith, c.touched-t.ensures)) so.0

@@ -2,8 +2,8 @@
 use mathlib.Core.Path.{◌≡◌}
 use mathlib.Core.Bool.{true}
 use mathlib.Core.List.{List}
-use Prim.Native.Nat.{ℕ, ◌-◌, ◌≤◌}
-use lib.ListN.{length, replicate}
+use Prim.Native.Nat.{ℕ, ◌≤◌}
+use lib.ListN.{replicate}
 use Rattle.base.specs.Out.{done}
 use Rattle.arena.specs.Fields.{file}
 use Rattle.arena.specs.Places.{free_of}
@@ -14,9 +14,5 @@ use Rattle.range_stores.proofs.put_zeros.Given as goal
 
 abbrev pub invariant-loop-i : goal.invariant-loop-i
 invariant-loop-i l =
-    (l.i ≤ l.t) × (length l.arena ≡ length l.initial.arena)
-    × ((a : List ℕ) → there a (file 1 l.name) ≡ true → Planned a (file 1 l.name) l.pos l.n l.plan → put_to a (file 1 l.name) l.pos (replicate l.n 0) 0 ≡ done l.initial.arena
+    ((a : List ℕ) → there a (file 1 l.name) ≡ true → Planned a (file 1 l.name) l.pos l.n l.plan → put_to a (file 1 l.name) l.pos (replicate l.n 0) 0 ≡ done l.initial.arena
     → (put_to a (file 1 l.name) l.pos (replicate l.n 0) l.i ≡ done l.arena) × (l.from ≤ free_of l.arena))
-
-abbrev pub decreases-loop-i : goal.decreases-loop-i
-decreases-loop-i l = l.t - l.i

@@ -1,29 +1,20 @@
--- `sound::unchain`: after h turns the first h entries are zero.
-use mathlib.Core.Path.{◌≡◌, refl, ap, ◌∙◌}
-use mathlib.Core.Logic.{⊎_elim}
-use Prim.Native.Nat.{ℕ, ◌≤◌, zero-le}
-use native.Mathlib.Nat.{eq-or-lt_of_le}
+-- `sound::unchain`: the first half is filled with zeros.
+use mathlib.Core.Path.{◌≡◌, ◌∙◌}
+use Prim.Native.Nat.{ℕ, ◌<◌}
+use lib.ListN.{length, get_or, take, replicate, length-take, length-replicate, get_or-replicate}
 use native.Mathlib.Omega.{arith}
-use lib.ListN.{get_or, set, length-set}
-use lib.Seq.{get_or-set_same, get_or-set_other}
+use Rattle.std.proofs.Common.{rules}
+use Rattle.std.proofs.lemmas.List.{get_or_append_left}
 use Rattle.sound.proofs.unchain.Goals as goal
 
--- src/lib.rt:42:5
-pub loop-h-init : goal.loop-h-init
-loop-h-init c = (zero-le, refl, λ i l. absurd (omega arith))
+pub slice_bounds-fill-end-2 : goal.slice_bounds-fill-end-2
+slice_bounds-fill-end-2 c = omega (arith, length-take 4096 c.args.chains.now)
 
--- src/lib.rt:42:5
-pub loop-h-preserved : goal.loop-h-preserved
-loop-h-preserved c =
-    let l = c.loop-h in (
-      omega arith,
-      length-set l.chains l.h 0 ∙ l.invariant.1,
-      λ i m. ⊎_elim
-          (λ (x : i ≡ l.h). ap (λ (j : ℕ). get_or (set l.chains l.h 0) j 0) x ∙ get_or-set_same l.chains l.h 0 0 (omega (arith, l.invariant.1, c.requires)))
-          (λ k. get_or-set_other l.chains l.h i 0 0 (omega arith) ∙ l.invariant.2 i k)
-          (eq-or-lt_of_le (let y : i ≤ l.h = omega arith in y)),
-    )
-
--- src/lib.rt:37:1
 pub returns : goal.returns
-returns c = λ h l. c.loop-h.invariant.2 h (omega arith)
+returns c = λ h l.
+    let n : length (take 4096 c.args.chains.now) ≡ 4096 = omega (arith, length-take 4096 c.args.chains.now) in
+    let e : c.fill.new.self ≡ replicate (length (take 4096 c.args.chains.now)) 0 = search rules in
+    let lt : h < length (take 4096 c.args.chains.now) = omega arith in
+    let is : get_or c.fill.new.self h 0 ≡ 0 = rw e (get_or-replicate _ h 0 0 lt) in
+    let m : h < length c.fill.new.self = rw (e, length-replicate {A = ℕ} (length (take 4096 c.args.chains.now)) 0) lt in
+    get_or_append_left _ _ 0 h m ∙ is

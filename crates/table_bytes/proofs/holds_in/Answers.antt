@@ -6,11 +6,11 @@ use Rattle.table_bytes.proofs.Runs.{filled_none, filled_more, filled-all}
 use Rattle.table_bytes.proofs.holds_in.Goals as goal
 
 pub loop-i-init : goal.loop-i-init
-loop-i-init c = (omega arith, filled_none _ _ _ _ refl)
+loop-i-init c = filled_none _ _ _ _ refl
 
 pub loop-i-preserved : goal.loop-i-preserved
 unfolding hold_at_place
-loop-i-preserved c = (omega arith, filled_more _ _ 32 _ _ _ c.loop-i-test.true c.hold_in.ensures c.loop-i.invariant.1)
+loop-i-preserved c = filled_more _ _ 32 _ _ _ (omega arith) c.hold_in.ensures c.loop-i.invariant
 
 pub returns : goal.returns
-returns c = filled-all _ _ 32 _ _ c.loop-i-test.false c.loop-i.invariant.1
+returns c = filled-all _ _ 32 _ _ (omega arith) c.loop-i.invariant

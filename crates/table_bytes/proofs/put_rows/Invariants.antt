@@ -1,5 +1,5 @@
 -- `table_bytes::put_rows`: the first i are laid over what was there.
-use Prim.Native.Nat.{ℕ, ◌<◌, ◌≤◌, ◌-◌}
+use Prim.Native.Nat.{ℕ, ◌<◌}
 use mathlib.Core.Path.{◌≡◌}
 use lib.ListN.{length, get_or}
 use Rattle.base.specs.Parts.{paste}
@@ -10,10 +10,5 @@ use Rattle.table_bytes.proofs.put_rows.Given as goal
 
 abbrev pub invariant-loop-i : goal.invariant-loop-i
 invariant-loop-i l =
-    (l.i ≤ 34)
-    × (length l.out ≡ length l.initial.out)
-    × ((j : ℕ) → j < l.i → length (row_bytes (get_or l.rows j off_row)) ≡ 117)
-    × (l.out ≡ paste l.initial.out 0 (run_to (λ j. row_bytes (get_or l.rows j off_row)) l.i))
-
-abbrev pub decreases-loop-i : goal.decreases-loop-i
-decreases-loop-i l = 34 - l.i
+    ((j : ℕ) → j < l.i → length (row_bytes (get_or l.fn.rows j off_row)) ≡ 117)
+    × (l.out ≡ paste l.initial.out 0 (run_to (λ j. row_bytes (get_or l.fn.rows j off_row)) l.i))

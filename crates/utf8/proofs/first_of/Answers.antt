@@ -1,22 +1,19 @@
--- `utf8::first_of`: no byte passed is b.
-use mathlib.Core.Path.{◌≡◌, sym, ◌∙◌}
-use borrow.Author.Count.{below_more}
-use native.Mathlib.Omega.{arith}
+-- `utf8::first_of`: what `position` finds.
+use mathlib.Core.Path.{◌≡◌, ap, ◌∙◌}
+use lib.Dec.{eqb}
 use lib.ListN.{length}
-use Rattle.utf8.proofs.Names.{first-here, first-none}
+use borrow.Author.Rules.{rules}
+use borrow.Author.Tests.{tests}
+use Rattle.std.specs.List.{position}
+use Rattle.std.specs.Prelude.{Option, unwrap_or, ℕ}
+use Rattle.std.proofs.lemmas.Iterator.{YieldsList-from_slice}
+use Rattle.std.proofs.lemmas.Iterator.Search.{position_from_yields_List}
+use Rattle.utf8.proofs.Names.{position-first}
 use Rattle.utf8.proofs.first_of.Goals as goal
-
-pub loop-i-init : goal.loop-i-init
-loop-i-init c = (omega arith, λ j l. absurd (omega arith))
-
-pub returns-then-s-i : goal.returns-then-s-i
-returns-then-s-i c =
-    first-here c.args.b c.args.s.now c.loop-i.i (omega arith) c.loop-i.invariant.1 c.if-s-i.true
-
-pub loop-i-preserved : goal.loop-i-preserved
-loop-i-preserved c = (omega arith, below_more _ _ c.loop-i.invariant.1 c.if-s-i.false)
 
 pub returns : goal.returns
 returns c =
-    let i : c.loop-i.i ≡ length c.args.s.now = omega arith in
-    i ∙ sym (first-none _ c.args.s.now (λ j l. c.loop-i.invariant.1 j (omega arith)))
+    let s = c.args.s.now in
+    let e : c.position.result ≡ position (λ x. eqb x c.args.b) s =
+    position_from_yields_List (λ x. eqb x c.args.b) _ _ c.position.result c.position.ensures.ran (YieldsList-from_slice s cc) (λ x r q k. search (rules, tests)) in
+    c.unwrap_or.ensures ∙ ap (λ (r : Option ℕ). unwrap_or r (length s)) e ∙ position-first c.args.b s

@@ -1,5 +1,4 @@
--- `chains::slots::lookup`: the slots before k were passed. The measure is what is left of the slots.
-use Prim.Native.Nat.{◌≤◌, ◌-◌}
+-- `chains::slots::lookup`: the slots before k were passed.
 use mathlib.Core.Path.{◌≡◌}
 use lib.ListN.{length}
 use Rattle.base.specs.Out.{done}
@@ -7,7 +6,4 @@ use Rattle.sefs.specs.Slots.{look_to}
 use Rattle.chains.proofs.slots.lookup.Given as goal
 
 abbrev pub invariant-loop-k : goal.invariant-loop-k
-invariant-loop-k l = (l.k ≤ l.n) × ((length l.slot ≡ 264) × (look_to l.arena l.rec l.name l.k ≡ done l.k))
-
-abbrev pub decreases-loop-k : goal.decreases-loop-k
-decreases-loop-k l = l.n - l.k
+invariant-loop-k l = (length l.slot ≡ 264) × (look_to l.arena l.rec l.name l.k ≡ done l.k)

@@ -10,29 +10,28 @@ use Rattle.files.proofs.Clears.{clear_none, clear-tested, clear-all}
 use Rattle.files.proofs.store.free_blocks.Goals as goal
 
 pub loop-k-init : goal.loop-k-init
-loop-k-init c = (omega arith, refl, clear_none _ _ c.requires.0 _)
+loop-k-init c = (refl, clear_none _ _ c.requires.0 _)
 
 pub block-requires : goal.block-requires
-block-requires c = (c.loop-k-test.true, c.loop-k.invariant.2.fine)
+block-requires c = (c.loop-k-test.true, c.loop-k.invariant.1.fine)
 
 pub goes-yes-requires : goal.goes-yes-requires
 goes-yes-requires c =
-    (ap length c.block.ensures ∙ length-blk_of _ _ c.loop-k.invariant.2.fine _ c.loop-k-test.true, c.requires.1)
+    (ap length c.block.ensures ∙ length-blk_of _ _ c.loop-k.invariant.1.fine _ c.loop-k-test.true, c.requires.1)
 
 pub free_if-requires : goal.free_if-requires
 free_if-requires c =
-    let G = c.loop-k.invariant.2.fine in
+    let G = c.loop-k.invariant.1.fine in
     omega (arith, G.small, G.size, G.room, G.high)
 
 pub loop-k-preserved : goal.loop-k-preserved
 loop-k-preserved c =
     let f = file c.args.which c.args.name.now in
     let u = c.loop-k.work in (
-      omega arith,
-      c.free_if.auto.work ∙ c.loop-k.invariant.1,
-      clear-tested _ _ c.requires.0 (pick c.args.all (is_of f) (is_past f c.args.len)) u _ c.loop-k.k c.loop-k-test.true c.loop-k.invariant.2
+      c.free_if.auto.work ∙ c.loop-k.invariant.0,
+      clear-tested _ _ c.requires.0 (pick c.args.all (is_of f) (is_past f c.args.len)) u _ c.loop-k.k c.loop-k-test.true c.loop-k.invariant.1
           c.goes-yes.ensures c.block.ensures c.free_if.ensures,
     )
 
 pub returns : goal.returns
-returns c = clear-all _ _ c.requires.0 _ _ c.loop-k.k (omega arith) c.loop-k.invariant.2
+returns c = clear-all _ _ c.requires.0 _ _ c.loop-k.k (omega arith) c.loop-k.invariant.1

@@ -1,6 +1,5 @@
 -- `files::store::free_blocks`: after k turns the view is the definition's at k.
 use mathlib.Core.Path.{◌≡◌}
-use Prim.Native.Nat.{◌-◌, ◌≤◌}
 use lib.ListN.{length}
 use Rattle.base.specs.Search.{pick}
 use Rattle.arena.specs.Fields.{file}
@@ -10,7 +9,4 @@ use Rattle.files.specs.Store.{clear_to, is_of, is_past}
 use Rattle.files.proofs.store.free_blocks.Given as goal
 
 abbrev pub invariant-loop-k : goal.invariant-loop-k
-invariant-loop-k l = (l.k ≤ l.n) × (length l.work ≡ length l.initial.work) × Changed l.arena l.initial.work l.work (clear_to (pick l.all (is_of (file l.which l.name)) (is_past (file l.which l.name) l.len)) (view l.arena l.initial.work) l.k) 0
-
-abbrev pub decreases-loop-k : goal.decreases-loop-k
-decreases-loop-k l = l.n - l.k
+invariant-loop-k l = (length l.work ≡ length l.initial.work) × Changed l.arena l.initial.work l.work (clear_to (pick l.all (is_of (file l.which l.name)) (is_past (file l.which l.name) l.len)) (view l.arena l.initial.work) l.k) 0

@@ -7,5 +7,5 @@ use Rattle.inventory_lines.proofs.names.byte_size.Goals as goal
 pub returns-then-is_escaped : goal.returns-then-is_escaped
 returns-then-is_escaped c = (sym (size-escaped _ (sym c.is_escaped.ensures ∙ c.if-is_escaped.true)), omega arith)
 
-pub returns : goal.returns
-returns c = (sym (size-kept _ (sym c.is_escaped.ensures ∙ c.if-is_escaped.false)), omega arith)
+pub returns-else-is_escaped : goal.returns-else-is_escaped
+returns-else-is_escaped c = (sym (size-kept _ (sym c.is_escaped.ensures ∙ c.if-is_escaped.false)), omega arith)

@@ -5,5 +5,5 @@ use Rattle.inventory_lines.proofs.names.hex_digit.Goals as goal
 pub returns-then-d-lt10 : goal.returns-then-d-lt10
 returns-then-d-lt10 c = rw (lt-ltb _ 10 c.if-d-lt10.true)
 
-pub returns : goal.returns
-returns c = rw (le-ltb _ 10 c.if-d-lt10.false)
+pub returns-else-d-lt10 : goal.returns-else-d-lt10
+returns-else-d-lt10 c = rw (le-ltb _ 10 c.if-d-lt10.false)

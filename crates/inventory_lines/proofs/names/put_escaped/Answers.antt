@@ -1,4 +1,4 @@
--- `inventory_lines::names::put_escaped`: after i turns the first i bytes stand from `at` on, and end at e.
+-- `inventory_lines::names::put_escaped`: before a turn the bytes so far stand from `at` on, and end at e.
 use mathlib.Core.Path.{sym, ap, ◌∙◌}
 use mathlib.Core.List.{List}
 use Prim.Native.Nat.{ℕ}
@@ -11,30 +11,26 @@ use Rattle.inventory.proofs.Escapes.{escape-nil}
 use Rattle.inventory_lines.proofs.Escaped.{escape-more, escape-all, escape-room}
 use Rattle.inventory_lines.proofs.names.put_escaped.Goals as goal
 
-pub loop-i-init : goal.loop-i-init
-loop-i-init c = (omega arith, omega arith, omega (arith, ap length escape-nil), paste_none _ _ ∙ ap (paste c.args.out.now c.args.at) (sym escape-nil))
+pub loop-b-init : goal.loop-b-init
+loop-b-init c = (omega (arith, ap length escape-nil), paste_none _ _ ∙ ap (paste c.args.out.now c.args.at) (sym escape-nil))
 
 pub put_byte-e-requires : goal.put_byte-e-requires
-put_byte-e-requires c = omega (arith, escape-room c.args.name.now c.loop-i.i (omega arith))
+put_byte-e-requires c = omega (arith, escape-room c.args.name.now c.loop-b.b-index (omega arith))
 
-pub loop-i-preserved : goal.loop-i-preserved
-loop-i-preserved c =
+pub loop-b-preserved : goal.loop-b-preserved
+loop-b-preserved c =
     let out : List ℕ = c.args.out.now in
     let at : ℕ = c.args.at in
     let l : List ℕ = c.args.name.now in
-    let i : ℕ = c.loop-i.i in
-    let inv = c.loop-i.invariant in
+    let i : ℕ = c.loop-b.b-index in
+    let inv = c.loop-b.invariant in
     let put = c.put_byte-e.ensures in
     let n = length-append (escape (take i l)) (escape_byte (get_or l i 0)) in
     let more = escape-more l i (omega arith) in
-    let r = lay-on out _ _ at _ (escape (take i l)) (escape_byte (get_or l i 0)) inv.3 inv.2 put.1 (omega (arith, n, escape-room l i (omega arith))) in
-    (omega arith, omega (arith, c.put_byte-e.auto.out), omega (arith, n, ap length more), r ∙ ap (paste out at) (sym more))
-
-pub shape_of-out : goal.shape_of-out
-shape_of-out c = c.loop-i.invariant.1
+    let r = lay-on out _ _ at _ (escape (take i l)) (escape_byte (get_or l i 0)) inv.1 inv.0 put.1 (omega (arith, n, escape-room l i (omega arith))) in
+    (omega (arith, n, ap length more), r ∙ ap (paste out at) (sym more))
 
 pub returns : goal.returns
 returns c =
-    let l : List ℕ = c.args.name.now in
-    let all = escape-all l c.loop-i.i (omega arith) in
-    (omega (arith, ap length all), c.loop-i.invariant.3 ∙ ap (paste c.args.out.now c.args.at) all)
+    let all = escape-all c.args.name.now c.loop-b.b-index (omega arith) in
+    (omega (arith, ap length all), c.loop-b.invariant.1 ∙ ap (paste c.args.out.now c.args.at) all)

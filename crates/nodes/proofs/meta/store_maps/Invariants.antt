@@ -1,6 +1,6 @@
 -- `nodes::meta::store_maps`: after g turns the maps of the first g groups are stored.
 use mathlib.Core.Path.{◌≡◌}
-use Prim.Native.Nat.{◌*◌, ◌-◌, ◌≤◌}
+use Prim.Native.Nat.{◌*◌}
 use lib.ListN.{length}
 use Rattle.overlay.specs.View.{view}
 use Rattle.overlay.proofs.Chains.{Well}
@@ -9,7 +9,4 @@ use Rattle.mem.specs.Mem.{maps_in}
 use Rattle.nodes.proofs.meta.store_maps.Given as goal
 
 abbrev pub invariant-loop-g : goal.invariant-loop-g
-invariant-loop-g l = (l.g ≤ l.n) × ((length l.work ≡ length l.initial.work) × Well (store_maps (view l.arena l.initial.work) (maps_in l.mem) l.g) l.arena l.initial.work l.work (2 * l.g))
-
-abbrev pub decreases-loop-g : goal.decreases-loop-g
-decreases-loop-g l = l.n - l.g
+invariant-loop-g l = (length l.work ≡ length l.initial.work) × Well (store_maps (view l.arena l.initial.work) (maps_in l.mem) l.g) l.arena l.initial.work l.work (2 * l.g)

@@ -9,9 +9,9 @@ unfolding hash_key
 returns-then-head c =
     (simp c.if-head.true (c.bucket.ensures.0 ∙ ap bucket_of c.file_hash-f.ensures.0), c.bucket.ensures.1)
 
-pub returns : goal.returns
+pub returns-else-head : goal.returns-else-head
 unfolding hash_key
-returns c = (
-  simp c.if-head.false (c.bucket-2.ensures.0 ∙ ap₂ (λ (f q : ℕ). bucket_of (f + (q * 331804471 + 268435399))) c.file_hash-f.ensures.0 c.wide.ensures.0),
-  c.bucket-2.ensures.1,
+returns-else-head c = (
+  simp c.if-head.false (c.bucket-else-head.ensures.0 ∙ ap₂ (λ (f q : ℕ). bucket_of (f + (q * 331804471 + 268435399))) c.file_hash-f.ensures.0 c.wide.ensures.0),
+  c.bucket-else-head.ensures.1,
 )

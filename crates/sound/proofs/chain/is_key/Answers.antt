@@ -10,7 +10,7 @@ returns-then-head c =
     let a = c.args in
     c.is_head.ensures ∙ ap (λ (h : Bool). is_key h (file a.which a.name.now) a.number a.part.now) (sym c.if-head.true)
 
-pub returns : goal.returns
-returns c =
+pub returns-else-head : goal.returns-else-head
+returns-else-head c =
     let a = c.args in
     c.is_data.ensures ∙ ap (λ (h : Bool). is_key h (file a.which a.name.now) a.number a.part.now) (sym c.if-head.false)

@@ -1,5 +1,4 @@
 -- `walk_parts::texts::split`: a part follows each slash passed.
-use Prim.Native.Nat.{◌-◌, ◌≤◌}
 use mathlib.Core.Path.{◌≡◌}
 use mathlib.Core.Bool.{true}
 use Rattle.base.specs.Count.{all_to}
@@ -8,7 +7,4 @@ use Rattle.walk_parts.proofs.Splits.{followed}
 use Rattle.walk_parts.proofs.texts.split.Given as goal
 
 abbrev pub invariant-loop-i : goal.invariant-loop-i
-invariant-loop-i l = (l.i ≤ l.n) × ((part_at l.text 0 ≡ true) × (all_to (followed l.text) l.i ≡ true))
-
-abbrev pub decreases-loop-i : goal.decreases-loop-i
-decreases-loop-i l = l.n - l.i
+invariant-loop-i l = (part_at l.text 0 ≡ true) × (all_to (followed l.text) l.i ≡ true)

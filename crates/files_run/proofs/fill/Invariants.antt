@@ -1,9 +1,0 @@
--- `files_run::fill`: the length stays.
-use Rattle.std.proofs.Common.{◌≡◌, ◌-◌, length}
-use Rattle.files_run.proofs.fill.Given as goal
-
-abbrev pub invariant-loop-i : goal.invariant-loop-i
-invariant-loop-i l = length l.buf ≡ length l.initial.buf
-
-abbrev pub decreases-loop-i : goal.decreases-loop-i
-decreases-loop-i l = l.n - l.i
