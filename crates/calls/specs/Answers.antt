@@ -50,7 +50,7 @@ abbrev pub laid : List ℕ → Out (List ℕ) → List ℕ
 laid out (done l) = paste out 0 l
 laid out (refused n) = out
 
--- code that lays an outcome's bytes over the start of an output answers r: 0 where the n bytes are there, or the reason, and the output is
+-- code that lays an outcome's bytes over the start of an output answers, by its code r: 0 where the n bytes are there, or the reason, and the output is
 -- as it was
 pub data Laid (o : Out (List ℕ)) (out now : List ℕ) (n : ℕ) : ℕ → Type 0 where
   lay : {l : List ℕ} → o ≡ done l → length l ≡ n → now ≡ paste out 0 l → Laid o out now n 0

@@ -28,7 +28,7 @@ holding w o = bind o (λ x. done (given x.state (add_hold x.state.table w x.row)
 abbrev pub leaving : List ℕ → Added → Given
 leaving b x = record { arena = b; table = x.table; handle = x.handle }
 
--- the steps, that their definition sends to o, answer r: the arena was a and is b, the memory is m, and `row` is the node's, whoever has the hold then
+-- the steps, that their definition sends to o, answer, by their code r: the arena was a and is b, the memory is m, and `row` is the node's, whoever has the hold then
 pub data EndedOpen (o : Out Opened) (a b m : List ℕ) (row : ℕ) : ℕ → Type 0 where
   opens : Whole m → row < 34 → ((w : ℕ) → holding w o ≡ done (leaving b (add_hold (table_in m) w row))) → EndedOpen o a b m row 0
   stays : {r : ℕ} → 0 < r → o ≡ refused r → b ≡ a → EndedOpen o a b m row r

@@ -53,7 +53,7 @@ Provided InsertRange a f size from len places source = (from < size) × (size + 
 -- (refused before)
 Provided Unknown a f size from len places source = ⊥
 
--- the code that decides a mode of a file that is there answers r: the call's own number; and where it is 0, its stores have what they need
+-- the code that decides a mode of a file that is there answers, by its code r: the call's own number; and where it is 0, its stores have what they need
 pub record Resolved (mode : FallocateMode) (a : List ℕ) (f : File) (size from len : ℕ) (places source : List ℕ) (r : ℕ) : Type 0 where
   pub says : r ≡ says_on mode a f size from len
   pub has : r ≡ 0 → Provided mode a f size from len places source
@@ -77,7 +77,7 @@ pub record Supplied (a : List ℕ) (t : Table) (i k : ℕ) (mode : FallocateMode
 abbrev pub no_ranging : Ranging
 no_ranging = record { idle = true; row = 0; head = 0 }
 
--- the code that asks what the call asks, and decides it, answers n: the call's reason; or where n is 0, r: that it does nothing; or where its
+-- the code that asks what the call asks, and decides it, answers, by its code n: the call's reason; or where n is 0, r: that it does nothing; or where its
 -- stores go
 pub record Ranged (a : List ℕ) (t : Table) (who : ℕ) (h : Handle) (mode : FallocateMode) (from len : ℕ) (places source : List ℕ) (r : Ranging) (n : ℕ) : Type 0 where
   pub refuses : (n ≡ 0 → ⊥) → call_fallocate a t who h mode from len ≡ refused n

@@ -24,7 +24,7 @@ pub data MendEnded (o : Out (List ℕ)) (a b : List ℕ) : ℕ → Type 0 where
 abbrev pub steps_on : List ℕ → Table → Out (List ℕ)
 steps_on a t = bind (mend_steps a (start a t)) (λ s. done s.arena)
 
--- the code that asks before any store answers r: 0 where the steps are left, and P holds; or the call's reason
+-- the code that asks before any store answers, by its code r: 0 where the steps are left, and P holds; or the call's reason
 pub data Asked (a : List ℕ) (t : Table) (P : Type 0) : ℕ → Type 0 where
   clear : call_mend a t ≡ steps_on a t → mendable a ≡ true → wanted a ≤ free_count a + given_back a → P → Asked a t P 0
   refuses : {r : ℕ} → 0 < r → call_mend a t ≡ refused r → Asked a t P r

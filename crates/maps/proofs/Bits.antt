@@ -158,6 +158,11 @@ module _ (m : List ℕ) (i : ℕ) (b : Bool) (inside : i / 8 < length m) where
   set_bits-with_bit n l =
       count_to-change (bit_at m) (bit_at (with_bit m i b)) n i l (λ j ne. sym (bit_at-with_bit-other j ne)) ∙ ap (λ (c : Bool). count_to (bit_at m) n + bit c) bit_at-with_bit-same
 
+-- bit k of byte j
+pub bit_at-byte : (m : List ℕ) (j k : ℕ) → k < 8 → bit_at m (8 * j + k) ≡ bit_of (get_or m j 0) k
+unfolding bit_at
+bit_at-byte m j k l = ap₂ (λ (a b : ℕ). bit_of (get_or m a 0) b) (let e : (8 * j + k) / 8 ≡ j = omega arith in e) (let e : (8 * j + k) % 8 ≡ k = omega arith in e)
+
 pub set_bits-le : (m : List ℕ) (n : ℕ) → set_bits m n ≤ n
 unfolding set_bits
 set_bits-le m n = count_to-le (bit_at m) n
@@ -167,7 +172,11 @@ pub set_bits-more : (m : List ℕ) (n : ℕ) → set_bits m (n + 1) ≡ set_bits
 unfolding set_bits
 set_bits-more m n = count_to-more (bit_at m) n
 
--- ---- the search
+-- ---- the search over groups, bytes and bits
+
+-- bit k of byte j of group g
+pub bit_at-place : (m : List ℕ) (g j k : ℕ) → k < 8 → bit_at m (1024 * g + 8 * j + k) ≡ bit_of (get_or m (128 * g + j) 0) k
+bit_at-place m g j k l = ap (bit_at m) (let e : 1024 * g + 8 * j + k ≡ 8 * (128 * g + j) + k = omega arith in e) ∙ bit_at-byte m (128 * g + j) k l
 
 -- no bit below n is set
 abbrev pub Clear : List ℕ → ℕ → Type 0
@@ -175,6 +184,13 @@ Clear m n = (j : ℕ) → j < n → bit_at m j ≡ false
 
 pub clear-upto : (m : List ℕ) (a b : ℕ) → b ≤ a → Clear m a → Clear m b
 clear-upto m a b h p j l = p j (omega arith)
+
+pub clear-more : (m : List ℕ) (g j k : ℕ) → k < 8 → bit_of (get_or m (128 * g + j) 0) k ≡ false → Clear m (1024 * g + 8 * j + k) → Clear m (1024 * g + 8 * j + (k + 1))
+clear-more m g j k l e p i h =
+    ⊎_elim
+    (λ b. p i b)
+    (λ (a : 1024 * g + 8 * j + k ≤ i). ap (bit_at m) (let q : i ≡ 1024 * g + 8 * j + k = omega arith in q) ∙ bit_at-place m g j k l ∙ e)
+    (lt-or-le i (1024 * g + 8 * j + k))
 
 pub set_bits-none : (m : List ℕ) → set_bits m 0 ≡ 0
 unfolding set_bits

@@ -52,13 +52,20 @@ pub fn lowest_set(maps: &[u8], groups: usize) -> Option<usize>
     requires { (groups ≤ 4) × (128 * groups ≤ length maps.now) }
     ensures { result ≡ found_below (lowest (bit_at maps.now) (1024 * groups)) (1024 * groups) }
 {
-    let n = BLKBITS * groups;
-    for id in 0..n {
-        if bit_at(maps, id) {
-            return base::found_below(id, n);
+    let id = 'search: {
+        for group in 0..groups {
+            for byte in 0..BLKSIZE {
+                let x = maps[BLKSIZE * group + byte];
+                for k in 0..8 {
+                    if bit_of(x, k) {
+                        break 'search BLKBITS * group + 8 * byte + k;
+                    }
+                }
+            }
         }
-    }
-    base::found_below(n, n)
+        BLKBITS * groups
+    };
+    base::found_below(id, BLKBITS * groups)
 }
 
 // How many blocks are free.

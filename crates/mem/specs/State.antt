@@ -24,6 +24,6 @@ pub record Still (a w u m : List ℕ) (k : ℕ) : Type 0 where
   pub whole : Whole m
   pub room : left w ≤ left u + k
 
--- a step that its definition sends from the state to o answers r: the workspace was w and is u, the memory is n, and at most k blocks were taken
+-- a step that its definition sends from the state to o answers, by its code r: the workspace was w and is u, the memory is n, and at most k blocks were taken
 abbrev pub Stepped : Out Fs → List ℕ → List ℕ → List ℕ → List ℕ → ℕ → ℕ → Type 0
 Stepped o a w u n k r = Went o (fs_of a u n) (Still a w u n k) r

@@ -40,7 +40,7 @@ pub record Ready (a work places : List ℕ) : Type 0 where
   pub fated : Fated a work (ids_in a)
   pub placed : Placed a places
 
--- the code that finds it out answers r: 0 where nothing refuses the mender any more, 18, or 17
+-- the code that finds it out answers, by its code r: 0 where nothing refuses the mender any more, 18, or 17
 pub data Decided (a : List ℕ) (P : Type 0) : ℕ → Type 0 where
   can : mendable a ≡ true → wanted a ≤ free_count a + given_back a → P → Decided a P 0
   unfit : mendable a ≡ false → Decided a P 18

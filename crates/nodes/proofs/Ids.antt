@@ -158,7 +158,7 @@ pub alloc-none : (a w m : List ℕ) → eqb (get_or m 4402 0) 1 ≡ false → al
 unfolding alloc_block fs_of
 alloc-none a w m h = rw (meta-none m h)
 
--- the first half of `allocBlock`
+-- the first half of `alloc_block`
 abbrev pub room_for : List ℕ → List ℕ → List ℕ → Out Fs
 room_for a w m = pick (ltb (first_bit (meta_of m)) (1024 * (super_in m).groups)) (done (fs_of a w m)) (add_group (fs_of a w m) (meta_of m))
 

@@ -121,7 +121,7 @@ well-did e = went e.is (record { is = refl; fine = e.fine; room = e.room })
 
 -- ---- superblock and maps stored
 
--- what `syncMeta` is where they could be read
+-- what `sync_meta` is where they could be read
 abbrev pub stores_all : List ℕ → List ℕ → List ℕ → Out (List ℕ)
 stores_all a w m = bind (put_file (view a w) meta_file 0 (part m 4403 4419)) (λ d. store_maps d (maps_in m) (super_in m).groups)
 

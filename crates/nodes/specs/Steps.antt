@@ -16,12 +16,12 @@ use Rattle.mem.specs.Mem.{super_in, maps_in}
 abbrev pub meta_of : List ℕ → Meta
 meta_of m = record { super = super_in m; maps = maps_in m }
 
--- what `newNode` does with the id that it allocated
+-- what `new_node` does with the id that it allocated
 unfoldable pub made_node : Fs → ℕ → ℕ → ℕ → Timespec → List ℕ → Out Opened
 made_node s id kind mode time name =
     guard (not (eqb id 0) && no_row (row_of s.table id)) stuck
     (bind (make_file s.arena (file 1 name)) (λ a. open_in (with_arena s a) id (new_record kind mode time name) true (free_row s.table)))
 
--- what `freeNode` does when the id is free
+-- what `free_node` does when the id is free
 unfoldable pub remove_node : Fs → ℕ → Out Fs
 remove_node s i = bind (sync_meta s) (λ s. bind (drop_file s.arena (node_file (rec_at s i))) (λ a. done (with_arena s a)))

@@ -26,7 +26,7 @@ pub record Planned (a : List ℕ) (f : File) (pos n : ℕ) (plan : List ℕ) : T
   pub room : lacking a f pos n ≤ free_count a
   pub places : Places a f pos plan (touched pos n)
 
--- the code that decides so answers r: 0, or the reason that any n bytes meet
+-- the code that decides so answers, by its code r: 0, or the reason that any n bytes meet
 pub data Decided (a : List ℕ) (f : File) (pos n : ℕ) (plan : List ℕ) : ℕ → Type 0 where
   can : Planned a f pos n plan → Decided a f pos n plan 0
   cannot : {r : ℕ} → 0 < r → ((src : List ℕ) → length src ≡ n → put_file a f pos src ≡ refused r) → Decided a f pos n plan r

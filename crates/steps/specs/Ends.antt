@@ -19,7 +19,7 @@ pub record Begun (a first next m n : List ℕ) : Type 0 where
   pub table : table_in n ≡ table_in m
   pub whole : Whole n
 
--- code that asks what a call o asks, and finds what its steps need, answers r: 0 where o is the rest e, and P holds; or o's reason
+-- code that asks what a call o asks, and finds what its steps need, answers, by its code r: 0 where o is the rest e, and P holds; or o's reason
 pub data Rest {A : Type 0} (o e : Out A) (P : Type 0) : ℕ → Type 0 where
   on : o ≡ e → P → Rest o e P 0
   off : {r : ℕ} → 0 < r → o ≡ refused r → Rest o e P r
@@ -40,7 +40,7 @@ after_as t (refused n) = (refused n, t)
 abbrev pub ending : Out Fs → Out After
 ending o = bind o (λ s. done (after s))
 
--- the steps, that their definition sends to o, answer r: the arena was a and is b, and memory has the table u
+-- the steps, that their definition sends to o, answer, by their code r: the arena was a and is b, and memory has the table u
 pub data Ended (o : Out After) (a b : List ℕ) (u : Table) : ℕ → Type 0 where
   went : o ≡ done (record { arena = b; table = u }) → Ended o a b u 0
   stopped : {r : ℕ} → 0 < r → o ≡ refused r → b ≡ a → Ended o a b u r
