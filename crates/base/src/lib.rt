@@ -1,4 +1,4 @@
-// What every layer shares: an answer that may be missing, numbers made wider, and bytes copied and cleared.
+// What every layer shares: the reasons of a refusal, a search with its bound, numbers made wider, and bytes copied and cleared.
 #![tactic(auto)]
 
 mod reasons;
@@ -9,7 +9,7 @@ ghost use Rattle.base.specs.Search.{found_below};
 
 pub use reasons::{Reason, code};
 
-// A search answers its bound where there is none.
+// A search that came to its bound has found none.
 pub fn found_below(k: usize, bound: usize) -> Option<usize>
     ensures { result ≡ found_below k bound }
 {

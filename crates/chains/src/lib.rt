@@ -99,6 +99,7 @@ pub fn read_run(
 {
     let total = out.len();
     let mut got: usize = 0;
+    // A while: a turn takes as many bytes as the block has.
     while got < total {
         let p = pos + got;
         let m = least(480 - p % 480, total - got);

@@ -16,7 +16,7 @@ fn play(
 {
     replay_lib::begin(desk, arena);
     // A while: the desk says when the script has ended.
-    while !replay_lib::ended(desk) {
+    while !replay_lib::ended(&desk[..]) {
         let n = replay_lib::run(script, desk, arena, text);
         rt.write_all(&text[..n])?;
     }

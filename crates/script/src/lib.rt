@@ -10,10 +10,10 @@
 #![tactic(auto)]
 
 pub mod args;
-pub mod command;
 pub mod desk;
 pub mod lines;
 pub mod record;
 pub mod shape;
+pub mod text;
 
 pub const COMMAND: usize = 8218;

@@ -5,5 +5,5 @@ use Rattle.replay_lib.proofs.ended.Goals as goal
 pub returns-then-desk-ne-DESK : goal.returns-then-desk-ne-DESK
 returns-then-desk-ne-DESK c = simp (ne_eqb _ _ c.if-desk-ne-DESK.true)
 
-pub returns-else-desk-ne-DESK : goal.returns-else-desk-ne-DESK
-returns-else-desk-ne-DESK c = simp (eq-eqb _ _ c.if-desk-ne-DESK.false)
+pub returns : goal.returns
+returns c = simp (eq-eqb _ _ c.if-desk-ne-DESK.false)
