@@ -8,9 +8,9 @@ use table::Handle;
 
 // Ann has two glyphs open: one has no name any more, and the other's size waits in the table.
 fn at_work(rt: &impl Print, world: &mut [u8; 12594], root: Handle) -> io::Result<()> {
-    let a = create_line(rt, world, ANN, root, "a", FILE, 2)?;
-    let b = create_line(rt, world, ANN, root, "b", FILE, 3)?;
-    let saved = save(world, ANN, b, "M0 0 C1 9 4 9 5 0");
+    let a = create_line(rt, world, ANN, root, b"a", FILE, 2)?;
+    let b = create_line(rt, world, ANN, root, b"b", FILE, 3)?;
+    let saved = save(world, ANN, b, b"M0 0 C1 9 4 9 5 0");
     let removed = remove_file(world, ANN, root, b"a");
     let it = node(world, ANN, a);
     println!(rt;
@@ -51,8 +51,10 @@ fn opened(rt: &impl Print, world: &mut [u8; 12594]) -> io::Result<()> {
     let b = find(world, ANN, root, b"b");
     let it = node(world, ANN, b.handle);
     let drawing = outline(world, ANN, b.handle);
-    println!(rt; "  find b: {}; it is {it}, and reads {drawing}.", b.outcome)?;
-    create_line(rt, world, ANN, root, "c", FILE, 4)?;
+    print!(rt; "  find b: {}; it is {it}, and reads ", b.outcome)?;
+    drawing.show(rt)?;
+    println!(rt; ".")?;
+    create_line(rt, world, ANN, root, b"c", FILE, 4)?;
     Ok(())
 }
 

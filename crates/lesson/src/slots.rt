@@ -22,10 +22,13 @@ fn first_removed(rt: &impl Print, world: &mut [u8; 12594], root: Handle) -> io::
     let second = slot(world, root, 2);
     let third = slot(world, root, 3);
     let length = root_length(world);
-    println!(rt;
-        "  remove-file a: {removed}; slot 2 is {second}, slot 3 is {third}; the root's file has {length} bytes.\n  \
-        Who kept 2 as the slot of a now reads {second}."
-    )
+    print!(rt; "  remove-file a: {removed}; slot 2 is ")?;
+    second.show(rt)?;
+    print!(rt; ", slot 3 is ")?;
+    third.show(rt)?;
+    print!(rt; "; the root's file has {length} bytes.\n  Who kept 2 as the slot of a now reads ")?;
+    second.show(rt)?;
+    println!(rt; ".")
 }
 
 pub fn slots(rt: &impl Print, world: &mut [u8; 12594]) -> io::Result<()> {
@@ -33,10 +36,13 @@ pub fn slots(rt: &impl Print, world: &mut [u8; 12594]) -> io::Result<()> {
     let a = slot(world, root, 2);
     let b = slot(world, root, 3);
     let c = slot(world, root, 4);
-    println!(rt;
-        "\nA slot number does not stay put\n  \
-        create a, b, c: slot 2 is {a}, slot 3 is {b}, slot 4 is {c}."
-    )?;
+    print!(rt; "\nA slot number does not stay put\n  create a, b, c: slot 2 is ")?;
+    a.show(rt)?;
+    print!(rt; ", slot 3 is ")?;
+    b.show(rt)?;
+    print!(rt; ", slot 4 is ")?;
+    c.show(rt)?;
+    println!(rt; ".")?;
     first_removed(rt, world, root)
 }
 
@@ -65,7 +71,7 @@ pub fn same_node(
 ) -> io::Result<()> {
     println!(rt; "\nA move onto another name of the same node")?;
     let root = fresh(world);
-    let h = create_line(rt, world, ANN, root, "old", FILE, 2)?;
+    let h = create_line(rt, world, ANN, root, b"old", FILE, 2)?;
     let linked = link(world, ANN, root, b"new", h);
     println!(rt;
         "  link it as new: {linked}; it is {}.",
@@ -74,7 +80,11 @@ pub fn same_node(
     move_same(rt, world, kept, root)?;
     let second = slot(world, root, 2);
     let third = slot(world, root, 3);
-    println!(rt; "  Both names are there: slot 2 is {second}, slot 3 is {third}.")
+    print!(rt; "  Both names are there: slot 2 is ")?;
+    second.show(rt)?;
+    print!(rt; ", slot 3 is ")?;
+    third.show(rt)?;
+    println!(rt; ".")
 }
 
 // Where `..` of a folder leads.
@@ -108,9 +118,9 @@ fn reorganised(
 pub fn families(rt: &impl Print, world: &mut [u8; 12594]) -> io::Result<()> {
     println!(rt; "\nA weight's folder goes to another family")?;
     let root = fresh(world);
-    let sans = create_line(rt, world, ANN, root, "Sans", DIR, 2)?;
-    let serif = create_line(rt, world, ANN, root, "Serif", DIR, 3)?;
-    let bold = create_line(rt, world, ANN, sans, "Bold", DIR, 4)?;
+    let sans = create_line(rt, world, ANN, root, b"Sans", DIR, 2)?;
+    let serif = create_line(rt, world, ANN, root, b"Serif", DIR, 3)?;
+    let bold = create_line(rt, world, ANN, sans, b"Bold", DIR, 4)?;
     reorganised(rt, world, root, sans, serif, bold)
 }
 
@@ -129,7 +139,7 @@ fn keys_pressed(rt: &impl Print, world: &mut [u8; 12594], root: Handle) -> io::R
 pub fn two_keys(rt: &impl Print, world: &mut [u8; 12594]) -> io::Result<()> {
     println!(rt; "\nThe delete key and the folder menu")?;
     let root = fresh(world);
-    create_line(rt, world, ANN, root, "a", FILE, 2)?;
-    create_line(rt, world, ANN, root, "Bold", DIR, 3)?;
+    create_line(rt, world, ANN, root, b"a", FILE, 2)?;
+    create_line(rt, world, ANN, root, b"Bold", DIR, 3)?;
     keys_pressed(rt, world, root)
 }

@@ -41,21 +41,25 @@ fn removed(
         "  Ben removes a: {a}; Ann's a is {}.",
         node(world, ANN, ann)
     )?;
-    create_line(rt, world, BEN, own, "b", FILE, 3)
+    create_line(rt, world, BEN, own, b"b", FILE, 3)
 }
 
 // Ann saves in the a that she has open, Ben in his new b.
 fn saved(rt: &impl Print, world: &mut [u8; 12594], ann: Handle, ben: Handle) -> io::Result<()> {
-    let curve = save(world, ANN, ann, "M0 0 C1 9 4 9 5 0");
-    let corner = save(world, BEN, ben, "M0 0 L5 0 L5 7");
+    let curve = save(world, ANN, ann, b"M0 0 C1 9 4 9 5 0");
+    let corner = save(world, BEN, ben, b"M0 0 L5 0 L5 7");
     let hers = outline(world, ANN, ann);
     let his = outline(world, BEN, ben);
     println!(rt;
         "  A number stays taken while a handle is open, so b has another, and a file of its own.\n  \
         Ann saves her curve: {curve}.\n  \
-        Ben saves his corner: {corner}.\n  \
-        Ann's a reads {hers}; Ben's b reads {his}."
-    )
+        Ben saves his corner: {corner}."
+    )?;
+    print!(rt; "  Ann's a reads ")?;
+    hers.show(rt)?;
+    print!(rt; "; Ben's b reads ")?;
+    his.show(rt)?;
+    println!(rt; ".")
 }
 
 // Ben closes his handle and asks with it once more; then Ann closes hers.
@@ -74,12 +78,12 @@ fn closed(rt: &impl Print, world: &mut [u8; 12594], ann: Handle, ben: Handle) ->
 pub fn support_call(rt: &impl Print, world: &mut [u8; 12594]) -> io::Result<()> {
     println!(rt; "\n\"My curve has my colleague's corner in it\"")?;
     let first = fresh(world);
-    let ann = create_line(rt, world, ANN, first, "a", FILE, 2)?;
+    let ann = create_line(rt, world, ANN, first, b"a", FILE, 2)?;
     let own = root(world, BEN).handle;
     let ben = shared(rt, world, own, ann)?;
     let other = removed(rt, world, own, ann)?;
     saved(rt, world, ann, other)?;
     closed(rt, world, ann, ben)?;
-    create_line(rt, world, BEN, own, "c", FILE, 4)?;
+    create_line(rt, world, BEN, own, b"c", FILE, 4)?;
     Ok(())
 }

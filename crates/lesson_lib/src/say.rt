@@ -1,6 +1,6 @@
 // Words that the lesson's lines have.
 use base::Reason;
-use std::fmt;
+use std::{fmt, io};
 use utf8::first_zero;
 
 // A stored name, or what was read, up to its zero.
@@ -12,12 +12,10 @@ fn up_to_zero(bytes: &[u8]) -> &[u8] {
     &bytes[..n]
 }
 
-impl<const N: usize> fmt::Display for Text<N> {
-    fn fmt<W: fmt::Write>(&self, f: &mut fmt::Formatter<W>) -> fmt::Result {
-        match std::str::from_utf8(up_to_zero(&self.0)) {
-            Ok(text) => f.write_str(text),
-            Err(_) => Err(fmt::Error),
-        }
+impl<const N: usize> Text<N> {
+    // Byte for byte, and not by Display: what was read need be no UTF-8.
+    pub fn show(&self, rt: &impl Print) -> io::Result<()> {
+        rt.write_all(up_to_zero(&self.0))
     }
 }
 

@@ -3,7 +3,7 @@ use lesson_lib::say::Text;
 use lesson_world::lines::{create_line, size};
 use lesson_world::world::{ANN, Outcome, fallocate, fresh, read, write};
 use ranges::FallocateMode;
-use std::{fmt, io};
+use std::io;
 use structs::FILE;
 use table::Handle;
 
@@ -27,12 +27,12 @@ const STROKE: u64 = 4;
 #[derive(Clone, Copy)]
 struct LogLine([u8; 128]);
 
-impl fmt::Display for LogLine {
-    fn fmt<W: fmt::Write>(&self, f: &mut fmt::Formatter<W>) -> fmt::Result {
+impl LogLine {
+    fn show(&self, rt: &impl Print) -> io::Result<()> {
         if self.0.iter().all(|b| *b == 0) {
-            f.write_str("zeros")
+            print!(rt; "zeros")
         } else {
-            write!(f, "{}", Text(self.0))
+            Text(self.0).show(rt)
         }
     }
 }
@@ -45,15 +45,19 @@ fn line(world: &[u8; 12594], log: Handle, place: u64) -> LogLine {
 
 fn three_lines(rt: &impl Print, world: &[u8; 12594], log: Handle) -> io::Result<()> {
     let bytes = size(world, ANN, log);
-    let first = line(world, log, FIRST);
-    let second = line(world, log, SECOND);
-    let third = line(world, log, THIRD);
-    print!(rt; "  It has {bytes} bytes: {first} | {second} | {third}")
+    print!(rt; "  It has {bytes} bytes: ")?;
+    line(world, log, FIRST).show(rt)?;
+    print!(rt; " | ")?;
+    line(world, log, SECOND).show(rt)?;
+    print!(rt; " | ")?;
+    line(world, log, THIRD).show(rt)
 }
 
 fn four_lines(rt: &impl Print, world: &[u8; 12594], log: Handle) -> io::Result<()> {
     three_lines(rt, world, log)?;
-    println!(rt; " | {}.", line(world, log, FOURTH))
+    print!(rt; " | ")?;
+    line(world, log, FOURTH).show(rt)?;
+    println!(rt; ".")
 }
 
 // Whether the log reads the same in both worlds, byte for byte. There is more room than it has bytes.
@@ -148,7 +152,7 @@ pub fn log_edited(
 ) -> io::Result<()> {
     println!(rt; "\nA line in the middle of the log")?;
     let root = fresh(world);
-    let log = create_line(rt, world, ANN, root, "log", FILE, 2)?;
+    let log = create_line(rt, world, ANN, root, b"log", FILE, 2)?;
     logged(rt, world, log)?;
     not_whole(rt, world, kept, log)?;
     inserted(rt, world, log)?;

@@ -18,7 +18,7 @@ pub fn fresh_image(rt: &impl Print, world: &mut [u8; 12594]) -> io::Result<()> {
 pub fn file_a(rt: &impl Print, world: &mut [u8; 12594]) -> io::Result<()> {
     println!(rt; "\nThen a file A in the root")?;
     let root = begin(world);
-    create_line(rt, world, ANN, root, "A", FILE, 2)?;
+    create_line(rt, world, ANN, root, b"A", FILE, 2)?;
     blocks_line(rt, world)?;
     numbers_line(rt, world)
 }
@@ -26,7 +26,7 @@ pub fn file_a(rt: &impl Print, world: &mut [u8; 12594]) -> io::Result<()> {
 pub fn folder_b(rt: &impl Print, world: &mut [u8; 12594]) -> io::Result<()> {
     println!(rt; "\nInstead a folder B")?;
     let root = fresh(world);
-    create_line(rt, world, ANN, root, "B", DIR, 2)?;
+    create_line(rt, world, ANN, root, b"B", DIR, 2)?;
     println!(rt; "  The root is {}.", node(world, ANN, root))?;
     blocks_line(rt, world)
 }
@@ -37,7 +37,7 @@ pub fn second_group(rt: &impl Print, world: &mut [u8; 12594]) -> io::Result<()> 
     fill_group(world);
     numbers_line(rt, world)?;
     let root = begin(world);
-    create_line(rt, world, ANN, root, "A", FILE, 2)?;
+    create_line(rt, world, ANN, root, b"A", FILE, 2)?;
     second_group_line(rt, world)
 }
 

@@ -8,8 +8,8 @@ use table::Handle;
 
 // The close stores what waited in the table, so all that a create finds is stored.
 fn one_saved(rt: &impl Print, world: &mut [u8; 12594], root: Handle) -> io::Result<()> {
-    let a = create_line(rt, world, ANN, root, "a", FILE, 2)?;
-    let saved = save(world, ANN, a, "M0 0 C1 9 4 9 5 0");
+    let a = create_line(rt, world, ANN, root, b"a", FILE, 2)?;
+    let saved = save(world, ANN, a, b"M0 0 C1 9 4 9 5 0");
     let closed = close(world, ANN, a);
     println!(rt; "  Ann saves her curve in a: {saved}; she closes it: {closed}.")
 }
@@ -21,7 +21,9 @@ fn found(rt: &impl Print, world: &mut [u8; 12594]) -> io::Result<()> {
     let a = find(world, ANN, root, b"a");
     let drawing = outline(world, ANN, a.handle);
     go_down(world);
-    println!(rt; "; find b: {}; a reads {drawing}.", b.outcome)
+    print!(rt; "; find b: {}; a reads ", b.outcome)?;
+    drawing.show(rt)?;
+    println!(rt; ".")
 }
 
 // One store more, and it stops. The mender leaves every byte as it is, refused or with nothing to mend, so the next store comes on top.
@@ -75,7 +77,7 @@ pub fn create_stops(
     let root = fresh(world);
     one_saved(rt, world, root)?;
     *kept = *world;
-    create_line(rt, kept, ANN, root, "b", FILE, 3)?;
+    create_line(rt, kept, ANN, root, b"b", FILE, 3)?;
     println!(rt;
         "  That is the whole create. It stops after each of 000's stores in turn, and leaves:"
     )?;

@@ -6,23 +6,25 @@ use structs::{DIR, FILE};
 use table::Handle;
 
 fn by_path(rt: &impl Print, world: &mut [u8; 20786], root: Handle) -> io::Result<()> {
-    let h = walk_line(rt, world, root, "Sans/a")?;
+    let h = walk_line(rt, world, root, b"Sans/a")?;
     println!(rt; "; it is {}.", node(world, ANN, h))?;
-    let saved = save(world, ANN, h, "M0 0 C1 9 4 9 5 0");
+    let saved = save(world, ANN, h, b"M0 0 C1 9 4 9 5 0");
     println!(rt; "  Ann saves her curve there: {saved}.")?;
-    let h = walk_line(rt, world, root, "Serif/a")?;
-    println!(rt; "; it reads {}.", outline(world, ANN, h))?;
-    walk_line(rt, world, root, "Serif/a/b")?;
+    let h = walk_line(rt, world, root, b"Serif/a")?;
+    print!(rt; "; it reads ")?;
+    outline(world, ANN, h).show(rt)?;
+    println!(rt; ".")?;
+    walk_line(rt, world, root, b"Serif/a/b")?;
     println!(rt; ".")
 }
 
 fn master(rt: &impl Print, world: &mut [u8; 20786]) -> io::Result<()> {
     let root = fresh(world);
-    create_line(rt, world, ANN, root, "a", FILE, 2)?;
-    let sans = create_line(rt, world, ANN, root, "Sans", DIR, 3)?;
-    symlink_line(rt, world, sans, 4, "../a")?;
-    let serif = create_line(rt, world, ANN, root, "Serif", DIR, 5)?;
-    symlink_line(rt, world, serif, 6, "/a")?;
+    create_line(rt, world, ANN, root, b"a", FILE, 2)?;
+    let sans = create_line(rt, world, ANN, root, b"Sans", DIR, 3)?;
+    symlink_line(rt, world, sans, 4, b"../a")?;
+    let serif = create_line(rt, world, ANN, root, b"Serif", DIR, 5)?;
+    symlink_line(rt, world, serif, 6, b"/a")?;
     by_path(rt, world, root)
 }
 

@@ -10,20 +10,20 @@ fn weight(
     rt: &impl Print,
     world: &mut [u8; 20786],
     root: Handle,
-    name: &str,
+    name: &[u8],
     n: u8,
     m: u8,
 ) -> io::Result<Handle> {
     let h = create_line(rt, world, ANN, root, name, DIR, n)?;
-    create_line(rt, world, ANN, h, "a", DIR, m)
+    create_line(rt, world, ANN, h, b"a", DIR, m)
 }
 
 // Both have an a. Ann draws in one of them.
 fn drawn(rt: &impl Print, world: &mut [u8; 20786], light: Handle) -> io::Result<()> {
-    let curve = create_line(rt, world, ANN, light, "curve", FILE, 4)?;
+    let curve = create_line(rt, world, ANN, light, b"curve", FILE, 4)?;
     println!(rt;
         "  Ann saves it: {}.",
-        save(world, ANN, curve, "M0 0 C1 9 4 9 5 0")
+        save(world, ANN, curve, b"M0 0 C1 9 4 9 5 0")
     )
 }
 
@@ -34,10 +34,14 @@ fn asked(rt: &impl Print, world: &mut [u8; 20786], light: Handle, bold: Handle) 
     let other = title(world, ANN, light);
     println!(rt;
         "  Two tabs, and both say a. Ann calls a last time: her curve is not in a.\n  \
-        find curve in the tab that she looks at: {}.\n  \
-        Support asks for the title bars: this one says {looked_at}, the other one {other}.",
+        find curve in the tab that she looks at: {}.",
         a.outcome
-    )
+    )?;
+    print!(rt; "  Support asks for the title bars: this one says ")?;
+    looked_at.show(rt)?;
+    print!(rt; ", the other one ")?;
+    other.show(rt)?;
+    println!(rt; ".")
 }
 
 // By what the other one says she gets there from any folder.
@@ -46,10 +50,12 @@ fn answered(rt: &impl Print, world: &mut [u8; 20786], root: Handle) -> io::Resul
     let it = node(world, ANN, a.handle);
     let curve = find(world, ANN, a.handle, b"curve");
     let drawing = outline(world, ANN, curve.handle);
-    println!(rt;
-        "  walk to /light/a: {}; it is {it}. find curve there: {}; it reads {drawing}.",
+    print!(rt;
+        "  walk to /light/a: {}; it is {it}. find curve there: {}; it reads ",
         a.outcome, curve.outcome
-    )
+    )?;
+    drawing.show(rt)?;
+    println!(rt; ".")
 }
 
 // No path is stored: the title bar has what is found when it is asked for.
@@ -61,17 +67,16 @@ fn renamed(
 ) -> io::Result<()> {
     let moved = move_(world, ANN, root, b"light", root, b"thin");
     let open = title(world, ANN, light);
-    println!(rt;
-        "  move light to thin: {moved}; the title bar of the open tab says {open}.\n  \
-        Nobody had drawn over her curve. It was in the other a."
-    )
+    print!(rt; "  move light to thin: {moved}; the title bar of the open tab says ")?;
+    open.show(rt)?;
+    println!(rt; ".\n  Nobody had drawn over her curve. It was in the other a.")
 }
 
 fn two_weights(rt: &impl Print, world: &mut [u8; 20786]) -> io::Result<()> {
     let root = fresh(world);
-    let light = weight(rt, world, root, "light", 2, 3)?;
+    let light = weight(rt, world, root, b"light", 2, 3)?;
     drawn(rt, world, light)?;
-    let bold = weight(rt, world, root, "bold", 5, 6)?;
+    let bold = weight(rt, world, root, b"bold", 5, 6)?;
     asked(rt, world, light, bold)?;
     answered(rt, world, root)?;
     renamed(rt, world, root, light)

@@ -107,23 +107,25 @@ pub fn create_line(
     world: &mut [u8],
     who: u8,
     folder: Handle,
-    name: &str,
+    name: &[u8],
     kind: u32,
     n: u8,
 ) -> io::Result<Handle>
     requires { 4402 ≤ length world.old }
 {
-    let a = create(world, who, folder, name.as_bytes(), kind, n);
+    print!(rt; "  create ")?;
+    rt.write_all(name)?;
+    let a = create(world, who, folder, name, kind, n);
     let it = node(world, who, a.handle);
-    println!(rt; "  create {name}: {}; it is {it}.", a.outcome)?;
+    println!(rt; ": {}; it is {it}.", a.outcome)?;
     Ok(a.handle)
 }
 
 // An outline goes into a node's own bytes.
-pub fn save(world: &mut [u8], who: u8, h: Handle, outline: &str) -> Outcome
+pub fn save(world: &mut [u8], who: u8, h: Handle, outline: &[u8]) -> Outcome
     requires { 4402 ≤ length world.old }
 {
-    write(world, who, h, 0, outline.as_bytes())
+    write(world, who, h, 0, outline)
 }
 
 // A symlink a in a folder, by Ann: what is written in it is its target.
@@ -132,25 +134,26 @@ pub fn symlink_line(
     world: &mut [u8],
     folder: Handle,
     n: u8,
-    target: &str,
+    target: &[u8],
 ) -> io::Result<()>
     requires { 4402 ≤ length world.old }
 {
+    print!(rt; "  a symlink a there, with the target ")?;
+    rt.write_all(target)?;
     let a = create(world, ANN, folder, b"a", SYMLINK, n);
     let saved = save(world, ANN, a.handle, target);
-    println!(rt; "  a symlink a there, with the target {target}: {saved}.")
+    println!(rt; ": {saved}.")
 }
 
 // Her walk from the root, and the targets that it has read.
-pub fn walk_line(rt: &impl Print, world: &mut [u8], root: Handle, path: &str) -> io::Result<Handle>
+pub fn walk_line(rt: &impl Print, world: &mut [u8], root: Handle, path: &[u8]) -> io::Result<Handle>
     requires { 4402 ≤ length world.old }
 {
+    print!(rt; "  walk to ")?;
+    rt.write_all(path)?;
     let mut links = [0u8; 64];
-    let a = walk(world, ANN, root, path.as_bytes(), &mut links);
-    print!(rt;
-        "  walk to {path}: {}; the link buffer has {}",
-        a.outcome,
-        Text(links)
-    )?;
+    let a = walk(world, ANN, root, path, &mut links);
+    print!(rt; ": {}; the link buffer has ", a.outcome)?;
+    Text(links).show(rt)?;
     Ok(a.handle)
 }
