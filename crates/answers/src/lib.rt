@@ -4,34 +4,29 @@
 
 ghost use Rattle.std.specs.Prelude.{◌≡◌, length};
 
-use base::Reason;
+use calls::refusals::Refusal;
 use le::to_bits;
 use script::record::{KEPT, say};
 use sefs::Metadata;
 use table::Handle;
 
-pub fn say_done(r: Result<(), Reason>) -> u8 {
+pub fn say_done<E: Refusal>(r: Result<(), E>) -> u8 {
     match r {
         Ok(()) => KEPT,
-        Err(reason) => reason.number(),
+        Err(e) => e.told(),
     }
 }
 
-// A refused call hands out no handle: hold and stamp 0.
-pub fn say_handed(answer: &mut [u8], r: Result<Handle, Reason>) -> u8
+pub fn say_handed(answer: &mut [u8], reason: u8, handle: Handle) -> u8
     requires { length answer.old ≡ 8320 }
 {
-    let handle = r.unwrap_or(Handle { hold: 0, stamp: 0 });
     say(answer, 0, u64::from(handle.hold));
     say(answer, 1, handle.stamp);
-    match r {
-        Ok(_) => 0,
-        Err(reason) => reason.number(),
-    }
+    reason
 }
 
 // How many slots or bytes were written.
-pub fn say_count(answer: &mut [u8], r: Result<usize, Reason>) -> u8
+pub fn say_count<E: Refusal>(answer: &mut [u8], r: Result<usize, E>) -> u8
     requires { length answer.old ≡ 8320 }
 {
     match r {
@@ -39,7 +34,7 @@ pub fn say_count(answer: &mut [u8], r: Result<usize, Reason>) -> u8
             say(answer, 0, n as u64);
             KEPT
         }
-        Err(reason) => reason.number(),
+        Err(e) => e.told(),
     }
 }
 
@@ -79,11 +74,11 @@ fn say_metadata(answer: &mut [u8], m: Metadata) -> u8
     KEPT
 }
 
-pub fn say_told(answer: &mut [u8], r: Result<Metadata, Reason>) -> u8
+pub fn say_told<E: Refusal>(answer: &mut [u8], r: Result<Metadata, E>) -> u8
     requires { length answer.old ≡ 8320 }
 {
     match r {
         Ok(m) => say_metadata(answer, m),
-        Err(reason) => reason.number(),
+        Err(e) => e.told(),
     }
 }

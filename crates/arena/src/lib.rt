@@ -7,6 +7,7 @@ ghost use Rattle.arena.specs.Blocks.{legal as legal_arena};
 ghost use Rattle.arena.specs.Fields.{check_of, seal, fresh, file, name_of, is_free, is_head, is_data};
 ghost use Rattle.arena.specs.Places.{free_count};
 
+use base::copy;
 use le::{put_u32, u32_at, u64_at};
 
 // How long a block is, and how many of them an arena may have.
@@ -78,7 +79,7 @@ pub fn write_block(part: &mut [u8], b: &[u8])
     requires { (length part.old ≡ 512) × (length b.now ≡ 512) }
     ensures { part.new ≡ seal b.now }
 {
-    part.copy_from_slice(b);
+    copy(part, b);
     put_check(part);
 }
 
@@ -90,7 +91,7 @@ pub fn make_block(part: &mut [u8], tag: u8, which: u8, name: &[u8], number: u32)
     part.fill(0);
     part[0] = tag;
     part[1] = which;
-    part[NAME_AT..NUMBER_AT].copy_from_slice(name);
+    copy(&mut part[NAME_AT..NUMBER_AT], name);
     put_u32(part, NUMBER_AT, number);
 }
 

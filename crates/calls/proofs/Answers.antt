@@ -2,30 +2,30 @@
 use mathlib.Core.Path.{◌≡◌, refl, sym, ap, ◌∙◌}
 use mathlib.Core.List.{List}
 use Prim.Native.Nat.{ℕ}
-use Rattle.std.specs.Prelude.{Result, Ok, Err, eqb}
-use Rattle.std.specs.Result.{result_unwrap_or}
+use Rattle.std.specs.Prelude.{true, Result, Ok, Err, eqb}
+use Rattle.std.specs.Result.{is_ok, result_unwrap_or}
 use Rattle.base.specs.Out.{Out, done, refused, kept, answer}
 use Rattle.base.specs.Search.{pick}
 use Rattle.base.specs.Told.{number, code}
 use Rattle.base.specs.declared.reasons.Reason.{Reason}
 use Rattle.base.specs.declared.reasons.Reason.TheVariants as reasons
-use Rattle.base.proofs.Tells.{number-ne}
+use Rattle.base.proofs.Tells.{number-ne, done-is}
 use Rattle.table.specs.declared.Table.{Table}
 use Rattle.table.specs.declared.Handle.{Handle}
-use Rattle.calls.specs.Answers.{out_of, answer_of, done_with, refused_with, said, said_held, after_of, given_of, Lays, Replies}
+use Rattle.calls.specs.Answers.{out_of, answer_of, done_with, refused_with, said, said_held, after_of, given_of, Lays, Replies, handed_by, told_by}
 use Rattle.calls.specs.declared.Reply.{Reply}
 use Rattle.calls.specs.declared.HeldReply.{HeldReply}
-use borrow.Author.Tests.{ne_eqb}
+use borrow.Author.Tests.{eq-eqb, ne_eqb, eqb-true}
 
 -- ---- what a call returns, by what its steps answered
 
-pub after-done : (t u : Table) → done_with u ≡ after_of t u (Ok tt)
+pub after-done : {E : Type 0} (t u : Table) → done_with {E = E} u ≡ after_of t u (Ok tt)
 unfolding after_of
 after-done t u = refl
 
-pub after-refused : (t u : Table) (e : Reason) → refused_with t e ≡ after_of t u (Err e)
+pub after-refused : {E : Type 0} (t u : Table) (e : E) → refused_with t e ≡ after_of t u (Err e)
 unfolding after_of
-after-refused t u e = rw (ne_eqb (number e) 0 (number-ne e))
+after-refused t u e = refl
 
 -- the outcome that a result tells, by its number
 pub out-done : (r : Result Unit Reason) → code r ≡ 0 → out_of r ≡ done tt
@@ -54,7 +54,7 @@ said-done t u (Err e) z = absurd (number-ne e z)
 pub said-refused : (t u : Table) (r : Result Unit Reason) (n : ℕ) → code r ≡ n → (n ≡ 0 → ⊥) → said (after_of t u r) ≡ (refused n, t)
 unfolding after_of
 said-refused t u (Ok x) n e z = absurd (z (sym e))
-said-refused t u (Err e) n q z = rw (ne_eqb (number e) 0 (number-ne e)) (ap (λ (k : ℕ). (refused k, t)) q)
+said-refused t u (Err e) n q z = ap (λ (k : ℕ). (refused k, t)) q
 
 pub said-held : (t u : Table) (r : Result Handle Reason) (h : Handle) → r ≡ Ok h → said_held (given_of t u r) ≡ (done h, u)
 unfolding given_of
@@ -65,13 +65,30 @@ unfolding given_of
 said-not_held t u (Ok x) n e z = absurd (z (sym e))
 said-not_held t u (Err e) n q z = rw (ne_eqb (number e) 0 (number-ne e)) (ap (λ (k : ℕ). (refused k, t)) q)
 
+-- a reason's number, told
+pub told-code : {A : Type 0} (r : Result A Reason) → told_by number r ≡ code r
+told-code (Ok x) = refl
+told-code (Err e) = refl
+
+-- what was done, by its number, and the other way
+pub ok-is : {A : Type 0} (r : Result A Reason) → code r ≡ 0 → is_ok r ≡ true
+ok-is r z = done-is r ∙ eq-eqb (code r) 0 z
+
+pub is-ok : {A : Type 0} (r : Result A Reason) → is_ok r ≡ true → code r ≡ 0
+is-ok r q = eqb-true (code r) 0 (sym (done-is r) ∙ q)
+
+-- a handle tells what the opening told
+pub handed-code : (o : Result ℕ Reason) (h : Handle) {r : Result Handle Reason} → r ≡ handed_by o h → code r ≡ code o
+handed-code (Ok x) h e = rw e refl
+handed-code (Err x) h e = rw e refl
+
 -- an answer with a table, from the outcome
-module _ (t : Table) (o : Out Table) (r : Reply) where
+module _ (t : Table) (o : Out Table) (r : Reply Reason) where
   pub done-after : (u : Table) → o ≡ done u → r ≡ done_with u → Replies t o r
-  done-after u e q = (ap (λ (x : Reply). out_of x.answer) q ∙ sym (ap answer_of e), ap (λ (x : Reply). x.table) q ∙ sym (ap (kept t) e))
+  done-after u e q = (ap (λ (x : Reply Reason). out_of x.answer) q ∙ sym (ap answer_of e), ap (λ (x : Reply Reason). x.table) q ∙ sym (ap (kept t) e))
 
   pub refused-after : (e : Reason) → o ≡ refused (number e) → r ≡ refused_with t e → Replies t o r
-  refused-after n e q = (ap (λ (x : Reply). out_of x.answer) q ∙ sym (ap answer_of e), ap (λ (x : Reply). x.table) q ∙ sym (ap (kept t) e))
+  refused-after n e q = (ap (λ (x : Reply Reason). out_of x.answer) q ∙ sym (ap answer_of e), ap (λ (x : Reply Reason). x.table) q ∙ sym (ap (kept t) e))
 
 -- ---- two results that tell the same are the same
 
@@ -119,13 +136,13 @@ out-one (Err e) (Ok y) h = absurd (number-ne e (ap answer h))
 out-one (Err d) (Err e) h = ap Err (number-one d e (ap answer h))
 
 -- what holds of both has one solution
-pub said-one : (r s : Reply) → said r ≡ said s → r ≡ s
+pub said-one : (r s : Reply Reason) → said r ≡ said s → r ≡ s
 said-one r s h = λ x. record { answer = out-one r.answer s.answer (ap (λ (p : Out Unit × Table). p.0) h) x; table = ap (λ (p : Out Unit × Table). p.1) h x }
 
 pub said_held-one : (r s : HeldReply) → said_held r ≡ said_held s → r ≡ s
 said_held-one r s h = λ x. record { answer = out-one r.answer s.answer (ap (λ (p : Out Handle × Table). p.0) h) x; table = ap (λ (p : Out Handle × Table). p.1) h x }
 
-pub replies-one : (t : Table) (o : Out Table) (r s : Reply) → Replies t o r → Replies t o s → r ≡ s
+pub replies-one : (t : Table) (o : Out Table) (r s : Reply Reason) → Replies t o r → Replies t o s → r ≡ s
 replies-one t o r s p q = λ x. record { answer = out-one r.answer s.answer (p.0 ∙ sym q.0) x; table = (p.1 ∙ sym q.1) x }
 
 pub lays_one : {A : Type 0} (f : Out (List ℕ) → Out A) (o : Out (List ℕ)) (out now later : List ℕ) (r s : Result A Reason) → Lays f o out now r → Lays f o out later s → (r ≡ s) × (now ≡ later)

@@ -1,5 +1,6 @@
 -- The calls' answers: the outcome that a result tells, and what of a definition's outcome an answer has.
 use Rattle.std.specs.Prelude.{◌≡◌, List, ℕ, ◌/◌, ◌<◌, length, eqb, Result, Ok, Err}
+use Rattle.std.specs.Result.{is_ok}
 use Rattle.base.specs.Out.{Out, done, refused, kept}
 use Rattle.base.specs.Told.{number, code}
 use Rattle.base.specs.Parts.{paste}
@@ -15,6 +16,11 @@ use Rattle.calls.specs.declared.HeldReply.{HeldReply}
 abbrev pub out_of : {A : Type 0} → Result A Reason → Out A
 out_of (Ok x) = done x
 out_of (Err e) = refused (number e)
+
+-- the number that a result tells: 0 where it was done, or its refusal's number by f
+abbrev pub told_by : {A E : Type 0} → (E → ℕ) → Result A E → ℕ
+told_by f (Ok x) = 0
+told_by f (Err e) = f e
 
 -- ---- what an answer has of its call's outcome
 
@@ -63,20 +69,20 @@ Lays f o out now r = (out_of r ≡ f o) × (now ≡ laid out o)
 -- ---- an answer with a table
 
 -- what the outcome says, with its table; t is the one that stays where it is refused
-abbrev pub Replies : Table → Out Table → Reply → Type 0
+abbrev pub Replies : Table → Out Table → Reply Reason → Type 0
 Replies t o r = (out_of r.answer ≡ answer_of o) × (r.table ≡ kept t o)
 
 -- what a reply says: its answer's outcome, and its table
-abbrev pub said : Reply → Out Unit × Table
+abbrev pub said : Reply Reason → Out Unit × Table
 said r = (out_of r.answer, r.table)
 
 abbrev pub said_held : HeldReply → Out Handle × Table
 said_held r = (out_of r.answer, r.table)
 
-abbrev pub done_with : Table → Reply
+abbrev pub done_with : {E : Type 0} → Table → Reply E
 done_with t = record { answer = Ok tt; table = t }
 
-abbrev pub refused_with : Table → Reason → Reply
+abbrev pub refused_with : {E : Type 0} → Table → E → Reply E
 refused_with t e = record { answer = Err e; table = t }
 
 -- a hold that was made, and the table with it
@@ -87,9 +93,14 @@ added_as h u = record { handle = h; table = u }
 abbrev pub no_handle : Handle
 no_handle = record { hold = 0; stamp = 0 }
 
+-- a handle h for a row that was opened, or why none was
+abbrev pub handed_by : {E : Type 0} → Result ℕ E → Handle → Result Handle E
+handed_by (Ok row) h = Ok h
+handed_by (Err e) h = Err e
+
 -- by what its steps answered: t is the table that the call was given, u the one that they left
-unfoldable pub after_of : Table → Table → Result Unit Reason → Reply
-after_of t u r = record { answer = r; table = pick (eqb (code r) 0) u t }
+unfoldable pub after_of : {E : Type 0} → Table → Table → Result Unit E → Reply E
+after_of t u r = record { answer = r; table = pick (is_ok r) u t }
 
 unfoldable pub given_of : Table → Table → Result Handle Reason → HeldReply
 given_of t u r = record { answer = r; table = pick (eqb (code r) 0) u t }

@@ -3,9 +3,10 @@
 #![tactic(auto)]
 
 pub mod led;
+pub mod refusals;
 
-ghost use Rattle.std.specs.Prelude.{◌≡◌, ◌<◌, length};
-ghost use Rattle.std.specs.Result.{result_unwrap_or};
+ghost use Rattle.std.specs.Prelude.{◌≡◌, ◌<◌, true, length};
+ghost use Rattle.std.specs.Result.{is_ok, result_unwrap_or};
 ghost use Rattle.base.specs.Told.{code};
 ghost use Rattle.base.specs.Out.{Went, answer};
 ghost use Rattle.table.specs.Table.{add_hold};
@@ -14,7 +15,7 @@ ghost use Rattle.sefs.specs.Ask.{known as known_type, folder as is_folder};
 ghost use Rattle.sefs.specs.Read.{readable as readable_as};
 ghost use Rattle.sefs.specs.Contents.{has_contents};
 ghost use Rattle.mem.specs.Mem.{table_in, Whole, memory_size};
-ghost use Rattle.calls.specs.Answers.{done_with, refused_with, no_handle, added_as, after_of, given_of};
+ghost use Rattle.calls.specs.Answers.{done_with, refused_with, no_handle, added_as, handed_by, after_of, given_of};
 ghost use Rattle.calls.specs.Asked.{by_two};
 
 use base::Reason;
@@ -24,10 +25,10 @@ use structs::DiskINode;
 use table::{Handle, Table};
 use verdicts::is_type;
 
-// An answer, and the table afterwards: the one that the call was given, where it is refused.
+// An answer, and the table afterwards: the one that the call was given, where it is refused. A refusal is told by its reason, unless it says otherwise.
 #[derive(Clone, Copy)]
-pub struct Reply {
-    pub answer: Result<(), Reason>,
+pub struct Reply<E = Reason> {
+    pub answer: Result<(), E>,
     pub table: Table,
 }
 
@@ -37,7 +38,7 @@ pub struct HeldReply {
     pub table: Table,
 }
 
-pub fn done(t: Table) -> Reply
+pub fn done<E: Copy>(t: Table) -> Reply<E>
     ensures { result ≡ done_with t }
 {
     Reply {
@@ -46,7 +47,7 @@ pub fn done(t: Table) -> Reply
     }
 }
 
-pub fn refused(t: Table, reason: Reason) -> Reply
+pub fn refused<E: Copy>(t: Table, reason: E) -> Reply<E>
     ensures { result ≡ refused_with t reason }
 {
     Reply {
@@ -56,7 +57,7 @@ pub fn refused(t: Table, reason: Reason) -> Reply
 }
 
 // What a call answers once its steps are decided: the table as memory has it, or the one that the call was given.
-pub fn settle(t: Table, mem: &[u8], r: Result<(), Reason>) -> Reply
+pub fn settle<E: Copy>(t: Table, mem: &[u8], r: Result<(), E>) -> Reply<E>
     requires { length mem.now ≡ memory_size }
     ensures { result ≡ after_of t (table_in mem.now) r }
 {
@@ -69,9 +70,9 @@ pub fn settle(t: Table, mem: &[u8], r: Result<(), Reason>) -> Reply
 // ---- a hold that a call makes
 
 // A hold of who's on the row of a node that was opened, in the table in memory. None where its opening had a reason.
-pub fn hand(mem: &mut [u8], who: u8, opened: Result<usize, Reason>) -> Result<Handle, Reason>
-    requires { code opened ≡ 0 → Whole mem.old × (result_unwrap_or opened 0 < 34) }
-    ensures { (code result ≡ code opened) × (code opened ≡ 0 → add_hold (table_in mem.old) who (result_unwrap_or opened 0) ≡ added_as (result_unwrap_or result no_handle) (table_in mem.new)) }
+pub fn hand<E: Copy>(mem: &mut [u8], who: u8, opened: Result<usize, E>) -> Result<Handle, E>
+    requires { is_ok opened ≡ true → Whole mem.old × (result_unwrap_or opened 0 < 34) }
+    ensures { (result ≡ handed_by opened (result_unwrap_or result no_handle)) × (is_ok opened ≡ true → add_hold (table_in mem.old) who (result_unwrap_or opened 0) ≡ added_as (result_unwrap_or result no_handle) (table_in mem.new)) }
 {
     let row = opened?;
     Ok(add_hold(mem, who, row as u32))

@@ -151,7 +151,7 @@ module _ (a name : List ℕ) (time : Timespec) where
 
 -- ---- what is returned: t is the empty table
 
-module _ {t : Table} (k : t ≡ empty_table) {o : Out After} {a b : List ℕ} {r : answered.Reply} where
+module _ {t : Table} (k : t ≡ empty_table) {o : Out After} {a b : List ℕ} {r : answered.Reply Reason} where
   pub call-stuck : (e : Reason) → Ended o a b empty_table (number e) → r ≡ refused_with t e → Returned empty_table o a b r
   call-stuck e g q = returned-ended empty_table (Err e) g (q ∙ ap (λ (x : Table). refused_with x e) k ∙ after-refused empty_table empty_table e)
 

@@ -17,6 +17,6 @@ module _ (a : List ℕ) (t : Table) (who : ℕ) (h : Handle) where
   pub metadata-one : (r s : Result Metadata Reason) → out_of r ≡ call_metadata a t who h → out_of s ≡ call_metadata a t who h → r ≡ s
   metadata-one r s p q = out-one r s (p ∙ sym q)
 
-  pub set-metadata-one : (mode uid gid : ℕ) (atime mtime ctime : Timespec) (r s : Reply)
+  pub set-metadata-one : (mode uid gid : ℕ) (atime mtime ctime : Timespec) (r s : Reply Reason)
       → Replies t (call_set a t who h mode uid gid atime mtime ctime) r → Replies t (call_set a t who h mode uid gid atime mtime ctime) s → r ≡ s
   set-metadata-one mode uid gid atime mtime ctime r s p q = replies-one t (call_set a t who h mode uid gid atime mtime ctime) r s p q

@@ -81,6 +81,6 @@ above : {r : ℕ} → 0 < r → r ≡ 0 → ⊥
 above l z = omega arith
 
 -- what set metadata answers, by the table that memory has afterwards; v is the one that it had
-pub settled : (f : Table → Out Table) {v t u : Table} (n : Result Unit Reason) {x : Reply} → v ≡ t → Went (f v) u Unit (code n) → x ≡ after_of t u n → Replies t (f t) x
+pub settled : (f : Table → Out Table) {v t u : Table} (n : Result Unit Reason) {x : Reply Reason} → v ≡ t → Went (f v) u Unit (code n) → x ≡ after_of t u n → Replies t (f t) x
 settled f {t = t} {u = u} (Ok tt) {x = x} e g k = done-after t (f t) x u (sym (ap f e) ∙ went-is g refl) (k ∙ sym (after-done t u))
 settled f {t = t} {u = u} (Err r) {x = x} e g k = refused-after t (f t) x r (sym (ap f e) ∙ went-not g (number-ne r)) (k ∙ sym (after-refused t u r))

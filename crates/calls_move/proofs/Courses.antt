@@ -36,11 +36,11 @@ module _ {o : Out After} {t : Table} {a b : List ℕ} {u : Table} where
       go n z (stopped l f h) = course-not r n z l (q ∙ f) h
 
 -- what the call returns
-returned-course : (t : Table) {o : Out After} {a b : List ℕ} {u : Table} {c : Result Course Reason} {r : answered.Reply} → EndedMove o t a b u c → r ≡ course_as t u c → Returned t o a b r
+returned-course : (t : Table) {o : Out After} {a b : List ℕ} {u : Table} {c : Result Course Reason} {r : answered.Reply Reason} → EndedMove o t a b u c → r ≡ course_as t u c → Returned t o a b r
 returned-course t (moves e) q = record { answer = ap said q ∙ rw e; arena = rw e }
 returned-course t (rests e k) q = record { answer = ap said q ∙ rw e; arena = k ∙ rw e }
 returned-course t (denied l e k) q = record { answer = ap said q ∙ rw e; arena = k ∙ rw e }
 
 -- the same, where the table that memory was given is known by another name
-pub returned-moved : (f : Table → Out After) {x t : Table} {a b : List ℕ} {u : Table} {c : Result Course Reason} {r : answered.Reply} → x ≡ t → EndedMove (f x) x a b u c → r ≡ course_as t u c → Returned t (f t) a b r
+pub returned-moved : (f : Table → Out After) {x t : Table} {a b : List ℕ} {u : Table} {c : Result Course Reason} {r : answered.Reply Reason} → x ≡ t → EndedMove (f x) x a b u c → r ≡ course_as t u c → Returned t (f t) a b r
 returned-moved f {t = t} {a = a} {b = b} {u = u} {c = c} e g q = returned-course t (subst (λ (z : Table). EndedMove (f z) z a b u c) e g) q

@@ -3,4 +3,3 @@ pub mod Moves
 pub mod Asks
 pub mod Decisions
 pub mod Ones
-pub mod Ways

@@ -22,7 +22,7 @@ pub data EndedMove (o : Out After) (t : Table) (a b : List ℕ) (u : Table) : Re
   denied : {e : Reason} → 0 < number e → o ≡ refused (number e) → b ≡ a → EndedMove o t a b u (Err e)
 
 -- and what the call returns then: t is the table that it was given, u the one that memory has
-abbrev pub course_as : Table → Table → Result Course Reason → answered.Reply
+abbrev pub course_as : Table → Table → Result Course Reason → answered.Reply Reason
 course_as t u (Ok Made) = done_with u
 course_as t u (Ok Same) = done_with t
 course_as t u (Err e) = refused_with t e

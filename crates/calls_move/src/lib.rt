@@ -24,7 +24,7 @@ ghost use Rattle.move_steps.specs.declared.Gone.TheVariants.{Free};
 ghost use Rattle.climbs.specs.Types.{Typed};
 ghost use Rattle.move_steps.specs.Steps.{move_named, move_over};
 ghost use Rattle.calls_move.specs.Parts.{both, open_two, known_two, replace_known, replace_node, replace_named, move_found, good_two, plain_two, short_two, late_asks, move_asks, move_work, plan_steps, planned, Planned, Agreed};
-ghost use Rattle.calls_move.specs.Plans.{way_number, no_plan};
+ghost use Rattle.calls_move.specs.Plans.{no_plan};
 ghost use Rattle.calls_move.specs.Courses.{course_as, EndedMove};
 
 use base::{Reason, index};
@@ -75,19 +75,17 @@ fn known_two(moved: DiskINode, gone: DiskINode) -> Result<(), Reason>
     known(gone)
 }
 
-// How a move goes. `Same`: both names are one node's, and nothing changes. `Free`: the new name is free, and the slot at `place` is moved. `Onto`: the
-// moved node goes in the place of the one that is gone, which slot `place` of the target names.
-#[derive(Clone, Copy, Debug, PartialEq, Eq)]
-pub enum Way {
-    Same,
-    Free,
-    Onto,
-}
+// How a move goes: both names are one node's, and nothing changes.
+pub const SAME: u8 = 0;
+// The new name is free, and the slot at `place` is moved.
+pub const FREE: u8 = 1;
+// The moved node goes in the place of the one that is gone, which slot `place` of the target names.
+pub const ONTO: u8 = 2;
 
 // A move that is decided but for its steps.
 #[derive(Clone, Copy)]
 pub struct Plan {
-    pub way: Way,
+    pub way: u8,
     pub row: usize,
     pub other: usize,
     pub place: usize,
@@ -139,13 +137,13 @@ fn ask_two(
 }
 
 // The way where the new name is node `new` and the old name node `was`.
-fn way_onto(was: u32, new: u32) -> Way
-    ensures { way_number result ≡ pick (eqb was new) 0 2 }
+fn way_onto(was: u32, new: u32) -> u8
+    ensures { result ≡ pick (eqb was new) 0 2 }
 {
     if was == new {
-        return Way::Same;
+        return SAME;
     }
-    Way::Onto
+    ONTO
 }
 
 // Slot k of the target names node `new`, and the old name is node `was`.
@@ -162,7 +160,7 @@ fn plan_node(
 ) -> Result<Plan, Reason>
     requires led { Led arena.now first.now next.now }
     requires whole { Whole mem.old × ((i < 34) × (j < 34)) }
-    ensures { (old name : List ℕ) (e : DiskEntry) → Rest (replace_node (fs_at arena.now mem.old) i j old name k new was) (planned (fs_at arena.now mem.old) (fs_at arena.now mem.new) (way_number (result_unwrap_or result no_plan).way) (result_unwrap_or result no_plan).row (result_unwrap_or result no_plan).other old name e (result_unwrap_or result no_plan).place (result_unwrap_or result no_plan).gone (result_unwrap_or result no_plan).moved) (Planned mem.new (result_unwrap_or result no_plan).row (result_unwrap_or result no_plan).other (result_unwrap_or result no_plan).gone (result_unwrap_or result no_plan).moved) (code result) }
+    ensures { (old name : List ℕ) (e : DiskEntry) → Rest (replace_node (fs_at arena.now mem.old) i j old name k new was) (planned (fs_at arena.now mem.old) (fs_at arena.now mem.new) (result_unwrap_or result no_plan).way (result_unwrap_or result no_plan).row (result_unwrap_or result no_plan).other old name e (result_unwrap_or result no_plan).place (result_unwrap_or result no_plan).gone (result_unwrap_or result no_plan).moved) (Planned mem.new (result_unwrap_or result no_plan).row (result_unwrap_or result no_plan).other (result_unwrap_or result no_plan).gone (result_unwrap_or result no_plan).moved) (code result) }
 {
     let (gone, moved) = open_two(arena, first, next, mem, new, was)?;
     ask_two(arena, first, next, &mem[..], i, j, moved, gone, new, was)?;
@@ -191,7 +189,7 @@ fn plan_named(
 ) -> Result<Plan, Reason>
     requires led { Led arena.now first.now next.now }
     requires whole { Whole mem.old × ((i < 34) × ((j < 34) × (length slot.old ≡ 264))) }
-    ensures { (name : List ℕ) (e : DiskEntry) → Rest (replace_named (fs_at arena.now mem.old) i j old.now name k new) (planned (fs_at arena.now mem.old) (fs_at arena.now mem.new) (way_number (result_unwrap_or result no_plan).way) (result_unwrap_or result no_plan).row (result_unwrap_or result no_plan).other old.now name e (result_unwrap_or result no_plan).place (result_unwrap_or result no_plan).gone (result_unwrap_or result no_plan).moved) (Planned mem.new (result_unwrap_or result no_plan).row (result_unwrap_or result no_plan).other (result_unwrap_or result no_plan).gone (result_unwrap_or result no_plan).moved) (code result) }
+    ensures { (name : List ℕ) (e : DiskEntry) → Rest (replace_named (fs_at arena.now mem.old) i j old.now name k new) (planned (fs_at arena.now mem.old) (fs_at arena.now mem.new) (result_unwrap_or result no_plan).way (result_unwrap_or result no_plan).row (result_unwrap_or result no_plan).other old.now name e (result_unwrap_or result no_plan).place (result_unwrap_or result no_plan).gone (result_unwrap_or result no_plan).moved) (Planned mem.new (result_unwrap_or result no_plan).row (result_unwrap_or result no_plan).other (result_unwrap_or result no_plan).gone (result_unwrap_or result no_plan).moved) (code result) }
 {
     find_slot(arena, first, next, rec_at(&mem[..], i), old, slot)?;
     plan_node(arena, first, next, mem, i, j, k, new, u32_at(&slot[..], 0))
@@ -237,12 +235,12 @@ fn plan_slot(
 ) -> Result<Plan, Reason>
     requires led { Led arena.now first.now next.now }
     requires whole { Whole mem.now × ((i < 34) × ((j < 34) × ((length name.now ≤ 255) × (length slot.old ≡ 264)))) }
-    ensures { (z : Fs) → Rest (ending (move_named (fs_at arena.now mem.now) i j old.now name.now Free)) (planned z (fs_at arena.now mem.now) (way_number (result_unwrap_or result no_plan).way) (result_unwrap_or result no_plan).row (result_unwrap_or result no_plan).other old.now name.now (entry_of slot.new) (result_unwrap_or result no_plan).place (result_unwrap_or result no_plan).gone (result_unwrap_or result no_plan).moved) (Planned mem.now (result_unwrap_or result no_plan).row (result_unwrap_or result no_plan).other (result_unwrap_or result no_plan).gone (result_unwrap_or result no_plan).moved) (code result) }
+    ensures { (z : Fs) → Rest (ending (move_named (fs_at arena.now mem.now) i j old.now name.now Free)) (planned z (fs_at arena.now mem.now) (result_unwrap_or result no_plan).way (result_unwrap_or result no_plan).row (result_unwrap_or result no_plan).other old.now name.now (entry_of slot.new) (result_unwrap_or result no_plan).place (result_unwrap_or result no_plan).gone (result_unwrap_or result no_plan).moved) (Planned mem.now (result_unwrap_or result no_plan).row (result_unwrap_or result no_plan).other (result_unwrap_or result no_plan).gone (result_unwrap_or result no_plan).moved) (code result) }
 {
     let place = find_slot(arena, first, next, rec_at(mem, i), old, slot)?;
     rename(slot, name);
     Ok(Plan {
-        way: Way::Free,
+        way: FREE,
         row: i,
         other: j,
         place,
@@ -265,7 +263,7 @@ fn plan_free(
 ) -> Result<Plan, Reason>
     requires led { Led arena.now first.now next.now }
     requires whole { Whole mem.old × ((i < 34) × ((j < 34) × ((length name.now ≤ 255) × (length slot.old ≡ 264)))) }
-    ensures { Rest (move_free (fs_at arena.now mem.old) i j old.now name.now) (planned (fs_at arena.now mem.old) (fs_at arena.now mem.new) (way_number (result_unwrap_or result no_plan).way) (result_unwrap_or result no_plan).row (result_unwrap_or result no_plan).other old.now name.now (entry_of slot.new) (result_unwrap_or result no_plan).place (result_unwrap_or result no_plan).gone (result_unwrap_or result no_plan).moved) (Planned mem.new (result_unwrap_or result no_plan).row (result_unwrap_or result no_plan).other (result_unwrap_or result no_plan).gone (result_unwrap_or result no_plan).moved) (code result) }
+    ensures { Rest (move_free (fs_at arena.now mem.old) i j old.now name.now) (planned (fs_at arena.now mem.old) (fs_at arena.now mem.new) (result_unwrap_or result no_plan).way (result_unwrap_or result no_plan).row (result_unwrap_or result no_plan).other old.now name.now (entry_of slot.new) (result_unwrap_or result no_plan).place (result_unwrap_or result no_plan).gone (result_unwrap_or result no_plan).moved) (Planned mem.new (result_unwrap_or result no_plan).row (result_unwrap_or result no_plan).other (result_unwrap_or result no_plan).gone (result_unwrap_or result no_plan).moved) (code result) }
 {
     open_moved(arena, first, next, mem, slot, i, j, old)?;
     plan_slot(arena, first, next, &mem[..], slot, i, j, old, name)
@@ -284,7 +282,7 @@ fn plan_found(
 ) -> Result<Plan, Reason>
     requires led { Led arena.now first.now next.now }
     requires whole { Whole mem.old × ((i < 34) × ((j < 34) × ((length name.now ≤ 255) × (length slot.old ≡ 264)))) }
-    ensures { Rest (move_found (fs_at arena.now mem.old) i j old.now name.now) (planned (fs_at arena.now mem.old) (fs_at arena.now mem.new) (way_number (result_unwrap_or result no_plan).way) (result_unwrap_or result no_plan).row (result_unwrap_or result no_plan).other old.now name.now (entry_of slot.new) (result_unwrap_or result no_plan).place (result_unwrap_or result no_plan).gone (result_unwrap_or result no_plan).moved) (Planned mem.new (result_unwrap_or result no_plan).row (result_unwrap_or result no_plan).other (result_unwrap_or result no_plan).gone (result_unwrap_or result no_plan).moved) (code result) }
+    ensures { Rest (move_found (fs_at arena.now mem.old) i j old.now name.now) (planned (fs_at arena.now mem.old) (fs_at arena.now mem.new) (result_unwrap_or result no_plan).way (result_unwrap_or result no_plan).row (result_unwrap_or result no_plan).other old.now name.now (entry_of slot.new) (result_unwrap_or result no_plan).place (result_unwrap_or result no_plan).gone (result_unwrap_or result no_plan).moved) (Planned mem.new (result_unwrap_or result no_plan).row (result_unwrap_or result no_plan).other (result_unwrap_or result no_plan).gone (result_unwrap_or result no_plan).moved) (code result) }
 {
     let rec = rec_at(&mem[..], j);
     let place = lookup(arena, first, next, rec, name, slot)?;
@@ -346,7 +344,7 @@ fn plan_work(
 ) -> Result<Plan, Reason>
     requires led { Led arena.now first.now next.now }
     requires whole { Whole mem.old × ((i < 34) × ((j < 34) × (length slot.old ≡ 264))) }
-    ensures { Rest (move_work (fs_at arena.now mem.old) i j old.now name.now) (planned (fs_at arena.now mem.old) (fs_at arena.now mem.new) (way_number (result_unwrap_or result no_plan).way) (result_unwrap_or result no_plan).row (result_unwrap_or result no_plan).other old.now name.now (entry_of slot.new) (result_unwrap_or result no_plan).place (result_unwrap_or result no_plan).gone (result_unwrap_or result no_plan).moved) ((length name.now ≤ 255) × (Planned mem.new (result_unwrap_or result no_plan).row (result_unwrap_or result no_plan).other (result_unwrap_or result no_plan).gone (result_unwrap_or result no_plan).moved × (length slot.new ≡ 264))) (code result) }
+    ensures { Rest (move_work (fs_at arena.now mem.old) i j old.now name.now) (planned (fs_at arena.now mem.old) (fs_at arena.now mem.new) (result_unwrap_or result no_plan).way (result_unwrap_or result no_plan).row (result_unwrap_or result no_plan).other old.now name.now (entry_of slot.new) (result_unwrap_or result no_plan).place (result_unwrap_or result no_plan).gone (result_unwrap_or result no_plan).moved) ((length name.now ≤ 255) × (Planned mem.new (result_unwrap_or result no_plan).row (result_unwrap_or result no_plan).other (result_unwrap_or result no_plan).gone (result_unwrap_or result no_plan).moved × (length slot.new ≡ 264))) (code result) }
 {
     move_ask(rec_at(&mem[..], i), rec_at(&mem[..], j), old, name)?;
     plan_found(arena, first, next, mem, slot, i, j, old, name)
@@ -366,7 +364,7 @@ pub fn plan_led(
     name: &[u8],
 ) -> Result<Plan, Reason>
     requires { Admitted arena.now first.now next.now mem.old × (length slot.old ≡ 264) }
-    ensures { Rest (call_move arena.now (table_in mem.old) who h old.now target name.now) (planned (start arena.now (table_in mem.old)) (fs_at arena.now mem.new) (way_number (result_unwrap_or result no_plan).way) (result_unwrap_or result no_plan).row (result_unwrap_or result no_plan).other old.now name.now (entry_of slot.new) (result_unwrap_or result no_plan).place (result_unwrap_or result no_plan).gone (result_unwrap_or result no_plan).moved) (Agreed arena.now mem.new name.now slot.new (result_unwrap_or result no_plan).row (result_unwrap_or result no_plan).other (result_unwrap_or result no_plan).gone (result_unwrap_or result no_plan).moved) (code result) }
+    ensures { Rest (call_move arena.now (table_in mem.old) who h old.now target name.now) (planned (start arena.now (table_in mem.old)) (fs_at arena.now mem.new) (result_unwrap_or result no_plan).way (result_unwrap_or result no_plan).row (result_unwrap_or result no_plan).other old.now name.now (entry_of slot.new) (result_unwrap_or result no_plan).place (result_unwrap_or result no_plan).gone (result_unwrap_or result no_plan).moved) (Agreed arena.now mem.new name.now slot.new (result_unwrap_or result no_plan).row (result_unwrap_or result no_plan).other (result_unwrap_or result no_plan).gone (result_unwrap_or result no_plan).moved) (code result) }
 {
     let (i, j) = reach_two_read(arena, first, next, mem, who, h, target)?;
     plan_work(arena, first, next, mem, slot, i, j, old, name)
@@ -384,7 +382,7 @@ fn decide(
     name: &[u8],
 ) -> Result<Plan, Reason>
     requires { Whole mem.old × (length slot.old ≡ 264) }
-    ensures { Rest (call_move arena.now (table_in mem.old) who h old.now target name.now) (planned (start arena.now (table_in mem.old)) (fs_at arena.now mem.new) (way_number (result_unwrap_or result no_plan).way) (result_unwrap_or result no_plan).row (result_unwrap_or result no_plan).other old.now name.now (entry_of slot.new) (result_unwrap_or result no_plan).place (result_unwrap_or result no_plan).gone (result_unwrap_or result no_plan).moved) (Agreed arena.now mem.new name.now slot.new (result_unwrap_or result no_plan).row (result_unwrap_or result no_plan).other (result_unwrap_or result no_plan).gone (result_unwrap_or result no_plan).moved) (code result) }
+    ensures { Rest (call_move arena.now (table_in mem.old) who h old.now target name.now) (planned (start arena.now (table_in mem.old)) (fs_at arena.now mem.new) (result_unwrap_or result no_plan).way (result_unwrap_or result no_plan).row (result_unwrap_or result no_plan).other old.now name.now (entry_of slot.new) (result_unwrap_or result no_plan).place (result_unwrap_or result no_plan).gone (result_unwrap_or result no_plan).moved) (Agreed arena.now mem.new name.now slot.new (result_unwrap_or result no_plan).row (result_unwrap_or result no_plan).other (result_unwrap_or result no_plan).gone (result_unwrap_or result no_plan).moved) (code result) }
 {
     let mut chains = [0u16; 8192];
     admit(arena, &mut chains, &mem[..])?;
@@ -405,7 +403,7 @@ fn decide(
 
 // ---- the steps
 
-// `slot` has the moved slot where the way is `Free`, and is room for slots then.
+// `slot` has the moved slot where the way is `FREE`, and is room for slots then.
 fn move_planned(
     arena: &[u8],
     work: &mut [u8],
@@ -417,9 +415,9 @@ fn move_planned(
 ) -> Result<(), Reason>
     requires ready { Ready arena.now work.old mem.old × (61 ≤ left work.old) }
     requires agreed { Agreed arena.now mem.old name.now slot.old p.row p.other p.gone p.moved }
-    ensures { Stepped (plan_steps (fs_of arena.now work.old mem.old) (way_number p.way) p.row p.other old.now name.now (entry_of slot.old) p.place p.gone p.moved) arena.now work.old work.new mem.new 61 (code result) }
+    ensures { Stepped (plan_steps (fs_of arena.now work.old mem.old) p.way p.row p.other old.now name.now (entry_of slot.old) p.place p.gone p.moved) arena.now work.old work.new mem.new 61 (code result) }
 {
-    if p.way == Way::Free {
+    if p.way == FREE {
         return move_slot(arena, work, mem, slot, p.row, p.other, p.place, Gone::Free);
     }
     move_onto(
@@ -438,7 +436,7 @@ fn move_in(
     name: &[u8],
 ) -> Result<(), Reason>
     requires { Empty arena.old work.old 71 × Agreed arena.old mem.old name.now slot.old p.row p.other p.gone p.moved }
-    ensures { Ended (ending (plan_steps (fs_at arena.old mem.old) (way_number p.way) p.row p.other old.now name.now (entry_of slot.old) p.place p.gone p.moved)) arena.old arena.new (table_in mem.new) (code result) }
+    ensures { Ended (ending (plan_steps (fs_at arena.old mem.old) p.way p.row p.other old.now name.now (entry_of slot.old) p.place p.gone p.moved)) arena.old arena.new (table_in mem.new) (code result) }
 {
     move_planned(&arena[..], work, mem, slot, p, old, name)?;
     overlay::commit(arena, &work[..]);
@@ -455,7 +453,7 @@ pub fn move_rows(
     name: &[u8],
 ) -> Result<(), Reason>
     requires { Agreed arena.old mem.old name.now slot.old p.row p.other p.gone p.moved }
-    ensures { Ended (ending (plan_steps (fs_at arena.old mem.old) (way_number p.way) p.row p.other old.now name.now (entry_of slot.old) p.place p.gone p.moved)) arena.old arena.new (table_in mem.new) (code result) }
+    ensures { Ended (ending (plan_steps (fs_at arena.old mem.old) p.way p.row p.other old.now name.now (entry_of slot.old) p.place p.gone p.moved)) arena.old arena.new (table_in mem.new) (code result) }
 {
     let mut work = [0u8; 36352];
     overlay::begin(&mut work);
@@ -477,7 +475,7 @@ fn move_with(
     ensures { EndedMove (call_move arena.old (table_in mem.old) who h old.now target name.now) (table_in mem.old) arena.old arena.new (table_in mem.new) result }
 {
     let p = decide(&arena[..], mem, slot, who, h, old, target, name)?;
-    if p.way == Way::Same {
+    if p.way == SAME {
         return Ok(Course::Same);
     }
     move_rows(arena, mem, slot, p, old, name)?;

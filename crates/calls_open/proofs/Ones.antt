@@ -5,8 +5,9 @@ use Prim.Native.Nat.{ℕ}
 use Rattle.table.specs.Table.{empty_table}
 use Rattle.sefs.specs.Open.{call_open}
 use Rattle.calls.specs.Answers.{Replies}
+use Rattle.base.specs.declared.reasons.Reason.{Reason}
 use Rattle.calls.specs.declared.Reply.{Reply}
 use Rattle.calls.proofs.Answers.{replies-one}
 
-pub open-one : (a : List ℕ) (r s : Reply) → Replies empty_table (call_open a) r → Replies empty_table (call_open a) s → r ≡ s
+pub open-one : (a : List ℕ) (r s : Reply Reason) → Replies empty_table (call_open a) r → Replies empty_table (call_open a) s → r ≡ s
 open-one a r s p q = replies-one empty_table (call_open a) r s p q

@@ -35,7 +35,7 @@ StoresNothing {X} {Y} before after Holds = (port : X → Y) → ((x : X) → aft
 -- what a call leaves that makes no hold: the arena, and the answer with its table
 pub record Result : Type 0 where
   pub arena : List ℕ
-  pub after : Reply
+  pub after : Reply Reason
 
 -- ---- create
 

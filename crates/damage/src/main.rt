@@ -5,6 +5,7 @@
 ghost use Rattle.std.specs.Prelude.{◌≡◌, ◌<◌, length};
 
 use arena::put_check;
+use base::copy;
 use sound::sound;
 use std::io;
 use std::io::Read;
@@ -34,10 +35,10 @@ fn judge_mended(arena: &mut [u8; 8192], i: usize, d: u8) -> bool
 {
     let start = i / 512 * 512;
     let mut kept = [0u8; 512];
-    kept.copy_from_slice(&arena[start..start + 512]);
+    copy(&mut kept, &arena[start..start + 512]);
     spoil(&mut arena[start..start + 512], i - start, d);
     let r = sound(arena);
-    arena[start..start + 512].copy_from_slice(&kept);
+    copy(&mut arena[start..start + 512], &kept);
     r
 }
 

@@ -1,5 +1,6 @@
 -- From what a call leaves in memory and returns to what the C function leaves.
 use mathlib.Core.Path.{◌≡◌, refl, sym, ◌∙◌, ap, ap₂, subst}
+use mathlib.Core.Bool.{Bool}
 use mathlib.Core.List.{List, [], ◌∷◌}
 use Prim.Native.Nat.{ℕ, ◌+◌, ◌<◌}
 use native.Mathlib.Omega.{arith}
@@ -22,17 +23,18 @@ use Rattle.sefs.specs.Create.{After, Given}
 use Rattle.sefs.specs.Read.{call_listing}
 use Rattle.mem.specs.Mem.{table_in}
 use Rattle.std.specs.Prelude.{Result, Ok, Err}
-use Rattle.base.specs.Told.{code}
+use Rattle.std.specs.Result.{is_ok}
+use Rattle.base.specs.Told.{number, code}
+use Rattle.base.proofs.Tells.{done-is}
 use Rattle.base.specs.declared.reasons.Reason.{Reason}
-use Rattle.calls.specs.Answers.{added_as, out_of, answer_of, listed_of, taken_of, Lays}
-use Rattle.calls.proofs.Answers.{code-out}
+use Rattle.calls.specs.Answers.{added_as, out_of, told_by, answer_of, listed_of, taken_of, Lays}
+use Rattle.calls.proofs.Answers.{code-out, told-code}
 use Rattle.calls_list.proofs.Places.{listing-left, listed-slots}
 use Rattle.steps.specs.Ends.{Ended, went, stopped}
 use Rattle.calls_create.specs.Held.{EndedHeld}
 use Rattle.calls_create.specs.Held as made
 use Rattle.calls_create.specs.declared.New.{New}
 use Rattle.calls_move.specs.declared.Course.{Course}
-use Rattle.calls_move.specs.declared.Course.TheVariants.{Made, Same}
 use Rattle.calls_move.specs.Courses.{EndedMove}
 use Rattle.calls_move.specs.Courses as course
 use Rattle.calls_mend.specs.Mends.{MendEnded}
@@ -82,65 +84,92 @@ walks-not {p = p} e = rw e (record { answers = answers-not refl; links = nothing
 -- ---- what the call leaves, and what the end wrote. p is the outcome with its sizes, o without; u is the table in memory; the table's bytes were t
 -- and are b, words for a result were w and are v
 
+-- what an end tells and writes by a call's result, by the number that the call's laws have
+module _ {A : Type 0} (r : Result A Reason) (x y : List ℕ) {b : List ℕ} where
+  by-code : b ≡ pick (is_ok r) x y → b ≡ pick (eqb (code r) 0) x y
+  by-code e = e ∙ ap (λ (q : Bool). pick q x y) (done-is r)
+
+  told-by_code : {n : ℕ} → (n ≡ told_by number r) × (b ≡ pick (is_ok r) x y) → (n ≡ code r) × (b ≡ pick (eqb (code r) 0) x y)
+  told-by_code E = (E.0 ∙ told-code r, by-code E.1)
+
 -- sync, close, link, the removals, write, resize, format
-pub by_end : {o p : Out After} {u : Table} {a c t b : List ℕ} {r n : ℕ} → p ≡ o → Ended o a c u r
+ended-by : {o p : Out After} {u : Table} {a c t b : List ℕ} {r n : ℕ} → p ≡ o → Ended o a c u r
     → (n ≡ r) × (b ≡ pick (eqb r 0) (bytes_of_table u) t) → Answers p left_of (a, t) (c, b) n
-by_end {c = c} e (went f) E = rw (e, f) (record { number = E.0; places = λ i. (c, E.1 i) })
-by_end {u = u} {t = t} e (stopped {r = r} l f k) E =
+ended-by {c = c} e (went f) E = rw (e, f) (record { number = E.0; places = λ i. (c, E.1 i) })
+ended-by {u = u} {t = t} e (stopped {r = r} l f k) E =
     let q = E.1 ∙ sym (passed_over (bytes_of_table u) t r (λ q. omega arith)) in
     rw (e, f) (record { number = E.0; places = λ i. (k i, q i) })
 
+pub by_end : {o p : Out After} {u : Table} {a c t b : List ℕ} {n : ℕ} (r : Result Unit Reason) → p ≡ o → Ended o a c u (code r)
+    → (n ≡ told_by number r) × (b ≡ pick (is_ok r) (bytes_of_table u) t) → Answers p left_of (a, t) (c, b) n
+by_end r e g E = ended-by e g (told-by_code r _ _ E)
+
 -- mend: the table is not written
-pub by-mend : {o p : Out (List ℕ)} {a c : List ℕ} {r n : ℕ} → p ≡ o → MendEnded o a c r → n ≡ r → Answers p mended_of a c n
-by-mend e (mends.went f) E = rw (e, f) (record { number = E; places = refl })
-by-mend e (mends.stopped l f k) E = rw (e, f) (record { number = E; places = k })
+mended-by : {o p : Out (List ℕ)} {a c : List ℕ} {r n : ℕ} → p ≡ o → MendEnded o a c r → n ≡ r → Answers p mended_of a c n
+mended-by e (mends.went f) E = rw (e, f) (record { number = E; places = refl })
+mended-by e (mends.stopped l f k) E = rw (e, f) (record { number = E; places = k })
+
+pub by-mend : {o p : Out (List ℕ)} {a c : List ℕ} {n : ℕ} (r : Result Unit Reason) → p ≡ o → MendEnded o a c (code r) → n ≡ told_by number r → Answers p mended_of a c n
+by-mend r e g E = mended-by e g (E ∙ told-code r)
 
 -- move: x is the table that it was given
 pub by_move : {o p : Out After} {x u : Table} {a c t b : List ℕ} {n : ℕ} {k : Result Course Reason} → p ≡ o → x ≡ table_of t → EndedMove o x a c u k
-    → (n ≡ code k) × (b ≡ course_table_by t u k) → Answers p left_of (a, t) (c, b) n
+    → (n ≡ told_by number k) × (b ≡ course_table_by t u k) → Answers p left_of (a, t) (c, b) n
 by_move {c = c} e q (course.moves f) E = rw (e, f) (record { number = E.0; places = λ i. (c, E.1 i) })
 by_move e q (course.rests f k) E = let z = E.1 ∙ ap bytes_of_table (sym q) in rw (e, f) (record { number = E.0; places = λ i. (k i, z i) })
 by_move e q (course.denied l f k) E = rw (e, f) (record { number = E.0; places = λ i. (k i, E.1 i) })
 
 -- create
-pub by-made : {o p : Out Given} {h : Handle} {u : Table} {a c t b w v : List ℕ} {r n : ℕ} → p ≡ o → EndedHeld o a c (added_as h u) r
+made-by : {o p : Out Given} {h : Handle} {u : Table} {a c t b w v : List ℕ} {r n : ℕ} → p ≡ o → EndedHeld o a c (added_as h u) r
     → (n ≡ r) × (b ≡ pick (eqb r 0) (bytes_of_table u) t) → v ≡ pick (eqb r 0) (handle_words h) w → Answers p made_of (a, t, w) (c, b, v) n
-by-made {c = c} e (made.held f) E k = rw (e, f) (record { number = E.0; places = λ i. (c, E.1 i, k i) })
-by-made {h = h} {u = u} {t = t} {w = w} e (made.stopped {r = r} l f q) E k =
+made-by {c = c} e (made.held f) E k = rw (e, f) (record { number = E.0; places = λ i. (c, E.1 i, k i) })
+made-by {h = h} {u = u} {t = t} {w = w} e (made.stopped {r = r} l f q) E k =
     let z : r ≡ 0 → ⊥ = λ q. omega arith in
     let x = E.1 ∙ sym (passed_over (bytes_of_table u) t r z) in
     let y = k ∙ sym (passed_over (handle_words h) w r z) in
     rw (e, f) (record { number = E.0; places = λ i. (q i, x i, y i) })
 
+pub by-made : {o p : Out Given} {h : Handle} {u : Table} {a c t b w v : List ℕ} {n : ℕ} (r : Result Handle Reason) → p ≡ o → EndedHeld o a c (added_as h u) (code r)
+    → (n ≡ told_by number r) × (b ≡ pick (is_ok r) (bytes_of_table u) t) → v ≡ pick (is_ok r) (handle_words h) w → Answers p made_of (a, t, w) (c, b, v) n
+by-made r e g E k = made-by e g (told-by_code r _ _ E) (by-code r _ _ k)
+
 -- root, find
-pub by-held : {o p : Out Added} {h : Handle} {u : Table} {t b w v : List ℕ} {P : Type 0} {r n : ℕ} → p ≡ o → Went o (added_as h u) P r
+held-by : {o p : Out Added} {h : Handle} {u : Table} {t b w v : List ℕ} {P : Type 0} {r n : ℕ} → p ≡ o → Went o (added_as h u) P r
     → (n ≡ r) × (b ≡ pick (eqb r 0) (bytes_of_table u) t) → v ≡ pick (eqb r 0) (handle_words h) w → Answers p held_of (t, w) (b, v) n
-by-held e (well f x) E k = rw (e, f) (record { number = E.0; places = λ i. (E.1 i, k i) })
-by-held {h = h} {u = u} {t = t} {w = w} e (ill {r = r} l f) E k =
+held-by e (well f x) E k = rw (e, f) (record { number = E.0; places = λ i. (E.1 i, k i) })
+held-by {h = h} {u = u} {t = t} {w = w} e (ill {r = r} l f) E k =
     let z : r ≡ 0 → ⊥ = λ q. omega arith in
     let x = E.1 ∙ sym (passed_over (bytes_of_table u) t r z) in
     let y = k ∙ sym (passed_over (handle_words h) w r z) in
     rw (e, f) (record { number = E.0; places = λ i. (x i, y i) })
 
+pub by-held : {o p : Out Added} {h : Handle} {u : Table} {t b w v : List ℕ} {P : Type 0} {n : ℕ} (r : Result Handle Reason) → p ≡ o → Went o (added_as h u) P (code r)
+    → (n ≡ told_by number r) × (b ≡ pick (is_ok r) (bytes_of_table u) t) → v ≡ pick (is_ok r) (handle_words h) w → Answers p held_of (t, w) (b, v) n
+by-held r e g E k = held-by e g (told-by_code r _ _ E) (by-code r _ _ k)
+
 -- walk: the link buffer was l and is q
-pub by-walk : {x y : Walked Added} {h : Handle} {u : Table} {l q t b w v : List ℕ} {P : Type 0} {r n : ℕ} → y ≡ x → Went x.end (added_as h u) P r → q ≡ paste l 0 x.links
-    → (n ≡ r) × (b ≡ pick (eqb r 0) (bytes_of_table u) t) → v ≡ pick (eqb r 0) (handle_words h) w → Walks y l q (t, w) (b, v) n
-by-walk e W L E k = rw e (record { answers = by-held refl W E k; links = L })
+pub by-walk : {x y : Walked Added} {h : Handle} {u : Table} {l q t b w v : List ℕ} {P : Type 0} {n : ℕ} (r : Result Handle Reason) → y ≡ x → Went x.end (added_as h u) P (code r) → q ≡ paste l 0 x.links
+    → (n ≡ told_by number r) × (b ≡ pick (is_ok r) (bytes_of_table u) t) → v ≡ pick (is_ok r) (handle_words h) w → Walks y l q (t, w) (b, v) n
+by-walk r e W L E k = rw e (record { answers = by-held r refl W E k; links = L })
 
 -- set metadata, open
-pub by-table : {o p : Out Table} {u : Table} {t b : List ℕ} {P : Type 0} {r n : ℕ} → p ≡ o → Went o u P r
+table-by : {o p : Out Table} {u : Table} {t b : List ℕ} {P : Type 0} {r n : ℕ} → p ≡ o → Went o u P r
     → (n ≡ r) × (b ≡ pick (eqb r 0) (bytes_of_table u) t) → Answers p bytes_of_table t b n
-by-table e (well f x) E = rw (e, f) (record { number = E.0; places = E.1 })
-by-table {u = u} {t = t} e (ill {r = r} l f) E = rw (e, f) (record { number = E.0; places = E.1 ∙ sym (passed_over (bytes_of_table u) t r (λ q. omega arith)) })
+table-by e (well f x) E = rw (e, f) (record { number = E.0; places = E.1 })
+table-by {u = u} {t = t} e (ill {r = r} l f) E = rw (e, f) (record { number = E.0; places = E.1 ∙ sym (passed_over (bytes_of_table u) t r (λ q. omega arith)) })
 
-pub by-told : {o p : Out Metadata} {w v : List ℕ} {n : ℕ} (r : Result Metadata Reason) → p ≡ o → out_of r ≡ o → (n ≡ code r) × (v ≡ told_words_by w r) → Answers p metadata_words w v n
+pub by-table : {o p : Out Table} {u : Table} {t b : List ℕ} {P : Type 0} {n : ℕ} (r : Result Unit Reason) → p ≡ o → Went o u P (code r)
+    → (n ≡ told_by number r) × (b ≡ pick (is_ok r) (bytes_of_table u) t) → Answers p bytes_of_table t b n
+by-table r e g E = table-by e g (told-by_code r _ _ E)
+
+pub by-told : {o p : Out Metadata} {w v : List ℕ} {n : ℕ} (r : Result Metadata Reason) → p ≡ o → out_of r ≡ o → (n ≡ told_by number r) × (v ≡ told_words_by w r) → Answers p metadata_words w v n
 by-told (Ok m) e G E = rw (e, ← G) (record { number = E.0; places = E.1 })
 by-told (Err d) e G E = rw (e, ← G) (record { number = E.0; places = E.1 })
 
 -- get entry
-pub by-laid : {o p : Out (List ℕ)} {x y : List ℕ} {n : ℕ} (r : Result Unit Reason) → p ≡ o → Lays answer_of o x y r → n ≡ code r → Answers p (paste x 0) x y n
-by-laid {o = done l} r e G E = rw e (record { number = E ∙ code-out r ∙ ap answer G.0; places = G.1 })
-by-laid {o = refused m} r e G E = rw e (record { number = E ∙ code-out r ∙ ap answer G.0; places = G.1 })
+pub by-laid : {o p : Out (List ℕ)} {x y : List ℕ} {n : ℕ} (r : Result Unit Reason) → p ≡ o → Lays answer_of o x y r → n ≡ told_by number r → Answers p (paste x 0) x y n
+by-laid {o = done l} r e G E = rw e (record { number = E ∙ told-code r ∙ code-out r ∙ ap answer G.0; places = G.1 })
+by-laid {o = refused m} r e G E = rw e (record { number = E ∙ told-code r ∙ code-out r ∙ ap answer G.0; places = G.1 })
 
 -- the words by the outcome that the result tells
 abbrev listed_out : List ℕ → ℕ → Out ℕ → List ℕ
@@ -160,21 +189,21 @@ taken-out w (Ok n) = refl
 taken-out w (Err e) = refl
 
 pub by-listed : {o p : Out (List ℕ)} {x y w v : List ℕ} {n : ℕ} (l : Result ℕ Reason) (f from : ℕ) → f ≡ from → p ≡ o → Lays listed_of o x y l
-    → (n ≡ code l) × (v ≡ listed_words_by w f l) → Answers p (listed_in from x) (w, x) (v, y) n
+    → (n ≡ told_by number l) × (v ≡ listed_words_by w f l) → Answers p (listed_in from x) (w, x) (v, y) n
 by-listed {o = done z} {w = w} {v = v} l f from q e G E =
     let k : v ≡ listed_out w from (listed_of (done z)) = E.1 ∙ listed-out w f l ∙ ap₂ (listed_out w) q G.0 in
-    rw e (record { number = E.0 ∙ code-out l ∙ ap answer G.0; places = λ i. (k i, G.1 i) })
+    rw e (record { number = E.0 ∙ told-code l ∙ code-out l ∙ ap answer G.0; places = λ i. (k i, G.1 i) })
 by-listed {o = refused m} {w = w} {v = v} l f from q e G E =
     let k : v ≡ listed_out w from (listed_of (refused m)) = E.1 ∙ listed-out w f l ∙ ap₂ (listed_out w) q G.0 in
-    rw e (record { number = E.0 ∙ code-out l ∙ ap answer G.0; places = λ i. (k i, G.1 i) })
+    rw e (record { number = E.0 ∙ told-code l ∙ code-out l ∙ ap answer G.0; places = λ i. (k i, G.1 i) })
 
-pub by-taken : {o p : Out (List ℕ)} {x y w v : List ℕ} {n : ℕ} (r : Result ℕ Reason) → p ≡ o → Lays taken_of o x y r → (n ≡ code r) × (v ≡ taken_words_by w r) → Answers p (read_in x) (x, w) (y, v) n
+pub by-taken : {o p : Out (List ℕ)} {x y w v : List ℕ} {n : ℕ} (r : Result ℕ Reason) → p ≡ o → Lays taken_of o x y r → (n ≡ told_by number r) × (v ≡ taken_words_by w r) → Answers p (read_in x) (x, w) (y, v) n
 by-taken {o = done l} {w = w} r e G E =
     let k = E.1 ∙ taken-out w r ∙ ap (taken_out w) G.0 in
-    rw e (record { number = E.0 ∙ code-out r ∙ ap answer G.0; places = λ i. (G.1 i, k i) })
+    rw e (record { number = E.0 ∙ told-code r ∙ code-out r ∙ ap answer G.0; places = λ i. (G.1 i, k i) })
 by-taken {o = refused m} {w = w} r e G E =
     let k = E.1 ∙ taken-out w r ∙ ap (taken_out w) G.0 in
-    rw e (record { number = E.0 ∙ code-out r ∙ ap answer G.0; places = λ i. (G.1 i, k i) })
+    rw e (record { number = E.0 ∙ told-code r ∙ code-out r ∙ ap answer G.0; places = λ i. (G.1 i, k i) })
 
 -- check
 pub by-counts : {o p : Out (List ℕ)} {w v : List ℕ} {n : ℕ} → p ≡ o → Answers o counts_of w v n → Answers p counts_of w v n

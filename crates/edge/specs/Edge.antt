@@ -3,7 +3,6 @@ use Rattle.std.specs.Prelude.{◌≡◌, not, List, [], ◌∷◌, ℕ, ◌+◌,
 use Rattle.base.specs.Out.{Out, done, refused, guard, answer}
 use Rattle.base.specs.Parts.{paste}
 use Rattle.base.specs.Search.{pick}
-use Rattle.base.specs.declared.reasons.Reason.{Reason}
 use Rattle.structs.specs.declared.Timespec.{Timespec}
 use Rattle.table.specs.declared.Table.{Table}
 use Rattle.table.specs.declared.Added.{Added}
@@ -87,7 +86,7 @@ mended_of a = a
 
 -- ---- move, by what it came to: the table's bytes, which were l. u is the table that memory has
 
-abbrev pub course_table_by : List ℕ → Table → Result Course Reason → List ℕ
+abbrev pub course_table_by : {E : Type 0} → List ℕ → Table → Result Course E → List ℕ
 course_table_by l u (Ok Made) = bytes_of_table u
 course_table_by l u (Ok Same) = bytes_of_table (table_of l)
 course_table_by l u (Err e) = l

@@ -1,10 +1,10 @@
 // The ends by an answer that one call alone gives: move's, and the check's.
 ghost use Rattle.std.specs.Prelude.{◌≡◌, length};
-ghost use Rattle.base.specs.Told.{code};
 ghost use Rattle.mem.specs.Mem.{table_in, memory_size};
+ghost use Rattle.calls.specs.Answers.{told_by};
 ghost use Rattle.edge.specs.Edge.{Answers, counted, counts_of, course_table_by};
 
-use base::Reason;
+use calls::refusals::Refusal;
 use calls_move::Course;
 use edge_ends::ends::refusal;
 use edge_words::results::put_counts;
@@ -13,9 +13,9 @@ use mem::write_back;
 use table_bytes::settle_marks;
 
 // The table as memory has it; where both names are one node's, the table is written as it was given.
-pub fn end_course(table: &mut [u8], mem: &[u8], r: Result<Course, Reason>) -> u32
+pub fn end_course<E: Refusal>(table: &mut [u8], mem: &[u8], r: Result<Course, E>) -> u32
     requires { (length table.old ≡ 4402) × (length mem.now ≡ memory_size) }
-    ensures { (result ≡ code r) × (table.new ≡ course_table_by table.old (table_in mem.now) r) }
+    ensures { (result ≡ told_by E.number_of r) × (table.new ≡ course_table_by table.old (table_in mem.now) r) }
 {
     match r {
         Ok(Course::Made) => {
@@ -26,7 +26,7 @@ pub fn end_course(table: &mut [u8], mem: &[u8], r: Result<Course, Reason>) -> u3
             settle_marks(table);
             0
         }
-        Err(reason) => refusal(reason),
+        Err(e) => refusal(e),
     }
 }
 

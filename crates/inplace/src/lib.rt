@@ -12,7 +12,7 @@ ghost use Rattle.arena.specs.Places.{free_of, data_of};
 ghost use Rattle.files.specs.Store.{clear_all, is_past, is_of, zero_tail};
 
 use arena::{is_data, is_free, is_head, make_block, put_check};
-use base::{clear, index};
+use base::{clear, copy, index};
 use le::{put_u32, u32_at};
 
 // ---- a block of 512 bytes
@@ -31,7 +31,7 @@ fn edit_block(b: &mut [u8], off: usize, src: &[u8])
 {
     let s = 24 + off;
     let e = s + src.len();
-    b[s..e].copy_from_slice(src);
+    copy(&mut b[s..e], src);
     put_check(b);
 }
 

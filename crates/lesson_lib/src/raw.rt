@@ -2,6 +2,7 @@
 ghost use Rattle.std.specs.Prelude.{◌≡◌, ◌+◌, ◌%◌, ◌<◌, ◌≤◌, length};
 
 use arena::{free_count, is_data, is_head, put_check};
+use base::copy;
 use le::{put_u32, u32_at};
 use structs::super_block_at;
 
@@ -153,7 +154,7 @@ fn take_block(world: &mut [u8], whole: &[u8], n: u8, p: Piece)
     requires { (length world.old ≡ 12594) × (length whole.now ≡ 12594) }
 {
     let o = 4402 + 512 * block_of(&whole[4402..], 1, &[n; 16], p);
-    world[o..o + 512].copy_from_slice(&whole[o..o + 512]);
+    copy(&mut world[o..o + 512], &whole[o..o + 512]);
 }
 
 // The root's slot 3, which is one store with the length that it brings: bytes 792 to 1055, in the second and third block.
@@ -170,7 +171,7 @@ fn take_part(block: &mut [u8], whole: &[u8], from: usize, n: usize)
     requires { (length block.old ≡ 512) × ((length whole.now ≡ 512) × (from + n ≤ 512)) }
 {
     let to = from + n;
-    block[from..to].copy_from_slice(&whole[from..to]);
+    copy(&mut block[from..to], &whole[from..to]);
     put_check(block);
 }
 

@@ -4,7 +4,7 @@ ghost use Rattle.std.specs.Prelude.{◌≤◌, length};
 use crate::world::{
     ANN, Outcome, check, create, get_entry, mend, metadata, path, read, walk, write,
 };
-use base::Reason;
+use base::{Reason, copy};
 use fsck::Verdict;
 use lesson_lib::say::{Refusal, Text};
 use sefs::Metadata;
@@ -76,7 +76,7 @@ pub fn slot(world: &[u8], root: Handle, i: u64) -> Text<256>
     let mut entry = [0u8; 264];
     get_entry(world, ANN, root, i, &mut entry);
     let mut name = [0u8; 256];
-    name.copy_from_slice(&entry[4..260]);
+    copy(&mut name, &entry[4..260]);
     Text(name)
 }
 

@@ -25,7 +25,7 @@ ghost use Rattle.mending.specs.Room.{wanted_to, given_back_to, wanted, given_bac
 ghost use Rattle.mend_plan.specs.Plan.{Fated, Placed, Ready, Decided};
 
 use arena::free_count;
-use base::Reason;
+use base::{Reason, copy};
 use chains::head_at;
 use fsck_links::subfolders;
 use fsck_read::{ids, is_node, rec_of};
@@ -160,7 +160,7 @@ fn own_count(arena: &[u8], k: usize) -> usize
 {
     let mut name = [0u8; 16];
     let s = 512 * k;
-    name.copy_from_slice(&arena[s + 4..s + 20]);
+    copy(&mut name, &arena[s + 4..s + 20]);
     let mut c: usize = 0;
     for i in 0..arena.len() / 512 {
         let o = 512 * i;

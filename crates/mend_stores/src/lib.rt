@@ -23,7 +23,7 @@ ghost use Rattle.mending.specs.Room.{wanted, given_back};
 ghost use Rattle.mend_plan.specs.Plan.{Placed, Ready, Fated};
 ghost use Rattle.mend_stores.specs.Stores.{state_of, Storable, PutInMeta, freed_in, renewed_by, FreedTo, Begun, StoredTo, MetaHasBlocks};
 
-use base::index;
+use base::{copy, index};
 use inplace::drop_file;
 use le::u32_at;
 use mem::{map_bytes, put_bit, super_at, super_bytes};
@@ -108,7 +108,7 @@ fn free_node(arena: &mut [u8], mem: &mut [u8], id: usize, k: usize)
 {
     let mut name = [0u8; 16];
     let o = 512 * k + 4;
-    name.copy_from_slice(&arena[o..o + 16]);
+    copy(&mut name, &arena[o..o + 16]);
     let unused = super_at(&mem[..]).unused;
     put_bit(mem, id, true, unused + 1);
     drop_file(arena, 1, &name);

@@ -18,7 +18,7 @@ ghost use Rattle.owners_kept.specs.Owned.{Chained, Kept};
 use base::Reason;
 use calls_create::{New, create_led, create_rows};
 use calls_link::{link_led, link_rows};
-use calls_move::{Way, move_rows, plan_led};
+use calls_move::{SAME, move_rows, plan_led};
 use calls_remove::{pick_led, remove};
 use mem::begin;
 use sound::chain_all;
@@ -133,7 +133,7 @@ fn move_slot(
     let first = &c[..4096];
     let next = &c[4096..8192];
     let p = plan_led(&arena[..], first, next, mem, slot, who, h, old, to, name)?;
-    if p.way == Way::Same {
+    if p.way == SAME {
         begin(mem, table);
         return Ok(());
     }

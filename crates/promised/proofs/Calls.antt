@@ -70,7 +70,7 @@ left x = pair x.arena x.table
 
 -- calls that change the arena
 by-return : (c : Call) (p : Pair) (o : Out After) → Well c p → does c p ≡ bind o (λ x. done (left x))
-    → (b : List ℕ) (r : answered.Reply) → Returned p.table o p.arena b r → Stays b r.table (code r.answer)
+    → (b : List ℕ) (r : answered.Reply Reason) → Returned p.table o p.arena b r → Stays b r.table (code r.answer)
 by-return c p (done x) w e b r R =
     subst (λ (b : List ℕ). Stays b r.table (code r.answer)) (sym R.arena)
     (subst (λ (u : Table). Stays x.arena u (code r.answer)) (sym (ap (λ (q : Out Unit × Table). q.1) R.answer))
@@ -104,7 +104,7 @@ by-gift c p (refused n) w e r R =
 
 -- calls that change the table alone
 by-reply : (c : Call) (p : Pair) (o : Out Table) → Well c p → does c p ≡ bind o (λ t. done (pair p.arena t))
-    → (r : answered.Reply) → Replies p.table o r → Stays p.arena r.table (code r.answer)
+    → (r : answered.Reply Reason) → Replies p.table o r → Stays p.arena r.table (code r.answer)
 by-reply c p (done t) w e r R =
     subst (λ (u : Table). Stays p.arena u (code r.answer)) (sym R.1)
     (subst (Stays p.arena t) (sym (code-out r.answer ∙ ap answer R.0)) (stays-done c p (λ (t : Table). pair p.arena t) w t e))
@@ -167,23 +167,23 @@ module _ (p : Pair) (y : Passed p) where
     create-keeps name n kind mode time file N =
         by-held (create who h name kind mode time file) p (call_create p.arena p.table who h name kind mode time file) (held (create who h name kind mode time file) (Q, H, n, N)) refl
 
-    pub link-keeps : (name : List ℕ) → Bytes name → (child : Handle) → HandleFits child → (b : List ℕ) (r : answered.Reply)
+    pub link-keeps : (name : List ℕ) → Bytes name → (child : Handle) → HandleFits child → (b : List ℕ) (r : answered.Reply Reason)
         → Returned p.table (call_link p.arena p.table who h name child) p.arena b r → Stays b r.table (code r.answer)
     unfolding does
     link-keeps name n child C = by-return (link who h name child) p (call_link p.arena p.table who h name child) (held (link who h name child) (Q, H, n, C)) refl
 
-    pub remove-file-keeps : (name : List ℕ) → Bytes name → (b : List ℕ) (r : answered.Reply)
+    pub remove-file-keeps : (name : List ℕ) → Bytes name → (b : List ℕ) (r : answered.Reply Reason)
         → Returned p.table (call_remove_file p.arena p.table who h name) p.arena b r → Stays b r.table (code r.answer)
     unfolding does
     remove-file-keeps name n = by-return (remove_file who h name) p (call_remove_file p.arena p.table who h name) (held (remove_file who h name) (Q, H, n)) refl
 
-    pub remove-folder-keeps : (name : List ℕ) → Bytes name → (b : List ℕ) (r : answered.Reply)
+    pub remove-folder-keeps : (name : List ℕ) → Bytes name → (b : List ℕ) (r : answered.Reply Reason)
         → Returned p.table (call_remove_folder p.arena p.table who h name) p.arena b r → Stays b r.table (code r.answer)
     unfolding does
     remove-folder-keeps name n = by-return (remove_folder who h name) p (call_remove_folder p.arena p.table who h name) (held (remove_folder who h name) (Q, H, n)) refl
 
     pub move-keeps : (old : List ℕ) → Bytes old → (target : Handle) → HandleFits target → (name : List ℕ) → Bytes name
-        → (b : List ℕ) (r : answered.Reply)
+        → (b : List ℕ) (r : answered.Reply Reason)
         → Returned p.table (call_move p.arena p.table who h old target name) p.arena b r → Stays b r.table (code r.answer)
     unfolding does
     move-keeps old o target T name n =
@@ -195,7 +195,7 @@ module _ (p : Pair) (y : Passed p) where
         let o : Out Metadata = call_metadata p.arena p.table who h in
         subst (Stays p.arena p.table) (sym (code-out r ∙ ap answer e)) (by-none (metadata who h) p (call_metadata p.arena p.table who h) (held (metadata who h) (Q, H)) refl)
 
-    pub set-metadata-keeps : (mode uid gid : ℕ) (atime mtime ctime : Timespec) → SetFits mode uid gid atime mtime ctime → (r : answered.Reply)
+    pub set-metadata-keeps : (mode uid gid : ℕ) (atime mtime ctime : Timespec) → SetFits mode uid gid atime mtime ctime → (r : answered.Reply Reason)
         → Replies p.table (call_set p.arena p.table who h mode uid gid atime mtime ctime) r → Stays p.arena r.table (code r.answer)
     unfolding does
     set-metadata-keeps mode uid gid atime mtime ctime S =
@@ -227,27 +227,27 @@ module _ (p : Pair) (y : Passed p) where
         subst (Stays p.arena p.table) (sym (code-out r ∙ ap answer e.0 ∙ taken-number (call_path p.arena p.table who h (length out))))
         (by-none (full_path who h (length out)) p (call_path p.arena p.table who h (length out)) (held (full_path who h (length out)) (Q, H, R)) refl)
 
-    pub write_keeps : (place : ℕ) → place < 2 ^ 64 → (src : List ℕ) → Bytes src → (b : List ℕ) (r : answered.Reply)
+    pub write_keeps : (place : ℕ) → place < 2 ^ 64 → (src : List ℕ) → Bytes src → (b : List ℕ) (r : answered.Reply Reason)
         → Returned p.table (call_write p.arena p.table who h place src) p.arena b r → Stays b r.table (code r.answer)
     unfolding does
     write_keeps place P src S = by-return (write who h place src) p (call_write p.arena p.table who h place src) (held (write who h place src) (Q, H, P, S)) refl
 
-    pub resize-keeps : (n : ℕ) → n < 2 ^ 64 → (b : List ℕ) (r : answered.Reply)
+    pub resize-keeps : (n : ℕ) → n < 2 ^ 64 → (b : List ℕ) (r : answered.Reply Reason)
         → Returned p.table (call_resize p.arena p.table who h n) p.arena b r → Stays b r.table (code r.answer)
     unfolding does
     resize-keeps n N = by-return (resize who h n) p (call_resize p.arena p.table who h n) (held (resize who h n) (Q, H, N)) refl
 
-    pub fallocate-keeps : (mode : FallocateMode) (from len : ℕ) → from < 2 ^ 64 → len < 2 ^ 64 → (b : List ℕ) (r : answered.Reply)
+    pub fallocate-keeps : (mode : FallocateMode) (from len : ℕ) → from < 2 ^ 64 → len < 2 ^ 64 → (b : List ℕ) (r : answered.Reply Reason)
         → Returned p.table (call_fallocate p.arena p.table who h mode from len) p.arena b r → Stays b r.table (code r.answer)
     unfolding does
     fallocate-keeps mode from len F L =
         by-return (fallocate who h mode from len) p (call_fallocate p.arena p.table who h mode from len) (held (fallocate who h mode from len) (Q, H, F, L)) refl
 
-    pub close-keeps : (b : List ℕ) (r : answered.Reply) → Returned p.table (call_close p.arena p.table who h) p.arena b r → Stays b r.table (code r.answer)
+    pub close-keeps : (b : List ℕ) (r : answered.Reply Reason) → Returned p.table (call_close p.arena p.table who h) p.arena b r → Stays b r.table (code r.answer)
     unfolding does
     close-keeps = by-return (close who h) p (call_close p.arena p.table who h) (held (close who h) (Q, H)) refl
 
-  pub sync-keeps : (b : List ℕ) (r : answered.Reply) → Returned p.table (call_sync p.arena p.table) p.arena b r → Stays b r.table (code r.answer)
+  pub sync-keeps : (b : List ℕ) (r : answered.Reply Reason) → Returned p.table (call_sync p.arena p.table) p.arena b r → Stays b r.table (code r.answer)
   unfolding does
   sync-keeps = by-return sync p (call_sync p.arena p.table) (held sync tt) refl
 
@@ -267,7 +267,7 @@ is_done (refused n) = false
 
 -- a format that is done leaves a passed pair
 pub format-fresh : (a : List ℕ) (time : Timespec) (file : List ℕ) → Bytes a → TimeFits time → length file ≡ 16 → Bytes file
-    → (b : List ℕ) (r : answered.Reply) → Returned empty_table (formatted (call_format a time file)) a b r → r.answer ≡ Ok tt → Passed (pair b r.table)
+    → (b : List ℕ) (r : answered.Reply Reason) → Returned empty_table (formatted (call_format a time file)) a b r → r.answer ≡ Ok tt → Passed (pair b r.table)
 unfolding Fresh is_done
 format-fresh a time file A T L F b r = go (call_format a time file) refl
   where

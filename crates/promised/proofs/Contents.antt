@@ -26,16 +26,16 @@ use Rattle.steps.specs.Ends.{Returned}
 use Rattle.promised.proofs.Calls.{is_done}
 
 -- what is there afterwards
-abbrev left : List ℕ → Reply → After
+abbrev left : List ℕ → Reply Reason → After
 left b r = record { arena = b; table = r.table }
 
 -- a call that answers done has left what its definition says
-did : (t : Table) (o : Out After) (a b : List ℕ) (r : Reply) → Returned t o a b r → r.answer ≡ Ok tt → o ≡ done (left b r)
+did : (t : Table) (o : Out After) (a b : List ℕ) (r : Reply Reason) → Returned t o a b r → r.answer ≡ Ok tt → o ≡ done (left b r)
 unfolding is_done
 did t (done x) a b r R e = λ i. done (record { arena = sym R.arena i; table = (sym R.answer i).1 })
 did t (refused n) a b r R e = absurd (true-false refl (ap is_done (sym (ap out_of e) ∙ ap (λ (q : Out Unit × Table). q.0) R.answer)))
 
-module _ (a b : List ℕ) (t : Table) (w : ℕ) (h : Handle) (place : ℕ) (src : List ℕ) (r : Reply) (A : Bytes a) (S : Bytes src)
+module _ (a b : List ℕ) (t : Table) (w : ℕ) (h : Handle) (place : ℕ) (src : List ℕ) (r : Reply Reason) (A : Bytes a) (S : Bytes src)
     (R : Returned t (call_write a t w h place src) a b r) (e : r.answer ≡ Ok tt) where
   -- as many bytes from the same place on: they are those that were written
   pub write_read : (out now : List ℕ) (s : Result ℕ Reason) → length out ≡ length src → Lays taken_of (call_read b r.table w h place (length out)) out now s

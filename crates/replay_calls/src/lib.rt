@@ -7,14 +7,14 @@ pub mod reads;
 ghost use Rattle.std.specs.Prelude.{◌≡◌, ◌+◌, ◌≤◌, length};
 ghost use Rattle.mem.specs.Mem.{Whole};
 
-use answers::{say_done, say_handed};
+use answers::say_done;
 use base::{Reason, code};
 use calls_create::New;
 use calls_move::Course;
 use le::{u16_at, u32_at, u64_at};
 use mem::put_empty;
 use ranges::mode_of;
-use reads::set;
+use reads::{say_hold, set};
 use script::args::{file_at, handle_at, name_at, time_at};
 use script::record::KEPT;
 
@@ -64,7 +64,7 @@ fn create(command: &[u8], arena: &mut [u8], mem: &mut [u8], answer: &mut [u8]) -
     let name = name_at(command, 14, 1024);
     let new = new_at(command, 16 + name.len());
     let made = calls_create::create_on(arena, mem, command[1], h, name, new);
-    say_handed(answer, made)
+    say_hold(answer, made)
 }
 
 pub fn make(command: &[u8], arena: &mut [u8], mem: &mut [u8], answer: &mut [u8]) -> u8

@@ -5,6 +5,7 @@ ghost use Rattle.mem.specs.Mem.{Whole};
 
 use answers::{say_count, say_done, say_handed, say_pass, say_told};
 use base::Reason;
+use calls::refusals::told;
 use calls_list::Moved;
 use fsck::Verdict;
 use le::{u16_at, u64_at};
@@ -113,12 +114,19 @@ fn hold(command: &[u8], arena: &[u8], mem: &mut [u8], answer: &mut [u8]) -> Resu
     }
 }
 
+// A refused call hands out no handle: hold and stamp 0.
+pub(crate) fn say_hold(answer: &mut [u8], r: Result<Handle, Reason>) -> u8
+    requires { length answer.old ≡ 8320 }
+{
+    say_handed(answer, told(r), r.unwrap_or(Handle { hold: 0, stamp: 0 }))
+}
+
 pub fn reach(command: &[u8], arena: &[u8], mem: &mut [u8], answer: &mut [u8]) -> u8
     requires command_len { (length command.now ≡ 8218) × (length answer.old ≡ 8320) }
     requires whole { Whole mem.old }
 {
     let h = hold(command, arena, mem, answer);
-    say_handed(answer, h)
+    say_hold(answer, h)
 }
 
 // ---- path

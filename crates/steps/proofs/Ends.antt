@@ -103,7 +103,7 @@ pub ended-refused : {o : Out After} {a b : List ℕ} {u : Table} {n : ℕ} → (
 ended-refused z e k = stopped (above_zero _ z) e k
 
 -- what the call returns, by what its steps answered
-pub returned-ended : (t : Table) {o : Out After} {a b : List ℕ} {u : Table} (n : Result Unit Reason) {r : answered.Reply} → Ended o a b u (code n) → r ≡ after_of t u n → Returned t o a b r
+pub returned-ended : (t : Table) {o : Out After} {a b : List ℕ} {u : Table} (n : Result Unit Reason) {r : answered.Reply Reason} → Ended o a b u (code n) → r ≡ after_of t u n → Returned t o a b r
 returned-ended t {o = o} {a = a} {b = b} {u = u} n {r = r} g q = go (code n) refl g
   where
     go : (k : ℕ) → code n ≡ k → Ended o a b u k → Returned t o a b r
@@ -111,12 +111,12 @@ returned-ended t {o = o} {a = a} {b = b} {u = u} n {r = r} g q = go (code n) ref
     go k z (stopped l e f) = record { answer = ap said q ∙ said-refused t u n k z (λ y. omega arith) ∙ rw e; arena = f ∙ rw e }
 
 -- the same, where the table that memory was given is known by another name
-pub returned-table : (f : Table → Out After) (t : Table) {x y : Table} {a b : List ℕ} {u : Table} (n : Result Unit Reason) {r : answered.Reply} → x ≡ y → Ended (f x) a b u (code n) → r ≡ after_of t u n → Returned t (f y) a b r
+pub returned-table : (f : Table → Out After) (t : Table) {x y : Table} {a b : List ℕ} {u : Table} (n : Result Unit Reason) {r : answered.Reply Reason} → x ≡ y → Ended (f x) a b u (code n) → r ≡ after_of t u n → Returned t (f y) a b r
 returned-table f t n q g e = rw (← q) (returned-ended t n g e)
 
 -- ---- two results that satisfy a contract are the same
 
-pub returned-one : (t : Table) (o : Out After) {a b c : List ℕ} {r s : answered.Reply} → Returned t o a b r → Returned t o a c s → (r ≡ s) × (b ≡ c)
+pub returned-one : (t : Table) (o : Out After) {a b c : List ℕ} {r s : answered.Reply Reason} → Returned t o a b r → Returned t o a c s → (r ≡ s) × (b ≡ c)
 returned-one t o p q = (said-one _ _ (p.answer ∙ sym q.answer), p.arena ∙ sym q.arena)
 
 -- ---- how a call begins: the handles' rows, and then superblock and maps

@@ -7,6 +7,7 @@ use Rattle.sefs.specs.State.{Fs}
 use Rattle.sefs.specs.Meta.{load_meta}
 use Rattle.sefs.specs.Create.{After, after}
 use Rattle.mem.specs.Mem.{table_in, meta_in, Whole}
+use Rattle.base.specs.declared.reasons.Reason.{Reason}
 use Rattle.calls.specs.declared.Reply as answered
 use Rattle.calls.specs.Answers.{said}
 
@@ -46,6 +47,6 @@ pub data Ended (o : Out After) (a b : List ℕ) (u : Table) : ℕ → Type 0 whe
   stopped : {r : ℕ} → 0 < r → o ≡ refused r → b ≡ a → Ended o a b u r
 
 -- the call, that its definition sends to o, returns r: t is the table that it was given, the arena was a and is b
-pub record Returned (t : Table) (o : Out After) (a b : List ℕ) (r : answered.Reply) : Type 0 where
+pub record Returned (t : Table) (o : Out After) (a b : List ℕ) (r : answered.Reply Reason) : Type 0 where
   pub answer : said r ≡ after_as t o
   pub arena : b ≡ arena_after a o

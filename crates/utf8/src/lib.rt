@@ -7,7 +7,7 @@ ghost use Rattle.base.specs.Decides.{same};
 ghost use Rattle.utf8.specs.Names.{first_at, zero_at, name_verdict, early_reason, new_reason, is_dot, is_dots, is_special, stored_name, is_named, name_bytes};
 ghost use Rattle.utf8.specs.Utf8.{lead, step, tail, is_whole, utf8};
 
-use base::Reason;
+use base::{Reason, copy};
 
 // The longest name: a slot has room for it and a zero.
 pub const MAX_FNAME_LEN: usize = 255;
@@ -214,6 +214,6 @@ pub fn put_name(out: &mut [u8], name: &[u8])
     ensures { out.new ≡ name_bytes name.now }
 {
     let n = name.len();
-    out[..n].copy_from_slice(name);
+    copy(&mut out[..n], name);
     out[n..].fill(0);
 }

@@ -4,4 +4,4 @@ use Rattle.arena.proofs.make_block.Goals as goal
 
 pub returns : goal.returns
 returns c =
-    make-is _ _ _ c.args.name.now _ c.args.tag c.args.which c.args.number c.requires.0 c.requires.1 (c.fill.ensures.after (λ y e. e)) c.copy_from_slice.ensures.after c.put_u32.ensures
+    make-is _ _ _ c.args.name.now _ c.args.tag c.args.which c.args.number c.requires.0 c.requires.1 (c.fill.ensures.after (λ y e. e)) c.copy.ensures c.put_u32.ensures

@@ -6,7 +6,7 @@ use Rattle.calls.proofs.Answers.{after-done, after-refused}
 use Rattle.calls.proofs.settle.Goals as goal
 
 pub returns-in-Ok : goal.returns-in-Ok
-returns-in-Ok c = rw c.in-Ok.is (c.done.ensures ∙ ap done_with c.table_at.ensures ∙ after-done c.args.t (table_in c.args.mem.now))
+returns-in-Ok g c = rw c.in-Ok.is (c.done.ensures ∙ ap done_with c.table_at.ensures ∙ after-done c.args.t (table_in c.args.mem.now))
 
 pub returns-in-Err : goal.returns-in-Err
-returns-in-Err c = rw c.in-Err.is (c.refused.ensures ∙ after-refused c.args.t (table_in c.args.mem.now) c.in-Err.reason)
+returns-in-Err g c = rw c.in-Err.is (c.refused.ensures ∙ after-refused c.args.t (table_in c.args.mem.now) c.in-Err.reason)

@@ -1,10 +1,6 @@
 -- `calls_move::move_planned`: by the plan's way.
-use mathlib.Core.Path.{sym, ◌∙◌}
-use borrow.Author.Tests.{eqb-true, eqb-false}
 use Rattle.structs.specs.Layout.{entry_of}
 use Rattle.mem.specs.State.{fs_of}
-use Rattle.calls_move.specs.Plans.{way_number}
-use Rattle.calls_move.proofs.Ways.{free-eqb}
 use Rattle.calls_move.proofs.Decisions.{plan-free, plan-onto, slot-more}
 use native.Mathlib.Omega.{arith}
 use Rattle.calls_move.proofs.move_planned.Goals as goal
@@ -13,9 +9,9 @@ pub move_slot-requires : goal.move_slot-requires
 move_slot-requires c =
     (c.requires.ready.0, (omega (arith, c.requires.ready.1), (c.requires.agreed.plan.source, (c.requires.agreed.plan.target, (c.requires.agreed.long, tt)))))
 
-pub returns-then-eq : goal.returns-then-eq
-returns-then-eq c =
-    rw (plan-free (fs_of c.args.arena.now c.args.work.now c.args.mem.now) (fs_of c.args.arena.now c.args.work.now c.args.mem.now) c.args.p.row c.args.p.other c.args.old.now c.args.name.now (entry_of c.args.slot.now) c.args.p.place c.args.p.gone c.args.p.moved (way_number c.args.p.way) (eqb-true _ 1 (sym (c.eq.ensures ∙ free-eqb c.args.p.way) ∙ c.if-eq.true))) (slot-more c.move_slot.ensures)
+pub returns-then-p-eq-FREE : goal.returns-then-p-eq-FREE
+returns-then-p-eq-FREE c =
+    rw (plan-free (fs_of c.args.arena.now c.args.work.now c.args.mem.now) (fs_of c.args.arena.now c.args.work.now c.args.mem.now) c.args.p.row c.args.p.other c.args.old.now c.args.name.now (entry_of c.args.slot.now) c.args.p.place c.args.p.gone c.args.p.moved c.args.p.way c.if-p-eq-FREE.true) (slot-more c.move_slot.ensures)
 
 pub move_onto-requires : goal.move_onto-requires
 move_onto-requires c =
@@ -23,4 +19,4 @@ move_onto-requires c =
 
 pub returns : goal.returns
 returns c =
-    rw (plan-onto (fs_of c.args.arena.now c.args.work.now c.args.mem.now) (fs_of c.args.arena.now c.args.work.now c.args.mem.now) c.args.p.row c.args.p.other c.args.old.now c.args.name.now (entry_of c.args.slot.now) c.args.p.place c.args.p.gone c.args.p.moved (way_number c.args.p.way) (eqb-false _ 1 (sym (c.eq.ensures ∙ free-eqb c.args.p.way) ∙ c.if-eq.false))) c.move_onto.ensures
+    rw (plan-onto (fs_of c.args.arena.now c.args.work.now c.args.mem.now) (fs_of c.args.arena.now c.args.work.now c.args.mem.now) c.args.p.row c.args.p.other c.args.old.now c.args.name.now (entry_of c.args.slot.now) c.args.p.place c.args.p.gone c.args.p.moved c.args.p.way c.if-p-eq-FREE.false) c.move_onto.ensures

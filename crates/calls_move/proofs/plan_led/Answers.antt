@@ -8,7 +8,7 @@ use Rattle.mem.specs.State.{fs_at}
 use Rattle.calls.proofs.Asks.{admitted}
 use Rattle.std.specs.Result.{result_unwrap_or}
 use Rattle.calls_move.specs.Parts.{planned}
-use Rattle.calls_move.specs.Plans.{way_number, no_plan}
+use Rattle.calls_move.specs.Plans.{no_plan}
 use Rattle.calls_move.proofs.Decisions.{move-not, move-rows}
 use Rattle.calls_move.proofs.plan_led.Goals as goal
 
@@ -25,5 +25,5 @@ pub returns : goal.returns
 returns c =
     move-rows c.args.arena.now _ _ c.args.mem.now _ c.args.who c.args.h c.args.target c.args.old.now c.args.name.now (admitted c.requires.0)
     c.in_ok-i.ensures
-    (λ z. planned z (fs_at c.args.arena.now c.plan_work.new.mem) (way_number (result_unwrap_or c.plan_work.result no_plan).way) (result_unwrap_or c.plan_work.result no_plan).row (result_unwrap_or c.plan_work.result no_plan).other c.args.old.now c.args.name.now (entry_of c.plan_work.new.slot)
+    (λ z. planned z (fs_at c.args.arena.now c.plan_work.new.mem) (result_unwrap_or c.plan_work.result no_plan).way (result_unwrap_or c.plan_work.result no_plan).row (result_unwrap_or c.plan_work.result no_plan).other c.args.old.now c.args.name.now (entry_of c.plan_work.new.slot)
     (result_unwrap_or c.plan_work.result no_plan).place (result_unwrap_or c.plan_work.result no_plan).gone (result_unwrap_or c.plan_work.result no_plan).moved) refl c.plan_work.ensures

@@ -22,6 +22,6 @@ end_held-requires c =
 
 pub returns : goal.returns
 returns c =
-    by-held
+    by-held _
     (sized-is 4402 c.args.table.now _ c.if-table-ne-TABLE.false ∙ sized-is 2 c.args.out.now _ c.if-out-ne-HANDLE_WORDS.false ∙ (λ x. call_find c.args.arena.now (sym c.begin.ensures.0 x) c.args.owner (sym c.handle.ensures x) c.args.name.now))
     c.find_on-h.ensures c.end_held.ensures.value c.end_held.ensures.out_after

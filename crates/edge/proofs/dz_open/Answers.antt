@@ -8,4 +8,4 @@ returns-then-table-ne-TABLE c =
 
 pub returns : goal.returns
 returns c =
-    by-table (sized-is 4402 c.args.table.now _ c.if-table-ne-TABLE.false) c.open_on-r.ensures c.end_fresh.ensures
+    by-table _ (sized-is 4402 c.args.table.now _ c.if-table-ne-TABLE.false) c.open_on-r.ensures c.end_fresh.ensures

@@ -15,7 +15,7 @@ set_on-r-requires c =
 
 pub returns : goal.returns
 returns c =
-    by-table
+    by-table _
     (sized-is 4402 c.args.table.now _ c.if-table-ne-TABLE.false
     ∙ (λ x. call_set c.args.arena.now (sym c.begin.ensures.0 x) c.args.owner (sym c.handle-h.ensures x) c.args.mode c.args.uid c.args.gid
     (sym (time-is c.ranges.asec c.ranges.ansec c.time-at.ensures) x) (sym (time-is c.ranges.msec c.ranges.mnsec c.time-mt.ensures) x) (sym (time-is c.ranges.csec c.ranges.cnsec c.time-ct.ensures) x)))

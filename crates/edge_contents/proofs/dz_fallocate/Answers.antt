@@ -10,4 +10,4 @@ returns-then-table-ne-TABLE c =
 
 pub returns : goal.returns
 returns c =
-    by_end (sized-is 4402 c.args.table.now _ c.if-table-ne-TABLE.false ∙ (λ x. call_fallocate c.args.arena.now (sym c.begin.ensures.0 x) c.args.owner (sym c.handle.ensures x) (sym c.mode_of.ensures x) c.args.from c.args.len)) c.fallocate_on-r.ensures c.end_after.ensures
+    by_end _ (sized-is 4402 c.args.table.now _ c.if-table-ne-TABLE.false ∙ (λ x. call_fallocate c.args.arena.now (sym c.begin.ensures.0 x) c.args.owner (sym c.handle.ensures x) (sym c.mode_of.ensures x) c.args.from c.args.len)) c.fallocate_on-r.ensures c.end_after.ensures

@@ -14,4 +14,4 @@ resize_on-r-requires c =
 
 pub returns : goal.returns
 returns c =
-    by_end (sized-is 4402 c.args.table.now _ c.if-table-ne-TABLE.false ∙ (λ x. call_resize c.args.arena.now (sym c.begin.ensures.0 x) c.args.owner (sym c.handle.ensures x) c.args.n)) c.resize_on-r.ensures c.end_after.ensures
+    by_end _ (sized-is 4402 c.args.table.now _ c.if-table-ne-TABLE.false ∙ (λ x. call_resize c.args.arena.now (sym c.begin.ensures.0 x) c.args.owner (sym c.handle.ensures x) c.args.n)) c.resize_on-r.ensures c.end_after.ensures

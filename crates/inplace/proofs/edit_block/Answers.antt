@@ -4,4 +4,4 @@ use Rattle.inplace.proofs.edit_block.Goals as goal
 
 pub returns : goal.returns
 unfolding paste
-returns c = rw (c.put_check.ensures, c.copy_from_slice.ensures.after)
+returns c = rw (c.put_check.ensures, c.copy.ensures)

@@ -26,6 +26,6 @@ unfolding own_count
 returns c =
     let a = c.args.arena.now in
     let e : c.loop-i.i ≡ blocks a = omega arith in (
-      c.loop-i.invariant.1 ∙ ap (λ (f : File). count_to (λ j. is_of f (blk a j)) c.loop-i.i) (block-file a c.args.k _ _ refl c.copy_from_slice.ensures.after) ∙ ap (count_to (λ j. is_of (file_of (blk a c.args.k)) (blk a j))) e,
+      c.loop-i.invariant.1 ∙ ap (λ (f : File). count_to (λ j. is_of f (blk a j)) c.loop-i.i) (block-file a c.args.k _ _ refl c.copy.ensures) ∙ ap (count_to (λ j. is_of (file_of (blk a c.args.k)) (blk a j))) e,
       omega arith,
     )

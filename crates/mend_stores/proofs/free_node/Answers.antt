@@ -19,4 +19,4 @@ overflow_add-unused c =
 
 pub returns : goal.returns
 returns c =
-    let m = c.args.mem.now in record { arena_after = c.drop_file.ensures ∙ ap (λ (x : List ℕ). clear_all (is_of (file 1 x)) c.args.arena.now) (c.copy_from_slice.ensures.after ∙ name-read c.args.arena.now c.args.k); mapped = subst (λ (x : ℕ). Mapped m c.put_bit.new.mem (record { super = super_with (super_in m) (super_in m).blocks x (super_in m).groups; maps = with_bit (maps_in m) c.args.id true })) (ap (λ (b : SuperBlock). b.unused + 1) c.super_at-unused.ensures) c.put_bit.ensures }
+    let m = c.args.mem.now in record { arena_after = c.drop_file.ensures ∙ ap (λ (x : List ℕ). clear_all (is_of (file 1 x)) c.args.arena.now) (c.copy.ensures ∙ name-read c.args.arena.now c.args.k); mapped = subst (λ (x : ℕ). Mapped m c.put_bit.new.mem (record { super = super_with (super_in m) (super_in m).blocks x (super_in m).groups; maps = with_bit (maps_in m) c.args.id true })) (ap (λ (b : SuperBlock). b.unused + 1) c.super_at-unused.ensures) c.put_bit.ensures }

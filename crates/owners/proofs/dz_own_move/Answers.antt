@@ -10,7 +10,7 @@ move_on-r-requires c = record { kept = keeps c.requires c.begin.ensures.0 c.begi
 
 pub returns : goal.returns
 returns c = record {
-  answers = by_end
+  answers = by_end _
       (λ x. call_move c.args.arena.now (sym c.begin.ensures.0 x) c.args.owner (sym c.handle-h.ensures x) c.args.old.now (sym c.handle-to.ensures x) c.args.name.now)
       c.move_on-r.ensures.ended c.end_after.ensures;
   chained = c.move_on-r.ensures.chained;

@@ -18,4 +18,4 @@ root_led-h-requires c =
 
 pub returns : goal.returns
 returns c =
-    by-held (sized-is 2 c.args.out.now _ c.if-out-ne-HANDLE_WORDS.false ∙ (λ x. call_root c.args.arena.now (sym c.begin.ensures.0 x) c.args.owner)) c.root_led-h.ensures c.end_held.ensures.value c.end_held.ensures.out_after
+    by-held _ (sized-is 2 c.args.out.now _ c.if-out-ne-HANDLE_WORDS.false ∙ (λ x. call_root c.args.arena.now (sym c.begin.ensures.0 x) c.args.owner)) c.root_led-h.ensures c.end_held.ensures.value c.end_held.ensures.out_after

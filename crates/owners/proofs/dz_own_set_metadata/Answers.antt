@@ -11,7 +11,7 @@ use Rattle.owners.proofs.dz_own_set_metadata.Goals as goal
 pub returns : goal.returns
 returns c =
     let q = not-refused c.requires c.begin.ensures.0 c.begin.ensures.1 in
-    by-table
+    by-table _
     ((λ x. call_set c.args.arena.now (sym c.begin.ensures.0 x) c.args.owner (sym c.handle-h.ensures x) c.args.mode c.args.uid c.args.gid
     (sym (time-is c.ranges.asec c.ranges.ansec c.time-atime.ensures) x) (sym (time-is c.ranges.msec c.ranges.mnsec c.time-mtime.ensures) x) (sym (time-is c.ranges.csec c.ranges.cnsec c.time-ctime.ensures) x))
     ∙ set-admitted c.args.arena.now (table_in c.begin.new.mem) c.args.owner c.handle-h.result c.args.mode c.args.uid c.args.gid c.time-atime.result c.time-mtime.result c.time-ctime.result q)

@@ -19,6 +19,6 @@ walk_led-h-requires c =
 
 pub returns : goal.returns
 returns c =
-    by-walk
+    by-walk _
     (walk-sized 2 c.args.out.now _ c.if-out-ne-HANDLE_WORDS.false ∙ (λ x. call_walk c.args.arena.now (sym c.begin.ensures.0 x) c.args.owner (sym c.handle.ensures x) c.args.path.now (length c.args.links.now)))
     c.walk_led-h.ensures.went c.walk_led-h.ensures.links_after c.end_held.ensures.value c.end_held.ensures.out_after

@@ -9,4 +9,4 @@ pub fallocate_on-r-requires : goal.fallocate_on-r-requires
 fallocate_on-r-requires c = keeps c.requires c.begin.ensures.0 c.begin.ensures.1
 
 pub returns : goal.returns
-returns c = record { answers = by_end (λ x. call_fallocate c.args.arena.now (sym c.begin.ensures.0 x) c.args.owner (sym c.handle.ensures x) (sym c.mode_of.ensures x) c.args.from c.args.len) c.fallocate_on-r.ensures.ended c.end_after.ensures; chained = c.fallocate_on-r.ensures.chained }
+returns c = record { answers = by_end _ (λ x. call_fallocate c.args.arena.now (sym c.begin.ensures.0 x) c.args.owner (sym c.handle.ensures x) (sym c.mode_of.ensures x) c.args.from c.args.len) c.fallocate_on-r.ensures.ended c.end_after.ensures; chained = c.fallocate_on-r.ensures.chained }

@@ -1,7 +1,8 @@
 -- `owners_contents::dz_own_get_entry`: the call by the chains, on the table in memory.
-use mathlib.Core.Path.{sym}
+use mathlib.Core.Path.{sym, ◌∙◌}
 use lib.ListN.{length}
 use Rattle.sefs.specs.Read.{call_entry}
+use Rattle.calls.proofs.Answers.{told-code}
 use Rattle.sound.proofs.Chains.{length-firsts}
 use Rattle.owners_kept.proofs.Laws.{admitted}
 use Rattle.owners_contents.proofs.Laws.{own-laid}
@@ -15,4 +16,4 @@ entry_led-r-requires c = admitted c.requires c.begin.ensures.0 c.begin.ensures.1
 
 pub returns : goal.returns
 returns c =
-    rw c.number.ensures (own-laid (λ x. call_entry c.args.arena.now (sym c.begin.ensures.0 x) c.args.owner (sym c.handle.ensures x) c.args.slot (length c.args.out.now)) c.entry_led-r.ensures)
+    rw (c.number.ensures ∙ told-code _) (own-laid (λ x. call_entry c.args.arena.now (sym c.begin.ensures.0 x) c.args.owner (sym c.handle.ensures x) c.args.slot (length c.args.out.now)) c.entry_led-r.ensures)

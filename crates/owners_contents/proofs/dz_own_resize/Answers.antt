@@ -9,4 +9,4 @@ pub resize_on-r-requires : goal.resize_on-r-requires
 resize_on-r-requires c = keeps c.requires c.begin.ensures.0 c.begin.ensures.1
 
 pub returns : goal.returns
-returns c = record { answers = by_end (λ x. call_resize c.args.arena.now (sym c.begin.ensures.0 x) c.args.owner (sym c.handle.ensures x) c.args.size) c.resize_on-r.ensures.ended c.end_after.ensures; chained = c.resize_on-r.ensures.chained }
+returns c = record { answers = by_end _ (λ x. call_resize c.args.arena.now (sym c.begin.ensures.0 x) c.args.owner (sym c.handle.ensures x) c.args.size) c.resize_on-r.ensures.ended c.end_after.ensures; chained = c.resize_on-r.ensures.chained }

@@ -2,10 +2,7 @@
 use Rattle.std.proofs.lemmas.Result.{err_from_is_err_and}
 use Rattle.base.proofs.Tells.{number-ne}
 use mathlib.Core.Path.{refl, sym, ◌∙◌}
-use borrow.Author.Tests.{eqb-true, eqb-false}
 use Rattle.steps.proofs.Ends.{rest-is, rest_has, rest-not, ended_is, ended-refused}
-use Rattle.calls_move.specs.Plans.{way_number}
-use Rattle.calls_move.proofs.Ways.{same-eqb}
 use Rattle.calls_move.proofs.Decisions.{plan-same, plan-goes}
 use Rattle.owners_kept.proofs.Laws.{as_many, rechained}
 use Rattle.owners_names.proofs.Laws.{own_same}
@@ -20,8 +17,8 @@ pub begin-requires : goal.begin-requires
 begin-requires c =
     ((rest_has c.in_ok-p.ensures refl).plan.whole.size, c.requires.slot_len.1.0)
 
-pub returns-then-eq : goal.returns-then-eq
-returns-then-eq c = record { ended = own_same (rest-is c.in_ok-p.ensures refl ∙ plan-same _ _ _ _ _ _ _ _ _ _ (way_number c.in_ok-p.p.way) (eqb-true _ 0 (sym (c.eq.ensures ∙ same-eqb c.in_ok-p.p.way) ∙ c.if-eq.true))) (c.begin.ensures.0 ∙ sym c.requires.slot_len.1.1); chained = c.requires.kept.chained }
+pub returns-then-p-eq-SAME : goal.returns-then-p-eq-SAME
+returns-then-p-eq-SAME c = record { ended = own_same (rest-is c.in_ok-p.ensures refl ∙ plan-same _ _ _ _ _ _ _ _ _ _ c.in_ok-p.p.way c.if-p-eq-SAME.true) (c.begin.ensures.0 ∙ sym c.requires.slot_len.1.1); chained = c.requires.kept.chained }
 
 pub move_rows-r-requires : goal.move_rows-r-requires
 move_rows-r-requires c = rest_has c.in_ok-p.ensures refl
@@ -31,4 +28,4 @@ chain_all-requires c =
     (as_many c.args.arena.now c.move_rows-r.new.arena c.requires.kept.admitted.led.whole c.move_rows-r.auto.arena, c.requires.kept.chained.size)
 
 pub returns : goal.returns
-returns c = record { ended = ended_is (rest-is c.in_ok-p.ensures refl ∙ plan-goes _ _ _ _ _ _ _ _ _ _ (way_number c.in_ok-p.p.way) (eqb-false _ 0 (sym (c.eq.ensures ∙ same-eqb c.in_ok-p.p.way) ∙ c.if-eq.false))) c.move_rows-r.ensures; chained = rechained c.requires.kept.chained c.chain_all.auto.chains c.chain_all.ensures }
+returns c = record { ended = ended_is (rest-is c.in_ok-p.ensures refl ∙ plan-goes _ _ _ _ _ _ _ _ _ _ c.in_ok-p.p.way c.if-p-eq-SAME.false) c.move_rows-r.ensures; chained = rechained c.requires.kept.chained c.chain_all.auto.chains c.chain_all.ensures }

@@ -8,5 +8,5 @@ use Rattle.table_bytes.proofs.Empty.{empty-fits}
 use Rattle.edge_ends.proofs.ends.end_fresh.Goals as goal
 
 pub returns-in-Ok : goal.returns-in-Ok
-returns-in-Ok c =
+returns-in-Ok g c =
     rw c.in-Ok.is (refl, c.put_empty.ensures ∙ paste-whole c.args.table.now (bytes_of_table empty_table) (c.requires ∙ sym (length-fits empty_table empty-fits)))
