@@ -84,33 +84,26 @@ walks-not {p = p} e = rw e (record { answers = answers-not refl; links = nothing
 -- ---- what the call leaves, and what the end wrote. p is the outcome with its sizes, o without; u is the table in memory; the table's bytes were t
 -- and are b, words for a result were w and are v
 
--- what an end tells and writes by a call's result, by the number that the call's laws have
+-- what an end tells and writes by a result, by the result's number
 module _ {A : Type 0} (r : Result A Reason) (x y : List ℕ) {b : List ℕ} where
-  by-code : b ≡ pick (is_ok r) x y → b ≡ pick (eqb (code r) 0) x y
-  by-code e = e ∙ ap (λ (q : Bool). pick q x y) (done-is r)
+  pub words-code : b ≡ pick (is_ok r) x y → b ≡ pick (eqb (code r) 0) x y
+  words-code e = e ∙ ap (λ (q : Bool). pick q x y) (done-is r)
 
-  told-by_code : {n : ℕ} → (n ≡ told_by number r) × (b ≡ pick (is_ok r) x y) → (n ≡ code r) × (b ≡ pick (eqb (code r) 0) x y)
-  told-by_code E = (E.0 ∙ told-code r, by-code E.1)
+  pub ended-code : {n : ℕ} → (n ≡ told_by number r) × (b ≡ pick (is_ok r) x y) → (n ≡ code r) × (b ≡ pick (eqb (code r) 0) x y)
+  ended-code E = (E.0 ∙ told-code r, words-code E.1)
 
 -- sync, close, link, the removals, write, resize, format
-ended-by : {o p : Out After} {u : Table} {a c t b : List ℕ} {r n : ℕ} → p ≡ o → Ended o a c u r
+pub by_end : {o p : Out After} {u : Table} {a c t b : List ℕ} {r n : ℕ} → p ≡ o → Ended o a c u r
     → (n ≡ r) × (b ≡ pick (eqb r 0) (bytes_of_table u) t) → Answers p left_of (a, t) (c, b) n
-ended-by {c = c} e (went f) E = rw (e, f) (record { number = E.0; places = λ i. (c, E.1 i) })
-ended-by {u = u} {t = t} e (stopped {r = r} l f k) E =
+by_end {c = c} e (went f) E = rw (e, f) (record { number = E.0; places = λ i. (c, E.1 i) })
+by_end {u = u} {t = t} e (stopped {r = r} l f k) E =
     let q = E.1 ∙ sym (passed_over (bytes_of_table u) t r (λ q. omega arith)) in
     rw (e, f) (record { number = E.0; places = λ i. (k i, q i) })
 
-pub by_end : {o p : Out After} {u : Table} {a c t b : List ℕ} {n : ℕ} (r : Result Unit Reason) → p ≡ o → Ended o a c u (code r)
-    → (n ≡ told_by number r) × (b ≡ pick (is_ok r) (bytes_of_table u) t) → Answers p left_of (a, t) (c, b) n
-by_end r e g E = ended-by e g (told-by_code r _ _ E)
-
 -- mend: the table is not written
-mended-by : {o p : Out (List ℕ)} {a c : List ℕ} {r n : ℕ} → p ≡ o → MendEnded o a c r → n ≡ r → Answers p mended_of a c n
-mended-by e (mends.went f) E = rw (e, f) (record { number = E; places = refl })
-mended-by e (mends.stopped l f k) E = rw (e, f) (record { number = E; places = k })
-
-pub by-mend : {o p : Out (List ℕ)} {a c : List ℕ} {n : ℕ} (r : Result Unit Reason) → p ≡ o → MendEnded o a c (code r) → n ≡ told_by number r → Answers p mended_of a c n
-by-mend r e g E = mended-by e g (E ∙ told-code r)
+pub by-mend : {o p : Out (List ℕ)} {a c : List ℕ} {r n : ℕ} → p ≡ o → MendEnded o a c r → n ≡ r → Answers p mended_of a c n
+by-mend e (mends.went f) E = rw (e, f) (record { number = E; places = refl })
+by-mend e (mends.stopped l f k) E = rw (e, f) (record { number = E; places = k })
 
 -- move: x is the table that it was given
 pub by_move : {o p : Out After} {x u : Table} {a c t b : List ℕ} {n : ℕ} {k : Result Course Reason} → p ≡ o → x ≡ table_of t → EndedMove o x a c u k
@@ -120,47 +113,35 @@ by_move e q (course.rests f k) E = let z = E.1 ∙ ap bytes_of_table (sym q) in 
 by_move e q (course.denied l f k) E = rw (e, f) (record { number = E.0; places = λ i. (k i, E.1 i) })
 
 -- create
-made-by : {o p : Out Given} {h : Handle} {u : Table} {a c t b w v : List ℕ} {r n : ℕ} → p ≡ o → EndedHeld o a c (added_as h u) r
+pub by-made : {o p : Out Given} {h : Handle} {u : Table} {a c t b w v : List ℕ} {r n : ℕ} → p ≡ o → EndedHeld o a c (added_as h u) r
     → (n ≡ r) × (b ≡ pick (eqb r 0) (bytes_of_table u) t) → v ≡ pick (eqb r 0) (handle_words h) w → Answers p made_of (a, t, w) (c, b, v) n
-made-by {c = c} e (made.held f) E k = rw (e, f) (record { number = E.0; places = λ i. (c, E.1 i, k i) })
-made-by {h = h} {u = u} {t = t} {w = w} e (made.stopped {r = r} l f q) E k =
+by-made {c = c} e (made.held f) E k = rw (e, f) (record { number = E.0; places = λ i. (c, E.1 i, k i) })
+by-made {h = h} {u = u} {t = t} {w = w} e (made.stopped {r = r} l f q) E k =
     let z : r ≡ 0 → ⊥ = λ q. omega arith in
     let x = E.1 ∙ sym (passed_over (bytes_of_table u) t r z) in
     let y = k ∙ sym (passed_over (handle_words h) w r z) in
     rw (e, f) (record { number = E.0; places = λ i. (q i, x i, y i) })
 
-pub by-made : {o p : Out Given} {h : Handle} {u : Table} {a c t b w v : List ℕ} {n : ℕ} (r : Result Handle Reason) → p ≡ o → EndedHeld o a c (added_as h u) (code r)
-    → (n ≡ told_by number r) × (b ≡ pick (is_ok r) (bytes_of_table u) t) → v ≡ pick (is_ok r) (handle_words h) w → Answers p made_of (a, t, w) (c, b, v) n
-by-made r e g E k = made-by e g (told-by_code r _ _ E) (by-code r _ _ k)
-
 -- root, find
-held-by : {o p : Out Added} {h : Handle} {u : Table} {t b w v : List ℕ} {P : Type 0} {r n : ℕ} → p ≡ o → Went o (added_as h u) P r
+pub by-held : {o p : Out Added} {h : Handle} {u : Table} {t b w v : List ℕ} {P : Type 0} {r n : ℕ} → p ≡ o → Went o (added_as h u) P r
     → (n ≡ r) × (b ≡ pick (eqb r 0) (bytes_of_table u) t) → v ≡ pick (eqb r 0) (handle_words h) w → Answers p held_of (t, w) (b, v) n
-held-by e (well f x) E k = rw (e, f) (record { number = E.0; places = λ i. (E.1 i, k i) })
-held-by {h = h} {u = u} {t = t} {w = w} e (ill {r = r} l f) E k =
+by-held e (well f x) E k = rw (e, f) (record { number = E.0; places = λ i. (E.1 i, k i) })
+by-held {h = h} {u = u} {t = t} {w = w} e (ill {r = r} l f) E k =
     let z : r ≡ 0 → ⊥ = λ q. omega arith in
     let x = E.1 ∙ sym (passed_over (bytes_of_table u) t r z) in
     let y = k ∙ sym (passed_over (handle_words h) w r z) in
     rw (e, f) (record { number = E.0; places = λ i. (x i, y i) })
 
-pub by-held : {o p : Out Added} {h : Handle} {u : Table} {t b w v : List ℕ} {P : Type 0} {n : ℕ} (r : Result Handle Reason) → p ≡ o → Went o (added_as h u) P (code r)
-    → (n ≡ told_by number r) × (b ≡ pick (is_ok r) (bytes_of_table u) t) → v ≡ pick (is_ok r) (handle_words h) w → Answers p held_of (t, w) (b, v) n
-by-held r e g E k = held-by e g (told-by_code r _ _ E) (by-code r _ _ k)
-
 -- walk: the link buffer was l and is q
-pub by-walk : {x y : Walked Added} {h : Handle} {u : Table} {l q t b w v : List ℕ} {P : Type 0} {n : ℕ} (r : Result Handle Reason) → y ≡ x → Went x.end (added_as h u) P (code r) → q ≡ paste l 0 x.links
-    → (n ≡ told_by number r) × (b ≡ pick (is_ok r) (bytes_of_table u) t) → v ≡ pick (is_ok r) (handle_words h) w → Walks y l q (t, w) (b, v) n
-by-walk r e W L E k = rw e (record { answers = by-held r refl W E k; links = L })
+pub by-walk : {x y : Walked Added} {h : Handle} {u : Table} {l q t b w v : List ℕ} {P : Type 0} {r n : ℕ} → y ≡ x → Went x.end (added_as h u) P r → q ≡ paste l 0 x.links
+    → (n ≡ r) × (b ≡ pick (eqb r 0) (bytes_of_table u) t) → v ≡ pick (eqb r 0) (handle_words h) w → Walks y l q (t, w) (b, v) n
+by-walk e W L E k = rw e (record { answers = by-held refl W E k; links = L })
 
 -- set metadata, open
-table-by : {o p : Out Table} {u : Table} {t b : List ℕ} {P : Type 0} {r n : ℕ} → p ≡ o → Went o u P r
+pub by-table : {o p : Out Table} {u : Table} {t b : List ℕ} {P : Type 0} {r n : ℕ} → p ≡ o → Went o u P r
     → (n ≡ r) × (b ≡ pick (eqb r 0) (bytes_of_table u) t) → Answers p bytes_of_table t b n
-table-by e (well f x) E = rw (e, f) (record { number = E.0; places = E.1 })
-table-by {u = u} {t = t} e (ill {r = r} l f) E = rw (e, f) (record { number = E.0; places = E.1 ∙ sym (passed_over (bytes_of_table u) t r (λ q. omega arith)) })
-
-pub by-table : {o p : Out Table} {u : Table} {t b : List ℕ} {P : Type 0} {n : ℕ} (r : Result Unit Reason) → p ≡ o → Went o u P (code r)
-    → (n ≡ told_by number r) × (b ≡ pick (is_ok r) (bytes_of_table u) t) → Answers p bytes_of_table t b n
-by-table r e g E = table-by e g (told-by_code r _ _ E)
+by-table e (well f x) E = rw (e, f) (record { number = E.0; places = E.1 })
+by-table {u = u} {t = t} e (ill {r = r} l f) E = rw (e, f) (record { number = E.0; places = E.1 ∙ sym (passed_over (bytes_of_table u) t r (λ q. omega arith)) })
 
 pub by-told : {o p : Out Metadata} {w v : List ℕ} {n : ℕ} (r : Result Metadata Reason) → p ≡ o → out_of r ≡ o → (n ≡ told_by number r) × (v ≡ told_words_by w r) → Answers p metadata_words w v n
 by-told (Ok m) e G E = rw (e, ← G) (record { number = E.0; places = E.1 })

@@ -1,7 +1,7 @@
 -- `edge::dz_find`: 255 where a size is wrong; else the call on the table in memory, and how it ends.
 use mathlib.Core.Path.{sym, ◌∙◌}
 use Rattle.sefs.specs.Open.{call_find}
-use Rattle.edge.proofs.Laws.{sized-is, sized-not, answers-not, by-held}
+use Rattle.edge.proofs.Laws.{sized-is, sized-not, answers-not, by-held, ended-code, words-code}
 use Rattle.edge.proofs.dz_find.Goals as goal
 
 pub returns-then-table-ne-TABLE : goal.returns-then-table-ne-TABLE
@@ -22,6 +22,6 @@ end_held-requires c =
 
 pub returns : goal.returns
 returns c =
-    by-held _
+    by-held
     (sized-is 4402 c.args.table.now _ c.if-table-ne-TABLE.false ∙ sized-is 2 c.args.out.now _ c.if-out-ne-HANDLE_WORDS.false ∙ (λ x. call_find c.args.arena.now (sym c.begin.ensures.0 x) c.args.owner (sym c.handle.ensures x) c.args.name.now))
-    c.find_on-h.ensures c.end_held.ensures.value c.end_held.ensures.out_after
+    c.find_on-h.ensures (ended-code _ _ _ c.end_held.ensures.value) (words-code c.find_on-h.result _ _ c.end_held.ensures.out_after)

@@ -3,7 +3,7 @@ use mathlib.Core.Path.{sym, ◌∙◌}
 use Rattle.sefs.specs.Create.{call_format}
 use Rattle.calls_format.specs.Format.{formatted}
 use Rattle.edge_words.proofs.Words.{time-is}
-use Rattle.edge.proofs.Laws.{sized-is, sized-not, answers-not, by_end}
+use Rattle.edge.proofs.Laws.{sized-is, sized-not, answers-not, by_end, ended-code}
 use Rattle.edge.proofs.dz_format.Goals as goal
 
 pub returns-then-table-ne-TABLE : goal.returns-then-table-ne-TABLE
@@ -16,4 +16,4 @@ returns-then-file-ne-FILE_NAME c =
 
 pub returns : goal.returns
 returns c =
-    by_end _ (sized-is 4402 c.args.table.now _ c.if-table-ne-TABLE.false ∙ sized-is 16 c.args.file.now _ c.if-file-ne-FILE_NAME.false ∙ (λ x. formatted (call_format c.args.arena.now (sym (time-is c.ranges.sec c.ranges.nsec c.time.ensures) x) (sym c.file_of.ensures x)))) c.format_on-r.ensures c.end_fresh.ensures
+    by_end (sized-is 4402 c.args.table.now _ c.if-table-ne-TABLE.false ∙ sized-is 16 c.args.file.now _ c.if-file-ne-FILE_NAME.false ∙ (λ x. formatted (call_format c.args.arena.now (sym (time-is c.ranges.sec c.ranges.nsec c.time.ensures) x) (sym c.file_of.ensures x)))) c.format_on-r.ensures (ended-code _ _ _ c.end_fresh.ensures)

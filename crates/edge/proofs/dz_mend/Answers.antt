@@ -1,6 +1,7 @@
 -- `edge::dz_mend`: 255 where the size is wrong; else the call on the table in memory, which is not written back.
 use mathlib.Core.Path.{sym, ◌∙◌}
 use Rattle.mending.specs.Mend.{call_mend}
+use Rattle.calls.proofs.Answers.{told-code}
 use Rattle.edge.proofs.Laws.{sized-is, sized-not, answers-not, by-mend}
 use Rattle.edge.proofs.dz_mend.Goals as goal
 
@@ -10,4 +11,4 @@ returns-then-table-ne-TABLE c =
 
 pub returns : goal.returns
 returns c =
-    by-mend _ (sized-is 4402 c.args.table.now _ c.if-table-ne-TABLE.false ∙ (λ x. call_mend c.args.arena.now (sym c.begin.ensures.0 x))) c.mend_on-r.ensures c.number.ensures
+    by-mend (sized-is 4402 c.args.table.now _ c.if-table-ne-TABLE.false ∙ (λ x. call_mend c.args.arena.now (sym c.begin.ensures.0 x))) c.mend_on-r.ensures (c.number.ensures ∙ told-code _)

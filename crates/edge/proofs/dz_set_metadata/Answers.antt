@@ -2,7 +2,7 @@
 use mathlib.Core.Path.{sym, ◌∙◌}
 use Rattle.sefs.specs.Read.{call_set}
 use Rattle.edge_words.proofs.Words.{time-is}
-use Rattle.edge.proofs.Laws.{sized-is, sized-not, answers-not, by-table}
+use Rattle.edge.proofs.Laws.{sized-is, sized-not, answers-not, by-table, ended-code}
 use Rattle.edge.proofs.dz_set_metadata.Goals as goal
 
 pub returns-then-table-ne-TABLE : goal.returns-then-table-ne-TABLE
@@ -15,8 +15,8 @@ set_on-r-requires c =
 
 pub returns : goal.returns
 returns c =
-    by-table _
+    by-table
     (sized-is 4402 c.args.table.now _ c.if-table-ne-TABLE.false
     ∙ (λ x. call_set c.args.arena.now (sym c.begin.ensures.0 x) c.args.owner (sym c.handle-h.ensures x) c.args.mode c.args.uid c.args.gid
     (sym (time-is c.ranges.asec c.ranges.ansec c.time-at.ensures) x) (sym (time-is c.ranges.msec c.ranges.mnsec c.time-mt.ensures) x) (sym (time-is c.ranges.csec c.ranges.cnsec c.time-ct.ensures) x)))
-    c.set_on-r.ensures c.end_after.ensures
+    c.set_on-r.ensures (ended-code _ _ _ c.end_after.ensures)

@@ -1,7 +1,7 @@
 -- `edge::dz_sync`: 255 where a size is wrong; else the call on the table in memory, and how it ends.
 use mathlib.Core.Path.{sym, ◌∙◌}
 use Rattle.sefs.specs.Close.{call_sync}
-use Rattle.edge.proofs.Laws.{sized-is, sized-not, answers-not, by_end}
+use Rattle.edge.proofs.Laws.{sized-is, sized-not, answers-not, by_end, ended-code}
 use Rattle.edge.proofs.dz_sync.Goals as goal
 
 pub returns-then-table-ne-TABLE : goal.returns-then-table-ne-TABLE
@@ -14,4 +14,4 @@ sync_on-r-requires c =
 
 pub returns : goal.returns
 returns c =
-    by_end _ (sized-is 4402 c.args.table.now _ c.if-table-ne-TABLE.false ∙ (λ x. call_sync c.args.arena.now (sym c.begin.ensures.0 x))) c.sync_on-r.ensures c.end_after.ensures
+    by_end (sized-is 4402 c.args.table.now _ c.if-table-ne-TABLE.false ∙ (λ x. call_sync c.args.arena.now (sym c.begin.ensures.0 x))) c.sync_on-r.ensures (ended-code _ _ _ c.end_after.ensures)

@@ -1,7 +1,7 @@
 -- `edge::remove_named`: 255 where a size is wrong; else the call on the table in memory, and how it ends.
 use mathlib.Core.Path.{sym, ◌∙◌}
 use Rattle.sefs.specs.Remove.{call_remove}
-use Rattle.edge.proofs.Laws.{sized-is, sized-not, answers-not, by_end}
+use Rattle.edge.proofs.Laws.{sized-is, sized-not, answers-not, by_end, ended-code}
 use Rattle.edge.proofs.remove_named.Goals as goal
 
 pub returns-then-table-ne-TABLE : goal.returns-then-table-ne-TABLE
@@ -14,4 +14,4 @@ remove_on-r-requires c =
 
 pub returns : goal.returns
 returns c =
-    by_end _ (sized-is 4402 c.args.table.now _ c.if-table-ne-TABLE.false ∙ (λ x. call_remove c.args.folder c.args.arena.now (sym c.begin.ensures.0 x) c.args.owner (sym c.handle.ensures x) c.args.name.now)) c.remove_on-r.ensures c.end_after.ensures
+    by_end (sized-is 4402 c.args.table.now _ c.if-table-ne-TABLE.false ∙ (λ x. call_remove c.args.folder c.args.arena.now (sym c.begin.ensures.0 x) c.args.owner (sym c.handle.ensures x) c.args.name.now)) c.remove_on-r.ensures (ended-code _ _ _ c.end_after.ensures)

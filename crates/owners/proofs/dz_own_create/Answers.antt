@@ -2,7 +2,7 @@
 use mathlib.Core.Path.{sym, ◌∙◌}
 use Rattle.sefs.specs.Create.{call_create}
 use Rattle.edge_words.proofs.Words.{time-is}
-use Rattle.edge.proofs.Laws.{sized-is, sized-not, new_is, answers-not, by-made}
+use Rattle.edge.proofs.Laws.{sized-is, sized-not, new_is, answers-not, by-made, ended-code, words-code}
 use Rattle.owners_kept.proofs.Laws.{keeps}
 use Rattle.owners.proofs.dz_own_create.Goals as goal
 
@@ -22,9 +22,9 @@ end_held-requires c =
 pub returns : goal.returns
 returns c =
     let new = new_is c.new_node-new.ensures (time-is c.ranges.sec c.ranges.nsec c.time.ensures) c.file_of.ensures in record {
-      answers = by-made _
+      answers = by-made
           (sized-is 16 c.args.file.now _ c.if-file-ne-FILE_NAME.false ∙ sized-is 2 c.args.out.now _ c.if-out-ne-HANDLE_WORDS.false
           ∙ (λ x. call_create c.args.arena.now (sym c.begin.ensures.0 x) c.args.owner (sym c.handle.ensures x) c.args.name.now (sym new x).kind (sym new x).mode (sym new x).time (sym new x).file))
-          c.create_on-h.ensures.ended_held c.end_held.ensures.value c.end_held.ensures.out_after;
+          c.create_on-h.ensures.ended_held (ended-code _ _ _ c.end_held.ensures.value) (words-code c.create_on-h.result _ _ c.end_held.ensures.out_after);
       chained = c.create_on-h.ensures.chained;
     }

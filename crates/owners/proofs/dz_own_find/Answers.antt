@@ -2,7 +2,7 @@
 use mathlib.Core.Path.{sym, ◌∙◌}
 use Rattle.sound.proofs.Chains.{length-firsts}
 use Rattle.sefs.specs.Open.{call_find}
-use Rattle.edge.proofs.Laws.{sized-is, sized-not, answers-not, by-held}
+use Rattle.edge.proofs.Laws.{sized-is, sized-not, answers-not, by-held, ended-code, words-code}
 use Rattle.owners_kept.proofs.Laws.{admitted}
 use Rattle.owners.proofs.dz_own_find.Goals as goal
 
@@ -18,6 +18,6 @@ find_led-h-requires c =
 
 pub returns : goal.returns
 returns c =
-    by-held _
+    by-held
     (sized-is 2 c.args.out.now _ c.if-out-ne-HANDLE_WORDS.false ∙ (λ x. call_find c.args.arena.now (sym c.begin.ensures.0 x) c.args.owner (sym c.handle.ensures x) c.args.name.now))
-    c.find_led-h.ensures c.end_held.ensures.value c.end_held.ensures.out_after
+    c.find_led-h.ensures (ended-code _ _ _ c.end_held.ensures.value) (words-code c.find_led-h.result _ _ c.end_held.ensures.out_after)

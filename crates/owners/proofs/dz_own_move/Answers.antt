@@ -1,7 +1,7 @@
 -- `owners::dz_own_move`: the call on the table in memory; the chains are its own.
 use mathlib.Core.Path.{sym}
 use Rattle.sefs.specs.Move.{call_move}
-use Rattle.edge.proofs.Laws.{by_end}
+use Rattle.edge.proofs.Laws.{by_end, ended-code}
 use Rattle.owners_kept.proofs.Laws.{keeps}
 use Rattle.owners.proofs.dz_own_move.Goals as goal
 
@@ -10,8 +10,8 @@ move_on-r-requires c = record { kept = keeps c.requires c.begin.ensures.0 c.begi
 
 pub returns : goal.returns
 returns c = record {
-  answers = by_end _
+  answers = by_end
       (λ x. call_move c.args.arena.now (sym c.begin.ensures.0 x) c.args.owner (sym c.handle-h.ensures x) c.args.old.now (sym c.handle-to.ensures x) c.args.name.now)
-      c.move_on-r.ensures.ended c.end_after.ensures;
+      c.move_on-r.ensures.ended (ended-code _ _ _ c.end_after.ensures);
   chained = c.move_on-r.ensures.chained;
 }

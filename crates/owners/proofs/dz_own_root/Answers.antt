@@ -2,7 +2,7 @@
 use mathlib.Core.Path.{sym, ◌∙◌}
 use Rattle.sound.proofs.Chains.{length-firsts}
 use Rattle.sefs.specs.Open.{call_root}
-use Rattle.edge.proofs.Laws.{sized-is, sized-not, answers-not, by-held}
+use Rattle.edge.proofs.Laws.{sized-is, sized-not, answers-not, by-held, ended-code, words-code}
 use Rattle.owners_kept.proofs.Laws.{admitted}
 use Rattle.owners.proofs.dz_own_root.Goals as goal
 
@@ -18,4 +18,4 @@ root_led-h-requires c =
 
 pub returns : goal.returns
 returns c =
-    by-held _ (sized-is 2 c.args.out.now _ c.if-out-ne-HANDLE_WORDS.false ∙ (λ x. call_root c.args.arena.now (sym c.begin.ensures.0 x) c.args.owner)) c.root_led-h.ensures c.end_held.ensures.value c.end_held.ensures.out_after
+    by-held (sized-is 2 c.args.out.now _ c.if-out-ne-HANDLE_WORDS.false ∙ (λ x. call_root c.args.arena.now (sym c.begin.ensures.0 x) c.args.owner)) c.root_led-h.ensures (ended-code _ _ _ c.end_held.ensures.value) (words-code c.root_led-h.result _ _ c.end_held.ensures.out_after)

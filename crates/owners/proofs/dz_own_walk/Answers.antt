@@ -3,7 +3,7 @@ use mathlib.Core.Path.{sym, ◌∙◌}
 use lib.ListN.{length}
 use Rattle.sound.proofs.Chains.{length-firsts}
 use Rattle.walk.specs.Walk.{call_walk}
-use Rattle.edge.proofs.Laws.{walk-sized, walk-not-sized, walks-not, by-walk}
+use Rattle.edge.proofs.Laws.{walk-sized, walk-not-sized, walks-not, by-walk, ended-code, words-code}
 use Rattle.owners_kept.proofs.Laws.{admitted}
 use Rattle.owners.proofs.dz_own_walk.Goals as goal
 
@@ -19,6 +19,6 @@ walk_led-h-requires c =
 
 pub returns : goal.returns
 returns c =
-    by-walk _
+    by-walk
     (walk-sized 2 c.args.out.now _ c.if-out-ne-HANDLE_WORDS.false ∙ (λ x. call_walk c.args.arena.now (sym c.begin.ensures.0 x) c.args.owner (sym c.handle.ensures x) c.args.path.now (length c.args.links.now)))
-    c.walk_led-h.ensures.went c.walk_led-h.ensures.links_after c.end_held.ensures.value c.end_held.ensures.out_after
+    c.walk_led-h.ensures.went c.walk_led-h.ensures.links_after (ended-code _ _ _ c.end_held.ensures.value) (words-code c.walk_led-h.result _ _ c.end_held.ensures.out_after)
