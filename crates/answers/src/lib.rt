@@ -1,5 +1,5 @@
-// What the calls of a script answer, said into the record that a line is written from. A function takes what the call returned, says its
-// numbers and returns the reason.
+// What the calls of a script answer, said into the record that a line is written from. A function takes what the call returned, of a
+// hold its reason and handle, says the numbers and returns the reason.
 #![tactic(auto)]
 
 ghost use Rattle.std.specs.Prelude.{◌≡◌, length};

@@ -82,7 +82,7 @@ pub const FREE: u8 = 1;
 // The moved node goes in the place of the one that is gone, which slot `place` of the target names.
 pub const ONTO: u8 = 2;
 
-// A move that is decided but for its steps.
+// A move that is decided but for its steps. Its way is a number and no enum, since `move_rows` takes any: `plan_steps` has steps for each.
 #[derive(Clone, Copy)]
 pub struct Plan {
     pub way: u8,
